@@ -1,0 +1,29 @@
+-- One piece of a text after another.
+use Rattle.std.proofs.Common.{◌≡◌, ℕ, ◌+◌, ◌≤◌, List, ◌++◌, take, drop, length, ap, sym, ◌∙◌, arith}
+use Rattle.std.proofs.lemmas.List.{take_at, drop-drop, take-append-drop, length-drop, length-take-le}
+use Rattle.std.proofs.Math.Seq.{take-add, take-length}
+use Rattle.std.specs.declared.option.Option.{Option}
+use Rattle.std.specs.Io.KnownBytes.{Appends}
+use Rattle.std.proofs.KnownBytes.{Appends-trans}
+use Rattle.sim_io.specs.Parts.{AppendsFront}
+
+-- the bytes of one piece that two writes took
+pub Appends-take : (a b c : Option (List ℕ)) (piece : List ℕ) (k n : ℕ) → Appends a b (take k piece) → Appends b c (take n (drop k piece)) → Appends a c (take (k + n) piece)
+Appends-take a b c piece k n first second = rw (take-add k n piece) (Appends-trans a b c _ _ first second)
+
+-- the bytes from a place on are those copied, and the rest
+pub drop-copied : (bytes buf part : List ℕ) (at n : ℕ) → at + n ≤ length bytes → part ≡ take n (drop at bytes) → drop at bytes ≡ take n (part ++ drop n buf) ++ drop (at + n) bytes
+drop-copied bytes buf part at n fits is =
+    let len : length (take n (drop at bytes)) ≡ n = length-take-le n (drop at bytes) (rw length-drop (omega arith)) in
+    sym (ap (λ p. take n (p ++ drop n buf) ++ drop (at + n) bytes) is
+    ∙ ap (λ p. p ++ drop (at + n) bytes) (take_at (take n (drop at bytes)) (drop n buf) n len)
+    ∙ ap (λ p. take n (drop at bytes) ++ p) (sym (drop-drop n at bytes))
+    ∙ take-append-drop n (drop at bytes))
+
+-- a whole text is a front of itself
+pub front_whole : (a b : Option (List ℕ)) (xs : List ℕ) → Appends a b xs → AppendsFront a b xs
+front_whole a b xs h = record { count = length xs; within = omega arith; taken = rw (take-length xs) h }
+
+-- a front by its length
+pub front_of : (a b : Option (List ℕ)) (xs : List ℕ) (k : ℕ) → k ≤ length xs → Appends a b (take k xs) → AppendsFront a b xs
+front_of a b xs k le h = record { count = k; within = le; taken = h }
