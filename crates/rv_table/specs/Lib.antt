@@ -1,0 +1,5 @@
+pub mod Regs
+pub mod Fields
+pub mod Table
+pub mod Exec
+pub mod Valid

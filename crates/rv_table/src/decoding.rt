@@ -1,0 +1,340 @@
+//! From a word to its instruction, by its opcode and then by its other fixed fields.
+
+ghost use Rattle.std.specs.Prelude.{◌≡◌, ◌<◌, pos};
+ghost use Rattle.rv_table.specs.Fields.{opcode, rd, funct3, rs1, rs2, funct7, shamt, i_immediate, s_immediate, b_immediate, u_immediate, j_immediate};
+ghost use Rattle.rv_table.specs.Table.{decoded};
+
+use crate::instr::{Cond, ImmOp, Instr, LoadWidth, RegOp, StoreWidth};
+use crate::reg::Reg;
+
+/// The register of a number.
+#[inline(always)]
+fn register(number: u32) -> Reg
+    requires { number < 32 }
+    ensures { result ≡ number }
+{
+    match Reg::new(number as u8) {
+        Some(reg) => reg,
+        None => unreachable!(),
+    }
+}
+
+/// The field rd.
+#[inline(always)]
+fn destination(word: u32) -> Reg
+    ensures { result ≡ rd word }
+{
+    register(word >> 7 & 31)
+}
+
+/// The field rs1.
+#[inline(always)]
+fn first_source(word: u32) -> Reg
+    ensures { result ≡ rs1 word }
+{
+    register(word >> 15 & 31)
+}
+
+/// The field rs2.
+#[inline(always)]
+fn second_source(word: u32) -> Reg
+    ensures { result ≡ rs2 word }
+{
+    register(word >> 20 & 31)
+}
+
+/// The field funct3.
+#[inline(always)]
+fn middle_field(word: u32) -> u32
+    ensures { result ≡ funct3 word }
+{
+    word >> 12 & 7
+}
+
+/// The field funct7.
+#[inline(always)]
+fn upper_field(word: u32) -> u32
+    ensures { result ≡ funct7 word }
+{
+    word >> 25
+}
+
+/// The I-immediate. The shift copies the sign.
+#[inline(always)]
+fn immediate(word: u32) -> i32
+    ensures { result ≡ i_immediate word }
+{
+    word.cast_signed() >> 20
+}
+
+/// The field shamt.
+#[inline(always)]
+fn shift_amount(word: u32) -> i32
+    ensures { result ≡ pos (shamt word) }
+{
+    (word >> 20 & 31) as i32
+}
+
+/// The S-immediate.
+#[inline(always)]
+fn store_offset(word: u32) -> i32
+    ensures { result ≡ s_immediate word }
+{
+    (word.cast_signed() >> 25) * 32 + (word >> 7 & 31) as i32
+}
+
+/// The B-immediate.
+#[inline(always)]
+fn branch_offset(word: u32) -> i32
+    ensures { result ≡ b_immediate word }
+{
+    let low = (word >> 7 & 1) * 2048 + (word >> 25 & 63) * 32 + (word >> 8 & 15) * 2;
+    (word.cast_signed() >> 31) * 4096 + low as i32
+}
+
+/// The J-immediate.
+#[inline(always)]
+fn jump_offset(word: u32) -> i32
+    ensures { result ≡ j_immediate word }
+{
+    let low = (word >> 12 & 255) * 4096 + (word >> 20 & 1) * 2048 + (word >> 21 & 1023) * 2;
+    (word.cast_signed() >> 31) * 0x10_0000 + low as i32
+}
+
+/// The U-immediate.
+#[inline(always)]
+fn upper_immediate(word: u32) -> u32
+    ensures { result ≡ u_immediate word }
+{
+    (word >> 12) << 12
+}
+
+#[inline(always)]
+fn jalr_of(word: u32) -> Instr
+    ensures { result ≡ Instr.Jalr (rd word) (rs1 word) (i_immediate word) }
+{
+    Instr::Jalr {
+        rd: destination(word),
+        rs1: first_source(word),
+        imm: immediate(word),
+    }
+}
+
+#[inline(always)]
+fn branch_of(cond: Cond, word: u32) -> Instr
+    ensures { result ≡ Instr.Branch cond (rs1 word) (rs2 word) (b_immediate word) }
+{
+    Instr::Branch {
+        cond,
+        rs1: first_source(word),
+        rs2: second_source(word),
+        imm: branch_offset(word),
+    }
+}
+
+#[inline(always)]
+fn load_of(width: LoadWidth, word: u32) -> Instr
+    ensures { result ≡ Instr.Load width (rd word) (rs1 word) (i_immediate word) }
+{
+    Instr::Load {
+        width,
+        rd: destination(word),
+        rs1: first_source(word),
+        imm: immediate(word),
+    }
+}
+
+#[inline(always)]
+fn store_of(width: StoreWidth, word: u32) -> Instr
+    ensures { result ≡ Instr.Store width (rs1 word) (rs2 word) (s_immediate word) }
+{
+    Instr::Store {
+        width,
+        rs1: first_source(word),
+        rs2: second_source(word),
+        imm: store_offset(word),
+    }
+}
+
+#[inline(always)]
+fn op_imm_of(op: ImmOp, word: u32) -> Instr
+    ensures { result ≡ Instr.OpImm op (rd word) (rs1 word) (i_immediate word) }
+{
+    Instr::OpImm {
+        op,
+        rd: destination(word),
+        rs1: first_source(word),
+        imm: immediate(word),
+    }
+}
+
+#[inline(always)]
+fn shift_of(op: ImmOp, word: u32) -> Instr
+    ensures { result ≡ Instr.OpImm op (rd word) (rs1 word) (pos (shamt word)) }
+{
+    Instr::OpImm {
+        op,
+        rd: destination(word),
+        rs1: first_source(word),
+        imm: shift_amount(word),
+    }
+}
+
+#[inline(always)]
+fn op_of(op: RegOp, word: u32) -> Instr
+    ensures { result ≡ Instr.Op op (rd word) (rs1 word) (rs2 word) }
+{
+    Instr::Op {
+        op,
+        rd: destination(word),
+        rs1: first_source(word),
+        rs2: second_source(word),
+    }
+}
+
+#[inline(always)]
+fn decode_jalr(word: u32) -> Option<Instr>
+    requires { opcode word ≡ 0b1100111 }
+    ensures { result ≡ decoded word }
+{
+    match middle_field(word) {
+        0b000 => Some(jalr_of(word)),
+        _ => None,
+    }
+}
+
+#[inline(always)]
+fn decode_branch(word: u32) -> Option<Instr>
+    requires { opcode word ≡ 0b1100011 }
+    ensures { result ≡ decoded word }
+{
+    match middle_field(word) {
+        0b000 => Some(branch_of(Cond::Eq, word)),
+        0b001 => Some(branch_of(Cond::Ne, word)),
+        0b100 => Some(branch_of(Cond::Lt, word)),
+        0b101 => Some(branch_of(Cond::Ge, word)),
+        0b110 => Some(branch_of(Cond::Ltu, word)),
+        0b111 => Some(branch_of(Cond::Geu, word)),
+        _ => None,
+    }
+}
+
+#[inline(always)]
+fn decode_load(word: u32) -> Option<Instr>
+    requires { opcode word ≡ 0b0000011 }
+    ensures { result ≡ decoded word }
+{
+    match middle_field(word) {
+        0b000 => Some(load_of(LoadWidth::B, word)),
+        0b001 => Some(load_of(LoadWidth::H, word)),
+        0b010 => Some(load_of(LoadWidth::W, word)),
+        0b100 => Some(load_of(LoadWidth::Bu, word)),
+        0b101 => Some(load_of(LoadWidth::Hu, word)),
+        _ => None,
+    }
+}
+
+#[inline(always)]
+fn decode_store(word: u32) -> Option<Instr>
+    requires { opcode word ≡ 0b0100011 }
+    ensures { result ≡ decoded word }
+{
+    match middle_field(word) {
+        0b000 => Some(store_of(StoreWidth::B, word)),
+        0b001 => Some(store_of(StoreWidth::H, word)),
+        0b010 => Some(store_of(StoreWidth::W, word)),
+        _ => None,
+    }
+}
+
+#[inline(always)]
+fn decode_op_imm(word: u32) -> Option<Instr>
+    requires { opcode word ≡ 0b0010011 }
+    ensures { result ≡ decoded word }
+{
+    match middle_field(word) {
+        0b000 => Some(op_imm_of(ImmOp::Add, word)),
+        0b010 => Some(op_imm_of(ImmOp::Slt, word)),
+        0b011 => Some(op_imm_of(ImmOp::Sltu, word)),
+        0b100 => Some(op_imm_of(ImmOp::Xor, word)),
+        0b110 => Some(op_imm_of(ImmOp::Or, word)),
+        0b111 => Some(op_imm_of(ImmOp::And, word)),
+        0b001 if upper_field(word) == 0b000_0000 => Some(shift_of(ImmOp::Sll, word)),
+        0b101 if upper_field(word) == 0b000_0000 => Some(shift_of(ImmOp::Srl, word)),
+        0b101 if upper_field(word) == 0b010_0000 => Some(shift_of(ImmOp::Sra, word)),
+        _ => None,
+    }
+}
+
+#[inline(always)]
+fn decode_op(word: u32) -> Option<Instr>
+    requires { opcode word ≡ 0b0110011 }
+    ensures { result ≡ decoded word }
+{
+    match (middle_field(word), upper_field(word)) {
+        (0b000, 0b000_0000) => Some(op_of(RegOp::Add, word)),
+        (0b000, 0b010_0000) => Some(op_of(RegOp::Sub, word)),
+        (0b001, 0b000_0000) => Some(op_of(RegOp::Sll, word)),
+        (0b010, 0b000_0000) => Some(op_of(RegOp::Slt, word)),
+        (0b011, 0b000_0000) => Some(op_of(RegOp::Sltu, word)),
+        (0b100, 0b000_0000) => Some(op_of(RegOp::Xor, word)),
+        (0b101, 0b000_0000) => Some(op_of(RegOp::Srl, word)),
+        (0b101, 0b010_0000) => Some(op_of(RegOp::Sra, word)),
+        (0b110, 0b000_0000) => Some(op_of(RegOp::Or, word)),
+        (0b111, 0b000_0000) => Some(op_of(RegOp::And, word)),
+        _ => None,
+    }
+}
+
+#[inline(always)]
+fn decode_fence(word: u32) -> Option<Instr>
+    requires { opcode word ≡ 0b0001111 }
+    ensures { result ≡ decoded word }
+{
+    match middle_field(word) {
+        0b000 => Some(Instr::Fence),
+        _ => None,
+    }
+}
+
+#[inline(always)]
+fn decode_system(word: u32) -> Option<Instr>
+    requires { opcode word ≡ 0b1110011 }
+    ensures { result ≡ decoded word }
+{
+    match word {
+        0x0000_0073 => Some(Instr::Ecall),
+        0x0010_0073 => Some(Instr::Ebreak),
+        _ => None,
+    }
+}
+
+/// The instruction that a word stands for: none exactly where it is none of the 40 of RV32I 2.1.
+#[inline]
+pub fn decode(word: u32) -> Option<Instr>
+    ensures { result ≡ decoded word }
+{
+    match word & 0x7f {
+        0b011_0111 => Some(Instr::Lui {
+            rd: destination(word),
+            imm: upper_immediate(word),
+        }),
+        0b001_0111 => Some(Instr::Auipc {
+            rd: destination(word),
+            imm: upper_immediate(word),
+        }),
+        0b110_1111 => Some(Instr::Jal {
+            rd: destination(word),
+            imm: jump_offset(word),
+        }),
+        0b110_0111 => decode_jalr(word),
+        0b110_0011 => decode_branch(word),
+        0b000_0011 => decode_load(word),
+        0b010_0011 => decode_store(word),
+        0b001_0011 => decode_op_imm(word),
+        0b011_0011 => decode_op(word),
+        0b000_1111 => decode_fence(word),
+        0b111_0011 => decode_system(word),
+        _ => None,
+    }
+}

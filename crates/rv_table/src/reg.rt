@@ -1,0 +1,90 @@
+//! Registers.
+
+ghost use Rattle.std.specs.Prelude.{◌≡◌, ℕ, ◌<◌, List, length, slice_index, replicate, SomeIff};
+ghost use Rattle.rv_table.specs.Regs.{set_word};
+
+use std::marker::Model;
+
+/// The number of a register, 0 to 31.
+#[derive(Clone, Copy, Debug, PartialEq, Eq)]
+pub struct Reg {
+    number: u8,
+}
+
+impl Model for Reg {
+    ghost Value = { ℕ };
+
+    ghost view = { λ r. r.number };
+
+    ghost invariant = { λ r. r.number < 32 };
+
+    ghost inverse = { λ n. record { number = n } };
+}
+
+impl Reg {
+    /// The register of a number: none exactly above 31.
+    #[inline(always)]
+    pub fn new(number: u8) -> Option<Reg>
+        ensures { SomeIff result (number < 32) number }
+    {
+        if number < 32 {
+            Some(Reg { number })
+        } else {
+            None
+        }
+    }
+
+    /// Its number, 0 to 31.
+    #[inline(always)]
+    pub fn number(&self) -> u8
+        ensures value { result ≡ self.now }
+        ensures small { result < 32 }
+    {
+        self.number
+    }
+}
+
+/// The 32 registers of a hart, each a word. `x0` is always 0.
+#[derive(Clone, Copy, Debug, PartialEq, Eq)]
+pub struct Regs {
+    words: [u32; 32],
+}
+
+impl Model for Regs {
+    ghost Value = { List ℕ };
+
+    ghost view = { λ r. r.words };
+
+    ghost invariant = { λ r. slice_index r.words 0 ≡ 0 };
+
+    ghost inverse = { λ ws. record { words = ws } };
+}
+
+impl Regs {
+    /// All registers 0.
+    pub fn zero() -> Regs
+        ensures { result ≡ replicate 32 0 }
+    {
+        Regs { words: [0; 32] }
+    }
+
+    /// The word in a register: 0 for `x0`.
+    #[inline(always)]
+    pub fn get(&self, reg: Reg) -> u32
+        ensures value { result ≡ slice_index self.now reg }
+        ensures zero { reg ≡ 0 → result ≡ 0 }
+        ensures len { length self.now ≡ 32 }
+    {
+        self.words[reg.number() as usize]
+    }
+
+    /// Writes a word to a register. A write to `x0` is dropped.
+    #[inline(always)]
+    pub fn set(&mut self, reg: Reg, value: u32)
+        ensures { self.new ≡ set_word self.old reg value }
+    {
+        if reg.number() != 0 {
+            self.words[reg.number() as usize] = value;
+        }
+    }
+}
