@@ -1,0 +1,4 @@
+pub mod Faults
+pub mod HeaderValue
+pub mod ReadBack
+pub mod WordsBack

@@ -1,0 +1,37 @@
+-- What an image says, and its limits.
+use Rattle.std.specs.Prelude.{ℕ, ◌≡◌, ◌+◌, ◌*◌, ◌%◌, ◌^◌, ◌≤◌, ◌<◌, List, length, All}
+use Rattle.guest_image.specs.declared.image.Kind.{Kind}
+use Rattle.guest_image.specs.declared.image.ImageTask.{ImageTask}
+
+-- the kind of the root domain, the words of the text, the first bytes of the data and its size,
+-- the window in the data (an offset and a number of words), and the initial tasks
+pub record ImageValue : Type 0 where
+  pub kind : Kind
+  pub text : List ℕ
+  pub initial : List ℕ
+  pub data_size : ℕ
+  pub window_offset : ℕ
+  pub window_words : ℕ
+  pub tasks : List ImageTask
+
+-- a task of words: an entry, a timestamp and three arguments of 4 bytes each
+pub record IsTask (task : ImageTask) : Type 0 where
+  pub entry : task.entry < 2 ^ 32
+  pub ts : task.ts < 2 ^ 32
+  pub three : length task.args ≡ 3
+  pub args : All (λ arg. arg < 2 ^ 32) task.args
+
+-- the limits of an image: 65,536 words of text, 16 MiB of data, a window of 4,096 words that lies in the data,
+-- and 1 to 65,536 initial tasks; the text and the tasks are words of 4 bytes, and the initial data are bytes
+pub record IsImage (image : ImageValue) : Type 0 where
+  pub text : length image.text ≤ 65536
+  pub initial : length image.initial ≤ image.data_size
+  pub data_size : image.data_size ≤ 16777216
+  pub window_aligned : image.window_offset % 4 ≡ 0
+  pub window_inside : image.window_offset + 4 * image.window_words ≤ image.data_size
+  pub window_words : image.window_words ≤ 4096
+  pub tasks : length image.tasks ≤ 65536
+  pub some_task : 0 < length image.tasks
+  pub words : All (λ word. word < 2 ^ 32) image.text
+  pub bytes : All (λ byte. byte < 256) image.initial
+  pub each_task : All IsTask image.tasks

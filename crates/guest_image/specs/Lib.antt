@@ -1,0 +1,7 @@
+pub mod Fault
+pub mod Fetch
+pub mod Numbers
+pub mod ImageValue
+pub mod Limits
+pub mod Reading
+pub mod Writing

@@ -1,0 +1,20 @@
+//! The image of a guest program: a program, its data and its first tasks.
+//!
+//! An image is read from bytes or made of given values, under the same limits, and written as bytes. It keeps the values
+//! as they are. Reading and writing take time and memory in proportion to the bytes; to make one of given values moves
+//! them and takes no memory, and a word of the text is fetched by one look at its place.
+#![tactic(auto)]
+
+mod fault;
+mod image;
+mod layout;
+mod limits;
+mod reading;
+#[cfg(test)]
+mod tests;
+mod writing;
+
+pub use fault::ImageFault;
+pub use image::{Image, ImageTask, Kind};
+pub use reading::read_image;
+pub use writing::{write_image, written_images_read_back};
