@@ -1,0 +1,137 @@
+-- What follows from plain instructions: each is counted and within the budget, and what stops a run lies inside the data.
+use Rattle.std.proofs.Common.{◌≡◌, ◌≢◌, ℕ, ◌+◌, ◌<◌, ◌≤◌, ◌%◌, ◌==◌, not, List, Option, Some, None, Bool, true, false, nat_lt, ◌&&◌, if◌then◌else◌, zero, suc, refl, subst, arith, add-zero, add-suc}
+use Rattle.std.proofs.lemmas.Bool.{ltb-true, leb-true, eqb-true}
+use Rattle.rv_table.specs.declared.instr.Instr.{Instr}
+use Rattle.rv_table.specs.declared.instr.Effect.{Effect}
+use Rattle.rv_table.specs.declared.instr.Effect.TheVariants as does
+use Rattle.rv_table.specs.declared.instr.LoadWidth.{LoadWidth}
+use Rattle.rv_table.specs.declared.instr.StoreWidth.{StoreWidth}
+use Rattle.rv_table.specs.Table.{decoded}
+use Rattle.rv_table.specs.Exec.{acts_on}
+use Rattle.guest_image.specs.Fetch.{fetched, text_loaded}
+use Rattle.rv_core.specs.declared.state.Core.{Core}
+use Rattle.rv_core.specs.declared.state.Stop.{Stop}
+use Rattle.rv_core.specs.declared.state.Stop.TheVariants as stop
+use Rattle.rv_core.specs.Next.{Next, Goes, Stops}
+use Rattle.rv_core.specs.Memory.{load_bytes, store_bytes, data_start, is_within}
+use Rattle.rv_core.specs.Legs.{next_at, word_next, instr_next, effect_next, load_next, traps, PlainStep, PlainSteps, IsInside}
+
+-- what stands next at a core is counted where it goes on, and lies inside the data and is no quantum where it stops
+abbrev Keeps : ℕ → Core → Next → Type 0
+Keeps size core (Goes to) = to.used ≡ core.used + 1
+Keeps size core (Stops found) = IsInside size found × (found ≢ stop.Quantum)
+
+-- a choice keeps what both sides keep
+either : (size : ℕ) (core : Core) (test : Bool) (one other : Next) → (test ≡ true → Keeps size core one) → (test ≡ false → Keeps size core other) → Keeps size core (if test then one else other)
+either size core true one other chosen otherwise = chosen refl
+either size core false one other chosen otherwise = otherwise refl
+
+trap_keeps : (size : ℕ) (core : Core) (cause : ℕ) → Keeps size core (traps core cause)
+trap_keeps size core cause = (tt, λ e. cc)
+
+both : (a b : Bool) → (a && b) ≡ true → (a ≡ true) × (b ≡ true)
+both true true h = (refl, refl)
+both true false h = cc
+both false b h = cc
+
+true_from_not : (b : Bool) → not b ≡ false → b ≡ true
+true_from_not true h = refl
+true_from_not false h = cc
+
+-- an access that passes both tests of the code lies in the data
+inside : (size addr n : ℕ) → not (addr % n == 0) ≡ false → is_within data_start size addr n ≡ true → (data_start ≤ addr) × (addr + n ≤ data_start + size) × (addr % n ≡ 0)
+inside size addr n aligned within =
+    let (low, high) = both _ _ within in
+    (leb-true _ _ low, leb-true _ _ high, eqb-true _ _ (true_from_not _ aligned))
+
+load_keeps : (size : ℕ) (core : Core) (width : LoadWidth) (rd addr : ℕ) (raw : Option ℕ) → not (addr % load_bytes width == 0) ≡ false → Keeps size core (load_next size core width rd addr raw)
+load_keeps size core width rd addr (Some raw) aligned = refl
+load_keeps size core width rd addr None aligned =
+    either size core (is_within data_start size addr (load_bytes width)) (Stops (stop.Load width rd addr)) (traps core 5)
+    (λ within. (inside size addr (load_bytes width) aligned within, λ e. cc))
+    (λ _. trap_keeps size core 5)
+
+store_keeps : (size : ℕ) (core : Core) (width : StoreWidth) (addr value : ℕ) → not (addr % store_bytes width == 0) ≡ false
+    → Keeps size core (if is_within data_start size addr (store_bytes width) then Stops (stop.Store width addr value) else traps core 7)
+store_keeps size core width addr value aligned =
+    either size core (is_within data_start size addr (store_bytes width)) (Stops (stop.Store width addr value)) (traps core 7)
+    (λ within. (inside size addr (store_bytes width) aligned within, λ e. cc))
+    (λ _. trap_keeps size core 7)
+
+effect_keeps : (text : List ℕ) (size : ℕ) (core : Core) (effect : Effect) → Keeps size core (effect_next text size core effect)
+effect_keeps text size core (does.Plain pc rd value) = refl
+effect_keeps text size core (does.Load width rd addr) =
+    either size core (not (addr % load_bytes width == 0)) (traps core 4) (load_next size core width rd addr (text_loaded text addr (load_bytes width)))
+    (λ _. trap_keeps size core 4)
+    (load_keeps size core width rd addr (text_loaded text addr (load_bytes width)))
+effect_keeps text size core (does.Store width addr value) =
+    either size core (not (addr % store_bytes width == 0)) (traps core 6) _
+    (λ _. trap_keeps size core 6)
+    (store_keeps size core width addr value)
+effect_keeps text size core does.Call = (tt, λ e. cc)
+effect_keeps text size core does.Break = trap_keeps size core 8
+effect_keeps text size core does.Misaligned = trap_keeps size core 3
+
+instr_keeps : (text : List ℕ) (size : ℕ) (core : Core) (instr : Option Instr) → Keeps size core (instr_next text size core instr)
+instr_keeps text size core None = trap_keeps size core 2
+instr_keeps text size core (Some instr) = effect_keeps text size core (acts_on core.pc core.regs instr)
+
+word_keeps : (text : List ℕ) (size : ℕ) (core : Core) (word : Option ℕ) → Keeps size core (word_next text size core word)
+word_keeps text size core None = trap_keeps size core 1
+word_keeps text size core (Some word) = instr_keeps text size core (decoded word)
+
+next_keeps : (text : List ℕ) (size budget : ℕ) (core : Core) → Keeps size core (next_at text size budget core)
+unfolding next_at
+next_keeps text size budget core =
+    either size core (nat_lt core.used budget) (word_next text size core (fetched text core.pc)) (traps core 17)
+    (λ _. word_keeps text size core (fetched text core.pc))
+    (λ _. trap_keeps size core 17)
+
+-- a load or a store that stands next is aligned and lies wholly in the data
+pub next_at-inside : (text : List ℕ) (size budget : ℕ) (core : Core) (found : Stop) → next_at text size budget core ≡ Stops found → IsInside size found
+next_at-inside text size budget core found stands = (subst (Keeps size core) stands (next_keeps text size budget core)).0
+
+-- the end of a quantum is nothing that stands at a core
+pub next_at-other : (text : List ℕ) (size budget : ℕ) (core : Core) (found : Stop) → next_at text size budget core ≡ Stops found → found ≢ stop.Quantum
+next_at-other text size budget core found stands = (subst (Keeps size core) stands (next_keeps text size budget core)).1
+
+-- a plain instruction is counted
+pub PlainStep-counted : (text : List ℕ) (size budget : ℕ) (from to : Core) → PlainStep text size budget from to → to.used ≡ from.used + 1
+PlainStep-counted text size budget from to step = subst (Keeps size from) step (next_keeps text size budget from)
+
+goes_on : (test : Bool) (one : Next) (core to : Core) → (if test then one else traps core 17) ≡ Goes to → test ≡ true
+goes_on true one core to h = refl
+goes_on false one core to h = cc
+
+-- a plain instruction finds the budget not used up
+pub PlainStep-within : (text : List ℕ) (size budget : ℕ) (from to : Core) → PlainStep text size budget from to → from.used < budget
+unfolding next_at
+PlainStep-within text size budget from to step = ltb-true _ _ (goes_on (nat_lt from.used budget) _ from to step)
+
+-- n plain instructions are counted
+pub PlainSteps-counted : (text : List ℕ) (size budget n : ℕ) (from to : Core) → PlainSteps text size budget n from to → to.used ≡ from.used + n
+PlainSteps-counted text size budget zero from to same = rw same (omega arith)
+PlainSteps-counted text size budget (suc n) from to (mid, front, last) =
+    let first = PlainSteps-counted text size budget n from mid front in
+    let one = PlainStep-counted text size budget mid to last in
+    omega arith
+
+-- n plain instructions stay within the budget
+pub PlainSteps-within : (text : List ℕ) (size budget n : ℕ) (from to : Core) → PlainSteps text size budget n from to → from.used ≤ budget → to.used ≤ budget
+PlainSteps-within text size budget zero from to same used =
+    let Within : Core → Type 0 = λ core. core.used ≤ budget in
+    subst Within same used
+PlainSteps-within text size budget (suc n) from to (mid, front, last) used =
+    let below = PlainStep-within text size budget mid to last in
+    let one = PlainStep-counted text size budget mid to last in
+    omega arith
+
+-- n plain instructions after m ones are m + n plain instructions
+pub PlainSteps-append : (text : List ℕ) (size budget m n : ℕ) (from mid to : Core) → PlainSteps text size budget m from mid → PlainSteps text size budget n mid to → PlainSteps text size budget (m + n) from to
+PlainSteps-append text size budget m zero from mid to front same =
+    let Leads : Core → Type 0 = λ core. PlainSteps text size budget m from core in
+    rw add-zero (subst Leads same front)
+PlainSteps-append text size budget m (suc n) from mid to front (late, more, last) =
+    rw add-suc (late, PlainSteps-append text size budget m n from mid late front more, last)
+
+pub ruleset step_facts = (next_at-inside, next_at-other, PlainStep-counted, PlainStep-within)

@@ -1,0 +1,110 @@
+-- Plain instructions, and what stands at a core. The text, the size of the data and the task budget are given.
+use Rattle.std.specs.Prelude.{ℕ, ◌+◌, ◌%◌, ◌==◌, not, nat_lt, List, slice_index, replicate, Option, Some, None, ◌≡◌, ◌≢◌, ◌<◌, ◌≤◌, zero, suc, if◌then◌else◌}
+use Rattle.rv_table.specs.declared.instr.Effect.{Effect}
+use Rattle.rv_table.specs.declared.instr.Effect.TheVariants as does
+use Rattle.rv_table.specs.declared.instr.Instr.{Instr}
+use Rattle.rv_table.specs.declared.instr.LoadWidth.{LoadWidth}
+use Rattle.rv_table.specs.Table.{decoded}
+use Rattle.rv_table.specs.Exec.{acts_on, plus, loaded_value}
+use Rattle.rv_table.specs.Regs.{set_word}
+use Rattle.guest_image.specs.Fetch.{fetched, text_loaded}
+use Rattle.rv_core.specs.declared.state.Core.{Core}
+use Rattle.rv_core.specs.declared.state.Stop.{Stop}
+use Rattle.rv_core.specs.declared.state.Stop.TheVariants as stop
+use Rattle.rv_core.specs.Next.{Next, Goes, Stops}
+use Rattle.rv_core.specs.Memory.{load_bytes, store_bytes, data_start, is_within}
+
+-- the core of a task that starts: x10 to x12 are its arguments, x13 is its timestamp, and no instruction is used
+abbrev pub start_of : ℕ → ℕ → List ℕ → Core
+start_of entry ts args = record {
+  pc = entry;
+  regs = set_word (set_word (set_word (set_word (replicate 32 0) 10 (slice_index args 0)) 11 (slice_index args 1)) 12 (slice_index args 2)) 13 ts;
+  used = 0;
+}
+
+-- the core after one more instruction, which goes to a pc and writes a register
+abbrev pub moved : Core → ℕ → ℕ → ℕ → Core
+moved core pc rd value = record core { pc = pc; regs = set_word core.regs rd value; used = core.used + 1 }
+
+-- the core after an instruction that goes on to the next one and writes no register
+abbrev pub after_other_of : Core → Core
+after_other_of core = record core { pc = plus core.pc 4; used = core.used + 1 }
+
+-- the core after a load that read these bytes
+abbrev pub after_load_of : Core → LoadWidth → ℕ → ℕ → Core
+after_load_of core width rd raw = moved core (plus core.pc 4) rd (loaded_value width raw)
+
+-- a trap of this cause at the core's instruction
+abbrev pub traps : Core → ℕ → Next
+traps core cause = Stops (stop.Trap cause core.pc)
+
+-- an aligned load: from the text it is a plain instruction, and from the data it stops (trap 5: neither)
+abbrev pub load_next : ℕ → Core → LoadWidth → ℕ → ℕ → Option ℕ → Next
+load_next size core width rd addr (Some raw) = Goes (after_load_of core width rd raw)
+load_next size core width rd addr None =
+    if is_within data_start size addr (load_bytes width) then Stops (stop.Load width rd addr)
+    else traps core 5
+
+-- what comes of what an instruction does (trap 3: target misaligned, 4 and 6: access misaligned, 7: store range, 8: break)
+abbrev pub effect_next : List ℕ → ℕ → Core → Effect → Next
+effect_next text size core (does.Plain pc rd value) = Goes (moved core pc rd value)
+effect_next text size core (does.Load width rd addr) =
+    if not (addr % load_bytes width == 0) then traps core 4
+    else load_next size core width rd addr (text_loaded text addr (load_bytes width))
+effect_next text size core (does.Store width addr value) =
+    if not (addr % store_bytes width == 0) then traps core 6
+    else if is_within data_start size addr (store_bytes width) then Stops (stop.Store width addr value)
+    else traps core 7
+effect_next text size core does.Call = Stops stop.Call
+effect_next text size core does.Break = traps core 8
+effect_next text size core does.Misaligned = traps core 3
+
+-- what comes of an instruction (trap 2: the word is none)
+abbrev pub instr_next : List ℕ → ℕ → Core → Option Instr → Next
+instr_next text size core None = traps core 2
+instr_next text size core (Some instr) = effect_next text size core (acts_on core.pc core.regs instr)
+
+-- what comes of a word (trap 1: the pc is misaligned or outside the text)
+abbrev pub word_next : List ℕ → ℕ → Core → Option ℕ → Next
+word_next text size core None = traps core 1
+word_next text size core (Some word) = instr_next text size core (decoded word)
+
+-- what stands next at a core: the traps 17, 1 and 2 are tried in this order, then what the instruction itself does
+-- (trap 17: the whole budget is used)
+unfoldable pub next_at : List ℕ → ℕ → ℕ → Core → Next
+next_at text size budget core =
+    if nat_lt core.used budget then word_next text size core (fetched text core.pc)
+    else traps core 17
+
+-- one plain instruction leads from a core to another
+abbrev pub PlainStep : List ℕ → ℕ → ℕ → Core → Core → Type 0
+PlainStep text size budget from to = next_at text size budget from ≡ Goes to
+
+-- n plain instructions lead from a core to another
+abbrev pub PlainSteps : List ℕ → ℕ → ℕ → ℕ → Core → Core → Type 0
+PlainSteps text size budget zero from to = from ≡ to
+PlainSteps text size budget (suc n) from to =
+    (mid : Core) × PlainSteps text size budget n from mid × PlainStep text size budget mid to
+
+-- a run of at most quantum plain instructions, as long as nothing stops it, and what it stops at
+pub record IsLeg (text : List ℕ) (size budget quantum : ℕ) (from to : Core) (steps : ℕ) (found : Stop) : Type 0 where
+  pub run : PlainSteps text size budget steps from to
+  pub bound : steps ≤ quantum
+  pub full : steps ≡ quantum → found ≡ stop.Quantum
+  pub next : steps < quantum → next_at text size budget to ≡ Stops found
+  pub other : steps < quantum → found ≢ stop.Quantum
+
+-- a load or a store that stands next is aligned and lies wholly in data of this size
+abbrev pub IsInside : ℕ → Stop → Type 0
+IsInside size (stop.Load width rd addr) =
+    (data_start ≤ addr) × (addr + load_bytes width ≤ data_start + size) × (addr % load_bytes width ≡ 0)
+IsInside size (stop.Store width addr value) =
+    (data_start ≤ addr) × (addr + store_bytes width ≤ data_start + size) × (addr % store_bytes width ≡ 0)
+IsInside size stop.Call = Unit {0}
+IsInside size (stop.Trap cause pc) = Unit {0}
+IsInside size stop.Quantum = Unit {0}
+
+-- what a step of the code gives: it went on to this core, or it stopped
+abbrev pub given : Core → Option Stop → Next
+given core None = Goes core
+given core (Some found) = Stops found

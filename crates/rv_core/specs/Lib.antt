@@ -1,0 +1,4 @@
+pub mod Next
+pub mod Memory
+pub mod Legs
+pub mod LegValue

@@ -1,0 +1,14 @@
+//! The core of a task and its runs of plain instructions: those that touch registers and text alone. A run goes on until a load
+//! from the data, a store, a call, a trap or its quantum stands next. It changes one core in place, at some sixty machine
+//! instructions for each plain instruction of the guest; no call takes memory.
+#![tactic(auto)]
+
+mod legs;
+mod naming;
+mod state;
+#[cfg(test)]
+mod tests;
+
+pub use legs::{after_load, after_other, run_plain, run_plain_within};
+pub use naming::{Leg, Naming, run_leg};
+pub use state::{Core, Plain, Stop};

@@ -1,0 +1,106 @@
+//! Legs that keep in their type which image and which budget they ran with.
+
+ghost use Rattle.std.specs.Prelude.{◌≡◌, ◌≤◌, ℕ, []};
+ghost use Rattle.guest_image.specs.ImageValue.{ImageValue};
+ghost use Rattle.guest_image.specs.declared.image.Kind.TheVariants.{Unordered};
+ghost use Rattle.rv_core.specs.Legs.{IsLeg};
+ghost use Rattle.rv_core.specs.LegValue.{IsRun};
+
+use crate::legs::run_plain;
+use crate::state::{Core, Stop};
+use guest_image::Image;
+use std::marker::{Brand, Model, PhantomData};
+
+/// A name for an image and for the task budget and the commit limit that go with it. It has no functions: generic code takes an
+/// image and numbers that are those of its `N`, and what it makes stays tied to them.
+pub trait Naming {
+    ghost image: { ImageValue };
+
+    ghost budget: { ℕ };
+
+    ghost commits: { ℕ };
+}
+
+/// At each call with `Brand` the caller's proof picks the image and the limits.
+impl Naming for Brand {
+    ghost image = { record { kind = Unordered; text = []; initial = []; data_size = 0; window_offset = 0; window_words = 0; tasks = [] } };
+
+    ghost budget = { 0 };
+
+    ghost commits = { 0 };
+}
+
+/// A run of plain instructions on the text of the image that `N` names, within the budget that `N` names. It ends where
+/// something else than a plain instruction stands, or where it did as many as it may.
+#[derive(Drop)]
+pub struct Leg<N: Naming> {
+    from: Core,
+    to: Core,
+    steps: u32,
+    stop: Stop,
+    naming: PhantomData<N>,
+}
+
+impl<N: Naming> Model for Leg<N> {
+    ghost use Rattle.rv_core.specs.LegValue.{LegValue, IsRun};
+
+    ghost Value = { LegValue };
+
+    ghost view = { λ l. record { from = l.from; to = l.to; steps = l.steps; stop = l.stop } };
+
+    ghost invariant = { λ l. IsRun N.image.text N.image.data_size N.budget (record { from = l.from; to = l.to; steps = l.steps; stop = l.stop }) };
+}
+
+impl<N: Naming> Leg<N> {
+    /// The core at which it begins.
+    pub fn from(&self) -> &Core
+        ensures value { result.now ≡ self.now.from }
+        ensures run { IsRun N.image.text N.image.data_size N.budget self.now }
+    {
+        &self.from
+    }
+
+    /// The core at which it ends.
+    pub fn to(&self) -> &Core
+        ensures value { result.now ≡ self.now.to }
+        ensures run { IsRun N.image.text N.image.data_size N.budget self.now }
+    {
+        &self.to
+    }
+
+    /// How many instructions it has.
+    pub fn steps(&self) -> u32
+        ensures value { result ≡ self.now.steps }
+        ensures run { IsRun N.image.text N.image.data_size N.budget self.now }
+    {
+        self.steps
+    }
+
+    /// What it stopped at.
+    pub fn stop(&self) -> Stop
+        ensures value { result ≡ self.now.stop }
+        ensures run { IsRun N.image.text N.image.data_size N.budget self.now }
+    {
+        self.stop
+    }
+}
+
+/// Runs plain instructions as [`run_plain`](crate::run_plain) does, and keeps in the type of the answer what was run.
+pub fn run_leg<N: Naming>(image: &Image, from: &Core, quantum: u32, budget: u32) -> Leg<N>
+    requires image { image.now ≡ N.image }
+    requires budget { budget ≡ N.budget }
+    requires quantum { (1 ≤ quantum) × (quantum ≤ 1024) }
+    requires used { from.now.used ≤ budget }
+    ensures from { result.from ≡ from.now }
+    ensures leg { IsLeg image.now.text image.now.data_size budget quantum from.now result.to result.steps result.stop }
+    ensures run { IsRun image.now.text image.now.data_size budget result }
+{
+    let plain = run_plain(image, from, quantum, budget);
+    Leg {
+        from: *from,
+        to: plain.to,
+        steps: plain.steps,
+        stop: plain.stop,
+        naming: PhantomData,
+    }
+}
