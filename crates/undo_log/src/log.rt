@@ -1,0 +1,55 @@
+// The accesses of one task.
+
+ghost use Rattle.std.specs.Prelude.{◌≡◌, [], ◌∷◌, ◌++◌, OnOk, OnErr};
+
+use crate::Access;
+use std::alloc::{AllocError, Global};
+use std::marker::Model;
+
+/// The accesses of one task, in order.
+#[derive(Debug, Drop)]
+pub struct Log {
+    accesses: Vec<Access>,
+}
+
+impl Model for Log {
+    ghost use Rattle.std.specs.Prelude.{List};
+    ghost use Rattle.undo_log.specs.declared.access.Access.{Access};
+
+    ghost Value = { List Access };
+
+    ghost view = { λ log. log.accesses.items };
+}
+
+impl Log {
+    /// An empty log, which grows in `alloc`.
+    pub fn new(alloc: Global) -> Self
+        ensures { result ≡ [] }
+    {
+        Log {
+            accesses: Vec::new(alloc),
+        }
+    }
+
+    /// The accesses, in order.
+    pub fn accesses(&self) -> &[Access]
+        ensures { result.now ≡ self.now }
+    {
+        self.accesses.as_slice()
+    }
+
+    /// Forgets all accesses, and keeps the room for them.
+    pub fn clear(&mut self)
+        ensures { self.new ≡ [] }
+    {
+        self.accesses.clear();
+    }
+
+    pub(crate) fn push(&mut self, access: Access) -> Result<(), AllocError>
+        ensures ok { OnOk result (self.new ≡ self.old ++ access ∷ []) }
+        ensures err { OnErr result (self.new ≡ self.old) }
+    {
+        self.accesses.push(access)?;
+        Ok(())
+    }
+}
