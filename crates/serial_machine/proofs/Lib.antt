@@ -1,0 +1,4 @@
+pub mod Runs
+pub mod Stacks
+pub mod Naming
+pub mod Turns

@@ -1,0 +1,193 @@
+-- Names stand at most once.
+use Rattle.std.proofs.Common.{◌≡◌, refl, sym, ap, ◌∙◌, ◌≢◌, ◌≤◌, ◌<◌, ◌+◌, ◌==◌, ◌&&◌, not, ℕ, Bool, true, false, List, [], ◌∷◌, ◌++◌, length, subst, map, filter, Option, Some, None, if◌then◌else◌, nat_le, nat_lt, arith}
+use Rattle.std.specs.List.{enumerate_from}
+use Rattle.std.proofs.lemmas.Grind.{common_steps}
+use Rattle.std.proofs.lemmas.List.{nil_from_length}
+use Rattle.std.proofs.lemmas.Bool.Decides.{nat_tests}
+use Rattle.guest_image.specs.declared.image.Kind.{Kind}
+use Rattle.task_desc.specs.declared.desc.Name.{Name}
+use Rattle.task_desc.specs.declared.desc.Spawn.{Spawn}
+use Rattle.task_desc.specs.declared.desc.Place.{Place}
+use Rattle.task_desc.specs.declared.desc.Place.TheVariants.{Same, Sub, Super}
+use Rattle.serial_machine.specs.declared.bag.PendingTask.{PendingTask}
+use Rattle.serial_machine.specs.BagValue.{BagValue}
+use Rattle.serial_machine.specs.Names.{one, times, times_in, AreNamed, first_least, earlier, IsNext, next_in, name_of}
+use Rattle.serial_machine.specs.Turn.{is_named, without, inner, child, children, sub_bags, with_super, stack_after, is_least, find_named, is_for}
+use Rattle.serial_machine.specs.Run.{image_task}
+use Rattle.guest_image.specs.declared.image.ImageTask.{ImageTask}
+use Rattle.std.specs.Prelude.{MatchOption}
+
+pub times-append : (x : Name) (xs ys : List PendingTask) → times x (xs ++ ys) ≡ times x xs + times x ys
+times-append x [] ys = omega arith
+times-append x (t ∷ ts) ys = omega (arith, times-append x ts ys)
+
+pub times_in-inner : (x : Name) (stack : List BagValue) → times_in x (inner stack) ≡ times_in x stack
+times_in-inner x [] = refl
+times_in-inner x (bag ∷ outer) = go (times_in-inner x outer) (length bag.tasks == 0) refl where
+  go : times_in x (inner outer) ≡ times_in x outer → (b : Bool) → (length bag.tasks == 0) ≡ b → times_in x (if b then inner outer else bag ∷ outer) ≡ times_in x (bag ∷ outer)
+  go ih true e = let z : bag.tasks ≡ [] = grind (arith, nat_tests, common_steps, nil_from_length) in rw z (omega (arith, ih))
+  go ih false e = refl
+
+pub times-without : (x name : Name) (tasks : List PendingTask) → times x (without name tasks) ≤ times x tasks
+times-without x name [] = omega arith
+times-without x name (t ∷ ts) = go (times-without x name ts) (is_named name t) where
+  go : times x (without name ts) ≤ times x ts → (b : Bool) → times x (if not b then t ∷ without name ts else without name ts) ≤ one (is_named x t) + times x ts
+  go ih true = omega (arith, ih)
+  go ih false = omega (arith, ih)
+
+-- the children for a domain, from a place among the spawns on
+abbrev pub kids_for : Place → ℕ → ℕ → List Spawn → List PendingTask
+kids_for place n k spawns = map (child n) (filter (is_for place) (enumerate_from k spawns))
+
+abbrev pub kids : ℕ → ℕ → List Spawn → List PendingTask
+kids n k spawns = map (child n) (enumerate_from k spawns)
+
+pub times-kids : (x : Name) (n k : ℕ) (spawns : List Spawn)
+    → times x (kids_for Same n k spawns) + times x (kids_for Sub n k spawns) + times x (kids_for Super n k spawns) ≡ times x (kids n k spawns)
+times-kids x n k [] = refl
+times-kids x n k (s ∷ ss) = go (times-kids x n (k + 1) ss) s.place refl where
+  go : times x (kids_for Same n (k + 1) ss) + times x (kids_for Sub n (k + 1) ss) + times x (kids_for Super n (k + 1) ss) ≡ times x (kids n (k + 1) ss)
+      → (p : Place) → s.place ≡ p → times x (kids_for Same n k (s ∷ ss)) + times x (kids_for Sub n k (s ∷ ss)) + times x (kids_for Super n k (s ∷ ss)) ≡ times x (kids n k (s ∷ ss))
+  go ih Same e = rw e (omega (arith, ih))
+  go ih Sub e = rw e (omega (arith, ih))
+  go ih Super e = rw e (omega (arith, ih))
+
+pub kids-fresh : (x : Name) (n k : ℕ) (spawns : List Spawn) → times x (kids n k spawns) ≤ one ((n == x.creator) && nat_le k x.index)
+kids-fresh x n k [] = omega arith
+kids-fresh x n k (s ∷ ss) = go (kids-fresh x n (k + 1) ss) (n == x.creator) where
+  go : times x (kids n (k + 1) ss) ≤ one ((n == x.creator) && nat_le (k + 1) x.index) → (b : Bool)
+      → one ((n == x.creator) && (k == x.index)) + times x (kids n (k + 1) ss) ≤ one ((n == x.creator) && nat_le k x.index)
+  go ih b = grind (arith, nat_tests, common_steps)
+
+pub times_in-super : (x : Name) (tasks : List PendingTask) (outer : List BagValue) → times_in x (with_super tasks outer) ≤ times x tasks + times_in x outer
+times_in-super x tasks [] = omega arith
+times_in-super x tasks (b ∷ bs) = omega (arith, times-append x b.tasks tasks)
+
+pub times_in-sub : (x : Name) (depth floor owner : ℕ) (tasks : List PendingTask) (sub : Option Kind) (rest : List BagValue)
+    → times_in x (sub_bags depth floor owner tasks sub ++ rest) ≤ times x tasks + times_in x rest
+times_in-sub x depth floor owner tasks None rest = omega arith
+times_in-sub x depth floor owner tasks (Some kind) rest = go (length tasks == 0) where
+  go : (b : Bool) → times_in x ((if b then [] else record { depth = depth; kind = kind; floor = floor; owner = owner; tasks = tasks } ∷ []) ++ rest) ≤ times x tasks + times_in x rest
+  go true = omega arith
+  go false = omega arith
+
+pub times_in-after : (x : Name) (bag : BagValue) (outer : List BagValue) (name : Name) (n ts : ℕ) (spawns : List Spawn) (sub : Option Kind)
+    → times_in x (stack_after bag outer name n ts spawns sub) ≤ times_in x (bag ∷ outer) + times x (kids n 0 spawns)
+unfolding stack_after children
+times_in-after x bag outer name n ts spawns sub = omega (
+  arith,
+  times_in-sub x (bag.depth + 1) ts n (kids_for Sub n 0 spawns) sub (record bag { tasks = without name bag.tasks ++ kids_for Same n 0 spawns } ∷ with_super (kids_for Super n 0 spawns) outer),
+  times-append x (without name bag.tasks) (kids_for Same n 0 spawns),
+  times-without x name bag.tasks,
+  times_in-super x (kids_for Super n 0 spawns) outer,
+  times-kids x n 0 spawns,
+)
+
+one-more : (c n i : ℕ) → one (nat_le c n) + one ((n + 1 == c) && nat_le 0 i) ≤ one (nat_le c (n + 1))
+one-more c n i = grind (arith, nat_tests, common_steps)
+
+pub AreNamed-after : (stack : List BagValue) (bag : BagValue) (outer : List BagValue) (name : Name) (n ts : ℕ) (spawns : List Spawn) (sub : Option Kind)
+    → inner stack ≡ bag ∷ outer → AreNamed n stack → AreNamed (n + 1) (stack_after bag outer name (n + 1) ts spawns sub)
+AreNamed-after stack bag outer name n ts spawns sub e h x =
+    let top : times_in x stack ≡ times_in x (bag ∷ outer) = sym (times_in-inner x stack) ∙ ap (times_in x) e in
+    omega (arith, times_in-after x bag outer name (n + 1) ts spawns sub, kids-fresh x (n + 1) 0 spawns, h x, top, one-more x.creator n x.index)
+
+pub image-fresh : (x : Name) (kind : Kind) (k : ℕ) (tasks : List ImageTask) → times x (map (image_task kind) (enumerate_from k tasks)) ≤ one ((0 == x.creator) && nat_le k x.index)
+image-fresh x kind k [] = omega arith
+image-fresh x kind k (t ∷ ts) = go (image-fresh x kind (k + 1) ts) where
+  go : times x (map (image_task kind) (enumerate_from (k + 1) ts)) ≤ one ((0 == x.creator) && nat_le (k + 1) x.index)
+      → one ((0 == x.creator) && (k == x.index)) + times x (map (image_task kind) (enumerate_from (k + 1) ts)) ≤ one ((0 == x.creator) && nat_le k x.index)
+  go ih = grind (arith, nat_tests, common_steps)
+
+none-before : (c i : ℕ) → one ((0 == c) && nat_le 0 i) ≤ one (nat_le c 0)
+none-before c i = grind (arith, nat_tests, common_steps)
+
+pub AreNamed-opening : (kind : Kind) (tasks : List ImageTask) (found : List PendingTask) → found ≡ map (image_task kind) (enumerate_from 0 tasks)
+    → (name : Name) → times name found + 0 ≤ one (nat_le name.creator 0)
+AreNamed-opening kind tasks found e x = rw e (omega (arith, image-fresh x kind 0 tasks, none-before x.creator x.index))
+
+-- the first of the least stands there, is found by its name where names are distinct, and is least
+pub record IsFirst (tasks : List PendingTask) (t : PendingTask) : Type 0 where
+  pub stands : 1 ≤ times t.name tasks
+  pub found : times t.name tasks ≤ 1 → find_named t.name tasks ≡ Some t
+  pub least : is_least t.ts tasks ≡ true
+
+is_named-own : (t : PendingTask) → is_named t.name t ≡ true
+is_named-own t = grind (arith, nat_tests, common_steps)
+
+is_least-below : (a b : ℕ) (ts : List PendingTask) → a ≤ b → is_least b ts ≡ true → is_least a ts ≡ true
+is_least-below a b [] le h = refl
+is_least-below a b (t ∷ ts) le h = go (is_least-below a b ts le) h where
+  go : (is_least b ts ≡ true → is_least a ts ≡ true) → (nat_le b t.ts && is_least b ts) ≡ true → (nat_le a t.ts && is_least a ts) ≡ true
+  go ih h = grind (arith, nat_tests, common_steps)
+
+first-here : (h : PendingTask) (ts : List PendingTask) → is_least h.ts ts ≡ true → IsFirst (h ∷ ts) h
+first-here h ts e = record {
+  stands = rw (is_named-own h) (omega arith);
+  found = λ once. rw (is_named-own h) refl;
+  least = rw e (grind (arith, nat_tests, common_steps));
+}
+
+first-there : (h b : PendingTask) (ts : List PendingTask) → b.ts < h.ts → IsFirst ts b → IsFirst (h ∷ ts) b
+first-there h b ts lt f = record {
+  stands = omega (arith, f.stands);
+  found = λ once. go (is_named b.name h) (f.found (omega (arith, once))) once;
+  least = rw f.least (grind (arith, nat_tests, common_steps));
+} where
+  go : (c : Bool) → find_named b.name ts ≡ Some b → one c + times b.name ts ≤ 1 → (if c then Some h else find_named b.name ts) ≡ Some b
+  go true e once = absurd (omega (arith, once, f.stands))
+  go false e once = e
+
+pub first : (tasks : List PendingTask) → MatchOption (first_least tasks) (tasks ≡ []) (IsFirst tasks)
+first [] = refl
+first (h ∷ ts) = go (first_least ts) (first ts) where
+  two : (b : PendingTask) → IsFirst ts b → (c : Bool) → nat_lt b.ts h.ts ≡ c → MatchOption (if c then Some b else Some h) (h ∷ ts ≡ []) (IsFirst (h ∷ ts))
+  two b f true e = first-there h b ts (grind (arith, nat_tests, common_steps)) f
+  two b f false e = first-here h ts (is_least-below h.ts b.ts ts (grind (arith, nat_tests, common_steps)) f.least)
+
+  go : (o : Option PendingTask) → MatchOption o (ts ≡ []) (IsFirst ts) → MatchOption (earlier (Some h) o) (h ∷ ts ≡ []) (IsFirst (h ∷ ts))
+  go None z = rw z (first-here h [] refl)
+  go (Some b) f = two b f (nat_lt b.ts h.ts) refl
+
+pub earlier-assoc : (a : Option PendingTask) (t : PendingTask) (o : Option PendingTask) → earlier a (earlier (Some t) o) ≡ earlier (earlier a (Some t)) o
+earlier-assoc None t o = refl
+earlier-assoc (Some a) t None = go (nat_lt t.ts a.ts) where
+  go : (c : Bool) → (if c then Some t else Some a) ≡ earlier (if c then Some t else Some a) None
+  go true = refl
+  go false = refl
+earlier-assoc (Some a) t (Some b) = go (nat_lt t.ts a.ts) refl (nat_lt b.ts t.ts) refl where
+  go : (c : Bool) → nat_lt t.ts a.ts ≡ c → (d : Bool) → nat_lt b.ts t.ts ≡ d → earlier (Some a) (if d then Some b else Some t) ≡ earlier (if c then Some t else Some a) (Some b)
+  go true e true f = let g : nat_lt b.ts a.ts ≡ true = grind (arith, nat_tests, common_steps) in rw (f, g) refl
+  go true e false f = rw (e, f) refl
+  go false e true f = refl
+  go false e false f = let g : nat_lt b.ts a.ts ≡ false = grind (arith, nat_tests, common_steps) in rw (e, g) refl
+
+abbrev IsOpen : List BagValue → Type 0
+IsOpen [] = Unit {0}
+IsOpen (bag ∷ outer) = bag.tasks ≢ []
+
+inner-open : (stack : List BagValue) → IsOpen (inner stack)
+inner-open [] = tt
+inner-open (bag ∷ outer) = go (inner-open outer) (length bag.tasks == 0) refl where
+  go : IsOpen (inner outer) → (b : Bool) → (length bag.tasks == 0) ≡ b → IsOpen (if b then inner outer else bag ∷ outer)
+  go ih true e = ih
+  go ih false e = λ z. let f : (length bag.tasks == 0) ≡ true = rw z refl in grind (arith, common_steps)
+
+pub next-may : (count : ℕ) (full : List BagValue) → AreNamed count full → (stack : List BagValue) → inner full ≡ stack → MatchOption (next_in stack) (stack ≡ []) (IsNext full)
+next-may count full named [] e = refl
+next-may count full named (bag ∷ outer) e = go (first_least bag.tasks) (first bag.tasks) where
+  at-most : (x : Name) → one (nat_le x.creator count) ≤ 1
+  at-most x = grind (arith, nat_tests, common_steps)
+
+  go : (o : Option PendingTask) → MatchOption o (bag.tasks ≡ []) (IsFirst bag.tasks) → MatchOption (name_of o) (bag ∷ outer ≡ []) (IsNext full)
+  go None z = absurd (subst IsOpen e (inner-open full) z)
+  go (Some t) f =
+      let top : times_in t.name full ≡ times t.name bag.tasks + times_in t.name outer = sym (times_in-inner t.name full) ∙ ap (times_in t.name) e in
+      record { bag = bag; outer = outer; task = t; may = record { top = e; found = f.found (omega (arith, named t.name, top, at-most t.name)); least = f.least } }
+
+-- the innermost bag holds each name at most once
+pub once-in-first : (count : ℕ) (name : Name) (full : List BagValue) → AreNamed count full → (bag : BagValue) (outer : List BagValue) → inner full ≡ bag ∷ outer → times name bag.tasks ≤ 1
+once-in-first count name full named bag outer e =
+    let top : times_in name full ≡ times name bag.tasks + times_in name outer = sym (times_in-inner name full) ∙ ap (times_in name) e in
+    let most : one (nat_le name.creator count) ≤ 1 = grind (arith, nat_tests, common_steps) in
+    omega (arith, named name, top, most)

@@ -1,0 +1,148 @@
+-- The steps of a task that are left are the same behind a leg, and behind what stands at its end, as before them.
+use Rattle.std.proofs.Common.{◌≡◌, refl, sym, ◌∙◌, ap, ℕ, zero, suc, ◌+◌, ◌-◌, ◌^◌, ◌≤◌, ◌<◌, ◌≢◌, inl, inr, nat_lt, List, length, arith, false, subst}
+use Rattle.std.proofs.lemmas.Bool.{cases_lt}
+use Rattle.std.proofs.lemmas.Bool.Decides.{nat_tests}
+use Rattle.guest_image.specs.ImageValue.{ImageValue}
+use Rattle.rv_core.specs.declared.state.Core.{Core}
+use Rattle.rv_core.specs.declared.state.Stop.{Stop}
+use Rattle.rv_core.specs.declared.state.Stop.TheVariants as stop
+use Rattle.rv_core.specs.Next.{Stops}
+use Rattle.rv_core.specs.Legs.{next_at, PlainStep, PlainSteps, IsLeg}
+use Rattle.rv_core.proofs.Runs.{PlainStep-within, PlainStep-counted}
+use Rattle.task_desc.specs.declared.desc.Ctx.{Ctx}
+use Rattle.serial_machine.specs.declared.progress.Flow.{Flow}
+use Rattle.serial_machine.specs.declared.progress.Flow.TheVariants as flow
+use Rattle.serial_machine.specs.declared.running.RunEnd.TheVariants as ends
+use Rattle.serial_machine.specs.TaskState.{TaskState}
+use Rattle.serial_machine.specs.TaskRun.{steps, followed, stopped, TaskEnd, Stepped, Continues, Ends, Traps}
+use Rattle.serial_machine.specs.Legs.{LegLeads, Counts, CountsOne, CanCount, Leads, Finishes}
+
+-- where the budget is used up, trap 17 stands
+pub spent_traps : (text : List ℕ) (size budget : ℕ) (core : Core) (s : Stop) → next_at text size budget core ≡ Stops s → budget ≤ core.used → s ≡ stop.Trap 17 core.pc
+unfolding next_at
+spent_traps text size budget core s h ge = let e : nat_lt core.used budget ≡ false = grind (arith, nat_tests) in let k = rw e at h in cc
+
+-- what a step leads to is how the run is over, or what is followed
+pub followed-Continues : (rest : TaskState → TaskEnd) (x : Stepped) (new : TaskState) → Leads x flow.Continues new → followed rest x ≡ rest new
+followed-Continues rest (Continues t) new h = ap rest (sym h)
+followed-Continues rest (Ends t) new h = absurd h
+followed-Continues rest (Traps cause pc) new h = absurd h
+
+pub followed-Ended : (rest : TaskState → TaskEnd) (x : Stepped) (new : TaskState) → Leads x flow.Ended new → Finishes (followed rest x) ends.Done new
+followed-Ended rest (Continues t) new h = absurd h
+followed-Ended rest (Ends t) new h = h
+followed-Ended rest (Traps cause pc) new h = absurd h
+
+pub followed-Trapped : (rest : TaskState → TaskEnd) (x : Stepped) (cause pc : ℕ) (new : TaskState) → Leads x (flow.Trapped cause pc) new → Finishes (followed rest x) (ends.Trapped cause pc) new
+followed-Trapped rest (Continues t) cause pc new h = absurd h
+followed-Trapped rest (Ends t) cause pc new h = absurd h
+followed-Trapped rest (Traps c p) cause pc new h = h
+
+-- a step that goes on is no quantum's end, and counts one
+pub Counts-Continues : (s : Stop) (old new : TaskState) → s ≢ stop.Quantum → Counts s flow.Continues old new → CountsOne flow.Continues old new
+Counts-Continues stop.Quantum old new ne h = absurd (ne refl)
+Counts-Continues stop.Call old new ne h = h
+Counts-Continues (stop.Load width rd addr) old new ne h = h
+Counts-Continues (stop.Store width addr value) old new ne h = h
+Counts-Continues (stop.Trap cause pc) old new ne h = h
+
+-- what stands next, if it is no trap, stands within the budget, so it can be counted
+pub can_count : (text : List ℕ) (size budget : ℕ) (core : Core) (s : Stop) → next_at text size budget core ≡ Stops s → budget < 2 ^ 32 → CanCount core.used s
+can_count text size budget core s h fits = elim (cases_lt core.used budget) [ inl lt ↦ within s lt | inr ge ↦ (let P : Stop → Type 0 = CanCount core.used in subst P (sym (spent_traps text size budget core s h ge)) tt) ] where
+  within : (s : Stop) → core.used < budget → CanCount core.used s
+  within stop.Quantum lt = tt
+  within (stop.Trap cause pc) lt = tt
+  within stop.Call lt = omega arith
+  within (stop.Load width rd addr) lt = omega arith
+  within (stop.Store width addr value) lt = omega arith
+
+module _ (image : ImageValue) (budget : ℕ) (ctx : Ctx) where
+  pub steps-plain_step : (t : TaskState) (to : Core) → PlainStep image.text (length t.memory) budget t.core to
+      → steps image budget ctx (budget - t.core.used) t ≡ steps image budget ctx (budget - to.used) (record t { core = to })
+  steps-plain_step t to h =
+      let within = PlainStep-within image.text (length t.memory) budget t.core to h in
+      let counted = PlainStep-counted image.text (length t.memory) budget t.core to h in
+      let e : budget - t.core.used ≡ suc (budget - to.used) = omega arith in
+      rw (e, h) refl
+
+  pub steps-plain_steps : (n : ℕ) (t : TaskState) (to : Core) → PlainSteps image.text (length t.memory) budget n t.core to
+      → steps image budget ctx (budget - t.core.used) t ≡ steps image budget ctx (budget - to.used) (record t { core = to })
+  steps-plain_steps zero t to e = rw (← e) refl
+  steps-plain_steps (suc n) t to (mid, before, last) = steps-plain_steps n t mid before ∙ steps-plain_step (record t { core = mid }) to last
+
+  -- what stands at the end of a leg is followed, also where the budget is used up
+  pub steps-stop : (t : TaskState) (s : Stop) → next_at image.text (length t.memory) budget t.core ≡ Stops s → t.core.used ≤ budget
+      → steps image budget ctx (budget - t.core.used) t ≡ followed (steps image budget ctx (budget - (t.core.used + 1))) (stopped ctx t s)
+  steps-stop t s h le = elim (cases_lt t.core.used budget) [ inl lt ↦ within lt | inr ge ↦ spent ge ] where
+    within : t.core.used < budget → steps image budget ctx (budget - t.core.used) t ≡ followed (steps image budget ctx (budget - (t.core.used + 1))) (stopped ctx t s)
+    within lt = let e : budget - t.core.used ≡ suc (budget - (t.core.used + 1)) = omega arith in rw (e, h) refl
+
+    spent : budget ≤ t.core.used → steps image budget ctx (budget - t.core.used) t ≡ followed (steps image budget ctx (budget - (t.core.used + 1))) (stopped ctx t s)
+    spent ge =
+        let e : budget - t.core.used ≡ zero = omega arith in
+        let k : s ≡ stop.Trap 17 t.core.pc = spent_traps image.text (length t.memory) budget t.core s h ge in
+        rw (e, k) refl
+
+  -- where a stop is followed and goes on, the budget isn't used up
+  pub budget_left : (t : TaskState) (s : Stop) (new : TaskState) → next_at image.text (length t.memory) budget t.core ≡ Stops s → Leads (stopped ctx t s) flow.Continues new → t.core.used < budget
+  budget_left t s new h leads = elim (cases_lt t.core.used budget) [ inl lt ↦ lt | inr ge ↦ absurd (spent ge) ] where
+    spent : budget ≤ t.core.used → ⊥
+    spent ge = let P : Stop → Type 0 = λ x. Leads (stopped ctx t x) flow.Continues new in subst P (spent_traps image.text (length t.memory) budget t.core s h ge) leads
+
+  -- a leg that stopped before its quantum's end
+  pub leg-stopped : (old : TaskState) (to : Core) (n : ℕ) (s : Stop) (f : Flow) (new : TaskState)
+      → PlainSteps image.text (length old.memory) budget n old.core to → to.used ≡ old.core.used + n → to.used ≤ budget
+      → next_at image.text (length old.memory) budget to ≡ Stops s → s ≢ stop.Quantum
+      → Leads (stopped ctx (record old { core = to }) s) f new → Counts s f (record old { core = to }) new
+      → LegLeads image budget ctx old f new
+  leg-stopped old to n s flow.Continues new run used within next other leads counts =
+      let mid : TaskState = record old { core = to } in
+      let one = Counts-Continues s mid new other counts in
+      record {
+        same = ap (λ k. steps image budget ctx (budget - k) new) one.0 ∙ sym (steps-plain_steps n old to run ∙ steps-stop mid s next within ∙ followed-Continues _ _ new leads);
+        used = omega arith;
+        within = let lt = budget_left mid s new next leads in omega (arith, lt);
+        memory = one.1;
+      }
+  leg-stopped old to n s flow.Ended new run used within next other leads counts =
+      let P : TaskEnd → Type 0 = λ o. Finishes o ends.Done new in
+      subst P (sym (steps-plain_steps n old to run ∙ steps-stop (record old { core = to }) s next within)) (followed-Ended _ _ new leads)
+  leg-stopped old to n s (flow.Trapped cause pc) new run used within next other leads counts =
+      let P : TaskEnd → Type 0 = λ o. Finishes o (ends.Trapped cause pc) new in
+      subst P (sym (steps-plain_steps n old to run ∙ steps-stop (record old { core = to }) s next within)) (followed-Trapped _ _ cause pc new leads)
+
+  -- a leg that came to its quantum's end
+  pub leg-full : (old : TaskState) (to : Core) (n : ℕ) (s : Stop) (f : Flow) (new : TaskState)
+      → PlainSteps image.text (length old.memory) budget n old.core to → to.used ≡ old.core.used + n → to.used ≤ budget → 0 < n → s ≡ stop.Quantum
+      → Counts s f (record old { core = to }) new → LegLeads image budget ctx old f new
+  leg-full old to n s f new run used within some e counts =
+      let P : Stop → Type 0 = λ x. Counts x f (record old { core = to }) new in
+      let both = subst P e counts in
+      rw (both.0, both.1) (record {
+        same = sym (steps-plain_steps n old to run);
+        used = omega arith;
+        within = within;
+        memory = refl;
+      })
+
+  -- a leg of at most so many instructions, whatever it stopped for
+  pub leg-leads : (quantum : ℕ) (old : TaskState) (to : Core) (n : ℕ) (s : Stop) (f : Flow) (new : TaskState)
+      → 0 < quantum → IsLeg image.text (length old.memory) budget quantum old.core to n s → to.used ≡ old.core.used + n → to.used ≤ budget
+      → Leads (stopped ctx (record old { core = to }) s) f new → Counts s f (record old { core = to }) new
+      → LegLeads image budget ctx old f new
+  leg-leads quantum old to n s f new some leg used within leads counts = elim (cases_lt n quantum) [ inl lt ↦ before lt | inr ge ↦ full ge ] where
+    before : n < quantum → LegLeads image budget ctx old f new
+    before lt = leg-stopped old to n s f new leg.run used within (leg.next lt) (leg.other lt) leads counts
+
+    full : quantum ≤ n → LegLeads image budget ctx old f new
+    full ge =
+        let b : n ≤ quantum = leg.bound in
+        let e : n ≡ quantum = omega arith in
+        leg-full old to n s f new leg.run used within (omega arith) (leg.full e) counts
+
+-- after a leg that ended its quantum nothing is to be counted; else what stands next can be
+pub leg-can_count : (text : List ℕ) (size budget quantum : ℕ) (from to : Core) (n : ℕ) (s : Stop) → IsLeg text size budget quantum from to n s → budget < 2 ^ 32 → CanCount to.used s
+leg-can_count text size budget quantum from to n s leg fits = elim (cases_lt n quantum) [
+  | inl lt ↦ can_count text size budget to s (leg.next lt) fits
+  | inr ge ↦ (let b : n ≤ quantum = leg.bound in let e : n ≡ quantum = omega arith in let P : Stop → Type 0 = CanCount to.used in subst P (sym (leg.full e)) tt)
+]

@@ -1,0 +1,131 @@
+-- A turn of a task that is selected and done, and the stack after it.
+use Rattle.std.proofs.Common.{◌≡◌, refl, sym, ap, ◌≤◌, ◌+◌, ◌-◌, ◌∙◌, ◌==◌, ℕ, Bool, true, false, List, [], ◌∷◌, ◌++◌, length, Option, Some, None, if◌then◌else◌, arith, subst, drop}
+use Rattle.std.proofs.lemmas.Grind.{common_steps}
+use Rattle.std.proofs.lemmas.List.{nil_from_length}
+use Rattle.std.proofs.lemmas.Bool.Decides.{nat_tests}
+use Rattle.task_desc.specs.declared.desc.Place.TheVariants.{Sub, Super}
+use Rattle.guest_image.specs.declared.image.Kind.{Kind}
+use Rattle.task_desc.specs.declared.desc.Name.{Name}
+use Rattle.task_desc.specs.declared.desc.Spawn.{Spawn}
+use Rattle.serial_machine.specs.declared.bag.PendingTask.{PendingTask}
+use Rattle.serial_machine.specs.BagValue.{BagValue}
+use Rattle.guest_image.specs.ImageValue.{ImageValue}
+use Rattle.serial_machine.specs.TaskState.{TaskState}
+use Rattle.serial_machine.specs.State.{State, IsStack}
+use Rattle.serial_machine.specs.TaskRun.{Done, Trapped, TaskEnd, task_run, steps, begun}
+use Rattle.task_desc.specs.declared.desc.Ctx.{Ctx}
+use Rattle.serial_machine.specs.Legs.{SubFits, Finishes}
+use Rattle.serial_machine.specs.declared.running.RunEnd.TheVariants as run_ends
+use Rattle.serial_machine.specs.declared.bag.Bag.{Bag}
+use Rattle.serial_machine.specs.Stack.{bag_value, bags, settled, IsSelected, IsSelectedFrom, IsOnceInFirst}
+use Rattle.serial_machine.specs.Names.{AreNamed}
+use Rattle.serial_machine.proofs.Naming.{once-in-first}
+use Rattle.serial_machine.proofs.Stacks.{bags-drop}
+use Rattle.serial_machine.specs.Turn.{context_of, with_super, sub_bags, stack_after, children, inner, is_pending, MayTurn, run_of, turn}
+
+pub length-with_super : (tasks : List PendingTask) (outer : List BagValue) → length (with_super tasks outer) ≡ length outer
+length-with_super tasks [] = refl
+length-with_super tasks (b ∷ bs) = refl
+
+pub IsStack-with_super : (tasks : List PendingTask) (outer : List BagValue) → IsStack outer → IsStack (with_super tasks outer)
+IsStack-with_super tasks [] h = tt
+IsStack-with_super tasks (b ∷ bs) h = h
+
+-- at most one bag more
+pub IsStack-chosen : (b : Bool) (bag : BagValue) (rest : List BagValue) → bag.depth ≡ length rest + 1 → bag.depth ≤ 8 → IsStack rest → IsStack ((if b then [] else bag ∷ []) ++ rest)
+IsStack-chosen true bag rest e le h = h
+IsStack-chosen false bag rest e le h = (e, le, h)
+
+pub IsStack-sub : (depth floor owner : ℕ) (tasks : List PendingTask) (sub : Option Kind) (rest : List BagValue)
+    → depth ≡ length rest → depth ≤ 8 → SubFits depth sub → IsStack rest → IsStack (sub_bags (depth + 1) floor owner tasks sub ++ rest)
+IsStack-sub depth floor owner tasks None rest e le fits h = h
+IsStack-sub depth floor owner tasks (Some kind) rest e le fits h = IsStack-chosen (length tasks == 0) _ rest (omega arith) (omega arith) h
+
+pub IsStack-after : (bag : BagValue) (outer : List BagValue) (name : Name) (n ts : ℕ) (spawns : List Spawn) (sub : Option Kind)
+    → IsStack (bag ∷ outer) → SubFits bag.depth sub → IsStack (stack_after bag outer name n ts spawns sub)
+unfolding stack_after
+IsStack-after bag outer name n ts spawns sub h fits =
+    IsStack-sub bag.depth ts n (children Sub n spawns) sub _ (omega (arith, h.0, length-with_super (children Super n spawns) outer)) h.1 fits
+    (omega (arith, h.0, length-with_super (children Super n spawns) outer), h.1, IsStack-with_super (children Super n spawns) outer h.2)
+
+-- an empty bag holds no task
+pub is_pending-inner : (name : Name) (stack : List BagValue) → is_pending name (inner stack) ≡ is_pending name stack
+is_pending-inner name [] = refl
+is_pending-inner name (bag ∷ outer) = go (is_pending-inner name outer) (length bag.tasks == 0) refl where
+  go : is_pending name (inner outer) ≡ is_pending name outer → (b : Bool) → (length bag.tasks == 0) ≡ b → is_pending name (if b then inner outer else bag ∷ outer) ≡ is_pending name (bag ∷ outer)
+  go ih true e = let z : bag.tasks ≡ [] = grind (arith, nat_tests, common_steps, nil_from_length) in rw z ih
+  go ih false e = refl
+
+-- a task of the innermost bag takes its turn
+pub turn-done : (image : ImageValue) (budget : ℕ) (s : State) (name : Name) (bag : BagValue) (outer : List BagValue) (task : PendingTask) (t : TaskState)
+    → MayTurn s.stack name bag outer task → run_of image budget s bag outer task ≡ Done t
+    → turn image budget s name ≡ Some (record { stack = stack_after bag outer name (s.count + 1) task.ts t.spawns t.sub; memory = t.memory; output = s.output ++ t.bytes; count = s.count + 1 }, record { name = name; depth = bag.depth; ts = task.ts })
+unfolding turn
+turn-done image budget s name bag outer task t m r = rw (m.top, m.found, m.least, r) refl
+
+pub finish-done : (o : TaskEnd) (t : TaskState) → Finishes o run_ends.Done t → o ≡ Done t
+finish-done (Done u) t h = ap Done (sym h)
+finish-done (Trapped cause pc) t h = absurd h
+
+pub turn-finished : (image : ImageValue) (budget : ℕ) (s : State) (name : Name) (bag : BagValue) (outer : List BagValue) (task : PendingTask) (t : TaskState)
+    → MayTurn s.stack name bag outer task → Finishes (run_of image budget s bag outer task) run_ends.Done t
+    → turn image budget s name ≡ Some (record { stack = stack_after bag outer name (s.count + 1) task.ts t.spawns t.sub; memory = t.memory; output = s.output ++ t.bytes; count = s.count + 1 }, record { name = name; depth = bag.depth; ts = task.ts })
+turn-finished image budget s name bag outer task t m f = turn-done image budget s name bag outer task t m (finish-done _ t f)
+
+pub finish-trapped : (o : TaskEnd) (cause pc : ℕ) (t : TaskState) → Finishes o (run_ends.Trapped cause pc) t → o ≡ Trapped cause pc
+finish-trapped (Done u) cause pc t h = absurd h
+finish-trapped (Trapped c p) cause pc t h = rw (h.0, h.1) refl
+
+-- the steps of a task that has done nothing are its run
+pub steps-begun : (image : ImageValue) (budget : ℕ) (ctx : Ctx) (entry ts : ℕ) (args memory before : List ℕ) (task : TaskState) → ctx.ts ≡ ts → before ≡ memory → task ≡ begun entry ts args before
+    → steps image budget ctx (budget - task.core.used) task ≡ task_run image budget ctx entry args memory
+unfolding task_run
+steps-begun image budget ctx entry ts args memory before task at same is =
+    let all : budget - 0 ≡ budget = omega arith in
+    ap (λ t. steps image budget ctx (budget - t.core.used) t) is
+    ∙ ap (λ k. steps image budget ctx k (begun entry ts args before)) all
+    ∙ ap (λ m. steps image budget ctx budget (begun entry ts args m)) same
+    ∙ ap (λ t. steps image budget ctx budget (begun entry t args memory)) (sym at)
+
+-- the emptied bags go
+pub IsStack-inner : (stack : List BagValue) → IsStack stack → IsStack (inner stack)
+IsStack-inner [] h = h
+IsStack-inner (bag ∷ outer) h = go (length bag.tasks == 0) (IsStack-inner outer h.2) where
+  go : (b : Bool) → IsStack (inner outer) → IsStack (if b then inner outer else bag ∷ outer)
+  go true ih = ih
+  go false ih = h
+
+-- the task that was selected may take the next turn from the bag that stands there
+pub may_turn : (stack one two outer : List Bag) (bag : Bag) (name : Name) (place : ℕ) (task : PendingTask) → one ≡ stack → two ≡ stack
+    → IsSelected one name place task → drop place two ≡ bag ∷ outer → MayTurn (bags stack) name (bag_value bag) (bags outer) task
+may_turn stack one two outer bag name place task e f selected stands =
+    let At : List Bag → Type 0 = λ s. IsSelected s name place task in
+    let here = subst At e selected in
+    let From : List Bag → Type 0 = IsSelectedFrom (bags stack) name task in
+    subst From (ap (drop place) (sym f) ∙ stands) here.may
+
+-- and it stands there once
+pub once-at : (stack two outer : List Bag) (bag : Bag) (name : Name) (place count : ℕ) (task : PendingTask) → two ≡ stack → drop place two ≡ bag ∷ outer
+    → MayTurn (bags stack) name (bag_value bag) (bags outer) task → AreNamed count (bags stack) → IsOnceInFirst name (drop place (bags stack))
+once-at stack two outer bag name place count task f stands may named =
+    let Once : List BagValue → Type 0 = IsOnceInFirst name in
+    subst Once (ap bags (sym stands) ∙ bags-drop place two ∙ ap (λ s. drop place (bags s)) f) (once-in-first count name (bags stack) named (bag_value bag) (bags outer) may.top)
+
+-- the stack after a turn, as the code makes it
+pub stack-after : (stack two outer : List Bag) (bag : Bag) (new : List BagValue) (name : Name) (place n ts depth : ℕ) (spawns : List Spawn) (sub : Option Kind) → two ≡ stack → drop place two ≡ bag ∷ outer → depth ≡ bag.depth
+    → new ≡ settled name n spawns (sub_bags (depth + 1) ts n (children Sub n spawns) sub) (drop place (bags stack))
+    → new ≡ stack_after (bag_value bag) (bags outer) name n ts spawns sub
+unfolding stack_after
+stack-after stack two outer bag new name place n ts depth spawns sub f stands deep is =
+    is
+    ∙ ap (settled name n spawns (sub_bags (depth + 1) ts n (children Sub n spawns) sub)) (sym (ap bags (sym stands) ∙ bags-drop place two ∙ ap (λ s. drop place (bags s)) f))
+    ∙ ap (λ d. settled name n spawns (sub_bags (d + 1) ts n (children Sub n spawns) sub) (bag_value bag ∷ bags outer)) deep
+
+-- the turn of a task that is done
+pub turn-taken : (image : ImageValue) (budget : ℕ) (s : State) (name : Name) (bag : BagValue) (outer stack : List BagValue) (task : PendingTask) (ctx : Ctx) (memory output : List ℕ) (t : TaskState)
+    → MayTurn s.stack name bag outer task → ctx ≡ context_of bag outer task → task_run image budget ctx task.entry task.args s.memory ≡ Done t
+    → stack ≡ stack_after bag outer name (s.count + 1) task.ts t.spawns t.sub → memory ≡ t.memory → output ≡ s.output ++ t.bytes
+    → turn image budget s name ≡ Some (record { stack = stack; memory = memory; output = output; count = s.count + 1 }, record { name = name; depth = ctx.depth; ts = task.ts })
+turn-taken image budget s name bag outer stack task ctx memory output t may at ran left kept told =
+    let run : run_of image budget s bag outer task ≡ Done t = ap (λ x. task_run image budget x task.entry task.args s.memory) (sym at) ∙ ran in
+    rw (left, kept, told, ap (λ x. x.depth) at) (turn-done image budget s name bag outer task t may run)

@@ -1,0 +1,9 @@
+pub mod BagValue
+pub mod TaskState
+pub mod TaskRun
+pub mod State
+pub mod Turn
+pub mod Names
+pub mod Run
+pub mod Legs
+pub mod Stack

@@ -1,0 +1,58 @@
+-- The stack of bags as the code keeps it.
+use Rattle.std.specs.Prelude.{◌≡◌, ◌≤◌, ◌<◌, ◌+◌, ℕ, List, [], ◌∷◌, ◌++◌, map, vec_len, vec_capacity, length, drop, false, Option, Some, None}
+use Rattle.task_desc.specs.declared.desc.Name.{Name}
+use Rattle.task_desc.specs.declared.desc.Spawn.{Spawn}
+use Rattle.task_desc.specs.declared.desc.Place.TheVariants.{Same, Super}
+use Rattle.serial_machine.specs.declared.bag.Bag.{Bag}
+use Rattle.serial_machine.specs.BagValue.{BagValue}
+use Rattle.serial_machine.specs.declared.bag.PendingTask.{PendingTask}
+use Rattle.serial_machine.specs.declared.fault.TurnFault.{TurnFault}
+use Rattle.serial_machine.specs.declared.fault.TurnFault.TheVariants as faults
+use Rattle.serial_machine.specs.Turn.{without, children, with_super, is_pending, MayTurn, IsNotTop, IsNotLeast}
+use Rattle.serial_machine.specs.Names.{times}
+
+-- what a bag says, whatever room it has
+abbrev pub bag_value : Bag → BagValue
+bag_value bag = record { depth = bag.depth; kind = bag.kind; floor = bag.floor; owner = bag.owner; tasks = bag.tasks.items }
+
+abbrev pub bags : List Bag → List BagValue
+bags stack = map bag_value stack
+
+-- a new bag, if there is one
+abbrev pub new_bags : Option Bag → List BagValue
+new_bags None = []
+new_bags (Some bag) = bag_value bag ∷ []
+
+-- each bag has room for so many more tasks
+abbrev pub HaveRoom : ℕ → List Bag → Type 0
+HaveRoom more [] = Unit {0}
+HaveRoom more (bag ∷ stack) = (vec_len bag.tasks + more ≤ vec_capacity bag.tasks) × HaveRoom more stack
+
+-- the first bag holds at most one task of a name
+abbrev pub IsOnceInFirst : Name → List BagValue → Type 0
+IsOnceInFirst name [] = Unit {0}
+IsOnceInFirst name (bag ∷ outer) = times name bag.tasks ≤ 1
+
+-- the stack after a name left the first bag and the children joined their domains, of which the new ones come first
+abbrev pub settled : Name → ℕ → List Spawn → List BagValue → List BagValue → List BagValue
+settled name owner spawns new [] = new
+settled name owner spawns new (bag ∷ outer) =
+    new ++ record bag { tasks = without name bag.tasks ++ children Same owner spawns } ∷ with_super (children Super owner spawns) outer
+
+-- the first of these bags holds the task of a name, which may take the next turn of a stack
+abbrev pub IsSelectedFrom : List BagValue → Name → PendingTask → List Bag → Type 0
+IsSelectedFrom full name task [] = ⊥
+IsSelectedFrom full name task (bag ∷ outer) = MayTurn full name (bag_value bag) (bags outer) task
+
+-- the bag at a place holds the task of a name, which may take the next turn
+pub record IsSelected (stack : List Bag) (name : Name) (place : ℕ) (task : PendingTask) : Type 0 where
+  pub within : place < length stack
+  pub may : IsSelectedFrom (bags stack) name task (drop place stack)
+
+-- why no task is selected by a name
+abbrev pub IsUnselected : List BagValue → Name → TurnFault → Type 0
+IsUnselected stack name faults.NotPending = is_pending name stack ≡ false
+IsUnselected stack name (faults.NotTop depth) = IsNotTop stack name depth
+IsUnselected stack name (faults.NotLeast ts) = IsNotLeast stack name ts
+IsUnselected stack name (faults.Trap cause pc) = ⊥
+IsUnselected stack name faults.Memory = ⊥

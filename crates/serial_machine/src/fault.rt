@@ -1,0 +1,69 @@
+//! How a run ends, and why a task does not take the next turn.
+
+ghost use Rattle.std.specs.Prelude.{◌≡◌};
+ghost use Rattle.serial_machine.specs.declared.fault.TurnFault.TheVariants.{Memory};
+
+use std::alloc::{AllocError, AllocFailed};
+use task_desc::Name;
+
+/// How a run ends. Normal, Limit and Trap are tried in this order.
+#[derive(Clone, Copy, Debug, PartialEq, Eq)]
+pub enum End {
+    /// No task is pending.
+    Normal,
+    /// A task that may take the next turn traps.
+    Trap {
+        /// The task's name.
+        name: Name,
+        /// The cause of the trap, 1 to 17.
+        cause: u8,
+        /// The address of the instruction that traps.
+        pc: u32,
+    },
+    /// The journal has as many entries as the commit limit, and a task is pending.
+    Limit,
+    /// The journal is shorter than the commit limit, and a task is pending.
+    Unfinished,
+}
+
+/// Why a task takes no turn. They are tried in this order.
+#[derive(Clone, Copy, Debug, PartialEq, Eq)]
+pub enum TurnFault {
+    /// No bag holds a task of the name.
+    NotPending,
+    /// The task is not in the innermost bag that isn't empty.
+    NotTop {
+        /// The depth of that bag.
+        depth: u8,
+    },
+    /// A task of that bag has a smaller timestamp.
+    NotLeast {
+        /// That timestamp.
+        ts: u32,
+    },
+    /// The task's run ends in a trap.
+    Trap {
+        /// The cause of the trap, 1 to 17.
+        cause: u8,
+        /// The address of the instruction that traps.
+        pc: u32,
+    },
+    /// Memory is wanting.
+    Memory,
+}
+
+impl From<AllocError> for TurnFault {
+    ghost from_gives = { λ _ e. e ≡ Memory };
+
+    fn from(_: AllocError) -> Self {
+        TurnFault::Memory
+    }
+}
+
+impl<T: Drop> From<AllocFailed<T>> for TurnFault {
+    ghost from_gives = { λ _ e. e ≡ Memory };
+
+    fn from(_: AllocFailed<T>) -> Self {
+        TurnFault::Memory
+    }
+}

@@ -1,0 +1,21 @@
+//! The serial meaning of a task program: a stack of bags of pending tasks, one memory, the output and a count of turns.
+//!
+//! A turn takes a task of least timestamp from the innermost bag that isn't empty and runs it whole. A turn costs the instructions of
+//! its task, its children and the length of that bag; nothing is copied, and a turn that is refused takes back its own stores.
+#![tactic(auto)]
+
+mod bag;
+mod fault;
+mod items;
+mod journal;
+mod progress;
+mod running;
+mod serial;
+mod stack;
+mod turning;
+
+pub use bag::PendingTask;
+pub use fault::{End, TurnFault};
+pub use items::Items;
+pub use journal::{Bytes, Entry, Journal};
+pub use serial::Serial;

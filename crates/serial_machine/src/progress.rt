@@ -1,0 +1,78 @@
+//! A task in progress.
+
+ghost use Rattle.std.specs.Prelude.{◌≡◌, ◌<◌, slice_index};
+ghost use Rattle.serial_machine.specs.TaskRun.{begun};
+
+use crate::bag::PendingTask;
+use guest_image::Kind;
+use rv_core::Core;
+use rv_table::Reg;
+use std::alloc::Global;
+use std::marker::Model;
+use task_desc::Spawn;
+use undo_log::{Log, Memory, undo};
+
+/// Where a step leads.
+#[derive(Clone, Copy, Debug, PartialEq, Eq)]
+pub(crate) enum Flow {
+    Continues,
+    Ended,
+    Trapped { cause: u8, pc: u32 },
+}
+
+/// A task in progress. Its stores are logged, so that they can be taken back.
+#[derive(Drop)]
+pub(crate) struct Progress {
+    pub core: Core,
+    pub memory: Memory,
+    pub log: Log,
+    pub spawns: Vec<Spawn>,
+    pub bytes: Vec<u8>,
+    pub sub: Option<Kind>,
+}
+
+impl Model for Progress {
+    ghost use Rattle.std.specs.Prelude.{length, ◌≤◌};
+    ghost use Rattle.undo_log.specs.Undo.{undone, AllAccessible};
+    ghost use Rattle.serial_machine.specs.Legs.{Tracked};
+
+    ghost Value = { Tracked };
+
+    ghost view = { λ p. record { task = record { core = p.core; memory = p.memory; spawns = p.spawns.items; bytes = p.bytes.items; sub = p.sub }; first = undone p.log p.memory } };
+
+    ghost invariant = { λ p. (length p.spawns.items ≤ 64) × (length p.bytes.items ≤ 256) × AllAccessible (length p.memory) p.log };
+}
+
+/// The value of a register.
+pub(crate) fn register(core: &Core, number: u8) -> u32
+    requires { number < 32 }
+    ensures { result ≡ slice_index core.now.regs number }
+{
+    match Reg::new(number) {
+        Some(reg) => core.regs.get(reg),
+        None => unreachable!(),
+    }
+}
+
+/// A task at its start, on this memory.
+pub(crate) fn started(alloc: Global, task: &PendingTask, memory: Memory) -> Progress
+    ensures { result ≡ record { task = begun task.now.entry task.now.ts task.now.args memory; first = memory } }
+{
+    Progress {
+        core: Core::start(task.entry, task.ts, task.args),
+        memory,
+        log: Log::new(alloc),
+        spawns: Vec::new(alloc),
+        bytes: Vec::new(alloc),
+        sub: None,
+    }
+}
+
+/// The memory that the task began with.
+pub(crate) fn taken_back(task: Progress) -> Memory
+    ensures { result ≡ task.first }
+{
+    let mut memory = task.memory;
+    undo(&mut memory, &task.log);
+    memory
+}

@@ -1,0 +1,294 @@
+//! The stack of bags: looking for a task, and the changes that a turn makes.
+
+ghost use Rattle.std.specs.Prelude.{◌≡◌, ◌≤◌, ◌<◌, ◌+◌, ◌++◌, ◌∷◌, [], ℕ, true, length, drop, map, vec_len, vec_capacity, IfOk, OnOk, IfSome, IfNone, MatchOption, MatchBool, Some, Contains};
+ghost use Rattle.std.specs.List.{list_any, position_from};
+ghost use Rattle.serial_machine.specs.Turn.{is_named, find_named, without, is_least, inner, is_pending, place_number, children, sub_bags, with_super};
+ghost use Rattle.serial_machine.specs.Names.{earlier, first_least, next_in, times};
+ghost use Rattle.serial_machine.specs.Stack.{bags, new_bags, HaveRoom, IsOnceInFirst, settled};
+
+use crate::bag::{Bag, PendingTask};
+use guest_image::Kind;
+use std::alloc::{AllocError, Global};
+use task_desc::{Name, Place, Spawn};
+
+fn has_name(name: Name, task: &PendingTask) -> bool
+    ensures { result ≡ is_named name task.now }
+{
+    task.name.creator == name.creator && task.name.index == name.index
+}
+
+/// The first task with a name.
+pub(crate) fn find(name: Name, tasks: &[PendingTask]) -> Option<PendingTask>
+    ensures { result ≡ find_named name tasks.now }
+{
+    for task in tasks {
+        if has_name(name, task) {
+            return Some(*task);
+        }
+    }
+    None
+}
+
+/// A smaller timestamp that is pending.
+pub(crate) fn smaller(ts: u32, tasks: &[PendingTask]) -> Option<u32>
+    ensures some { IfSome result (λ t. (t < ts) × Contains (map (λ x. x.ts) tasks.now) t) }
+    ensures none { IfNone result (is_least ts tasks.now ≡ true) }
+{
+    for task in tasks {
+        if task.ts < ts {
+            return Some(task.ts);
+        }
+    }
+    None
+}
+
+/// Where the innermost bag stands that isn't empty.
+pub(crate) fn top(stack: &[Bag]) -> Option<usize>
+    ensures { MatchOption result (inner (bags stack.now) ≡ []) (λ k. (k < length stack.now) × (inner (bags stack.now) ≡ bags (drop k stack.now))) }
+{
+    for k in 0..stack.len() {
+        if !is_empty_at(stack, k) {
+            return Some(k);
+        }
+    }
+    None
+}
+
+fn is_empty_at(stack: &[Bag], k: usize) -> bool
+    requires { k < length stack.now }
+    ensures { MatchBool result (inner (bags (drop k stack.now)) ≡ inner (bags (drop (k + 1) stack.now))) (inner (bags (drop k stack.now)) ≡ bags (drop k stack.now)) }
+{
+    stack[k].tasks.is_empty()
+}
+
+/// The bag that stands there, and those outside it.
+pub(crate) fn bag_at(stack: &[Bag], k: usize) -> (&Bag, &[Bag])
+    requires { k < length stack.now }
+    ensures { drop k stack.now ≡ result.0.now ∷ result.1.now }
+{
+    let (_, rest) = stack.split_at(k);
+    match rest.split_first() {
+        Some((bag, outer)) => (bag, outer),
+        None => unreachable!(),
+    }
+}
+
+fn holds(name: Name, bag: &Bag) -> bool
+    ensures { result ≡ list_any (is_named name) bag.now.tasks.items }
+{
+    bag.tasks.iter().any(|task| has_name(name, task))
+}
+
+/// Whether some bag holds a task of a name.
+pub(crate) fn pending(name: Name, stack: &[Bag]) -> bool
+    ensures { result ≡ is_pending name (bags stack.now) }
+{
+    any_holds(name, stack)
+}
+
+fn any_holds(name: Name, stack: &[Bag]) -> bool
+    ensures { result ≡ list_any (λ b. list_any (is_named name) b.tasks.items) stack.now }
+{
+    stack.iter().any(|bag| holds(name, bag))
+}
+
+/// The second where its timestamp is smaller.
+fn choose(found: Option<PendingTask>, task: &PendingTask) -> Option<PendingTask>
+    ensures { result ≡ earlier found (Some task.now) }
+{
+    match found {
+        None => Some(*task),
+        Some(best) => if task.ts < best.ts {
+            Some(*task)
+        } else {
+            Some(best)
+        },
+    }
+}
+
+/// The first of the tasks with the least timestamp.
+pub(crate) fn first(tasks: &[PendingTask]) -> Option<PendingTask>
+    ensures { result ≡ first_least tasks.now }
+{
+    let mut found = None;
+    for task in tasks {
+        found = choose(found, task);
+    }
+    found
+}
+
+fn number(place: Place) -> u8
+    ensures { result ≡ place_number place }
+{
+    match place {
+        Place::Same => 0,
+        Place::Sub => 1,
+        Place::Super => 2,
+    }
+}
+
+/// The children for a domain join the tasks, which have room for them.
+#[tactic(auto, unfolding(crate::specs::Turn::children))]
+fn join(tasks: &mut Vec<PendingTask>, place: Place, owner: u32, spawns: &[Spawn])
+    requires few { length spawns.now ≤ 64 }
+    requires room { vec_len tasks.old + length spawns.now ≤ vec_capacity tasks.old }
+    ensures { tasks.new.items ≡ tasks.old.items ++ children place owner spawns.now }
+{
+    for (index, spawn) in spawns.iter().enumerate() {
+        if number(spawn.place) == number(place) {
+            let task = PendingTask {
+                name: Name {
+                    creator: owner,
+                    index: index as u32,
+                },
+                entry: spawn.entry,
+                ts: spawn.ts,
+                args: spawn.args,
+            };
+            tasks.push(task).unwrap();
+        }
+    }
+}
+
+/// A name leaves the tasks, where it stands at most once.
+fn leave(tasks: &mut Vec<PendingTask>, name: Name)
+    requires { times name tasks.old.items ≤ 1 }
+    ensures items { tasks.new.items ≡ without name tasks.old.items }
+    ensures len { vec_len tasks.new ≤ vec_len tasks.old }
+    ensures room { vec_capacity tasks.new ≡ vec_capacity tasks.old }
+{
+    if let Some(at) = place_of(name, tasks) {
+        let _gone = tasks.remove(at);
+    }
+}
+
+/// Where the first task of a name stands.
+fn place_of(name: Name, tasks: &[PendingTask]) -> Option<usize>
+    ensures { result ≡ position_from (is_named name) 0 tasks.now }
+{
+    tasks.iter().position(|task| has_name(name, task))
+}
+
+/// The bag of the new subdomain; none for no task.
+pub(crate) fn subdomain(
+    alloc: Global,
+    depth: u8,
+    floor: u32,
+    owner: u32,
+    kind: Option<Kind>,
+    spawns: &[Spawn],
+) -> Result<Option<Bag>, AllocError>
+    requires { length spawns.now ≤ 64 }
+    ensures { IfOk result (λ new. new_bags new ≡ sub_bags depth floor owner (children Place.Sub owner spawns.now) kind) }
+{
+    let Some(kind) = kind else {
+        return Ok(None);
+    };
+    let mut tasks = Vec::with_capacity(alloc, spawns.len())?;
+    join(&mut tasks, Place::Sub, owner, spawns);
+    if tasks.is_empty() {
+        return Ok(None);
+    }
+    Ok(Some(Bag {
+        depth,
+        kind,
+        floor,
+        owner,
+        tasks,
+    }))
+}
+
+/// Makes room for one more bag, and for so many more tasks in each.
+pub(crate) fn make_room(stack: &mut Vec<Bag>, more: usize) -> Result<(), AllocError>
+    ensures same { bags stack.new.items ≡ bags stack.old.items }
+    ensures spare { OnOk result (vec_len stack.new < vec_capacity stack.new) }
+    ensures room { OnOk result (HaveRoom more stack.new.items) }
+{
+    stack.reserve(1)?;
+    widen(stack, more)
+}
+
+fn widen(stack: &mut [Bag], more: usize) -> Result<(), AllocError>
+    ensures same { bags stack.new ≡ bags stack.old }
+    ensures room { OnOk result (HaveRoom more stack.new) }
+{
+    for bag in stack.iter_mut() {
+        bag.tasks.reserve(more)?;
+    }
+    Ok(())
+}
+
+/// Takes the first bag off. There are at most as many bags as domains nest, so that the others move up is no cost.
+fn take_first(stack: &mut Vec<Bag>) -> Bag
+    requires { 0 < vec_len stack.old }
+    ensures taken { stack.old.items ≡ result ∷ stack.new.items }
+    ensures len { vec_len stack.new + 1 ≡ vec_len stack.old }
+    ensures room { vec_capacity stack.new ≡ vec_capacity stack.old }
+{
+    stack.remove(0)
+}
+
+/// Puts a bag before the others, where there is room.
+fn put_first(stack: &mut Vec<Bag>, bag: Bag)
+    requires { vec_len stack.old < vec_capacity stack.old }
+    ensures put { stack.new.items ≡ bag ∷ stack.old.items }
+    ensures len { vec_len stack.new ≡ vec_len stack.old + 1 }
+    ensures room { vec_capacity stack.old ≤ vec_capacity stack.new }
+{
+    stack.insert(0, bag).unwrap();
+}
+
+/// Drops the first bags, which are empty.
+fn drop_first(stack: &mut Vec<Bag>, count: usize)
+    requires { count ≤ vec_len stack.old }
+    ensures dropped { stack.new.items ≡ drop count stack.old.items }
+    ensures len { vec_len stack.new + count ≡ vec_len stack.old }
+    ensures room { vec_capacity stack.new ≡ vec_capacity stack.old }
+{
+    for done in 0..count {
+        let _empty = take_first(stack);
+    }
+}
+
+/// The children for the superdomain join the first bag, if there is one.
+fn join_outside(stack: &mut Vec<Bag>, owner: u32, spawns: &[Spawn])
+    requires few { length spawns.now ≤ 64 }
+    requires room { HaveRoom (length spawns.now) stack.old.items }
+    ensures joined { bags stack.new.items ≡ with_super (children Place.Super owner spawns.now) (bags stack.old.items) }
+    ensures len { vec_len stack.new ≡ vec_len stack.old }
+    ensures spare { vec_capacity stack.old ≤ vec_capacity stack.new }
+{
+    if stack.is_empty() {
+        return;
+    }
+    let mut bag = take_first(stack);
+    join(&mut bag.tasks, Place::Super, owner, spawns);
+    put_first(stack, bag);
+}
+
+/// What a turn changes: the emptied bags go, the name leaves its bag, and the children join their domains. All room was made before.
+pub(crate) fn settle(
+    stack: &mut Vec<Bag>,
+    top: usize,
+    name: Name,
+    owner: u32,
+    new: Option<Bag>,
+    spawns: &[Spawn],
+)
+    requires top { top < vec_len stack.old }
+    requires few { length spawns.now ≤ 64 }
+    requires spare { vec_len stack.old < vec_capacity stack.old }
+    requires room { HaveRoom (length spawns.now) stack.old.items }
+    requires once { IsOnceInFirst name (bags (drop top stack.old.items)) }
+    ensures { bags stack.new.items ≡ settled name owner spawns.now (new_bags new) (bags (drop top stack.old.items)) }
+{
+    drop_first(stack, top);
+    let mut bag = take_first(stack);
+    leave(&mut bag.tasks, name);
+    join(&mut bag.tasks, Place::Same, owner, spawns);
+    join_outside(stack, owner, spawns);
+    put_first(stack, bag);
+    if let Some(bag) = new {
+        put_first(stack, bag);
+    }
+}

@@ -1,0 +1,198 @@
+//! A turn, on the parts of a machine.
+
+ghost use Rattle.std.specs.Prelude.{◌≡◌, ◌≤◌, ◌<◌, ◌+◌, ◌++◌, ◌∷◌, ◌^◌, ℕ, length, drop, IfOk, IfErr, OnOk, OnErr, Some, IsSome, ◌↔◌, MatchBool};
+ghost use Rattle.serial_machine.specs.Legs.{SubFits, Finishes, RunFails};
+ghost use Rattle.serial_machine.specs.Names.{AreNamed};
+ghost use Rattle.serial_machine.specs.Stack.{bag_value, bags, new_bags, settled, IsSelected, IsUnselected, IsOnceInFirst};
+ghost use Rattle.serial_machine.specs.State.{IsStack};
+ghost use Rattle.serial_machine.specs.TaskRun.{task_run, Done};
+ghost use Rattle.serial_machine.specs.Turn.{turn, Refuses, context_of, children, sub_bags, IsNotTop, is_pending, kind_outside};
+
+use crate::bag::{Bag, PendingTask};
+use crate::fault::TurnFault;
+use crate::journal::Entry;
+use crate::progress::{Progress, started, taken_back};
+use crate::running::{RunEnd, run};
+use crate::stack::{bag_at, find, make_room, pending, settle, smaller, subdomain, top};
+use guest_image::{Image, Kind};
+use std::alloc::{AllocError, Global};
+use std::mem::replace;
+use task_desc::{Ctx, Name, Place};
+use undo_log::Memory;
+
+/// Why a name is not in the innermost bag that isn't empty, which has this depth.
+fn missing(stack: &[Bag], name: Name, depth: u8) -> TurnFault
+    ensures { MatchBool (is_pending name (bags stack.now)) (result ≡ TurnFault.NotTop depth) (result ≡ TurnFault.NotPending) }
+{
+    if pending(name, stack) {
+        TurnFault::NotTop { depth }
+    } else {
+        TurnFault::NotPending
+    }
+}
+
+/// The task of a name, which may take the next turn, and the place of its bag.
+fn select(stack: &[Bag], name: Name) -> Result<(usize, PendingTask), TurnFault>
+    ensures ok { IfOk result (λ x. IsSelected stack.now name x.0 x.1) }
+    ensures refused { IfErr result (IsUnselected (bags stack.now) name) }
+{
+    let Some(place) = top(stack) else {
+        return Err(TurnFault::NotPending);
+    };
+    let (bag, _outer) = bag_at(stack, place);
+    let Some(task) = find(name, &bag.tasks) else {
+        return Err(missing(stack, name, bag.depth));
+    };
+    if let Some(ts) = smaller(task.ts, &bag.tasks) {
+        return Err(TurnFault::NotLeast { ts });
+    }
+    Ok((place, task))
+}
+
+fn kind_of_first(outer: &[Bag]) -> Option<Kind>
+    ensures { result ≡ kind_outside (bags outer.now) }
+{
+    match outer {
+        [] => None,
+        [bag, ..] => Some(bag.kind),
+    }
+}
+
+/// What the calls of a task depend on as it starts.
+fn context(bag: &Bag, outer: &[Bag], task: &PendingTask) -> Ctx
+    requires { IsStack (bag_value bag.now ∷ bags outer.now) }
+    ensures is { result ≡ context_of (bag_value bag.now) (bags outer.now) task.now }
+    ensures depth { 1 ≤ result.depth }
+    ensures outer { IsSome result.outer ↔ (1 < result.depth) }
+{
+    Ctx {
+        depth: bag.depth,
+        own: bag.kind,
+        outer: kind_of_first(outer),
+        ts: task.ts,
+        floor: bag.floor,
+        sub: None,
+        children: 0,
+        bytes: 0,
+    }
+}
+
+/// Runs the task of a bag on the memory, which the progress takes with it; where the run is not done the memory is as it was.
+fn run_done(
+    alloc: Global,
+    image: &Image,
+    budget: u32,
+    ctx: &Ctx,
+    task: &PendingTask,
+    memory: &mut Memory,
+) -> Result<Progress, TurnFault>
+    requires depth { 1 ≤ ctx.now.depth }
+    requires outer { IsSome ctx.now.outer ↔ (1 < ctx.now.depth) }
+    requires ts { ctx.now.ts ≡ task.now.ts }
+    requires size { length memory.old < 2 ^ 32 }
+    ensures done { IfOk result (λ p. task_run image.now budget ctx.now task.now.entry task.now.args memory.old ≡ Done p.task) }
+    ensures first { IfOk result (λ p. p.first ≡ memory.old) }
+    ensures sub { IfOk result (λ p. SubFits ctx.now.depth p.task.sub) }
+    ensures size { IfOk result (λ p. length p.task.memory ≡ length memory.old) }
+    ensures refused { IfErr result (RunFails (task_run image.now budget ctx.now task.now.entry task.now.args memory.old)) }
+    ensures unchanged { OnErr result (memory.new ≡ memory.old) }
+{
+    let Ok(empty) = Memory::new(alloc, &[], 0) else {
+        return Err(TurnFault::Memory);
+    };
+    let mut progress = started(alloc, task, replace(memory, empty));
+    match run(&mut progress, image, budget, ctx) {
+        Ok(RunEnd::Done) => Ok(progress),
+        Ok(RunEnd::Trapped { cause, pc }) => {
+            *memory = taken_back(progress);
+            Err(TurnFault::Trap { cause, pc })
+        }
+        Err(_) => {
+            *memory = taken_back(progress);
+            Err(TurnFault::Memory)
+        }
+    }
+}
+
+/// The children of a task that is done join their domains, and its bytes the output. Want of memory changes nothing.
+fn join_all(
+    alloc: Global,
+    stack: &mut Vec<Bag>,
+    place: usize,
+    entry: Entry,
+    owner: u32,
+    done: &Progress,
+    output: &mut Vec<u8>,
+) -> Result<(), AllocError>
+    requires within { place < length stack.old.items }
+    requires depth { entry.depth < 255 }
+    requires once { IsOnceInFirst entry.name (drop place (bags stack.old.items)) }
+    ensures stack { OnOk result (bags stack.new.items ≡ settled entry.name owner done.now.task.spawns (sub_bags (entry.depth + 1) entry.ts owner (children Place.Sub owner done.now.task.spawns) done.now.task.sub) (drop place (bags stack.old.items))) }
+    ensures output { OnOk result (output.new.items ≡ output.old.items ++ done.now.task.bytes) }
+    ensures stack_unchanged { OnErr result (bags stack.new.items ≡ bags stack.old.items) }
+    ensures output_unchanged { OnErr result (output.new.items ≡ output.old.items) }
+{
+    let new = subdomain(
+        alloc,
+        entry.depth + 1,
+        entry.ts,
+        owner,
+        done.sub,
+        &done.spawns,
+    )?;
+    make_room(stack, done.spawns.len())?;
+    output.extend_from_slice(&done.bytes)?;
+    settle(stack, place, entry.name, owner, new, &done.spawns);
+    Ok(())
+}
+
+/// The turn of a name. Where it is refused the stack says what it said, and the memory and the output are as they were.
+pub(crate) fn take_turn(
+    alloc: Global,
+    image: &Image,
+    budget: u32,
+    stack: &mut Vec<Bag>,
+    memory: &mut Memory,
+    output: &mut Vec<u8>,
+    count: u32,
+    name: Name,
+) -> Result<Entry, TurnFault>
+    requires count { count < 1000000 }
+    requires stack { IsStack (bags stack.old.items) }
+    requires named { AreNamed count (bags stack.old.items) }
+    requires size { length memory.old < 2 ^ 32 }
+    ensures ok { IfOk result (λ entry. turn image.now budget (record { stack = bags stack.old.items; memory = memory.old; output = output.old.items; count = count }) name ≡ Some (record { stack = bags stack.new.items; memory = memory.new; output = output.new.items; count = count + 1 }, entry)) }
+    ensures told { IfOk result (λ entry. entry.name ≡ name) }
+    ensures refused { IfErr result (Refuses image.now budget (record { stack = bags stack.old.items; memory = memory.old; output = output.old.items; count = count }) name) }
+    ensures stack_unchanged { OnErr result (bags stack.new.items ≡ bags stack.old.items) }
+    ensures memory_unchanged { OnErr result (memory.new ≡ memory.old) }
+    ensures output_unchanged { OnErr result (output.new.items ≡ output.old.items) }
+    ensures size { length memory.new ≡ length memory.old }
+    ensures depths { OnOk result (IsStack (bags stack.new.items)) }
+    ensures names { OnOk result (AreNamed (count + 1) (bags stack.new.items)) }
+{
+    let (place, task) = match select(stack, name) {
+        Ok(selected) => selected,
+        Err(fault) => return Err(fault),
+    };
+    let (bag, outer) = bag_at(stack, place);
+    let ctx = context(bag, outer, &task);
+    let done = match run_done(alloc, image, budget, &ctx, &task, memory) {
+        Ok(done) => done,
+        Err(fault) => return Err(fault),
+    };
+    let entry = Entry {
+        name,
+        depth: ctx.depth,
+        ts: task.ts,
+    };
+    match join_all(alloc, stack, place, entry, count + 1, &done, output) {
+        Ok(()) => {}
+        Err(_) => {
+            *memory = taken_back(done);
+            return Err(TurnFault::Memory);
+        }
+    }
+    *memory = done.memory;
+    Ok(entry)
+}
