@@ -1,0 +1,9 @@
+pub mod Turned
+pub mod RunSteps
+pub mod Distinct
+pub mod Placed
+pub mod Counted
+pub mod Complete
+pub mod Deeper
+pub mod Forced
+pub mod Lawful

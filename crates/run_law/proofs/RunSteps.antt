@@ -1,0 +1,43 @@
+-- How runs are put together and taken apart.
+use Rattle.std.proofs.Common.{◌≡◌, refl, sym, ap, ◌∙◌, subst, ℕ, List, [], ◌∷◌, ◌++◌, Some}
+use Rattle.std.proofs.lemmas.Option.{same_Some}
+use Rattle.guest_image.specs.ImageValue.{ImageValue}
+use Rattle.serial_machine.specs.declared.journal.Entry.{Entry}
+use Rattle.serial_machine.specs.State.{State}
+use Rattle.serial_machine.specs.Turn.{turn}
+use Rattle.serial_machine.specs.Run.{Runs, IsRun, opening}
+use Rattle.run_law.specs.Laws.{IsTurnOf}
+
+-- a run goes on by one more turn
+pub Runs-more : (image : ImageValue) (budget : ℕ) (es : List Entry) (s before after : State) (e : Entry)
+    → Runs image budget s es before → turn image budget before e.name ≡ Some (after, e) → Runs image budget s (es ++ e ∷ []) after
+Runs-more image budget [] s before after e run t = (after, ap (λ m. turn image budget m e.name) run ∙ t, refl)
+Runs-more image budget (x ∷ xs) s before after e (mid, first, rest) t = (mid, first, Runs-more image budget xs mid before after e rest t)
+
+-- a run is a run of its first entries and then one of the others
+pub Runs-append : (image : ImageValue) (budget : ℕ) (es more : List Entry) (s after : State)
+    → Runs image budget s (es ++ more) after → (mid : State) × Runs image budget s es mid × Runs image budget mid more after
+Runs-append image budget [] more s after run = (s, refl, run)
+Runs-append image budget (e ∷ es) more s after (mid, t, run) =
+    let parts = Runs-append image budget es more mid after run in (parts.0, (mid, t, parts.1), parts.2)
+
+-- where the same entries lead is the same
+pub Runs-same : (image : ImageValue) (budget : ℕ) (es : List Entry) (s one two : State) → Runs image budget s es one → Runs image budget s es two → one ≡ two
+Runs-same image budget [] s one two a b = sym a ∙ b
+Runs-same image budget (e ∷ es) s one two (mid, t, a) (other, u, b) =
+    let same : mid ≡ other = ap (λ p. p.0) (same_Some _ _ (sym t ∙ u)) in
+    Runs-same image budget es mid one two a (subst (λ m. Runs image budget m es two) (sym same) b)
+
+-- what a turn of a run's journal led to, and the run from there on
+pub record IsTaken (image : ImageValue) (budget : ℕ) (before : State) (entry : Entry) (rest : List Entry) (last : State) : Type 0 where
+  pub after : State
+  pub taken : turn image budget before entry.name ≡ Some (after, entry)
+  pub on : Runs image budget after rest last
+
+pub turn-taken : (image : ImageValue) (budget : ℕ) (journal : List Entry) (last : State) (front : List Entry) (before : State) (entry : Entry)
+    → IsRun image budget journal last → (t : IsTurnOf image budget journal front before entry) → IsTaken image budget before entry t.rest last
+turn-taken image budget journal last front before entry run t =
+    let parts = Runs-append image budget front (entry ∷ t.rest) (opening image) last (subst (λ j. Runs image budget (opening image) j last) t.stands run) in
+    let same : parts.0 ≡ before = Runs-same image budget front (opening image) parts.0 before parts.1 t.run in
+    let on = subst (λ m. Runs image budget m (entry ∷ t.rest) last) same parts.2 in
+    record { after = on.0; taken = on.1; on = on.2 }
