@@ -1,0 +1,14 @@
+//! Why a text is no report.
+
+use thiserror::Error;
+
+/// Why a text was not read as a report.
+#[derive(Clone, Copy, Debug, PartialEq, Eq, Error)]
+pub enum JournalFault {
+    /// This line, counted from 1, is the first outside the grammar.
+    #[error("line {line} is no line of a report")]
+    Line { line: u32 },
+    /// Memory was wanting.
+    #[error("out of memory")]
+    Memory,
+}

@@ -1,0 +1,29 @@
+//! The report of a run as a text: written line by line without memory, read back against its grammar, and checked
+//! against the serial machine. A writer keeps one line at a time; reading takes memory for what the text says and
+//! time linear in it; checking takes the time of the run and copies no entry.
+#![tactic(auto)]
+
+mod checking;
+mod cutting;
+mod fault;
+mod hexing;
+mod limits;
+mod line;
+mod parsing;
+mod reading;
+mod report;
+#[cfg(test)]
+mod tests;
+mod verdict;
+mod window;
+mod writing;
+
+pub use checking::{check, examine, verdicts_agree_on_the_line};
+pub use cutting::{behind, cut};
+pub use fault::JournalFault;
+pub use limits::{MAX_CAUSE, MAX_DEPTH, MAX_ENTRIES};
+pub use line::{Line, put};
+pub use reading::{read_journal, written_reports_read_back};
+pub use report::{Report, Window, WindowWord};
+pub use verdict::{Examined, Verdict};
+pub use writing::{write_body, write_end, write_entries, write_report};

@@ -1,0 +1,37 @@
+//! What checking a report finds.
+
+use serial_machine::{Serial, TurnFault};
+
+/// Whether a report is that of a run.
+#[derive(Clone, Copy, Debug, PartialEq, Eq)]
+pub enum Verdict {
+    /// It is.
+    Yes,
+    /// This line of the report, counted from 1, is the first that isn't the run's.
+    Illegal {
+        line: u32,
+        /// Why the serial machine refuses the turn, where the line is an entry up to the commit limit
+        /// that is no legal turn.
+        why: Option<TurnFault>,
+    },
+    /// Memory was wanting.
+    Memory,
+}
+
+/// A verdict, with the machine at the end of the run where the report is that of a run.
+#[derive(Drop)]
+pub enum Examined {
+    /// The report is that of a run, which led to this machine.
+    Yes(Serial),
+    /// As in [`Verdict::Illegal`].
+    Illegal { line: u32, why: Option<TurnFault> },
+    /// Memory was wanting.
+    Memory,
+}
+
+/// Why the entries of a report are no run.
+#[derive(Clone, Copy, Debug, PartialEq, Eq)]
+pub(crate) enum NoRun {
+    Line { line: u32, why: Option<TurnFault> },
+    Memory,
+}
