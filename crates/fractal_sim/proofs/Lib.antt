@@ -1,0 +1,4 @@
+pub mod Options
+pub mod Limits
+pub mod Found
+pub mod Answering

@@ -1,0 +1,65 @@
+-- Options that are read word by word, and values digit by digit.
+use Rattle.std.proofs.Common.{◌≡◌, ◌∙◌, refl, ap, ℕ, suc, ◌+◌, ◌-◌, ◌*◌, ◌^◌, ◌<◌, ◌≤◌, Bool, true, false, List, ◌∷◌, length, take, get_or, arith, add-one, Some, None}
+use Rattle.std.specs.declared.option.Option.{Option}
+use Rattle.std.specs.Prelude.{option_map, option_and_then, MatchOption}
+use Rattle.std.specs.List.{list_all}
+use Rattle.std.specs.Char.{is_ascii_digit, digit_value}
+use Rattle.std.specs.Str.Parse.{digits_value}
+use Rattle.std.proofs.Math.Seq.{take-suc}
+use Rattle.std.proofs.Math.Nat.{pow-suc}
+use Rattle.std.proofs.lemmas.List.Folds.{list_all_at}
+use Rattle.std.proofs.lemmas.Int.Digits.{digits_value_push}
+use Rattle.std.proofs.lemmas.Grind.{common_steps}
+use Rattle.std.proofs.lemmas.Bool.Decides.{nat_tests}
+use Rattle.fractal_sim.specs.declared.words.Chosen.{Chosen}
+use Rattle.fractal_sim.specs.declared.words.Reading.{Reading}
+use Rattle.fractal_sim.specs.Words.{Given, Whole, word_of, chosen_with, chosen_by, options_in, read_on}
+
+-- an option in front is chosen first
+pub onto_read : (c : Chosen) (g : Given) (o : Option (List Given))
+    → option_and_then (chosen_by c) (option_map (λ gs. g ∷ gs) o) ≡ option_and_then (λ next. option_and_then (chosen_by next) o) (chosen_with c g)
+onto_read c g (Some os) = refl
+onto_read c g None = none (chosen_with c g) where
+  none : (o : Option Chosen) → None ≡ option_and_then (λ next. option_and_then (chosen_by next) None) o
+  none None = refl
+  none (Some next) = refl
+
+-- what is read behind one more word, which gave this reading or none
+abbrev pub ReadsOn : Chosen → Option (List ℕ) → List ℕ → Option Reading → Type 0
+ReadsOn c waiting word r = MatchOption r ((words : List (List ℕ)) → read_on c waiting (word ∷ words) ≡ None) (λ next. (words : List (List ℕ)) → read_on c waiting (word ∷ words) ≡ read_on next.chosen (option_map (λ w. w.now) next.waiting) words)
+
+-- an option's value was chosen, or not
+abbrev pub Chooses : Chosen → Given → Option Reading → Type 0
+Chooses c g r = MatchOption r (chosen_with c g ≡ None) (λ next. (chosen_with c g ≡ Some next.chosen) × (next.waiting ≡ None))
+
+-- the value of the name that waits
+pub value_read : (c : Chosen) (name value : List ℕ) (r : Option Reading) → Chooses c (record { name = name; value = value }) r → ReadsOn c (Some name) value r
+value_read c name value None h = λ words. onto_read c (record { name = name; value = value }) (options_in None words) ∙ rw h refl
+value_read c name value (Some next) h = λ words. onto_read c (record { name = name; value = value }) (options_in None words) ∙ rw (h.0, h.1) refl
+
+-- a word with its value
+pub whole_read : (c : Chosen) (word name value : List ℕ) (r : Option Reading) → word_of word ≡ Whole name value → Chooses c (record { name = name; value = value }) r → ReadsOn c None word r
+whole_read c word name value None e h = λ words. rw e (onto_read c (record { name = name; value = value }) (options_in None words) ∙ rw h refl)
+whole_read c word name value (Some next) e h = λ words. rw e (onto_read c (record { name = name; value = value }) (options_in None words) ∙ rw (h.0, h.1) refl)
+
+-- each byte of digits is one
+pub digit_in : (ds : List ℕ) (i : ℕ) → list_all is_ascii_digit ds ≡ true → i < length ds → is_ascii_digit (get_or ds i 0) ≡ true
+digit_in ds i all below = go (is_ascii_digit (get_or ds i 0)) refl where
+  go : (b : Bool) → is_ascii_digit (get_or ds i 0) ≡ b → is_ascii_digit (get_or ds i 0) ≡ true
+  go true e = e
+  go false e = let none = list_all_at is_ascii_digit ds i 0 below e in let z : ⊥ = cc in absurd z
+
+digit-value : (c : ℕ) → is_ascii_digit c ≡ true → (digit_value c ≡ c - 48) × (c - 48 < 10) × (48 ≤ c)
+digit-value c e = (grind (arith, nat_tests, common_steps), grind (arith, nat_tests, common_steps), grind (arith, nat_tests, common_steps))
+
+-- one more digit
+pub digit_more : (ds : List ℕ) (i n : ℕ) → list_all is_ascii_digit ds ≡ true → i < length ds → n ≡ digits_value 10 (take i ds) → n < 10 ^ i
+    → (n * 10 + (get_or ds i 0 - 48) ≡ digits_value 10 (take (i + 1) ds)) × (n * 10 + (get_or ds i 0 - 48) < 10 ^ (i + 1))
+digit_more ds i n all below value small =
+    let d = digit-value (get_or ds i 0) (digit_in ds i all below) in
+    let next : i + 1 ≡ suc i = add-one i in
+    let more : digits_value 10 (take (i + 1) ds) ≡ digits_value 10 (take i ds) * 10 + digit_value (get_or ds i 0) =
+    ap (λ k. digits_value 10 (take k ds)) next ∙ ap (digits_value 10) (take-suc ds i 0 below) ∙ digits_value_push 10 (take i ds) (get_or ds i 0)
+    in
+    let power : 10 ^ (i + 1) ≡ 10 ^ i * 10 = ap (λ k. 10 ^ k) next ∙ pow-suc 10 i in
+    (omega (arith, more, value, d.0), omega (arith, power, small, d.1))

@@ -1,0 +1,18 @@
+//! What a call of the program leaves.
+
+use serial_machine::{Bytes, End, Journal};
+
+/// What the program answers: its exit status, and the run that it made or accepted.
+#[derive(Drop)]
+pub struct Outcome {
+    /// The exit status.
+    pub status: u8,
+    /// The journal of the run; empty where there is none.
+    pub journal: Journal,
+    /// The data memory that the run leads to; empty where there is none.
+    pub memory: Bytes,
+    /// The bytes that the run emitted; empty where there is none.
+    pub output: Bytes,
+    /// The end of the run, or of the report that was accepted; None where there is neither, and where memory was wanting.
+    pub end: Option<End>,
+}

@@ -1,0 +1,119 @@
+//! The run of an image, turn by turn.
+
+ghost use Rattle.std.specs.Prelude.{◌≡◌, ◌≢◌, ◌≤◌, ◌<◌, [], length, IfOk, IfSome, Some};
+ghost use Rattle.report_text.proofs.Replays.{IsTrapOrMemory};
+ghost use Rattle.serial_machine.specs.Run.{IsEnd, IsRun, opening};
+ghost use Rattle.fractal_sim.specs.Top.{HoldsRun};
+ghost use Rattle.fractal_sim.specs.Running.{Advances, IsLimitEnd, IsStopOf};
+
+use crate::finding::Closed;
+use guest_image::Image;
+use serial_machine::{Bytes, End, Entry, Journal, Serial, TurnFault};
+use std::alloc::{AllocError, Global};
+use task_desc::Name;
+
+/// What comes of a turn.
+#[derive(Clone, Copy, Debug)]
+pub(crate) enum Advance {
+    /// A task took its turn.
+    Taken,
+    /// No task takes a turn any more.
+    Over(End),
+    /// Memory was wanting.
+    Wanting,
+}
+
+/// Runs an image for at most `commits` turns. Of the tasks that may take the next turn it takes the first of the
+/// innermost bag that isn't empty. For want of memory the run has no end.
+pub(crate) fn run_image(
+    alloc: Global,
+    image: &Image,
+    commits: u32,
+    budget: u32,
+) -> Result<Closed, AllocError>
+    requires commits { commits ≤ 1000000 }
+    requires budget { budget ≤ 65536 }
+    ensures run { IfOk result (λ closed. HoldsRun image.now commits budget closed.journal closed.memory closed.output closed.end) }
+    ensures over { IfOk result (λ closed. closed.end ≢ Some End.Unfinished) }
+{
+    let mut serial = Serial::begin(alloc, image, budget)?;
+    let mut journal = Vec::new(alloc);
+    let end = take_turns(image, commits, &mut serial, &mut journal);
+    let (memory, output) = serial.into_parts();
+    Ok(Closed {
+        journal: Journal::from_vec(journal),
+        memory,
+        output,
+        end,
+    })
+}
+
+fn take_turns(
+    image: &Image,
+    commits: u32,
+    serial: &mut Serial,
+    journal: &mut Vec<Entry>,
+) -> Option<End>
+    requires opening { serial.old.state ≡ opening image.now }
+    requires empty { journal.old.items ≡ [] }
+    requires commits { commits ≤ 1000000 }
+    ensures run { IsRun image.now serial.old.budget journal.new.items serial.new.state }
+    ensures within { length journal.new.items ≤ commits }
+    ensures end { IfSome result (IsEnd image.now serial.old.budget commits journal.new.items serial.new.state) }
+    ensures over { result ≢ Some End.Unfinished }
+{
+    for _ in 0..commits {
+        match take_one(image, serial, journal) {
+            Advance::Taken => {}
+            Advance::Over(end) => return Some(end),
+            Advance::Wanting => return None,
+        }
+    }
+    Some(end_at_limit(serial))
+}
+
+/// One turn; where none is taken the machine and the journal are as they were.
+fn take_one(image: &Image, serial: &mut Serial, journal: &mut Vec<Entry>) -> Advance
+    requires { serial.old.state.count < 1000000 }
+    ensures { Advances image.now serial.old serial.new journal.old.items journal.new.items result }
+{
+    let Some(name) = serial.next() else {
+        return Advance::Over(End::Normal);
+    };
+    if journal.reserve(1).is_err() {
+        return Advance::Wanting;
+    }
+    match serial.turn(image, name) {
+        Ok(entry) => {
+            // There is room for it.
+            let _ = journal.push(entry);
+            Advance::Taken
+        }
+        Err(fault) => stopped_by(name, fault),
+    }
+}
+
+/// What comes of a trap, or of want of memory.
+fn stopped_by(name: Name, fault: TurnFault) -> Advance
+    requires { IsTrapOrMemory fault }
+    ensures { IsStopOf name fault result }
+{
+    match fault {
+        TurnFault::Trap { cause, pc } => Advance::Over(End::Trap { name, cause, pc }),
+        TurnFault::Memory => Advance::Wanting,
+        TurnFault::NotPending | TurnFault::NotTop { .. } | TurnFault::NotLeast { .. } => {
+            unreachable!()
+        }
+    }
+}
+
+/// How a run ends that has as many turns as it may have.
+fn end_at_limit(serial: &Serial) -> End
+    ensures { IsLimitEnd serial.now.state result }
+{
+    if serial.pending() {
+        End::Limit
+    } else {
+        End::Normal
+    }
+}

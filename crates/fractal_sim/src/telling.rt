@@ -1,0 +1,170 @@
+//! What was found is written, and told by a status. Nothing here takes memory.
+
+ghost use Rattle.std.specs.Prelude.{◌≡◌, ◌≢◌, ◌<◌, ◌++◌, ◌-◌, ◌^◌, codes, decimal, length, OnOk};
+ghost use Rattle.std.specs.Io.KnownBytes.{Appends};
+ghost use Rattle.sim_io.specs.Causes.{Rose};
+ghost use Rattle.sim_io.specs.Parts.{AppendsFront};
+ghost use Rattle.fractal_sim.specs.Finding.{IsWritable, KeepsClosed, Tells, run_status};
+ghost use Rattle.fractal_sim.specs.Top.{IsEmpty, accepted_line, end_status, image_fault_line, journal_fault_line};
+
+use crate::finding::{Closed, Finding};
+use crate::outcome::Outcome;
+use guest_image::{Image, ImageFault};
+use itoa::Buffer;
+use report_text::{Line, put, write_report};
+use serial_machine::{Bytes, End, Journal};
+use sim_io::{Sink, write_all};
+use std::alloc::Global;
+
+/// Writes what was found. The status is 7 where the sink fails.
+pub(crate) fn tell<K: Sink>(alloc: Global, sink: &mut K, found: Finding) -> Outcome
+    requires { IsWritable found }
+    ensures { Tells found (K.taken sink.old) (K.taken sink.new) (K.faults sink.old) (K.faults sink.new) result }
+{
+    match found {
+        Finding::Usage => tell_line(alloc, sink, 1, b"fault usage\n"),
+        Finding::Memory => empty(alloc, 5),
+        Finding::Unread => empty(alloc, 6),
+        Finding::Long => tell_line(alloc, sink, 10, b"fault long\n"),
+        Finding::NoImage(fault) => tell_image_fault(alloc, sink, fault),
+        Finding::Refused(line) => tell_journal_fault(alloc, sink, line),
+        Finding::Accepted(closed) => accept(sink, closed),
+        Finding::Ran(image, closed) => publish(sink, &image, closed),
+    }
+}
+
+fn empty(alloc: Global, status: u8) -> Outcome
+    ensures status { result.status ≡ status }
+    ensures empty { IsEmpty result }
+{
+    Outcome {
+        status,
+        journal: Journal::new(alloc),
+        memory: Bytes::new(alloc),
+        output: Bytes::new(alloc),
+        end: None,
+    }
+}
+
+/// Writes a line that tells why there is no run.
+fn tell_line<K: Sink>(alloc: Global, sink: &mut K, status: u8, line: &[u8]) -> Outcome
+    requires { status ≢ 7 }
+    ensures empty { IsEmpty result }
+    ensures told { result.status ≢ 7 → (result.status ≡ status) × Appends (K.taken sink.old) (K.taken sink.new) line.now }
+    ensures failed { result.status ≡ 7 → Rose (K.faults sink.old) (K.faults sink.new) × AppendsFront (K.taken sink.old) (K.taken sink.new) line.now }
+{
+    match write_all(sink, line) {
+        Ok(()) => empty(alloc, status),
+        Err(_) => empty(alloc, 7),
+    }
+}
+
+fn tell_image_fault<K: Sink>(alloc: Global, sink: &mut K, fault: ImageFault) -> Outcome
+    ensures { Tells (Finding.NoImage fault) (K.taken sink.old) (K.taken sink.new) (K.faults sink.old) (K.faults sink.new) result }
+{
+    let line = image_line(fault);
+    tell_line(alloc, sink, 2, line.as_slice())
+}
+
+fn tell_journal_fault<K: Sink>(alloc: Global, sink: &mut K, wrong: u32) -> Outcome
+    ensures { Tells (Finding.Refused wrong) (K.taken sink.old) (K.taken sink.new) (K.faults sink.old) (K.faults sink.new) result }
+{
+    let line = journal_line(wrong);
+    tell_line(alloc, sink, 8, line.as_slice())
+}
+
+fn image_line(fault: ImageFault) -> Line
+    ensures { result.items ≡ image_fault_line fault }
+{
+    let mut number = Buffer::new();
+    let mut offset = Buffer::new();
+    let mut line = Line::new();
+    put(&mut line, b"fault image ");
+    put(&mut line, number.format(fault.number()).as_bytes());
+    put(&mut line, b" ");
+    put(&mut line, offset.format(fault.offset()).as_bytes());
+    put(&mut line, b"\n");
+    line
+}
+
+fn journal_line(wrong: u32) -> Line
+    ensures { result.items ≡ journal_fault_line wrong }
+{
+    let mut number = Buffer::new();
+    let mut line = Line::new();
+    put(&mut line, b"fault journal ");
+    put(&mut line, number.format(wrong).as_bytes());
+    put(&mut line, b"\n");
+    line
+}
+
+fn accept_line(entries: u32) -> Line
+    ensures { result.items ≡ accepted_line entries }
+{
+    let mut number = Buffer::new();
+    let mut line = Line::new();
+    put(&mut line, b"check ok ");
+    put(&mut line, number.format(entries).as_bytes());
+    put(&mut line, b"\n");
+    line
+}
+
+/// What is answered with a run.
+fn outcome(status: u8, run: Closed) -> Outcome
+    ensures status { result.status ≡ status }
+    ensures kept { KeepsClosed run result }
+{
+    Outcome {
+        status,
+        journal: run.journal,
+        memory: run.memory,
+        output: run.output,
+        end: run.end,
+    }
+}
+
+/// Writes that a report is accepted, with the number of its entries.
+fn accept<K: Sink>(sink: &mut K, run: Closed) -> Outcome
+    requires { length run.journal < 2 ^ 32 - 1 }
+    ensures { Tells (Finding.Accepted run) (K.taken sink.old) (K.taken sink.new) (K.faults sink.old) (K.faults sink.new) result }
+{
+    let line = accept_line(run.journal.as_slice().len() as u32);
+    match write_all(sink, line.as_slice()) {
+        Ok(()) => outcome(0, run),
+        Err(_) => outcome(7, run),
+    }
+}
+
+/// Writes the report of a run; none where memory was wanting.
+fn publish<K: Sink>(sink: &mut K, image: &Image, run: Closed) -> Outcome
+    requires journal { length run.journal < 2 ^ 32 - 1 }
+    requires memory { length run.memory ≡ image.now.data_size }
+    ensures { Tells (Finding.Ran image.now run) (K.taken sink.old) (K.taken sink.new) (K.faults sink.old) (K.faults sink.new) result }
+{
+    let Some(end) = run.end else {
+        return outcome(5, run);
+    };
+    match write_report(
+        sink,
+        image,
+        &run.journal,
+        run.memory.as_slice(),
+        run.output.as_slice(),
+        &end,
+    ) {
+        Ok(()) => outcome(status_of_end(&end), run),
+        Err(_) => outcome(7, run),
+    }
+}
+
+fn status_of_end(end: &End) -> u8
+    ensures value { result ≡ end_status end.now }
+    ensures small { result ≢ 7 }
+{
+    match end {
+        End::Normal => 0,
+        End::Trap { .. } => 3,
+        End::Limit => 4,
+        End::Unfinished => 5,
+    }
+}
