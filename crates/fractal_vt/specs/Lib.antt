@@ -1,0 +1,5 @@
+pub mod Levels
+pub mod Keys
+pub mod Paths
+pub mod Laws
+pub mod Least

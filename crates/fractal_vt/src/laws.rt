@@ -1,0 +1,33 @@
+ghost use Rattle.std.specs.Cmp.{IsTotalOrder};
+ghost use Rattle.fractal_vt.specs.Keys.{key_cmp};
+ghost use Rattle.fractal_vt.specs.Laws.{OnlyEqualKeysTie, ExtensionsAreGreater, OpenIsAboveNumbers, DeeperIsLess, LastLevelsDecide};
+
+/// Law: the order of keys is a total order.
+pub fn cmp_is_total()
+    ensures { IsTotalOrder key_cmp }
+{}
+
+/// Law: two keys are equal in the order exactly where they are one.
+pub fn equal_keys_alone()
+    ensures { OnlyEqualKeysTie }
+{}
+
+/// Law: a key whose levels properly begin another's is less.
+pub fn extension_is_greater()
+    ensures { ExtensionsAreGreater }
+{}
+
+/// Law: an open tiebreaker is above every number.
+pub fn open_is_above_numbers()
+    ensures { OpenIsAboveNumbers }
+{}
+
+/// Law: of two keys on one path the deeper is the lesser.
+pub fn deeper_is_less()
+    ensures { DeeperIsLess }
+{}
+
+/// Law: two keys of one depth on one path compare as their last levels do.
+pub fn same_depth_by_last_level()
+    ensures { LastLevelsDecide }
+{}
