@@ -1,0 +1,62 @@
+ghost use Rattle.std.specs.Prelude.{◌≡◌, ◌+◌, length};
+ghost use Rattle.task_desc.specs.Record.{IsDesc};
+ghost use Rattle.spill_store.specs.Entries.{open_key};
+
+use fractal_vt::{Key, Vt};
+use std::marker::Model;
+use task_desc::{Desc, RECORD_BYTES, get_desc, put_desc};
+
+/// A spilled task as a block keeps it: the record of its descriptor, and its open key, whose domain is the task's.
+#[derive(Drop)]
+pub(crate) struct Kept {
+    bytes: [u8; RECORD_BYTES],
+    key: Key,
+}
+
+impl Model for Kept {
+    ghost use Rattle.spill_store.specs.Entries.{Entry, IsKept};
+    ghost use Rattle.task_desc.specs.Record.{fields_of};
+
+    ghost Value = { Entry };
+
+    ghost view = { λ k. record { desc = fields_of k.bytes; domain = k.key.domain } };
+
+    ghost invariant = { λ k. IsKept k.bytes k.key };
+}
+
+impl Kept {
+    pub(crate) fn new(desc: &Desc, domain: &Vt) -> Kept
+        requires desc { IsDesc desc.now }
+        requires domain { length domain.now + 1 ≡ desc.now.depth }
+        ensures { result ≡ record { desc = desc.now; domain = domain.now } }
+    {
+        Kept {
+            bytes: put_desc(desc),
+            key: Key {
+                domain: domain.copied(),
+                ts: desc.ts,
+                tb: None,
+            },
+        }
+    }
+
+    /// Its open key.
+    pub(crate) fn key(&self) -> &Key
+        ensures { result.now ≡ open_key self.now }
+    {
+        &self.key
+    }
+
+    /// Its descriptor and its domain.
+    pub(crate) fn into_parts(self) -> (Desc, Vt)
+        ensures value { self ≡ record { desc = result.0; domain = result.1 } }
+        ensures desc { IsDesc result.0 }
+        ensures domain { length result.1 + 1 ≡ result.0.depth }
+    {
+        let Kept { bytes, key } = self;
+        match get_desc(&bytes) {
+            Some(desc) => (desc, key.domain),
+            None => unreachable!(),
+        }
+    }
+}

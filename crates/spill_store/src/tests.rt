@@ -1,0 +1,38 @@
+ghost use Rattle.std.specs.Prelude.{◌≡◌};
+ghost use Rattle.task_desc.specs.Record.{IsDesc};
+
+use crate::Block;
+use fractal_vt::Vt;
+use std::test::Fail;
+use task_desc::{Desc, Name};
+
+/// A task of the root domain.
+fn root_task(creator: u32) -> Desc
+    ensures { IsDesc result × (result.depth ≡ 1) }
+{
+    Desc {
+        name: Name { creator, index: 0 },
+        entry: 0x0001_0000,
+        ts: 5,
+        args: [1, 2, 3],
+        hint: 0,
+        depth: 1,
+        kinds: 1,
+    }
+}
+
+#[test]
+fn tasks_that_differ_by_name_only_both_come_back(rt: HostRuntime) -> Result<(), Fail> {
+    let mut block = Block::new(rt.alloc());
+    assert!(rt; block.least_key().is_none() && block.take_least().is_none());
+    block.reserve(2)?;
+    block.push(&root_task(1), &Vt::empty());
+    block.push(&root_task(2), &Vt::empty());
+    for creator in 1..3 {
+        let (desc, domain) = block.take_least().ok_or("a task is left")?;
+        assert_eq!(rt; desc, root_task(creator));
+        assert!(rt; domain.levels().is_empty());
+    }
+    assert!(rt; block.is_empty());
+    Ok(())
+}
