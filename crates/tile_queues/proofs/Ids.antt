@@ -1,0 +1,48 @@
+-- What taking an id out of distinct ids leaves.
+use Rattle.std.proofs.Common.{◌≡◌, ◌≢◌, ℕ, zero, suc, ◌<◌, true, cond, not, eqb, List, [], ◌∷◌, length, get_or, refl, subst, sym, ap, ◌∙◌, arith}
+use Rattle.std.specs.Prelude.{Contains}
+use Rattle.std.specs.List.{remove}
+use Rattle.std.proofs.lemmas.Bool.{ne_eqb}
+use Rattle.std.proofs.lemmas.Bool.Decides.{nat_tests}
+use Rattle.std.proofs.lemmas.List.Kept.{AllPairs-filter}
+use Rattle.tile_queues.specs.Queue.{AreDistinct, without}
+
+-- one more id in front
+without-cons_other : (id x : ℕ) (ids : List ℕ) → x ≢ id → without id (x ∷ ids) ≡ x ∷ without id ids
+without-cons_other id x ids other = ap (λ test. cond (not test) (x ∷ without id ids) (without id ids)) (ne_eqb x id other)
+
+without-cons_same : (id x : ℕ) (ids : List ℕ) → eqb x id ≡ true → without id (x ∷ ids) ≡ without id ids
+without-cons_same id x ids same = ap (λ test. cond (not test) (x ∷ without id ids) (without id ids)) same
+
+eqb-true_at : (x id : ℕ) → x ≡ id → eqb x id ≡ true
+eqb-true_at x id same = grind (arith, nat_tests)
+
+-- an id that is not there takes nothing away
+pub without-absent : (id : ℕ) (ids : List ℕ) → (Contains ids id → ⊥) → without id ids ≡ ids
+without-absent id [] absent = refl
+without-absent id (x ∷ ids) absent =
+    without-cons_other id x ids (λ same. absent (0, omega arith, same))
+    ∙ ap (λ rest. x ∷ rest) (without-absent id ids (λ there. absent (suc there.0, omega (arith, there.1), there.2)))
+
+distinct_tail : (x : ℕ) (ids : List ℕ) → AreDistinct (x ∷ ids) → AreDistinct ids
+distinct_tail x ids distinct i j d before below = distinct (suc i) (suc j) d (omega (arith, before)) (omega (arith, below))
+
+-- what stands in front of distinct ids is not among them
+distinct_head : (x : ℕ) (ids : List ℕ) → AreDistinct (x ∷ ids) → Contains ids x → ⊥
+distinct_head x ids distinct there = distinct 0 (suc there.0) x (omega arith) (omega (arith, there.1)) (sym there.2)
+
+-- of distinct ids the removal of one place takes away the id that stands there, and no other
+pub remove-distinct : (id place : ℕ) (ids : List ℕ) → AreDistinct ids → place < length ids → get_or ids place id ≡ id → remove ids place ≡ without id ids
+remove-distinct id place [] distinct below is = absurd (omega (arith, below))
+remove-distinct id zero (x ∷ ids) distinct below is =
+    sym (without-cons_same id x ids (eqb-true_at x id is)
+    ∙ without-absent id ids (λ there. distinct_head x ids distinct (subst (Contains ids) (sym is) there)))
+remove-distinct id (suc place) (x ∷ ids) distinct below is =
+    let inside : place < length ids = omega (arith, below) in
+    let other : x ≢ id = λ same. distinct_head x ids distinct (subst (Contains ids) (sym same) (place, inside, is)) in
+    ap (λ rest. x ∷ rest) (remove-distinct id place ids (distinct_tail x ids distinct) inside is)
+    ∙ sym (without-cons_other id x ids other)
+
+-- what is left is distinct
+pub AreDistinct-without : (id : ℕ) (ids : List ℕ) → AreDistinct ids → AreDistinct (without id ids)
+AreDistinct-without id ids distinct = AllPairs-filter (λ a b. a ≢ b) (λ other. not (eqb other id)) ids distinct

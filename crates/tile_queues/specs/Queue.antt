@@ -1,0 +1,22 @@
+-- Bounded lists of distinct ids.
+use Rattle.std.specs.Prelude.{ℕ, ◌<◌, ◌≤◌, ◌≢◌, ◌==◌, not, List, length, filter, AllPairs}
+
+-- how many ids a queue may hold, and those that it holds, in order of arrival
+pub record QueueValue : Type 0 where
+  pub capacity : ℕ
+  pub ids : List ℕ
+
+-- no id stands there twice
+abbrev pub AreDistinct : List ℕ → Type 0
+AreDistinct ids = AllPairs (λ a b. a ≢ b) ids
+
+-- the ids but this one, in their order
+abbrev pub without : ℕ → List ℕ → List ℕ
+without id ids = filter (λ other. not (other == id)) ids
+
+-- the ids are distinct and at most as many as the capacity, which is at least 1 and for which there is room
+pub record FitsIn (capacity room : ℕ) (ids : List ℕ) : Type 0 where
+  pub some : 0 < capacity
+  pub distinct : AreDistinct ids
+  pub bounded : length ids ≤ capacity
+  pub spare : capacity ≤ room

@@ -1,0 +1,11 @@
+//! The queues of a tile: bounded lists of distinct ids, in the order in which they came.
+//!
+//! A queue takes the memory for its whole capacity when it is made, and none afterwards. To put an id in costs a push, and to take one
+//! out a search and a move of those behind it.
+#![tactic(auto)]
+
+mod queue;
+#[cfg(test)]
+mod tests;
+
+pub use queue::{CommitQueue, Commits, Queue, TaskQueue, Tasks};

@@ -1,0 +1,103 @@
+// A bounded list of distinct ids.
+
+ghost use Rattle.std.specs.Prelude.{◌≡◌, ◌+◌, ◌<◌, ◌≤◌, ◌↔◌, [], ◌∷◌, ◌++◌, length, Contains, IsTrue, IsErr, IfOk, IfErr, OnOk, OnErr};
+ghost use Rattle.std.specs.Bool.{OnFalse};
+ghost use Rattle.tile_queues.specs.Queue.{AreDistinct, without};
+
+use std::alloc::{AllocError, Global};
+use std::marker::{Model, PhantomData};
+
+/// What a task queue holds: each uncommitted task of the tile that is not spilled.
+#[derive(Clone, Copy, Debug)]
+pub struct Tasks;
+
+/// What a commit queue holds: each finished task of the tile.
+#[derive(Clone, Copy, Debug)]
+pub struct Commits;
+
+/// The task queue of a tile (Jeffrey et al. 2015).
+pub type TaskQueue = Queue<Tasks>;
+
+/// The commit queue of a tile (Jeffrey et al. 2015).
+pub type CommitQueue = Queue<Commits>;
+
+/// A bounded list of distinct ids, in order of arrival. `Kind` says what they are ids of.
+#[derive(Drop)]
+pub struct Queue<Kind> {
+    capacity: u32,
+    ids: Vec<usize>,
+    kind: PhantomData<Kind>,
+}
+
+impl<Kind> Model for Queue<Kind> {
+    ghost use Rattle.std.specs.Prelude.{vec_capacity};
+    ghost use Rattle.tile_queues.specs.Queue.{QueueValue, FitsIn};
+
+    ghost Value = { QueueValue };
+
+    ghost view = { λ queue. record { capacity = queue.capacity; ids = queue.ids.items } };
+
+    ghost invariant = { λ queue. FitsIn queue.capacity (vec_capacity queue.ids) queue.ids.items };
+}
+
+impl<Kind> Queue<Kind> {
+    /// An empty queue for at most `capacity` ids, which is at least 1. It takes all its memory here.
+    pub fn new(alloc: Global, capacity: u32) -> Result<Self, AllocError>
+        requires { 0 < capacity }
+        ensures { IfOk result (λ queue. queue ≡ record { capacity = capacity; ids = [] }) }
+    {
+        Ok(Queue {
+            capacity,
+            ids: Vec::with_capacity(alloc, capacity as usize)?,
+            kind: PhantomData,
+        })
+    }
+
+    /// Adds an id that is not there, as the last one. A full queue hands it back.
+    pub fn put(&mut self, id: usize) -> Result<(), usize>
+        requires { ¬ Contains self.old.ids id }
+        ensures ok { OnOk result (self.new ≡ record self.old { ids = self.old.ids ++ id ∷ [] }) }
+
+        // The id comes back exactly where the queue is full.
+        ensures full { IsErr result ↔ (length self.old.ids ≡ self.old.capacity) }
+        ensures handed_back { IfErr result (λ back. back ≡ id) }
+        ensures unchanged { OnErr result (self.new ≡ self.old) }
+    {
+        if self.free() == 0 {
+            return Err(id);
+        }
+        // There is room, so this takes no memory.
+        self.ids.push(id).map_err(|refused| refused.value)
+    }
+
+    /// Takes the id out, and says whether it was there. The others keep their order.
+    pub fn take(&mut self, id: usize) -> bool
+        ensures there { IsTrue result ↔ Contains self.old.ids id }
+        ensures taken { self.new ≡ record self.old { ids = without id self.old.ids } }
+        ensures absent { OnFalse result (self.new ≡ self.old) }
+    {
+        match self.ids.iter().position(|other| *other == id) {
+            Some(place) => {
+                self.ids.remove(place);
+                true
+            }
+            None => false,
+        }
+    }
+
+    /// The ids, in order of arrival.
+    pub fn ids(&self) -> &[usize]
+        ensures ids { result.now ≡ self.now.ids }
+        ensures distinct { AreDistinct self.now.ids }
+        ensures bounded { length self.now.ids ≤ self.now.capacity }
+    {
+        self.ids.as_slice()
+    }
+
+    /// How many more ids there is room for.
+    pub fn free(&self) -> u32
+        ensures { result + length self.now.ids ≡ self.now.capacity }
+    {
+        self.capacity - self.ids.len() as u32
+    }
+}
