@@ -1,0 +1,16 @@
+-- Notes of accesses to lines.
+use Rattle.std.specs.Prelude.{ℕ, Bool, ◌==◌, ◌&&◌, List}
+use Rattle.std.specs.List.{list_any}
+
+-- an access to the line, and whether it was a store
+pub record Note : Type 0 where
+  pub line : ℕ
+  pub write : Bool
+
+-- one of the notes is of the line
+abbrev pub touched_in : List Note → ℕ → Bool
+touched_in notes line = list_any (λ note. note.line == line) notes
+
+-- one of the notes is of a store to the line
+abbrev pub wrote_in : List Note → ℕ → Bool
+wrote_in notes line = list_any (λ note. note.write && note.line == line) notes

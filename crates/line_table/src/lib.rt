@@ -1,0 +1,13 @@
+//! Which memory lines a task touched, and which of them it wrote.
+//!
+//! A `Filter` may say too much, but never too little, and its laws are all that the layers above rest on. `Exact` says neither: it is an
+//! ordered map from each line to whether it was written, so a note or an answer costs one search in it, and only a new line takes memory.
+#![tactic(auto)]
+
+mod exact;
+mod filter;
+#[cfg(test)]
+mod tests;
+
+pub use exact::Exact;
+pub use filter::Filter;
