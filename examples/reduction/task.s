@@ -1,0 +1,25 @@
+# An unordered reduction: eight tasks add their argument to one word of memory. Each runs as if alone, so no addition is
+# lost, in whichever order they come.
+#
+# image: root unordered
+# image: window sum 1
+# image: task add args 1
+# image: task add args 2
+# image: task add args 3
+# image: task add args 4
+# image: task add args 5
+# image: task add args 6
+# image: task add args 7
+# image: task add args 8
+    .text
+add:
+    la   t0, sum
+    lw   t1, 0(t0)
+    add  t1, t1, a0
+    sw   t1, 0(t0)
+    li   a7, 0
+    ecall
+
+    .data
+sum:
+    .word 0
