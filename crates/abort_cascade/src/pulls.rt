@@ -4,8 +4,10 @@ ghost use Rattle.std.specs.Prelude.{◌≡◌, ℕ, ◌<◌, Bool};
 
 /// A relation between the nodes below a number.
 pub trait Pulls {
+    /// How many nodes there are: they are numbered from 0.
     ghost count: { Self → ℕ };
 
+    /// Whether a set that holds the first node has to hold the second too.
     ghost pull: { Self → ℕ → ℕ → Bool };
 
     /// How many nodes there are.

@@ -18,7 +18,7 @@ use Rattle.fractal_sim.specs.declared.finding.Finding.TheVariants as finding
 use Rattle.fractal_sim.specs.declared.outcome.Outcome.{Outcome}
 use Rattle.fractal_sim.specs.Words.{request_of}
 use Rattle.fractal_sim.specs.Top as top
-use Rattle.fractal_sim.specs.Top.{IsAsked, IsGiven, IsEmpty, HoldsRun, HoldsRunOfInput, HoldsRunOrNothing, IsRunEnd, IsAccepted, IsRefused, IsNoImage, IsAnswer, TookAnswer, TookFront, IsTold, IsDue, IsComplete, IsWrongLine, end_status, accepted_line, input_limit}
+use Rattle.fractal_sim.specs.Top.{IsAsked, IsGiven, IsEmpty, HoldsRun, HoldsRunOfInput, HoldsRunOrNothing, IsRunEnd, IsAccepted, IsRefused, IsNoImage, IsAnswer, TookAnswer, TookFront, IsShortRun, IsTold, IsDue, IsComplete, IsWrongLine, end_status, accepted_line, input_limit}
 use Rattle.fractal_sim.specs.Finding.{IsRan, IsChecked, IsFound, KeepsClosed, Keeps, HasRunText, HasText, run_status, run_text, status_of, text_of, Tells}
 
 -- an outcome keeps the run of what was closed
@@ -109,7 +109,7 @@ took words left left' taken taken' read read' f o found kept text status written
 well_told : (words : List (List ℕ)) (left left' taken taken' : Option (List ℕ)) (read read' wrote wrote' : ℕ) (f : Finding) (o : Outcome) → IsFound words left left' read read' f → Keeps f o
     → o.status ≡ status_of f → Appends taken taken' (text_of f) → IsTold words left left' read read' taken taken' wrote wrote' o
 well_told words left left' taken taken' read read' wrote wrote' finding.Usage o found kept s w = inr (inr (inr (took words left left' taken taken' read read' finding.Usage o found kept tt s w)))
-well_told words left left' taken taken' read read' wrote wrote' finding.Memory o found kept s w = inl (s, kept.end, w)
+well_told words left left' taken taken' read read' wrote wrote' finding.Memory o found kept s w = inl (s, (kept.end, inl kept), w)
 well_told words left left' taken taken' read read' wrote wrote' finding.Unread o found kept s w = inr (inl (s, kept, found, w))
 well_told words left left' taken taken' read read' wrote wrote' finding.Long o found kept s w = inr (inr (inr (took words left left' taken taken' read read' finding.Long o found kept tt s w)))
 well_told words left left' taken taken' read read' wrote wrote' (finding.NoImage fault) o found kept s w = inr (inr (inr (took words left left' taken taken' read read' (finding.NoImage fault) o found kept tt s w)))
@@ -117,7 +117,11 @@ well_told words left left' taken taken' read read' wrote wrote' (finding.Refused
 well_told words left left' taken taken' read read' wrote wrote' (finding.Accepted closed) o found kept s w = inr (inr (inr (took words left left' taken taken' read read' (finding.Accepted closed) o found kept tt s w)))
 well_told words left left' taken taken' read read' wrote wrote' (finding.Ran image closed) o found kept s w = go closed.end refl where
   go : (e : Option End) → closed.end ≡ e → IsTold words left left' read read' taken taken' wrote wrote' o
-  go None is = inl (s ∙ ap run_status is, kept.end ∙ is, subst (Appends taken taken') (ap (run_text image closed) is) w)
+  go None is =
+      let held : HoldsRunOfInput words left left' o =
+      record { request = found.request; image = image; rest = found.rest; given = found.given; run = holds-kept image found.request.commits found.request.budget closed o kept found.run } in
+      let short : IsShortRun words left left' o = record { held = held; command = found.command } in
+      inl (s ∙ ap run_status is, (kept.end ∙ is, inr short), subst (Appends taken taken') (ap (run_text image closed) is) w)
   go (Some end) is =
       let text : HasRunText closed.end = subst HasRunText (sym is) tt in
       inr (inr (inr (took words left left' taken taken' read read' (finding.Ran image closed) o found kept text s w)))

@@ -54,9 +54,9 @@ pub runs-size : (image : ImageValue) (budget : ℕ) (s : State) (es : List Entry
 runs-size image budget s [] after r = ap (λ t. length t.memory) (sym r)
 runs-size image budget s (e ∷ es) after (mid, t, rest) = runs-size image budget mid es after rest ∙ (turn-keeps image budget s mid e.name e t).size
 
-pub holds-writable : (image : ImageValue) (commits budget : ℕ) (closed : Closed) → IsImage image → commits ≤ 1000000 → HoldsRun image commits budget closed.journal closed.memory closed.output closed.end
-    → (length closed.journal < 2 ^ 32 - 1) × (length closed.memory ≡ image.data_size)
-holds-writable image commits budget closed fits le h = (omega (arith, h.within, le), ap length h.memory_is ∙ runs-size image budget (opening image) closed.journal h.state h.run ∙ length-opening image fits)
+pub holds-writable : (image : ImageValue) (commits budget : ℕ) (closed : Closed) → IsImage image → HoldsRun image commits budget closed.journal closed.memory closed.output closed.end
+    → length closed.memory ≡ image.data_size
+holds-writable image commits budget closed fits h = ap length h.memory_is ∙ runs-size image budget (opening image) closed.journal h.state h.run ∙ length-opening image fits
 
 abbrev size_in : Result (ImageValue × ℕ) ImageFault → ℕ
 size_in (Ok x) = x.1

@@ -106,7 +106,7 @@ Keeps (finding.Refused line) o = IsEmpty o
 Keeps (finding.Accepted closed) o = KeepsClosed closed o
 Keeps (finding.Ran image closed) o = KeepsClosed closed o
 
--- what was found can be written: the journal's numbers fit, and the window lies in the memory
+-- what was found can be written: the window lies in the memory
 abbrev pub IsWritable : Finding → Type 0
 IsWritable finding.Usage = Unit {0}
 IsWritable finding.Memory = Unit {0}
@@ -114,8 +114,8 @@ IsWritable finding.Unread = Unit {0}
 IsWritable finding.Long = Unit {0}
 IsWritable (finding.NoImage fault) = Unit {0}
 IsWritable (finding.Refused line) = Unit {0}
-IsWritable (finding.Accepted closed) = length closed.journal < 2 ^ 32 - 1
-IsWritable (finding.Ran image closed) = (length closed.journal < 2 ^ 32 - 1) × (length closed.memory ≡ image.data_size)
+IsWritable (finding.Accepted closed) = Unit {0}
+IsWritable (finding.Ran image closed) = length closed.memory ≡ image.data_size
 
 -- a finding that has a text
 abbrev pub HasRunText : Option End → Type 0

@@ -164,15 +164,23 @@ pub record IsUnread (words : List (List ℕ)) (read read' : ℕ) : Type 0 where
   pub asked : request_of words ≡ Some request
   pub rose : Rose read read'
 
+-- memory was wanting: there is no end, and nothing is held but what a command that runs had run so far
+pub record IsShortRun (words : List (List ℕ)) (left left' : Option (List ℕ)) (o : Outcome) : Type 0 where
+  pub held : HoldsRunOfInput words left left' o
+  pub command : held.request.command ≡ Run
+
+abbrev pub IsWanting : List (List ℕ) → (left left' : Option (List ℕ)) → Outcome → Type 0
+IsWanting words left left' o = (o.end ≡ None) × (IsEmpty o ⊎ IsShortRun words left left' o)
+
 -- what an outcome's status says of the call: 5 is want of memory and 6 a source that failed, with nothing written; 7 is a sink that failed
 abbrev pub IsTold : List (List ℕ) → (left left' : Option (List ℕ)) → (read read' : ℕ) → (taken taken' : Option (List ℕ)) → (wrote wrote' : ℕ) → Outcome → Type 0
 IsTold words left left' read read' taken taken' wrote wrote' o =
-    ((o.status ≡ 5) × (o.end ≡ None) × Appends taken taken' [])
+    ((o.status ≡ 5) × IsWanting words left left' o × Appends taken taken' [])
     ⊎ ((o.status ≡ 6) × IsEmpty o × IsUnread words read read' × Appends taken taken' [])
     ⊎ ((o.status ≡ 7) × TookFront words left left' taken taken' wrote wrote' o)
     ⊎ TookAnswer words left left' taken taken' o
 
--- what must come of the words and of bytes that are all there is, where nothing fails and memory is there; the cases exclude each other
+-- what must come of the words and of bytes that are all there is, where nothing fails and memory is there; which of its ends a run has is told by its journal
 pub data IsDue (words : List (List ℕ)) (bytes : List ℕ) : ℕ → Type 0 where
   Usage : request_of words ≡ None → IsDue words bytes 1
   Long : (request : Request) → request_of words ≡ Some request → input_limit < length bytes → IsDue words bytes 10

@@ -98,7 +98,7 @@ fn journal_line(wrong: u32) -> Line
     line
 }
 
-fn accept_line(entries: u32) -> Line
+fn accept_line(entries: u64) -> Line
     ensures { result.items ≡ accepted_line entries }
 {
     let mut number = Buffer::new();
@@ -125,10 +125,9 @@ fn outcome(status: u8, run: Closed) -> Outcome
 
 /// Writes that a report is accepted, with the number of its entries.
 fn accept<K: Sink>(sink: &mut K, run: Closed) -> Outcome
-    requires { length run.journal < 2 ^ 32 - 1 }
     ensures { Tells (Finding.Accepted run) (K.taken sink.old) (K.taken sink.new) (K.faults sink.old) (K.faults sink.new) result }
 {
-    let line = accept_line(run.journal.as_slice().len() as u32);
+    let line = accept_line(run.journal.as_slice().len() as u64);
     match write_all(sink, line.as_slice()) {
         Ok(()) => outcome(0, run),
         Err(_) => outcome(7, run),
@@ -137,8 +136,7 @@ fn accept<K: Sink>(sink: &mut K, run: Closed) -> Outcome
 
 /// Writes the report of a run; none where memory was wanting.
 fn publish<K: Sink>(sink: &mut K, image: &Image, run: Closed) -> Outcome
-    requires journal { length run.journal < 2 ^ 32 - 1 }
-    requires memory { length run.memory ≡ image.now.data_size }
+    requires { length run.memory ≡ image.now.data_size }
     ensures { Tells (Finding.Ran image.now run) (K.taken sink.old) (K.taken sink.new) (K.faults sink.old) (K.faults sink.new) result }
 {
     let Some(end) = run.end else {

@@ -1,4 +1,4 @@
-//! Worked runs, and devices that fail.
+//! Worked runs, devices that fail, and an input that is too long.
 
 use crate::outcome::Outcome;
 use crate::program::top;
@@ -11,6 +11,10 @@ use std::test::Fail;
 // One task emits the byte 0x41 and ends: five instructions.
 const EMIT: &str = "4652414301000100050000000000000000000000000000000000000001000000\
     13051004930850007300000093080000730000000000010000000000000000000000000000000000";
+
+// The same without its last 21 bytes.
+const CUT: &str = "4652414301000100050000000000000000000000000000000000000001000000\
+    13051004930850007300000093080000730000";
 
 // The word at the start of the text is no instruction.
 const OUTSIDE: &str = "4652414301000100010000000000000000000000000000000000000001000000\
@@ -76,7 +80,7 @@ const BIG: &str = "4652414301000100010001000000000000000000000000000000000001000
     13051004930850007300000093080000730000000000010000000000000000000000000000000000";
 
 // Words, the image and the text behind it, and what is written with which status.
-static CASES: [(&str, &str, &str, &str, u8); 27] = [
+static CASES: [(&str, &str, &str, &str, u8); 28] = [
     (
         "run",
         EMIT,
@@ -85,6 +89,7 @@ static CASES: [(&str, &str, &str, &str, u8); 27] = [
         0,
     ),
     ("run", "", "", "fault image 1 0\n", 2),
+    ("run", CUT, "", "fault image 1 51\n", 2),
     (
         "run",
         OUTSIDE,
@@ -270,8 +275,19 @@ fn run_on(rt: &HostRuntime, read: Vec<u32>, write: Vec<u32>) -> Result<(Outcome,
     Ok((outcome, sink))
 }
 
+// One byte more than is read.
+fn run_long(rt: &HostRuntime) -> Result<(u8, Vec<u8>), Fail> {
+    let alloc = rt.alloc();
+    let mut bytes = Vec::new(alloc);
+    bytes.resize(67_108_865, 0)?;
+    let mut source = MemSource::new(bytes, 1_048_576, Vec::new(alloc));
+    let mut sink = MemSink::new(alloc, 10_000, 4096, Vec::new(alloc))?;
+    let outcome = top(rt, alloc, &["run"], &mut source, &mut sink);
+    Ok((outcome.status, sink.bytes().to_vec(alloc)?))
+}
+
 #[test]
-fn devices_that_fail_are_told(rt: HostRuntime) -> Result<(), Fail> {
+fn devices_and_lengths_are_told(rt: HostRuntime) -> Result<(), Fail> {
     let alloc = rt.alloc();
     let (unread, sink) = run_on(&rt, vec![in alloc; 1]?, Vec::new(alloc))?;
     assert_eq!(rt; unread.status, 6);
@@ -280,5 +296,8 @@ fn devices_that_fail_are_told(rt: HostRuntime) -> Result<(), Fail> {
     assert_eq!(rt; cut.status, 7);
     assert_eq!(rt; sink.bytes(), b"fractal 1\n1 0.0 1 0\n".as_slice());
     assert_eq!(rt; cut.journal.as_slice().len(), 1);
+    let (status, text) = run_long(&rt)?;
+    assert_eq!(rt; status, 10);
+    assert_eq!(rt; text.as_slice(), b"fault long\n".as_slice());
     Ok(())
 }

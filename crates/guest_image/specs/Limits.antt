@@ -17,7 +17,7 @@ limits_fault text initial data_size window_offset window_words tasks =
     else if tasks == 0 then Err faults.NoTask
     else Ok tt
 
--- the numbers that are at no row of that table
+-- numbers to which no row of that table applies
 pub record AreWithinLimits (text_words initial_len size offset words task_count : ℕ) : Type 0 where
   pub text : text_words ≤ 65536
   pub data_size : size ≤ 16777216
@@ -32,6 +32,7 @@ pub record AreWithinLimits (text_words initial_len size offset words task_count 
 abbrev pub told : ℕ → ℕ
 told n = min n 4294967295
 
+-- the value, where there is no fault
 abbrev pub unless_fault : Result (Unit {0}) ImageFault → ImageValue → Result ImageValue ImageFault
 unless_fault (Ok _) value = Ok value
 unless_fault (Err e) value = Err e

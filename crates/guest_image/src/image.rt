@@ -1,6 +1,6 @@
 //! An image, as a value.
 
-ghost use Rattle.std.specs.Prelude.{◌≡◌, ◌⊎◌, ◌*◌, ◌^◌, IfSome, ℕ, ◌%◌, ◌-◌, ◌/◌, ◌≤◌, ◌<◌, Some, None, if◌then◌else◌, MatchOption, All, length, IsOk, ◌↔◌};
+ghost use Rattle.std.specs.Prelude.{◌≡◌, ◌⊎◌, ◌↔◌, ◌*◌, ◌%◌, ◌^◌, ◌<◌, IfSome, IsOk, All, length};
 ghost use Rattle.guest_image.specs.Fetch.{fetched, text_loaded};
 ghost use Rattle.guest_image.specs.ImageValue.{IsTask};
 
@@ -57,8 +57,8 @@ fn visit(task: ImageTask)
     ensures { IsTask task }
 {}
 
-/// Goes over the tasks and changes nothing. That each is a task of words is known of a value that is read, and of no list of them
-/// before it was gone over.
+/// Goes over the tasks and changes nothing. That each is a task of words is known of a value that is read, and of a list
+/// of them once it was gone over.
 fn visit_all(tasks: &[ImageTask])
     ensures { All IsTask tasks.now }
 {

@@ -1,7 +1,6 @@
 //! From bytes to an image.
 
-ghost use Rattle.std.specs.Prelude.{◌≡◌, ◌≢◌, ℕ, ◌+◌, ◌*◌, ◌-◌, ◌≤◌, ◌<◌, ◌^◌, List, length, Ok, Err, IfErr, IfOk, OnOk, map, take, drop};
-ghost use Rattle.std.specs.List.{range_with_len};
+ghost use Rattle.std.specs.Prelude.{◌≡◌, ◌≢◌, ◌+◌, ◌*◌, ◌≤◌, length, IfErr, IfOk, OnOk};
 ghost use Rattle.guest_image.specs.Numbers.{word_at, half_at};
 ghost use Rattle.guest_image.specs.Reading.{Gives, image_of, header_fault, HeaderFits, whole_length, task_at, tasks_from, words_from, value_of, root_kind};
 
@@ -12,6 +11,7 @@ use crate::limits::check_limits;
 use byteorder::{ByteOrder, LittleEndian};
 use std::alloc::{AllocError, Global};
 
+/// The number in the 4 bytes from an offset on.
 #[tactic(auto, unfolding(crate::specs::Numbers::word_at))]
 fn word(bytes: &[u8], at: usize) -> u32
     requires { at + 4 ≤ length bytes.now }
@@ -20,6 +20,7 @@ fn word(bytes: &[u8], at: usize) -> u32
     LittleEndian::read_u32(bytes.split_at(at).1)
 }
 
+/// The number in the 2 bytes from an offset on.
 #[tactic(auto, unfolding(crate::specs::Numbers::half_at))]
 fn half(bytes: &[u8], at: usize) -> u16
     requires { at + 2 ≤ length bytes.now }
@@ -28,8 +29,8 @@ fn half(bytes: &[u8], at: usize) -> u16
     LittleEndian::read_u16(bytes.split_at(at).1)
 }
 
-#[tactic(auto, unfolding(crate::specs::Reading::header_fault))]
 /// The first fault of the header alone.
+#[tactic(auto, unfolding(crate::specs::Reading::header_fault))]
 fn check_header(bytes: &[u8]) -> Result<(), ImageFault>
     requires { 32 ≤ length bytes.now }
     ensures fault { result ≡ header_fault bytes.now }
@@ -57,6 +58,7 @@ fn check_header(bytes: &[u8]) -> Result<(), ImageFault>
     )
 }
 
+/// As many words, one after another from an offset on.
 #[tactic(auto, unfolding(crate::specs::Reading::words_from))]
 fn words(alloc: Global, bytes: &[u8], at: usize, count: usize) -> Result<Vec<u32>, AllocError>
     requires { at + 4 * count ≤ length bytes.now }
@@ -65,6 +67,7 @@ fn words(alloc: Global, bytes: &[u8], at: usize, count: usize) -> Result<Vec<u32
     (0..count).map(|k| word(bytes, at + 4 * k)).collect(alloc)
 }
 
+/// The task in the 20 bytes from an offset on.
 #[tactic(auto, unfolding(crate::specs::Reading::task_at))]
 fn task(bytes: &[u8], at: usize) -> ImageTask
     requires { at + 20 ≤ length bytes.now }
@@ -81,6 +84,7 @@ fn task(bytes: &[u8], at: usize) -> ImageTask
     }
 }
 
+/// As many tasks, one after another from an offset on.
 #[tactic(auto, unfolding(crate::specs::Reading::tasks_from))]
 fn tasks(alloc: Global, bytes: &[u8], at: usize, count: usize) -> Result<Vec<ImageTask>, AllocError>
     requires { at + 20 * count ≤ length bytes.now }
@@ -91,6 +95,7 @@ fn tasks(alloc: Global, bytes: &[u8], at: usize, count: usize) -> Result<Vec<Ima
         .collect(alloc)
 }
 
+/// The kind of the root domain that the header tells.
 fn kind_of(bytes: &[u8]) -> Kind
     requires { 8 ≤ length bytes.now }
     ensures { result ≡ root_kind (half_at bytes.now 6) }
@@ -102,6 +107,7 @@ fn kind_of(bytes: &[u8]) -> Kind
     }
 }
 
+/// How long the image is that the header tells.
 #[tactic(auto, unfolding(crate::specs::Reading::whole_length))]
 fn length_of(bytes: &[u8]) -> usize
     requires { 32 ≤ length bytes.now }
@@ -137,7 +143,8 @@ fn whole(alloc: Global, bytes: &[u8]) -> Result<Image, AllocError>
     ))
 }
 
-/// The image at the front of the bytes, with its length, or the first fault.
+/// The image at the front of the bytes, with its length, or the first fault in the order of the format's table. What
+/// follows the image is not looked at. `Memory` comes only where the bytes begin with an image.
 #[tactic(auto, unfolding(crate::specs::Reading::image_of, crate::specs::Reading::whole_length))]
 pub fn read_image(alloc: Global, bytes: &[u8]) -> Result<(Image, usize), ImageFault>
     ensures { Gives result (image_of bytes.now) }

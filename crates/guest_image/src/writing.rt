@@ -1,7 +1,6 @@
 //! From an image to bytes.
 
 ghost use Rattle.std.specs.Prelude.{◌≡◌, ◌++◌, ◌∷◌, [], length, IfOk, OnOk, Ok, vec_len};
-ghost use Rattle.std.specs.Int.{w16, w32, to_le_bytes};
 ghost use Rattle.std.specs.List.{flat_map};
 ghost use Rattle.guest_image.specs.Numbers.{word_bytes, half_bytes};
 ghost use Rattle.guest_image.specs.Reading.{image_of};
@@ -83,7 +82,7 @@ fn put_header(bytes: &mut Vec<u8>, image: &Image) -> Result<(), AllocError>
     put_words(bytes, &numbers_of(image))
 }
 
-/// The bytes of an image, which read back as that image.
+/// The bytes of an image, which read back as that image. They are made in one piece of memory.
 #[tactic(auto, using(crate::proofs::ReadBack::read_back_alone), unfolding(crate::specs::Writing::image_bytes))]
 pub fn write_image(alloc: Global, image: &Image) -> Result<Vec<u8>, AllocError>
     ensures bytes { IfOk result (λ v. v.items ≡ image_bytes image.now) }

@@ -7,12 +7,13 @@ use std::alloc::AllocError;
 
 /// The lines that a task touched, and those that it wrote. It may name lines that were not noted, but leaves none out.
 pub trait Filter {
-    // Since it was last cleared these notes were made, in this order.
+    /// Since it was last cleared these notes were made, in this order.
     ghost notes_are: { Self → List Note → Type 0 };
 
-    // What it answers of each line.
+    /// Whether it answers that a line may have been noted.
     ghost touched: { Self → ℕ → Bool };
 
+    /// Whether it answers that a line may have been noted with a write.
     ghost wrote: { Self → ℕ → Bool };
 
     /// Notes an access to the line, which is a store if `write` is true. It alone takes memory.
@@ -32,17 +33,18 @@ pub trait Filter {
     fn clear(&mut self)
         ensures { notes_are self.new [] };
 
-    // A noted line is touched.
+    /// A noted line is touched.
     ghost noted_touched: { (filter : Self) (notes : List Note) (line : ℕ) → notes_are filter notes → touched_in notes line ≡ true → touched filter line ≡ true };
 
-    // A line noted with a write is wrote.
+    /// A line noted with a write is wrote.
     ghost noted_wrote: { (filter : Self) (notes : List Note) (line : ℕ) → notes_are filter notes → wrote_in notes line ≡ true → wrote filter line ≡ true };
 
-    // What is wrote is touched.
+    /// What is wrote is touched.
     ghost wrote_touched: { (filter : Self) (notes : List Note) (line : ℕ) → notes_are filter notes → wrote filter line ≡ true → touched filter line ≡ true };
 
-    // A cleared filter answers false everywhere.
+    /// A cleared filter answers of no line that it is touched.
     ghost cleared_touched: { (filter : Self) (line : ℕ) → notes_are filter [] → touched filter line ≡ false };
 
+    /// A cleared filter answers of no line that it is wrote.
     ghost cleared_wrote: { (filter : Self) (line : ℕ) → notes_are filter [] → wrote filter line ≡ false };
 }

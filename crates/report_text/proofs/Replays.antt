@@ -1,4 +1,4 @@
--- A run goes on by one turn, and how a turn is refused.
+-- How a turn is refused.
 use Rattle.std.proofs.Common.{◌≡◌, ◌≢◌, ℕ, zero, suc, ◌+◌, ◌<◌, ◌&&◌, ◌||◌, nat_le, List, [], ◌∷◌, ◌++◌, length, take, get_or, Some, None, Bool, true, false, refl, sym, ap, ◌∙◌, subst, arith, if◌then◌else◌, map, Contains, MatchBool}
 use Rattle.std.specs.List.{list_any, slice_get}
 use Rattle.std.specs.Option.{unwrap_or}
@@ -21,11 +21,6 @@ use Rattle.serial_machine.proofs.Turns.{is_pending-inner}
 
 pub found_at : (es : List Entry) (i : ℕ) (d e : Entry) → i < length es → e ≡ get_or es i d → slice_get es i ≡ Some e
 found_at es i d e lt is = slice_get-get_or es i d lt ∙ ap Some (sym is)
-
-pub runs-more : (image : ImageValue) (budget : ℕ) (s : State) (es : List Entry) (mid after : State) (e : Entry) → Runs image budget s es mid → turn image budget mid e.name ≡ Some (after, e)
-    → Runs image budget s (es ++ e ∷ []) after
-runs-more image budget s [] mid after e r t = (after, ap (λ m. turn image budget m e.name) r ∙ t, refl)
-runs-more image budget s (x ∷ xs) mid after e (next, u, rest) t = (next, u, runs-more image budget next xs mid after e rest t)
 
 pub none-other : {A : Type 0} (a : A) → None ≡ Some a → ⊥
 none-other a h = cc

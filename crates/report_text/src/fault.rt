@@ -7,7 +7,10 @@ use thiserror::Error;
 pub enum JournalFault {
     /// This line, counted from 1, is the first outside the grammar.
     #[error("line {line} is no line of a report")]
-    Line { line: u32 },
+    Line {
+        /// The number of the line, from 1 on.
+        line: u32,
+    },
     /// Memory was wanting.
     #[error("out of memory")]
     Memory,

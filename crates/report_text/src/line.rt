@@ -10,14 +10,14 @@ use arrayvec::ArrayVec;
 use itoa::Buffer;
 
 /// Room for the longest line but that of the output.
-pub type Line = ArrayVec<u8, 64>;
+pub type Line = ArrayVec<u8, 72>;
 
 /// Room for the digits of the output that go out at once.
 pub(crate) type Digits = ArrayVec<u8, 512>;
 
 /// Adds a text for which there is room.
 pub fn put(line: &mut Line, text: &[u8])
-    requires { array_vec_len line.old + length text.now ≤ 64 }
+    requires { array_vec_len line.old + length text.now ≤ 72 }
     ensures text { line.new.items ≡ line.old.items ++ text.now }
     ensures len { array_vec_len line.new ≡ array_vec_len line.old + length text.now }
 {
@@ -26,7 +26,7 @@ pub fn put(line: &mut Line, text: &[u8])
 
 /// Adds a number in decimal digits.
 pub(crate) fn put_number(line: &mut Line, number: u32)
-    requires { array_vec_len line.old + 10 ≤ 64 }
+    requires { array_vec_len line.old + 10 ≤ 72 }
     ensures text { line.new.items ≡ line.old.items ++ decimal number }
     ensures len { array_vec_len line.new ≤ array_vec_len line.old + 10 }
 {
@@ -34,9 +34,19 @@ pub(crate) fn put_number(line: &mut Line, number: u32)
     put(line, buffer.format(number).as_bytes());
 }
 
+/// Adds a count in decimal digits.
+pub(crate) fn put_count(line: &mut Line, count: u64)
+    requires { array_vec_len line.old + 20 ≤ 72 }
+    ensures text { line.new.items ≡ line.old.items ++ decimal count }
+    ensures len { array_vec_len line.new ≤ array_vec_len line.old + 20 }
+{
+    let mut buffer = Buffer::new();
+    put(line, buffer.format(count).as_bytes());
+}
+
 /// Adds a word in hex digits.
 pub(crate) fn put_word(line: &mut Line, word: u32)
-    requires { array_vec_len line.old + 8 ≤ 64 }
+    requires { array_vec_len line.old + 8 ≤ 72 }
     ensures text { line.new.items ≡ line.old.items ++ word_hex word }
     ensures len { array_vec_len line.new ≡ array_vec_len line.old + 8 }
 {
@@ -47,7 +57,7 @@ pub(crate) fn put_word(line: &mut Line, word: u32)
 }
 
 fn put_byte(line: &mut Line, byte: u8)
-    requires { array_vec_len line.old + 2 ≤ 64 }
+    requires { array_vec_len line.old + 2 ≤ 72 }
     ensures text { line.new.items ≡ line.old.items ++ byte_hex byte }
     ensures len { array_vec_len line.new ≡ array_vec_len line.old + 2 }
 {

@@ -5,7 +5,9 @@ use serial_machine::{Bytes, End, Items, Journal};
 /// A word of the window: an address in the data, a multiple of 4, and the word that stands there.
 #[derive(Clone, Copy, Debug, PartialEq, Eq)]
 pub struct WindowWord {
+    /// The address of the word in the guest: a multiple of 4.
     pub addr: u32,
+    /// The four bytes there, read as a little-endian word.
     pub value: u32,
 }
 
@@ -16,8 +18,12 @@ pub type Window = Items<WindowWord>;
 /// end, and how the run ended.
 #[derive(Drop)]
 pub struct Report {
+    /// The tasks that committed, in order.
     pub journal: Journal,
+    /// The bytes that they emitted, in the same order.
     pub output: Bytes,
+    /// The words of the window at the end, by rising address.
     pub window: Window,
+    /// How the run ended.
     pub end: End,
 }

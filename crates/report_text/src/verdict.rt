@@ -9,6 +9,7 @@ pub enum Verdict {
     Yes,
     /// This line of the report, counted from 1, is the first that isn't the run's.
     Illegal {
+        /// The number of the line, from 1 on.
         line: u32,
         /// Why the serial machine refuses the turn, where the line is an entry up to the commit limit
         /// that is no legal turn.
@@ -24,7 +25,12 @@ pub enum Examined {
     /// The report is that of a run, which led to this machine.
     Yes(Serial),
     /// As in [`Verdict::Illegal`].
-    Illegal { line: u32, why: Option<TurnFault> },
+    Illegal {
+        /// The number of the line, from 1 on.
+        line: u32,
+        /// Why the turn is refused, as in [`Verdict::Illegal`].
+        why: Option<TurnFault>,
+    },
     /// Memory was wanting.
     Memory,
 }

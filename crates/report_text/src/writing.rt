@@ -9,7 +9,7 @@ ghost use Rattle.sim_io.specs.Parts.{Writes};
 ghost use Rattle.report_text.specs.Hex.{byte_hex};
 ghost use Rattle.report_text.specs.Report.{body_lines, end_line, entry_line, entry_lines, name_text, output_digits, output_line, report, window_line, window_of};
 
-use crate::line::{Line, digits_of, put, put_number, put_word};
+use crate::line::{Line, digits_of, put, put_count, put_number, put_word};
 use crate::report::WindowWord;
 use crate::window::{window_len, word_of};
 use guest_image::Image;
@@ -28,8 +28,7 @@ pub fn write_report<K: Sink>(
     output: &[u8],
     end: &End,
 ) -> Result<(), Failed>
-    requires journal { length journal.now < 2 ^ 32 - 1 }
-    requires memory { length memory.now ≡ image.now.data_size }
+    requires { length memory.now ≡ image.now.data_size }
     ensures { Writes (K.taken sink.old) (K.taken sink.new) (K.faults sink.old) (K.faults sink.new) result (report image.now journal.now memory.now output.now end.now) }
 {
     match write_front(sink, image, journal, memory, output) {
@@ -46,8 +45,7 @@ fn write_front<K: Sink>(
     memory: &[u8],
     output: &[u8],
 ) -> Result<(), Failed>
-    requires journal { length journal.now < 2 ^ 32 - 1 }
-    requires memory { length memory.now ≡ image.now.data_size }
+    requires { length memory.now ≡ image.now.data_size }
     ensures { Writes (K.taken sink.old) (K.taken sink.new) (K.faults sink.old) (K.faults sink.new) result (entry_lines journal.now ++ body_lines image.now memory.now output.now) }
 {
     match write_entries(sink, journal) {
@@ -59,7 +57,6 @@ fn write_front<K: Sink>(
 /// Writes the first line and those of the entries, which are numbered from 1. After `Failed` a
 /// front of the text was taken.
 pub fn write_entries<K: Sink>(sink: &mut K, journal: &Journal) -> Result<(), Failed>
-    requires { length journal.now < 2 ^ 32 - 1 }
     ensures { Writes (K.taken sink.old) (K.taken sink.new) (K.faults sink.old) (K.faults sink.new) result (entry_lines journal.now) }
 {
     match write_all(sink, b"fractal 1\n") {
@@ -69,11 +66,10 @@ pub fn write_entries<K: Sink>(sink: &mut K, journal: &Journal) -> Result<(), Fai
 }
 
 fn write_list<K: Sink>(sink: &mut K, entries: &[Entry]) -> Result<(), Failed>
-    requires { length entries.now < 2 ^ 32 - 1 }
     ensures { Writes (K.taken sink.old) (K.taken sink.new) (K.faults sink.old) (K.faults sink.new) result (flat_map entry_line (enumerate_from 1 entries.now)) }
 {
     for (index, entry) in entries.iter().enumerate() {
-        match write_entry(sink, index as u32 + 1, entry) {
+        match write_entry(sink, index as u64 + 1, entry) {
             Ok(()) => {}
             Err(failed) => return Err(failed),
         }
@@ -81,7 +77,7 @@ fn write_list<K: Sink>(sink: &mut K, entries: &[Entry]) -> Result<(), Failed>
     Ok(())
 }
 
-fn write_entry<K: Sink>(sink: &mut K, number: u32, entry: &Entry) -> Result<(), Failed>
+fn write_entry<K: Sink>(sink: &mut K, number: u64, entry: &Entry) -> Result<(), Failed>
     ensures { Writes (K.taken sink.old) (K.taken sink.new) (K.faults sink.old) (K.faults sink.new) result (entry_line (number, entry.now)) }
 {
     let line = entry_text(number, entry);
@@ -89,11 +85,11 @@ fn write_entry<K: Sink>(sink: &mut K, number: u32, entry: &Entry) -> Result<(), 
 }
 
 #[tactic(auto, unfolding(crate::specs::Report::entry_line))]
-fn entry_text(number: u32, entry: &Entry) -> Line
+fn entry_text(number: u64, entry: &Entry) -> Line
     ensures { result.items ≡ entry_line (number, entry.now) }
 {
     let mut line = Line::new();
-    put_number(&mut line, number);
+    put_count(&mut line, number);
     put(&mut line, b" ");
     put_name(&mut line, entry.name);
     put(&mut line, b" ");
@@ -105,7 +101,7 @@ fn entry_text(number: u32, entry: &Entry) -> Line
 }
 
 fn put_name(line: &mut Line, name: Name)
-    requires { array_vec_len line.old + 21 ≤ 64 }
+    requires { array_vec_len line.old + 21 ≤ 72 }
     ensures text { line.new.items ≡ line.old.items ++ name_text name }
     ensures len { array_vec_len line.new ≤ array_vec_len line.old + 21 }
 {

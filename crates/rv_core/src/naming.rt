@@ -14,10 +14,13 @@ use std::marker::{Brand, Model, PhantomData};
 /// A name for an image and for the task budget and the commit limit that go with it. It has no functions: generic code takes an
 /// image and numbers that are those of its `N`, and what it makes stays tied to them.
 pub trait Naming {
+    /// The image that is named.
     ghost image: { ImageValue };
 
+    /// How many instructions a task may execute.
     ghost budget: { ℕ };
 
+    /// How many tasks may commit.
     ghost commits: { ℕ };
 }
 

@@ -42,21 +42,29 @@ impl Core {
 pub enum Stop {
     /// A load from the data.
     Load {
+        /// How many bytes it reads, and how they become a word.
         width: LoadWidth,
+        /// The register that is written.
         rd: Reg,
+        /// The address from which it reads.
         addr: u32,
     },
     /// A store to the data.
     Store {
+        /// How many bytes it writes.
         width: StoreWidth,
+        /// The address to which it writes.
         addr: u32,
+        /// The word whose low bytes are written.
         value: u32,
     },
     /// An ECALL.
     Call,
     /// A trap. `pc` is the address of the instruction that would have been executed next.
     Trap {
+        /// Why it traps: 1 to 8, or 17 where the budget is used up.
         cause: u8,
+        /// The address of the instruction that would have been executed next.
         pc: u32,
     },
     /// Any instruction: the run did as many as it may.

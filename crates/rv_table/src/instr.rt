@@ -98,58 +98,87 @@ pub enum RegOp {
 pub enum Instr {
     /// LUI. `imm` is a multiple of 4,096.
     Lui {
+        /// The register that is written.
         rd: Reg,
+        /// The word that is written.
         imm: u32,
     },
     /// AUIPC. `imm` is a multiple of 4,096.
     Auipc {
+        /// The register that is written.
         rd: Reg,
+        /// What is added to the pc.
         imm: u32,
     },
     /// JAL. `imm` is even, -1,048,576 to 1,048,574.
     Jal {
+        /// The register that is written with the address behind the jump.
         rd: Reg,
+        /// The offset of the target from the pc, in bytes.
         imm: i32,
     },
     /// JALR. `imm` is -2,048 to 2,047.
     Jalr {
+        /// The register that is written with the address behind the jump.
         rd: Reg,
+        /// The register with the base of the target.
         rs1: Reg,
+        /// The offset of the target from the base, in bytes.
         imm: i32,
     },
     /// BEQ, BNE, BLT, BGE, BLTU, BGEU. `imm` is even, -4,096 to 4,094.
     Branch {
+        /// When it is taken.
         cond: Cond,
+        /// The first register that is compared.
         rs1: Reg,
+        /// The second register that is compared.
         rs2: Reg,
+        /// The offset of the target from the pc, in bytes.
         imm: i32,
     },
     /// LB, LH, LW, LBU, LHU. `imm` is -2,048 to 2,047.
     Load {
+        /// How many bytes it reads, and how they become a word.
         width: LoadWidth,
+        /// The register that is written.
         rd: Reg,
+        /// The register with the base of the address.
         rs1: Reg,
+        /// The offset of the address from the base, in bytes.
         imm: i32,
     },
     /// SB, SH, SW. `imm` is -2,048 to 2,047.
     Store {
+        /// How many bytes it writes.
         width: StoreWidth,
+        /// The register with the base of the address.
         rs1: Reg,
+        /// The register whose low bytes are written.
         rs2: Reg,
+        /// The offset of the address from the base, in bytes.
         imm: i32,
     },
     /// An operation with an immediate. `imm` is 0 to 31 for a shift, else -2,048 to 2,047.
     OpImm {
+        /// The operation.
         op: ImmOp,
+        /// The register that is written.
         rd: Reg,
+        /// The register that is read.
         rs1: Reg,
+        /// The second operand.
         imm: i32,
     },
     /// An operation on two registers.
     Op {
+        /// The operation.
         op: RegOp,
+        /// The register that is written.
         rd: Reg,
+        /// The first register that is read.
         rs1: Reg,
+        /// The second register that is read.
         rs2: Reg,
     },
     /// FENCE, whatever its other fields say.
@@ -165,20 +194,29 @@ pub enum Instr {
 pub enum Effect {
     /// It goes to `pc` and writes `value` to `rd`; `rd` and `value` are 0 where it writes no register.
     Plain {
+        /// The address of the next instruction.
         pc: u32,
+        /// The register that is written, or 0.
         rd: Reg,
+        /// The word that is written, or 0.
         value: u32,
     },
     /// It loads from `addr` into `rd`.
     Load {
+        /// How many bytes it reads, and how they become a word.
         width: LoadWidth,
+        /// The register that is written.
         rd: Reg,
+        /// The address from which it reads.
         addr: u32,
     },
     /// It stores the low bytes of `value` at `addr`.
     Store {
+        /// How many bytes it writes.
         width: StoreWidth,
+        /// The address to which it writes.
         addr: u32,
+        /// The word whose low bytes are written.
         value: u32,
     },
     /// It calls the environment.

@@ -12,6 +12,8 @@ mod progress;
 mod running;
 mod serial;
 mod stack;
+#[cfg(test)]
+mod tests;
 mod turning;
 
 pub use bag::PendingTask;

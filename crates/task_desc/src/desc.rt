@@ -4,25 +4,35 @@ use guest_image::Kind;
 /// children, in the order of their enqueueing.
 #[derive(Clone, Copy, Debug, PartialEq, Eq)]
 pub struct Name {
+    /// The creator's commit number, counted from 1; 0 for a task of the image.
     pub creator: u32,
+    /// The place among the creator's children, or among the image's tasks, counted from 0.
     pub index: u32,
 }
 
 /// The domain to which a task enqueues a child: its own, its subdomain or the immediate superdomain.
 #[derive(Clone, Copy, Debug, PartialEq, Eq)]
 pub enum Place {
+    /// The creator's own domain.
     Same,
+    /// The subdomain that the creator made.
     Sub,
+    /// The domain in which the creator's domain lies.
     Super,
 }
 
 /// A child as its creator asks for it: the timestamp is the one asked for, which an unordered domain takes as 0.
 #[derive(Clone, Copy, Debug, PartialEq, Eq)]
 pub struct Spawn {
+    /// The domain to which it goes.
     pub place: Place,
+    /// The address of its first instruction; it may lie outside the text.
     pub entry: u32,
+    /// The timestamp that is asked for.
     pub ts: u32,
+    /// Its arguments, in the registers x10 to x12 at its start.
     pub args: [u32; 3],
+    /// A number from which a tile may be picked for it.
     pub hint: u32,
 }
 
@@ -30,12 +40,19 @@ pub struct Spawn {
 /// where the domain at depth d + 1 on the task's path is ordered.
 #[derive(Clone, Copy, Debug, PartialEq, Eq)]
 pub struct Desc {
+    /// The task's name.
     pub name: Name,
+    /// The address of its first instruction; it may lie outside the text.
     pub entry: u32,
+    /// Its timestamp: 0 in an unordered domain.
     pub ts: u32,
+    /// Its arguments, in the registers x10 to x12 at its start.
     pub args: [u32; 3],
+    /// A number from which a tile may be picked for it.
     pub hint: u32,
+    /// The depth of its domain: 1 for the root domain, at most 8.
     pub depth: u8,
+    /// A bit for each depth on its path, the root in bit 0: 1 where that domain is ordered.
     pub kinds: u16,
 }
 
@@ -44,12 +61,20 @@ pub struct Desc {
 /// it has enqueued and emitted so far.
 #[derive(Clone, Copy, Debug, PartialEq, Eq)]
 pub struct Ctx {
+    /// The depth of its domain: 1 for the root domain, at most 8.
     pub depth: u8,
+    /// The kind of its domain.
     pub own: Kind,
+    /// The kind of the superdomain: none exactly at depth 1.
     pub outer: Option<Kind>,
+    /// Its timestamp: 0 in an unordered domain.
     pub ts: u32,
+    /// The least timestamp that a child in an ordered superdomain may have.
     pub floor: u32,
+    /// The kind of the subdomain that it made, where it made one.
     pub sub: Option<Kind>,
+    /// How many children it has enqueued, in all domains together: at most 64.
     pub children: u32,
+    /// How many bytes it has emitted: at most 256.
     pub bytes: u32,
 }

@@ -1,7 +1,7 @@
 use Rattle.std.proofs.Common.{◌≡◌, ◌+◌, ◌∙◌, Some, [], ◌∷◌, length, length-append, subst, sym, ap}
 use Rattle.serial_machine.specs.Run.{IsRun, opening}
 use Rattle.serial_machine.specs.Turn.{turn}
-use Rattle.report_text.proofs.Replays.{runs-more}
+use Rattle.run_law.proofs.RunSteps.{Runs-more}
 use Rattle.fractal_sim.specs.Running.{IsTaken}
 use Rattle.fractal_sim.proofs.running.take_turns.Goals as goal
 
@@ -15,7 +15,7 @@ loop-preserved c =
     let entry = taken.entry in
     let turned : turn image budget before entry.name ≡ Some (after, entry) = subst (λ b. turn image b before entry.name ≡ Some (after, entry)) c.loop.invariant.kept taken.turned in
     record {
-      run = subst (λ js. IsRun image budget js after) (sym taken.told) (runs-more image budget (opening image) c.loop.journal.items before after entry c.loop.invariant.run turned);
+      run = subst (λ js. IsRun image budget js after) (sym taken.told) (Runs-more image budget c.loop.journal.items (opening image) before after entry c.loop.invariant.run turned);
       kept = taken.budget ∙ c.loop.invariant.kept;
       count = taken.counted ∙ ap (λ n. n + 1) c.loop.invariant.count;
       long = ap length taken.told ∙ length-append c.loop.journal.items (entry ∷ []) ∙ ap (λ n. n + 1) c.loop.invariant.long;

@@ -1,7 +1,8 @@
 use Rattle.std.proofs.Common.{◌≡◌, ◌+◌, ◌∙◌, Some, refl, sym, ap, subst, inr, rules, take, length}
 use Rattle.serial_machine.specs.Turn.{turn}
 use Rattle.serial_machine.specs.Run.{IsRun, opening}
-use Rattle.report_text.proofs.Replays.{runs-more, take-more}
+use Rattle.run_law.proofs.RunSteps.{Runs-more}
+use Rattle.report_text.proofs.Replays.{take-more}
 use Rattle.report_text.proofs.Sizes.{turn-keeps, length-opening}
 use Rattle.report_text.proofs.checking.replay.Goals as goal
 
@@ -45,7 +46,7 @@ loop-index-preserved c =
     let keeps = turn-keeps image c.args.budget before after entry.name entry turned in
     record {
       run = subst (λ js. IsRun image c.args.budget js after) (sym (take-more c.args.journal.now c.loop-index.index entry c.entry_at-entry.ensures))
-          (runs-more image c.args.budget (opening image) (take c.loop-index.index c.args.journal.now) before after entry c.loop-index.invariant.run turned);
+          (Runs-more image c.args.budget (take c.loop-index.index c.args.journal.now) (opening image) before after entry c.loop-index.invariant.run turned);
       kept = search rules;
       count = keeps.count ∙ ap (λ k. k + 1) c.loop-index.invariant.count;
       size = keeps.size ∙ c.loop-index.invariant.size;
