@@ -1,0 +1,4 @@
+pub mod Programs
+pub mod Walk
+pub mod Nest
+pub mod Generated

@@ -1,0 +1,27 @@
+-- The image of additions by nested domains.
+use Rattle.std.specs.Prelude.{ℕ, ◌+◌, ◌*◌, ◌%◌, [], ◌∷◌, map}
+use Rattle.std.specs.List.{range_with_len}
+use Rattle.guest_image.specs.ImageValue.{ImageValue}
+use Rattle.guest_image.specs.declared.image.Kind.TheVariants.{Unordered}
+use Rattle.guest_image.specs.declared.image.ImageTask.{ImageTask}
+use Rattle.load_gen.specs.Programs.{nest_words}
+
+-- the address of a cell: there are eight, and they are counted round
+abbrev pub cell : ℕ → ℕ
+cell place = 0x10000000 + 4 * (place % 8)
+
+-- a root task: its amount and its two cells
+abbrev pub nest_task : ℕ → ℕ → ImageTask
+nest_task seed place = record { entry = 0x10000; ts = 0; args = (seed % 1000 + place) ∷ cell place ∷ cell (place + 3) ∷ [] }
+
+-- the image: the additions as text, eight cells of zeros, which are the window, and as many tasks as the size tells
+abbrev pub nest_image : ℕ → ℕ → ImageValue
+nest_image seed size = record {
+  kind = Unordered;
+  text = nest_words;
+  initial = [];
+  data_size = 32;
+  window_offset = 0;
+  window_words = 8;
+  tasks = map (nest_task seed) (range_with_len 0 size);
+}

@@ -1,0 +1,16 @@
+//! Generated images: guest programs with data and first tasks that are made of a seed and a size.
+//!
+//! A load is a fixed program, written as instructions and encoded when an image is made, with data by a recurrence from the seed and
+//! tasks by a rule. To make an image takes time and memory in proportion to its size.
+#![tactic(auto)]
+
+mod assembly;
+mod laws;
+mod making;
+mod nest;
+#[cfg(test)]
+mod tests;
+mod walk;
+
+pub use laws::{texts_are_the_programs, third_edges_lead_no_deeper};
+pub use making::{Load, make};
