@@ -1,0 +1,18 @@
+//! Taps: observers that are told of every step of the machine.
+//!
+//! A tap is a list of numbers, which it changes by a rule of its own for each record that it is told; no call changes that rule. The
+//! list is read number by number. `LastN` keeps the last records in a ring, and `LineProfile` counts aborts by memory line; both take
+//! all their memory when they are made, and each call costs a few machine instructions.
+#![tactic(auto)]
+
+mod last_n;
+mod line_profile;
+mod record;
+mod tap;
+#[cfg(test)]
+mod tests;
+
+pub use last_n::LastN;
+pub use line_profile::LineProfile;
+pub use record::{Deed, Record};
+pub use tap::{Tap, note_all};
