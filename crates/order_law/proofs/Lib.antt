@@ -1,0 +1,12 @@
+pub mod Numbers
+pub mod Dispatched
+pub mod Aborted
+pub mod Spawned
+pub mod Least
+pub mod Committed
+pub mod Innermost
+pub mod Moved
+pub mod Renumbered
+pub mod Opening
+pub mod Head
+pub mod Above

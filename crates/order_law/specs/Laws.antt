@@ -1,0 +1,120 @@
+-- The laws: each event keeps the order of the tasks.
+use Rattle.std.specs.Prelude.{◌≡◌, ◌≢◌, ℕ, ◌+◌, Bool, false, List, [], length, map, Option, Some}
+use Rattle.std.specs.declared.cmp.Ordering.TheVariants.{Less}
+use Rattle.fractal_vt.specs.Levels.{Open, levels_cmp}
+use Rattle.order_law.specs.Tasks.{Keyed, levels, HasNumber}
+use Rattle.order_law.specs.Ordered.{IsOrdered}
+use Rattle.order_law.specs.Events.{numbered, Dispatches, Aborts, Spawns, IsLeast, Commits, beside, Moves}
+use Rattle.abort_cascade.specs.Cascade.{Marked, IsLeastClosed}
+use Rattle.order_law.specs.Head.{IsHead, IsAbove, PullsLater}
+use Rattle.order_law.specs.Opening.{IsRoot}
+use Rattle.order_law.specs.Renumber.{place_of, new_level, renumbered, IsTableOf}
+use Rattle.order_law.specs.Innermost.{IsInnermost}
+
+-- before the first event, with idle tasks of the outermost domain alone, the order holds
+abbrev pub OpeningIsOrdered : Type 0
+OpeningIsOrdered =
+    (tasks : ℕ → Option Keyed) → ((id : ℕ) (task : Keyed) → tasks id ≡ Some task → IsRoot task) → IsOrdered tasks [] 0
+
+-- a dispatch keeps the order, and the next number is one higher
+abbrev pub DispatchKeepsOrder : Type 0
+DispatchKeepsOrder =
+    (old new : ℕ → Option Keyed) (path : List Open) (next : ℕ) → Dispatches old new next → IsOrdered old path next → IsOrdered new path (next + 1)
+
+-- a new child, in any of the three places, keeps the order
+abbrev pub SpawnKeepsOrder : Type 0
+SpawnKeepsOrder =
+    (old new : ℕ → Option Keyed) (path : List Open) (next : ℕ) → Spawns old new → IsOrdered old path next → IsOrdered new path next
+
+-- an abort keeps the order
+abbrev pub AbortKeepsOrder : Type 0
+AbortKeepsOrder =
+    (set : ℕ → Bool) (old new : ℕ → Option Keyed) (path : List Open) (next : ℕ) → Aborts set old new → IsOrdered old path next → IsOrdered new path next
+
+-- a commit of a dispatched least task keeps the order, and the levels of its key are the new path
+abbrev pub CommitKeepsOrder : Type 0
+CommitKeepsOrder =
+    (old new : ℕ → Option Keyed) (path : List Open) (next id number : ℕ) (task : Keyed)
+    → IsLeast old id task → HasNumber task number → Commits old new id → IsOrdered old path next → IsOrdered new (levels task) next
+
+-- a spill and its return keep the order
+abbrev pub SpillKeepsOrder : Type 0
+SpillKeepsOrder =
+    (bound : ℕ) (old new : ℕ → Option Keyed) (before after : List Keyed) (path : List Open) (next : ℕ)
+    → Moves bound old new before after → IsOrdered (beside bound old before) path next → IsOrdered (beside bound new after) path next
+
+-- each number replaced by its place in a rising table of those in use keeps the order, and the table's length is the next number
+abbrev pub RenumberingKeepsOrder : Type 0
+RenumberingKeepsOrder =
+    (table : List ℕ) (tasks : ℕ → Option Keyed) (path : List Open) (next : ℕ)
+    → IsTableOf table tasks path → IsOrdered tasks path next
+    → IsOrdered (renumbered (place_of table) tasks) (map (new_level (place_of table)) path) (length table)
+
+-- the least task has a committed creator, the greatest depth among those tasks, and the least timestamp of its depth
+abbrev pub LeastIsInnermost : Type 0
+LeastIsInnermost =
+    (tasks : ℕ → Option Keyed) (path : List Open) (next id : ℕ) (task : Keyed) → IsOrdered tasks path next → IsLeast tasks id task → IsInnermost tasks task
+
+-- each dispatched task but the least is above it, ties or not
+abbrev pub DispatchedAreAboveLeast : Type 0
+DispatchedAreAboveLeast =
+    (tasks : ℕ → Option Keyed) (path : List Open) (next id k number : ℕ) (task x : Keyed)
+    → IsOrdered tasks path next → IsLeast tasks id task → k ≢ id → tasks k ≡ Some x → HasNumber x number → levels_cmp (levels task) (levels x) ≡ Less
+
+-- a least task that has been dispatched is below all others
+abbrev pub LeastIsHead : Type 0
+LeastIsHead =
+    (tasks : ℕ → Option Keyed) (path : List Open) (next id number : ℕ) (task : Keyed)
+    → IsOrdered tasks path next → IsLeast tasks id task → HasNumber task number → IsHead tasks id task
+
+-- a least task is below all others once it is dispatched
+abbrev pub DispatchMakesHead : Type 0
+DispatchMakesHead =
+    (old new : ℕ → Option Keyed) (next : ℕ) (dispatch : Dispatches old new next)
+    → IsLeast old dispatch.id dispatch.task → IsHead new dispatch.id (numbered dispatch.task next)
+
+-- a dispatch of another task leaves the head the head
+abbrev pub DispatchKeepsHead : Type 0
+DispatchKeepsHead =
+    (old new : ℕ → Option Keyed) (path : List Open) (next head : ℕ) (task : Keyed)
+    → Dispatches old new next → IsOrdered old path next → IsHead old head task → IsHead new head task
+
+-- a new child leaves the head the head
+abbrev pub SpawnKeepsHead : Type 0
+SpawnKeepsHead =
+    (old new : ℕ → Option Keyed) (path : List Open) (next head : ℕ) (task : Keyed)
+    → Spawns old new → IsOrdered old path next → IsHead old head task → IsHead new head task
+
+-- an abort of a set without the head leaves it the head
+abbrev pub AbortKeepsHead : Type 0
+AbortKeepsHead =
+    (set : ℕ → Bool) (old new : ℕ → Option Keyed) (path : List Open) (next head : ℕ) (task : Keyed)
+    → Aborts set old new → set head ≡ false → IsOrdered old path next → IsHead old head task → IsHead new head task
+
+-- a spill and its return leave the head the head
+abbrev pub SpillKeepsHead : Type 0
+SpillKeepsHead =
+    (bound : ℕ) (old new : ℕ → Option Keyed) (before after : List Keyed) (path : List Open) (next head : ℕ) (task : Keyed)
+    → Moves bound old new before after → IsOrdered (beside bound old before) path next
+    → IsHead (beside bound old before) head task → IsHead (beside bound new after) head task
+
+-- a least task is still the least once it is spilled or has returned
+abbrev pub SpillKeepsLeast : Type 0
+SpillKeepsLeast =
+    (bound : ℕ) (old new : ℕ → Option Keyed) (before after : List Keyed) (id now : ℕ) (task : Keyed)
+    → Moves bound old new before after → IsLeast (beside bound old before) id task → beside bound new after now ≡ Some task
+    → IsLeast (beside bound new after) now task
+
+-- where a task pulls no other than its children and tasks above it, a cascade lies above what its first tasks lie above
+abbrev pub CascadeLiesAbove : Type 0
+CascadeLiesAbove =
+    (tasks : ℕ → Option Keyed) (path : List Open) (next count : ℕ) (pull : ℕ → ℕ → Bool) (firsts marks : List Bool) (low : List Open)
+    → IsOrdered tasks path next → PullsLater tasks pull → IsLeastClosed count pull (Marked firsts) marks
+    → ((id : ℕ) → Marked firsts id → IsAbove tasks low id) → (id : ℕ) → Marked marks id → IsAbove tasks low id
+
+-- a cascade whose first tasks lie above a task does not take it
+abbrev pub CascadeSparesLower : Type 0
+CascadeSparesLower =
+    (tasks : ℕ → Option Keyed) (path : List Open) (next count : ℕ) (pull : ℕ → ℕ → Bool) (firsts marks : List Bool) (id : ℕ) (task : Keyed)
+    → IsOrdered tasks path next → PullsLater tasks pull → IsLeastClosed count pull (Marked firsts) marks
+    → tasks id ≡ Some task → ((k : ℕ) → Marked firsts k → IsAbove tasks (levels task) k) → Marked marks id → ⊥

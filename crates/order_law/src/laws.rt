@@ -1,0 +1,95 @@
+//! The laws of the order of tasks.
+
+ghost use Rattle.order_law.specs.Laws.{AbortKeepsHead, AbortKeepsOrder, CascadeLiesAbove, CascadeSparesLower, CommitKeepsOrder, DispatchKeepsHead};
+ghost use Rattle.order_law.specs.Laws.{DispatchKeepsOrder, DispatchMakesHead, DispatchedAreAboveLeast, LeastIsHead, LeastIsInnermost, OpeningIsOrdered};
+ghost use Rattle.order_law.specs.Laws.{RenumberingKeepsOrder, SpawnKeepsHead, SpawnKeepsOrder, SpillKeepsHead, SpillKeepsLeast, SpillKeepsOrder};
+
+/// Law: before the first event the order of the tasks holds.
+pub fn opening_is_ordered()
+    ensures { OpeningIsOrdered }
+{}
+
+/// Law: a dispatch keeps the order of the tasks.
+pub fn dispatch_keeps_order()
+    ensures { DispatchKeepsOrder }
+{}
+
+/// Law: a new child in its creator's domain, in the subdomain or in the superdomain keeps the order of the tasks.
+pub fn spawn_keeps_order()
+    ensures { SpawnKeepsOrder }
+{}
+
+/// Law: an abort, which takes tasks back to idle and discards others, keeps the order of the tasks.
+pub fn abort_keeps_order()
+    ensures { AbortKeepsOrder }
+{}
+
+/// Law: a commit of the least task keeps the order of the tasks, with the levels of its key as the new path.
+pub fn commit_keeps_order()
+    ensures { CommitKeepsOrder }
+{}
+
+/// Law: a spill and its return keep the order of the queued and the spilled tasks.
+pub fn spill_keeps_order()
+    ensures { SpillKeepsOrder }
+{}
+
+/// Law: each dispatch number replaced by its place in a rising table of the numbers in use keeps the order of the tasks.
+pub fn renumbering_keeps_order()
+    ensures { RenumberingKeepsOrder }
+{}
+
+/// Law: the least task has a committed creator, the greatest depth among such tasks and the least timestamp of its depth.
+pub fn least_is_innermost()
+    ensures { LeastIsInnermost }
+{}
+
+/// Law: each dispatched task but the least is above it.
+pub fn dispatched_are_above_least()
+    ensures { DispatchedAreAboveLeast }
+{}
+
+/// Law: a least task that has been dispatched is below all others.
+pub fn least_is_head()
+    ensures { LeastIsHead }
+{}
+
+/// Law: a least task is below all others once it is dispatched.
+pub fn dispatch_makes_head()
+    ensures { DispatchMakesHead }
+{}
+
+/// Law: a dispatch of another task leaves the head below all others.
+pub fn dispatch_keeps_head()
+    ensures { DispatchKeepsHead }
+{}
+
+/// Law: a new child leaves the head below all others.
+pub fn spawn_keeps_head()
+    ensures { SpawnKeepsHead }
+{}
+
+/// Law: an abort that does not take the head leaves it below all others.
+pub fn abort_keeps_head()
+    ensures { AbortKeepsHead }
+{}
+
+/// Law: a spill and its return leave the head below all others.
+pub fn spill_keeps_head()
+    ensures { SpillKeepsHead }
+{}
+
+/// Law: a least task is still the least once it is spilled or has returned.
+pub fn spill_keeps_least()
+    ensures { SpillKeepsLeast }
+{}
+
+/// Law: a cascade lies above whatever its first tasks lie above.
+pub fn cascade_lies_above()
+    ensures { CascadeLiesAbove }
+{}
+
+/// Law: a cascade whose first tasks lie above a task, as above the head or the asker, does not take it.
+pub fn cascade_spares_lower()
+    ensures { CascadeSparesLower }
+{}

@@ -1,0 +1,15 @@
+//! The order of the machine's tasks: what holds of keys, dispatch numbers and creators in every state, and that each event keeps it.
+//!
+//! The tasks are a function from ids to what the order reads of them; no state of the machine is known here. Each law is the contract
+//! of a function that does nothing and costs nothing.
+#![tactic(auto)]
+
+mod laws;
+
+pub use laws::{
+    abort_keeps_head, abort_keeps_order, cascade_lies_above, cascade_spares_lower,
+    commit_keeps_order, dispatch_keeps_head, dispatch_keeps_order, dispatch_makes_head,
+    dispatched_are_above_least, least_is_head, least_is_innermost, opening_is_ordered,
+    renumbering_keeps_order, spawn_keeps_head, spawn_keeps_order, spill_keeps_head,
+    spill_keeps_least, spill_keeps_order,
+};
