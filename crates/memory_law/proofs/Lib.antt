@@ -1,0 +1,14 @@
+pub mod Bytes
+pub mod Marks
+pub mod Replays
+pub mod Joins
+pub mod Lines
+pub mod ByteChains
+pub mod Latest
+pub mod Orders
+pub mod Filters
+pub mod Idle
+pub mod Aborts
+pub mod Access
+pub mod Heads
+pub mod Proved

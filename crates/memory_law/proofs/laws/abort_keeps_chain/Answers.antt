@@ -1,0 +1,5 @@
+use Rattle.memory_law.proofs.Proved.{abort_keeps_chain}
+use Rattle.memory_law.proofs.laws.abort_keeps_chain.Goals as goal
+
+pub returns : goal.returns
+returns c = abort_keeps_chain

@@ -1,0 +1,5 @@
+use Rattle.memory_law.proofs.Proved.{commit_keeps_chain}
+use Rattle.memory_law.proofs.laws.commit_keeps_chain.Goals as goal
+
+pub returns : goal.returns
+returns c = commit_keeps_chain

@@ -1,0 +1,5 @@
+use Rattle.memory_law.proofs.Proved.{dispatch_keeps_chain}
+use Rattle.memory_law.proofs.laws.dispatch_keeps_chain.Goals as goal
+
+pub returns : goal.returns
+returns c = dispatch_keeps_chain

@@ -1,0 +1,5 @@
+use Rattle.memory_law.proofs.Proved.{latest_is_first}
+use Rattle.memory_law.proofs.laws.latest_first.Goals as goal
+
+pub returns : goal.returns
+returns c = latest_is_first

@@ -1,0 +1,5 @@
+use Rattle.memory_law.proofs.Proved.{lines_share_no_byte}
+use Rattle.memory_law.proofs.laws.lines_share_no_byte.Goals as goal
+
+pub returns : goal.returns
+returns c = lines_share_no_byte

@@ -1,0 +1,5 @@
+use Rattle.memory_law.proofs.Proved.{no_conflict_is_left}
+use Rattle.memory_law.proofs.laws.no_conflict_is_left.Goals as goal
+
+pub returns : goal.returns
+returns c = no_conflict_is_left
