@@ -1,0 +1,14 @@
+pub mod Advance
+pub mod Taken
+pub mod Spill
+pub mod Coalesce
+pub mod Rooms
+pub mod Victim
+pub mod Bags
+pub mod Freed
+pub mod Turning
+pub mod Logging
+pub mod Grown
+pub mod Fitting
+pub mod Whole
+pub mod Subdomains
