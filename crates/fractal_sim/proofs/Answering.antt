@@ -19,7 +19,7 @@ use Rattle.fractal_sim.specs.declared.outcome.Outcome.{Outcome}
 use Rattle.fractal_sim.specs.Words.{request_of}
 use Rattle.fractal_sim.specs.Top as top
 use Rattle.fractal_sim.specs.Top.{IsAsked, IsGiven, IsEmpty, HoldsRun, HoldsRunOfInput, HoldsRunOrNothing, IsRunEnd, IsAccepted, IsRefused, IsNoImage, IsAnswer, TookAnswer, TookFront, IsShortRun, IsTold, IsDue, IsComplete, IsWrongLine, end_status, accepted_line, input_limit}
-use Rattle.fractal_sim.specs.Finding.{IsRan, IsChecked, IsFound, KeepsClosed, Keeps, HasRunText, HasText, run_status, run_text, status_of, text_of, Tells}
+use Rattle.fractal_sim.specs.Finding.{IsRan, IsFound, KeepsClosed, Keeps, HasRunText, HasText, run_status, run_text, status_of, text_of, Tells}
 
 -- an outcome keeps the run of what was closed
 holds-kept : (image : ImageValue) (commits budget : ℕ) (closed : Closed) (o : Outcome) → KeepsClosed closed o → HoldsRun image commits budget closed.journal closed.memory closed.output closed.end
@@ -39,20 +39,9 @@ holds words left left' read read' (finding.Ran image closed) o found kept =
     inr record { request = found.request; image = image; rest = found.rest; given = found.given; run = holds-kept image found.request.commits found.request.budget closed o kept found.run }
 
 -- the run of a report that is accepted, as an outcome keeps it
-accepted : (words : List (List ℕ)) (left left' : Option (List ℕ)) (closed : Closed) (o : Outcome) → IsChecked words left left' closed → KeepsClosed closed o → IsAccepted words left left' o
-accepted words left left' closed o found kept = record {
-  request = found.request;
-  image = found.image;
-  rest = found.rest;
-  report = found.report;
-  given = found.given;
-  command = found.command;
-  report_is = found.report_is;
-  accepted = found.accepted;
-  run = holds-kept found.image found.request.commits found.request.budget closed o kept found.run;
-  journal_is = kept.journal ∙ found.journal_is;
-  end_is = kept.end ∙ found.end_is;
-}
+accepted : (words : List (List ℕ)) (left left' : Option (List ℕ)) (closed : Closed) (o : Outcome) → IsAccepted words left left' closed.journal closed.memory closed.output closed.end
+    → KeepsClosed closed o → IsAccepted words left left' o.journal o.memory o.output o.end
+accepted words left left' closed o found kept = rw (kept.journal, kept.memory, kept.output, kept.end) found
 
 abbrev end_in : End → Option End → End
 end_in d None = d

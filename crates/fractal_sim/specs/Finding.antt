@@ -1,5 +1,5 @@
 -- What is found before anything is written, and how it is told.
-use Rattle.std.specs.Prelude.{◌≡◌, ◌≢◌, ◌<◌, ◌-◌, ◌^◌, ℕ, List, [], codes, length, Some, None, Ok}
+use Rattle.std.specs.Prelude.{◌≡◌, ◌≢◌, ℕ, List, [], codes, length, Some, None}
 use Rattle.std.specs.declared.option.Option.{Option}
 use Rattle.std.specs.Io.KnownBytes.{Appends}
 use Rattle.sim_io.specs.Causes.{Rose}
@@ -7,18 +7,15 @@ use Rattle.sim_io.specs.Parts.{AppendsFront, ReadsPast}
 use Rattle.guest_image.specs.ImageValue.{ImageValue}
 use Rattle.serial_machine.specs.declared.fault.End.{End}
 use Rattle.serial_machine.specs.declared.fault.End.TheVariants as ends
-use Rattle.report_text.specs.declared.report.Report.{Report}
 use Rattle.report_text.specs.Report.{report}
-use Rattle.report_text.specs.Grammar.{report_of}
-use Rattle.report_text.specs.Check.{IsReportOf}
-use Rattle.fractal_sim.specs.declared.words.Command.TheVariants.{Run, Check}
+use Rattle.fractal_sim.specs.declared.words.Command.TheVariants.{Run}
 use Rattle.fractal_sim.specs.declared.words.Request.{Request}
 use Rattle.fractal_sim.specs.declared.finding.Closed.{Closed}
 use Rattle.fractal_sim.specs.declared.finding.Finding.{Finding}
 use Rattle.fractal_sim.specs.declared.finding.Finding.TheVariants as finding
 use Rattle.fractal_sim.specs.declared.outcome.Outcome.{Outcome}
 use Rattle.fractal_sim.specs.Words.{request_of}
-use Rattle.fractal_sim.specs.Top.{input_limit, IsGiven, IsEmpty, HoldsRun, IsNoImage, IsRefused, IsUnread, end_status, image_fault_line, journal_fault_line, accepted_line}
+use Rattle.fractal_sim.specs.Top.{input_limit, IsGiven, IsEmpty, HoldsRun, IsAccepted, IsNoImage, IsRefused, IsUnread, end_status, image_fault_line, journal_fault_line, accepted_line}
 
 -- a run of the image that was read
 pub record IsRan (words : List (List ℕ)) (left left' : Option (List ℕ)) (image : ImageValue) (closed : Closed) : Type 0 where
@@ -28,20 +25,6 @@ pub record IsRan (words : List (List ℕ)) (left left' : Option (List ℕ)) (ima
   pub command : request.command ≡ Run
   pub run : HoldsRun image request.commits request.budget closed.journal closed.memory closed.output closed.end
   pub over : closed.end ≢ Some ends.Unfinished
-
--- the run of a report that is accepted
-pub record IsChecked (words : List (List ℕ)) (left left' : Option (List ℕ)) (closed : Closed) : Type 0 where
-  pub request : Request
-  pub image : ImageValue
-  pub rest : List ℕ
-  pub report : Report
-  pub given : IsGiven words left left' request image rest
-  pub command : request.command ≡ Check
-  pub report_is : report_of rest ≡ Ok report
-  pub accepted : IsReportOf image request.commits request.budget report
-  pub run : HoldsRun image request.commits request.budget closed.journal closed.memory closed.output closed.end
-  pub journal_is : closed.journal ≡ report.journal
-  pub end_is : closed.end ≡ Some report.end
 
 -- more bytes than are read
 pub record IsLong (words : List (List ℕ)) (left left' : Option (List ℕ)) : Type 0 where
@@ -57,7 +40,7 @@ IsFound words left left' read read' finding.Unread = IsUnread words read read'
 IsFound words left left' read read' finding.Long = IsLong words left left'
 IsFound words left left' read read' (finding.NoImage fault) = IsNoImage words left left' fault
 IsFound words left left' read read' (finding.Refused line) = IsRefused words left left' line
-IsFound words left left' read read' (finding.Accepted closed) = IsChecked words left left' closed
+IsFound words left left' read read' (finding.Accepted closed) = IsAccepted words left left' closed.journal closed.memory closed.output closed.end
 IsFound words left left' read read' (finding.Ran image closed) = IsRan words left left' image closed
 
 abbrev pub run_status : Option End → ℕ

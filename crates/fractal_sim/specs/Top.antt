@@ -104,8 +104,8 @@ pub record IsRunEnd (words : List (List ℕ)) (left left' : Option (List ℕ)) (
   pub end_is : o.end ≡ Some end
   pub over : end ≢ ends.Unfinished
 
--- a report was accepted, and the outcome holds its run
-pub record IsAccepted (words : List (List ℕ)) (left left' : Option (List ℕ)) (o : Outcome) : Type 0 where
+-- the report behind the image is accepted, and this is its run
+pub record IsAccepted (words : List (List ℕ)) (left left' : Option (List ℕ)) (journal : List Entry) (memory output : List ℕ) (end : Option End) : Type 0 where
   pub request : Request
   pub image : ImageValue
   pub rest : List ℕ
@@ -114,9 +114,9 @@ pub record IsAccepted (words : List (List ℕ)) (left left' : Option (List ℕ))
   pub command : request.command ≡ Check
   pub report_is : report_of rest ≡ Ok report
   pub accepted : IsReportOf image request.commits request.budget report
-  pub run : HoldsRun image request.commits request.budget o.journal o.memory o.output o.end
-  pub journal_is : o.journal ≡ report.journal
-  pub end_is : o.end ≡ Some report.end
+  pub run : HoldsRun image request.commits request.budget journal memory output end
+  pub journal_is : journal ≡ report.journal
+  pub end_is : end ≡ Some report.end
 
 -- the report behind the image is refused at a line
 pub record IsRefused (words : List (List ℕ)) (left left' : Option (List ℕ)) (line : ℕ) : Type 0 where
@@ -140,7 +140,7 @@ pub data IsAnswer (words : List (List ℕ)) (left left' : Option (List ℕ)) (o 
   Long : (request : Request) → request_of words ≡ Some request → ReadsPast left left' input_limit → IsEmpty o → IsAnswer words left left' o 10 (codes "fault long\n")
   NoImage : (fault : ImageFault) → IsNoImage words left left' fault → IsEmpty o → IsAnswer words left left' o 2 (image_fault_line fault)
   Refused : (line : ℕ) → IsRefused words left left' line → IsEmpty o → IsAnswer words left left' o 8 (journal_fault_line line)
-  Accepted : IsAccepted words left left' o → IsAnswer words left left' o 0 (accepted_line (length o.journal))
+  Accepted : IsAccepted words left left' o.journal o.memory o.output o.end → IsAnswer words left left' o 0 (accepted_line (length o.journal))
   Ended : (image : ImageValue) (end : End) → IsRunEnd words left left' o image end
       → IsAnswer words left left' o (end_status end) (report image o.journal o.memory o.output end)
 
