@@ -180,7 +180,7 @@ module _ (next n : ℕ) (creator child : Keyed) (number : HasNumber creator n) (
         good = (omega (arith, shorter, deep), fits.0, allowed.timely);
       }
 
-  stands : IsPlaced creator child → Stands next creator child
+  pub stands : IsPlaced creator child → Stands next creator child
   stands (inl same) = same_stands same.0 same.1
   stands (inr (inl sub)) = sub_stands sub.0 sub.1 sub.2
   stands (inr (inr super)) = super_stands super.0 super.1 super.2

@@ -3,7 +3,7 @@ use Rattle.std.proofs.Common.{◌≡◌, ◌≢◌, ℕ, suc, ◌<◌, ◌≤◌
 use Rattle.turn_law.specs.Tasks.{In}
 use Rattle.turn_law.specs.Room.{Waiting, MayAbort, VictimIsLegal, kept_by, queue_after, VictimMakesRoom}
 
-shorter_or_same : (new : ℕ → Option Waiting) (queue : List ℕ) → length (queue_after new queue) ≤ length queue
+pub shorter_or_same : (new : ℕ → Option Waiting) (queue : List ℕ) → length (queue_after new queue) ≤ length queue
 shorter_or_same new [] = omega arith
 shorter_or_same new (k ∷ ks) = by_kept (is_some (new k)) (shorter_or_same new ks)
   where
