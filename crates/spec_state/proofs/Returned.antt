@@ -1,0 +1,78 @@
+-- A spilled task that is free and foremost may take the serial machine's next turn: it may once it has come back to a queue, and its return
+-- changes no free task.
+use Rattle.std.proofs.Common.{◌≡◌, ◌≢◌, ◌==◌, ℕ, ◌≤◌, Bool, true, false, List, [], ◌∷◌, ◌++◌, Option, Some, None, refl, sym, ap, arith, if◌then◌else◌}
+use Rattle.std.proofs.lemmas.Bool.Decides.{nat_tests}
+use Rattle.serial_machine.specs.declared.bag.PendingTask.{PendingTask}
+use Rattle.serial_machine.specs.BagValue.{BagValue}
+use Rattle.serial_machine.specs.State.{IsStack}
+use Rattle.turn_law.specs.Commit.{Matches, HasTurn}
+use Rattle.turn_law.specs.Moves.{SpillsOne}
+use Rattle.turn_law.specs.Sound.{AreSound, SameFree}
+use Rattle.turn_law.specs.Tasks.{Task, Committed, IsFree, IsSpilled, SpilledTask}
+use Rattle.turn_law.proofs.Coalesce.{splits_keep}
+use Rattle.turn_law.proofs.Turning.{least_has_turn}
+
+-- a number passes the test for itself
+same_test : (n : ℕ) → (n == n) ≡ true
+same_test n = grind (arith, nat_tests)
+
+-- any other number fails it
+other_test : (k n : ℕ) → k ≢ n → (k == n) ≡ false
+other_test k n other = grind (arith, nat_tests)
+
+-- the spilled task as a queued one, idle
+abbrev back_again : SpilledTask → Task
+back_again e = record {
+  depth = e.depth;
+  body = record { entry = e.task.entry; args = e.task.args };
+  ts = e.task.ts;
+  creator = Committed e.task.name.creator e.task.name.index;
+  dispatched = false;
+  spawns = [];
+}
+
+module _ (count least id : ℕ) (runs : Bool) (tasks : ℕ → Option Task) (spilled front back : List SpilledTask) (e : SpilledTask) (vacant : tasks id ≡ None) (is : spilled ≡ front ++ e ∷ back) (low : e.task.name.creator ≤ count) where
+  -- the queued tasks with the spilled one among them
+  abbrev with_it : ℕ → Option Task
+  with_it k = if k == id then Some (back_again e) else tasks k
+
+  -- read backwards, its return is a spill
+  returns : SpillsOne count least runs with_it tasks (front ++ back) spilled id
+  returns = record {
+    task = back_again e;
+    name = e.task.name;
+    there = ap (λ b. if b then Some (back_again e) else tasks id) (same_test id);
+    idle = refl;
+    gone = vacant;
+    others = λ k other. sym (ap (λ b. if b then Some (back_again e) else tasks k) (other_test k id other));
+    named = (refl, low);
+    heir = λ creator index live. absurd (cc (live));
+    front = front;
+    back = back;
+    was = refl;
+    is = is;
+  }
+
+  -- the free tasks are the same ones
+  same_free : SameFree count tasks spilled with_it (front ++ back)
+  same_free = (splits_keep id tasks with_it spilled (front ++ back) count least runs returns).0
+
+  -- the spilled task, if no free task is deeper and none of its depth is earlier, may take the next turn
+  pub spilled_has_turn : (stack : List BagValue) → AreSound count least runs tasks spilled → Matches count tasks spilled stack → IsStack stack
+      → ((depth : ℕ) (p : PendingTask) → IsFree tasks (IsSpilled spilled) count depth p → depth ≤ e.depth)
+      → ((p : PendingTask) → IsFree tasks (IsSpilled spilled) count e.depth p → e.task.ts ≤ p.ts)
+      → HasTurn stack e.depth e.task
+  spilled_has_turn stack sound matches is_stack deepest first =
+      least_has_turn count least id e.task.name.creator e.task.name.index runs with_it (front ++ back) stack (back_again e)
+      ((splits_keep id tasks with_it spilled (front ++ back) count least runs returns).1 sound)
+      (λ depth p. (
+        λ free. (matches depth p).0 ((same_free depth p).1 free),
+        λ stands. (same_free depth p).0 ((matches depth p).1 stands),
+      ))
+      is_stack
+      (record {
+        there = ap (λ b. if b then Some (back_again e) else tasks id) (same_test id);
+        creator = refl;
+        deepest = λ depth p free. deepest depth p ((same_free depth p).1 free);
+        first = λ p free. first p ((same_free e.depth p).1 free);
+      })

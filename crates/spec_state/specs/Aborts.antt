@@ -1,0 +1,80 @@
+-- Which tasks an abort takes, and what it leaves (Jeffrey et al. 2015, section 4.5: selective aborts).
+use Rattle.std.specs.Prelude.{◌≡◌, ◌⊎◌, ◌↔◌, ℕ, ◌≤◌, not, Bool, true, false, List, length, map, filter, count_by, Option, Some, None, slice_index_or, if◌then◌else◌}
+use Rattle.abort_cascade.specs.Cascade.{IsLeastClosed}
+pub use Rattle.abort_cascade.specs.Cascade.{Only}
+use Rattle.memory_law.specs.Tasks.{IsByKey, undone_set}
+use Rattle.turn_law.specs.Room.{queue_after}
+use Rattle.spec_state.specs.declared.task.Task.{Task}
+use Rattle.spec_state.specs.View.{View, task_at}
+use Rattle.spec_state.specs.Tasks.{is_dispatched, has_touched, has_written, idle_again}
+use Rattle.spec_state.specs.Groups.{logged, waiting, live_creator}
+use Rattle.spec_state.specs.Queries.{IsLater}
+
+-- the second task is a child of the first
+pub record IsChildOf (view : View) (a b : ℕ) : Type 0 where
+  pub child : Task
+  pub there : task_at view b ≡ Some child
+  pub made_by : live_creator child.creator ≡ Some a
+
+-- the second task is a later dispatched one that touched a line which the first wrote, by their filters
+pub record ReadsFrom (view : View) (a b : ℕ) : Type 0 where
+  pub writer : Task
+  pub there : task_at view a ≡ Some writer
+  pub dispatched : is_dispatched writer ≡ true
+  pub reader : Task
+  pub later : IsLater view writer b reader
+  pub line : ℕ
+  pub wrote : has_written writer line ≡ true
+  pub touched : has_touched reader line ≡ true
+
+-- what is taken back with a task: its children, and the later tasks that may have seen what it wrote
+abbrev pub Pulls : View → ℕ → ℕ → Type 0
+Pulls view a b = IsChildOf view a b ⊎ ReadsFrom view a b
+
+-- the id is marked
+abbrev pub is_marked : List Bool → ℕ → Bool
+is_marked marks id = slice_index_or marks id false
+
+-- the marked tasks are the union of the cascades of these: the least set that holds them and, with each member, all that is taken back
+-- with it
+pub record IsCascade (view : View) (firsts : ℕ → Type 0) (marks : List Bool) : Type 0 where
+  pub pull : ℕ → ℕ → Bool
+  pub pulls : (a b : ℕ) → (pull a b ≡ true) ↔ Pulls view a b
+  pub size : length view.tasks ≤ length marks
+  pub least : IsLeastClosed (length marks) pull firsts marks
+
+-- this memory is what is left where the stores of a set of tasks are taken back: of the tasks in descending order of their keys, and of
+-- each the last one first
+pub record IsUndone (view : View) (set : ℕ → Bool) (memory : List ℕ) : Type 0 where
+  pub ids : List ℕ
+  pub by_key : IsByKey (logged view) ids
+  pub is : memory ≡ undone_set set (logged view) ids view.memory
+
+-- the creator is marked
+abbrev pub is_marked_creator : List Bool → Option ℕ → Bool
+is_marked_creator marks None = false
+is_marked_creator marks (Some id) = is_marked marks id
+
+-- an unmarked task stays, a marked one leaves with its creator, and any other is idle again, in its own entry
+abbrev pub taken_back : List Bool → ℕ → Option Task → Option Task
+taken_back marks id None = None
+taken_back marks id (Some task) =
+    if is_marked marks id then (if is_marked_creator marks (live_creator task.creator) then None else Some (idle_again task)) else Some task
+
+-- the core is free where the task that it holds is marked
+abbrev pub freed_core : List Bool → Option ℕ → Option ℕ
+freed_core marks None = None
+freed_core marks (Some id) = if is_marked marks id then None else Some id
+
+-- the cascades of these tasks are taken back, and so many tasks with them: memory is as they found it, and a member whose creator is a
+-- member leaves its queue; all else stays
+pub record Aborts (firsts : ℕ → Type 0) (old : View) (aborted : ℕ) (new : View) : Type 0 where
+  pub marks : List Bool
+  pub cascade : IsCascade old firsts marks
+  pub counted : aborted ≡ count_by (λ mark. mark) marks
+  pub each : (id : ℕ) → task_at new id ≡ taken_back marks id (task_at old id)
+  pub memory : IsUndone old (is_marked marks) new.memory
+  pub queues : new.queues ≡ map (queue_after (waiting new)) old.queues
+  pub finished : new.finished ≡ map (filter (λ id. not (is_marked marks id))) old.finished
+  pub cores : new.cores ≡ map (map (freed_core marks)) old.cores
+  pub rest : new ≡ record old { tasks = new.tasks; memory = new.memory; queues = new.queues; finished = new.finished; cores = new.cores }

@@ -1,0 +1,126 @@
+-- The one change of each event, where what it forces is done.
+use Rattle.std.specs.Prelude.{◌≡◌, ◌≢◌, ◌+◌, ◌-◌, ◌∷◌, ◌++◌, ℕ, Bool, List, [], length, map, ◌==◌, Option, Some, None, slice_set, if◌then◌else◌}
+use Rattle.memory_law.specs.Notes.{notes_of}
+use Rattle.rv_core.specs.declared.state.Stop.{Stop}
+use Rattle.rv_core.specs.declared.state.Stop.TheVariants as stop
+use Rattle.rv_core.specs.Memory.{data_start, load_bytes, store_bytes}
+use Rattle.rv_core.specs.LegValue.{LegValue}
+use Rattle.serial_machine.specs.TaskRun.{Stepped, stopped}
+use Rattle.serial_machine.specs.TaskState.{TaskState}
+use Rattle.task_desc.specs.declared.desc.Spawn.{Spawn}
+use Rattle.tile_queues.specs.Queue.{without}
+use Rattle.undo_log.specs.declared.access.Access.{Access}
+use Rattle.undo_log.specs.Undo.{Load, Store, access_of}
+use Rattle.spec_state.specs.declared.task.Creator.{Creator}
+use Rattle.spec_state.specs.declared.task.Creator.TheVariants.{Committed, Live}
+use Rattle.spec_state.specs.declared.task.Status.TheVariants as status
+use Rattle.spec_state.specs.declared.task.Task.{Task}
+use Rattle.spec_state.specs.View.{View, task_at, finished_at, cores_at, queued_last, ChangesTask}
+use Rattle.spec_state.specs.Tasks.{depth_of, own_level, start_context, progress_at, progressed, start_core, HasNotes, child_descriptor, idle_task}
+use Rattle.spec_state.specs.Least.{IsLeastTask}
+use Rattle.spec_state.specs.Queries.{IsLeastIdle, IsLowestFree, IsRunning}
+
+-- the cores with another holder on one of them
+abbrev pub with_core : View → ℕ → ℕ → Option ℕ → List (List (Option ℕ))
+with_core view tile core holder = slice_set view.cores tile (slice_set (cores_at view tile) core holder)
+
+-- a dispatch: the least idle task of the tile goes to its lowest free core with the next dispatch number
+pub record Dispatches (tile : ℕ) (old new : View) : Type 0 where
+  pub id : ℕ
+  pub task : Task
+  pub least : IsLeastIdle old tile id task
+  pub core : ℕ
+  pub free : IsLowestFree old tile core
+  pub changes : ChangesTask old new id
+      (Some (record task { key = record task.key { tb = Some old.next }; status = status.Running core; core = start_core task }))
+  pub next : new.next ≡ old.next + 1
+  pub cores : new.cores ≡ with_core old tile core (Some id)
+  pub rest : new ≡ record old { tasks = new.tasks; next = new.next; cores = new.cores }
+
+-- a task runs on that core, and the leg begins at its kept core
+pub record TakesLeg (view : View) (tile core : ℕ) (leg : LegValue) (id : ℕ) (task : Task) : Type 0 where
+  pub runs : IsRunning view tile core id task
+  pub from : task.core ≡ leg.from
+
+-- what the stop of the leg comes to, on the memory that is there
+abbrev pub comes_to : View → Task → LegValue → Stepped
+comes_to view task leg = stopped (start_context task) (progress_at view.memory leg.to task) leg.stop
+
+-- the task of this id is this one now, and nothing else changes
+pub record Keeps (id : ℕ) (now : Task) (old new : View) : Type 0 where
+  pub changes : ChangesTask old new id (Some now)
+  pub rest : new ≡ record old { tasks = new.tasks }
+
+-- a trap is kept with the task, at the end of its leg
+abbrev pub KeepsTrap : ℕ → Task → LegValue → ℕ → ℕ → View → View → Type 0
+KeepsTrap id task leg core cause = Keeps id (record task { core = leg.to; status = status.Trapped core cause })
+
+-- the access that a load or a store makes, as a log keeps it
+abbrev pub access_at : List ℕ → Stop → Option Access
+access_at memory (stop.Load width rd addr) = Some (access_of memory (Load (addr - data_start) (load_bytes width)))
+access_at memory (stop.Store width addr value) = Some (access_of memory (Store (addr - data_start) (store_bytes width) value))
+access_at memory stop.Call = None
+access_at memory (stop.Trap cause pc) = None
+access_at memory stop.Quantum = None
+
+-- a load or a store: core and memory are as the task's step makes them, and the access joins its log and its filter's notes
+pub record Accesses (id : ℕ) (task : Task) (access : Access) (after : TaskState) (old new : View) : Type 0 where
+  pub lines : List (ℕ × Bool)
+  pub notes : HasNotes lines (notes_of old.settings.line (task.log ++ access ∷ []))
+  pub changes : ChangesTask old new id (Some (record task { core = after.core; log = task.log ++ access ∷ []; lines = lines }))
+  pub memory : new.memory ≡ after.memory
+  pub rest : new ≡ record old { tasks = new.tasks; memory = new.memory }
+
+-- an enqueue: an idle child of a running task stands last in the task queue of this tile
+pub record Enqueues (id : ℕ) (task : Task) (after : TaskState) (spawn : Spawn) (tile : ℕ) (old new : View) : Type 0 where
+  pub spawns : after.spawns ≡ task.spawns ++ spawn ∷ []
+  pub child : ℕ
+  pub vacant : task_at old child ≡ None
+  pub parent : task_at new id ≡ Some (progressed task after)
+  pub made : task_at new child ≡ Some (idle_task (child_descriptor task spawn) (Live (record { 0 = id }) (length task.spawns)) tile)
+  pub others : (k : ℕ) → k ≢ id → k ≢ child → task_at new k ≡ task_at old k
+  pub queues : new.queues ≡ queued_last old tile child
+  pub rest : new ≡ record old { tasks = new.tasks; queues = new.queues }
+
+-- an end call: the task leaves its core for the commit queue of its tile
+pub record Finishes (tile core id : ℕ) (task : Task) (after : TaskState) (old new : View) : Type 0 where
+  pub changes : ChangesTask old new id (Some (record task { core = after.core; status = status.Finished }))
+  pub finished : new.finished ≡ slice_set old.finished tile (finished_at old tile ++ id ∷ [])
+  pub cores : new.cores ≡ with_core old tile core None
+  pub rest : new ≡ record old { tasks = new.tasks; finished = new.finished; cores = new.cores }
+
+-- the creator, once the task of this id has committed as the n-th
+abbrev pub creator_after : ℕ → ℕ → Creator → Creator
+creator_after id n (Committed turn index) = Committed turn index
+creator_after id n (Live task index) = if task.0 == id then Committed n index else Live task index
+
+-- the task of this id leaves, its children's creator is committed, and all others stay
+abbrev pub committed_slot : ℕ → ℕ → ℕ → Option Task → Option Task
+committed_slot id n k None = None
+committed_slot id n k (Some task) = if k == id then None else Some (record task { creator = creator_after id n task.creator })
+
+-- a commit: the least task, which is finished, leaves; its entry joins the history and its bytes the output, and the levels of its key
+-- are the path
+pub record Commits (old new : View) : Type 0 where
+  pub id : ℕ
+  pub task : Task
+  pub least : IsLeastTask old id task
+  pub finished_is : task.status ≡ status.Finished
+  pub turn : ℕ
+  pub index : ℕ
+  pub creator : task.creator ≡ Committed turn index
+  pub each : (k : ℕ) → task_at new k ≡ committed_slot id (length old.history + 1) k (task_at old k)
+  pub history : new.history
+      ≡ old.history ++ record { name = record { creator = turn; index = index }; depth = depth_of task; ts = task.key.ts } ∷ []
+  pub output : new.output ≡ old.output ++ task.bytes
+  pub path : new.path ≡ task.key.domain ++ own_level task ∷ []
+  pub queues : new.queues ≡ map (without id) old.queues
+  pub finished : new.finished ≡ map (without id) old.finished
+  pub rest : new ≡ record old {
+    tasks = new.tasks;
+    history = new.history;
+    output = new.output;
+    path = new.path;
+    queues = new.queues;
+    finished = new.finished;
+  }

@@ -1,0 +1,114 @@
+-- What each group of the laws reads of a view: the order of tasks, memory, names and children, and room in a queue.
+use Rattle.std.specs.Prelude.{ℕ, ◌/◌, ◌∷◌, Bool, true, false, List, [], length, map, flat_map, nat_le, Option, Some, None, option_map}
+use Rattle.fractal_vt.specs.declared.level.Level.{Level}
+use Rattle.fractal_vt.specs.Keys.{last, levels}
+use Rattle.fractal_vt.specs.Levels.{closed}
+use Rattle.memory_law.specs.Tasks.{Logged}
+use Rattle.order_law.specs.Tasks.{Keyed}
+use Rattle.order_law.specs.Events.{beside}
+use Rattle.spill_store.specs.Entries.{Entry as Spilled, open_key}
+use Rattle.turn_law.specs.Domains.{Domain}
+use Rattle.turn_law.specs.Room.{Waiting}
+use Rattle.turn_law.specs.Tasks as bags
+use Rattle.spec_state.specs.declared.task.Creator.{Creator}
+use Rattle.spec_state.specs.declared.task.Creator.TheVariants.{Committed, Live}
+use Rattle.spec_state.specs.declared.task.Task.{Task}
+use Rattle.spec_state.specs.View.{View, task_at}
+use Rattle.spec_state.specs.Tasks.{depth_of, is_dispatched, is_ordered_at, ordered_to, kind_at, has_touched, has_written}
+
+-- the creator, where it is uncommitted
+abbrev pub live_creator : Creator → Option ℕ
+live_creator (Committed turn index) = None
+live_creator (Live task index) = Some task.0
+
+-- what the order of tasks reads of one
+abbrev pub keyed_task : Task → Keyed
+keyed_task task = record {
+  domain = map closed task.key.domain;
+  last = last task.key;
+  kinds = ordered_to (length task.key.domain) task.kinds;
+  ordered = is_ordered_at (length task.key.domain) task.kinds;
+  creator = live_creator task.creator;
+}
+
+abbrev pub keyed : View → ℕ → Option Keyed
+keyed view id = option_map keyed_task (task_at view id)
+
+-- the spilled tasks of all tiles
+abbrev pub all_spilled : View → List Spilled
+all_spilled view = flat_map (λ block. block) view.blocks
+
+-- the creator of a spilled task, where it is uncommitted: it is the heir then, whose commit is the next one
+abbrev pub heir_unless : Bool → Option ℕ → Option ℕ
+heir_unless true heir = None
+heir_unless false heir = heir
+
+-- what the order of tasks reads of a spilled one
+abbrev pub keyed_spilled : ℕ → Option ℕ → Spilled → Keyed
+keyed_spilled count heir s = record {
+  domain = map closed s.domain;
+  last = last (open_key s);
+  kinds = ordered_to (length s.domain) s.desc.kinds;
+  ordered = is_ordered_at (length s.domain) s.desc.kinds;
+  creator = heir_unless (nat_le s.desc.name.creator count) heir;
+}
+
+-- all uncommitted tasks, the spilled ones under ids behind those of the queued ones
+abbrev pub all_keyed : View → Option ℕ → ℕ → Option Keyed
+all_keyed view heir = beside (length view.tasks) (keyed view) (map (keyed_spilled (length view.history) heir) (all_spilled view))
+
+-- what memory reads of a task
+abbrev pub logged_task : Task → Logged
+logged_task task = record {
+  levels = levels task.key;
+  dispatched = is_dispatched task;
+  log = task.log;
+  touched = has_touched task;
+  wrote = has_written task;
+}
+
+abbrev pub logged : View → ℕ → Option Logged
+logged view id = option_map logged_task (task_at view id)
+
+-- who made a task, for the bags
+abbrev pub bag_creator : Creator → bags.Creator
+bag_creator (Committed turn index) = bags.Committed turn index
+bag_creator (Live task index) = bags.Live task.0 index
+
+-- what the bags of pending tasks read of a task
+abbrev pub bag_task : Task → bags.Task
+bag_task task = record {
+  depth = depth_of task;
+  body = record { entry = task.entry; args = task.args };
+  ts = task.key.ts;
+  creator = bag_creator task.creator;
+  dispatched = is_dispatched task;
+  spawns = task.spawns;
+}
+
+abbrev pub bag_tasks : View → ℕ → Option bags.Task
+bag_tasks view id = option_map bag_task (task_at view id)
+
+-- what they read of a spilled one
+abbrev pub bag_spilled : Spilled → bags.SpilledTask
+bag_spilled s = record { depth = s.desc.depth; task = record { name = s.desc.name; entry = s.desc.entry; ts = s.desc.ts; args = s.desc.args } }
+
+abbrev pub bags_spilled : View → List bags.SpilledTask
+bags_spilled view = map bag_spilled (all_spilled view)
+
+-- what room in a queue reads of a task
+abbrev pub waiting_task : Task → Waiting
+waiting_task task = record { levels = levels task.key; dispatched = is_dispatched task; creator = live_creator task.creator }
+
+abbrev pub waiting : View → ℕ → Option Waiting
+waiting view id = option_map waiting_task (task_at view id)
+
+-- the domains on a path behind these, the innermost first: each with its kind and floor
+abbrev pub domains_behind : List Domain → ℕ → ℕ → List Level → List Domain
+domains_behind outer floor kinds [] = record { kind = kind_at 0 kinds; floor = floor } ∷ outer
+domains_behind outer floor kinds (level ∷ levels) =
+    domains_behind (record { kind = kind_at 0 kinds; floor = floor } ∷ outer) level.ts (kinds / 2) levels
+
+-- a task's own domain and those outside it
+abbrev pub domains_of : ℕ → List Level → List Domain
+domains_of kinds domain = domains_behind [] 0 kinds domain

@@ -1,0 +1,16 @@
+pub mod Settings
+pub mod View
+pub mod Fits
+pub mod Tasks
+pub mod Groups
+pub mod Least
+pub mod Queries
+pub mod Aborts
+pub mod Room
+pub mod Changes
+pub mod Sound
+pub mod Opening
+pub mod Laws
+pub mod Glue
+pub mod Keeping
+pub mod RoomLaws

@@ -1,0 +1,28 @@
+-- The ranges of the settings.
+use Rattle.std.specs.Prelude.{◌≡◌, ◌⊎◌, ◌≤◌, ◌&&◌, ℕ, nat_le, Bool}
+use Rattle.spec_state.specs.declared.settings.Settings.{Settings}
+
+-- the number lies between these two, both included
+abbrev pub IsBetween : ℕ → ℕ → ℕ → Type 0
+IsBetween number least greatest = (least ≤ number) × (number ≤ greatest)
+
+-- the test of it
+abbrev pub is_within : ℕ → ℕ → ℕ → Bool
+is_within number least greatest = nat_le least number && nat_le number greatest
+
+-- a line has one of these numbers of bytes
+abbrev pub IsLine : ℕ → Type 0
+IsLine bytes = (bytes ≡ 4) ⊎ (bytes ≡ 8) ⊎ (bytes ≡ 16) ⊎ (bytes ≡ 32) ⊎ (bytes ≡ 64)
+
+-- each number lies in its range
+pub record IsValid (settings : Settings) : Type 0 where
+  pub tiles : IsBetween settings.tiles 1 16
+  pub cores : IsBetween settings.cores 1 4
+  pub task_queue : IsBetween settings.task_queue 4 256
+  pub commit_queue : IsBetween settings.commit_queue 1 64
+  pub line : IsLine settings.line
+  pub quantum : IsBetween settings.quantum 1 1024
+  pub workers : IsBetween settings.workers 0 16
+  pub commits : IsBetween settings.commits 1 1000000
+  pub budget : IsBetween settings.budget 1 65536
+  pub phase : IsBetween settings.phase 1 1000000

@@ -1,0 +1,113 @@
+//! A state without a task, and the image's tasks in it.
+
+ghost use Rattle.std.specs.Prelude.{◌≡◌, ◌<◌, ◌≤◌, [], length, replicate, map, None, All, vec_len, IfOk, OnErr, OnOk};
+ghost use Rattle.tile_queues.specs.Queue.{QueueValue};
+ghost use Rattle.spec_state.specs.declared.task.Creator.TheVariants as creator;
+ghost use Rattle.spec_state.specs.Settings.{IsValid};
+ghost use Rattle.spec_state.specs.View.{core_ids, queue_at};
+ghost use Rattle.spec_state.specs.Tasks.{idle_task, spilled_descriptor};
+ghost use Rattle.spec_state.specs.Opening.{IsEmptyView};
+
+use crate::emitted::Emitted;
+use crate::settings::Settings;
+use crate::state::State;
+use crate::task::{Creator, Status, Task, TaskId};
+use fractal_vt::{Key, Vt};
+use guest_image::Image;
+use line_table::Exact;
+use rv_core::{Core, Naming};
+use serial_machine::{Bytes, Items, Journal};
+use slab::Slab;
+use spill_store::Block;
+use std::alloc::{AllocError, Global};
+use std::marker::PhantomData;
+use task_desc::Desc;
+use tile_queues::Queue;
+use undo_log::{Log, Memory};
+
+/// An empty queue for each tile.
+fn empty_queues<Kind>(
+    alloc: Global,
+    tiles: u32,
+    capacity: u32,
+) -> Result<Vec<Queue<Kind>>, AllocError>
+    requires { 0 < capacity }
+    ensures count { IfOk result (λ queues. vec_len queues ≡ tiles) }
+    ensures ids { IfOk result (λ queues. map (λ queue. queue.ids) queues.items ≡ replicate tiles []) }
+    ensures capacities { IfOk result (λ queues. All (λ queue. queue.capacity ≡ capacity) queues.items) }
+{
+    let mut queues = Vec::with_capacity(alloc, tiles as usize)?;
+    for _ in 0..tiles {
+        queues.push(Queue::new(alloc, capacity)?)?;
+    }
+    Ok(queues)
+}
+
+/// Cores that hold no task.
+fn free_cores(alloc: Global, cores: u32) -> Result<Vec<Option<TaskId>>, AllocError>
+    ensures count { IfOk result (λ held. vec_len held ≡ cores) }
+    ensures free { IfOk result (λ held. core_ids held.items ≡ replicate cores None) }
+{
+    let mut held = Vec::with_capacity(alloc, cores as usize)?;
+    for _ in 0..cores {
+        held.push(None)?;
+    }
+    Ok(held)
+}
+
+/// Cores that hold no task, for each tile.
+fn all_free_cores(
+    alloc: Global,
+    tiles: u32,
+    cores: u32,
+) -> Result<Vec<Vec<Option<TaskId>>>, AllocError>
+    ensures count { IfOk result (λ held. vec_len held ≡ tiles) }
+    ensures counts { IfOk result (λ held. All (λ tile. vec_len tile ≡ cores) held.items) }
+    ensures free { IfOk result (λ held. map (λ tile. core_ids tile.items) held.items ≡ replicate tiles (replicate cores None)) }
+{
+    let mut held = Vec::with_capacity(alloc, tiles as usize)?;
+    for _ in 0..tiles {
+        held.push(free_cores(alloc, cores)?)?;
+    }
+    Ok(held)
+}
+
+/// An empty block for each tile.
+fn empty_blocks(alloc: Global, tiles: u32) -> Result<Vec<Block>, AllocError>
+    ensures count { IfOk result (λ blocks. vec_len blocks ≡ tiles) }
+    ensures entries { IfOk result (λ blocks. map (λ block. block.entries) blocks.items ≡ replicate tiles []) }
+{
+    let mut blocks = Vec::with_capacity(alloc, tiles as usize)?;
+    for _ in 0..tiles {
+        blocks.push(Block::new(alloc))?;
+    }
+    Ok(blocks)
+}
+
+impl<N: Naming> State<N> {
+    /// A state without a task, of a machine of valid settings, with the image's data. It has room for all tasks of its queues and
+    /// for the whole history.
+    pub fn new(alloc: Global, image: &Image, settings: Settings) -> Result<State<N>, AllocError>
+        requires valid { IsValid settings }
+        requires image { image.now ≡ N.image }
+        requires budget { settings.budget ≡ N.budget }
+        requires commits { settings.commits ≡ N.commits }
+        ensures { IfOk result (IsEmptyView N.image settings) }
+    {
+        let entries = settings.tiles * settings.task_queue;
+        Ok(State {
+            settings,
+            tasks: Slab::with_capacity(alloc, entries as usize)?,
+            memory: Memory::new(alloc, image.initial(), image.data_size())?,
+            history: Journal::from_vec(Vec::with_capacity(alloc, settings.commits as usize)?),
+            output: Bytes::new(alloc),
+            next: 0,
+            path: Vt::empty(),
+            queues: empty_queues(alloc, settings.tiles, settings.task_queue)?,
+            finished: empty_queues(alloc, settings.tiles, settings.commit_queue)?,
+            cores: all_free_cores(alloc, settings.tiles, settings.cores)?,
+            blocks: empty_blocks(alloc, settings.tiles)?,
+            naming: PhantomData,
+        })
+    }
+}
