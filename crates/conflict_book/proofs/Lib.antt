@@ -1,0 +1,15 @@
+pub mod Replies
+pub mod Rest
+pub mod Ends
+pub mod Lists
+pub mod Rooted
+pub mod Untouched
+pub mod Opened
+pub mod Queued
+pub mod Sized
+pub mod Tiles
+pub mod Sizes
+pub mod Bagged
+pub mod Coalesced
+pub mod Named
+pub mod Started

@@ -1,0 +1,35 @@
+-- What contracts see of a book.
+use Rattle.std.specs.Prelude.{◌+◌, ◌-◌, ◌^◌, ◌%◌, ◌==◌, ◌∷◌, ℕ, min, Bool, List, [], map, if◌then◌else◌}
+use Rattle.place_policy.specs.Policy.{Policy}
+use Rattle.place_policy.specs.Serving.{serving_tile}
+use Rattle.spec_state.specs.View.{View, loads}
+use Rattle.conflict_book.specs.declared.book.Book.{Book}
+
+-- a view, the placers that are left, of which the first serves, how many events have been made, and whether the book was stopped
+pub record BookView : Type 0 where
+  pub view : View
+  pub placers : List Policy
+  pub steps : ℕ
+  pub stopped : Bool
+
+-- what is seen of a book
+abbrev pub view_of : {N P : Type 0} → (P → Policy) → Book N P → BookView
+view_of policy book = record { view = book.sound.view; placers = map policy book.placers.items; steps = book.sound.steps; stopped = book.stopped }
+
+-- the tile that the serving placer picks for a task of this hint
+abbrev pub picked : BookView → ℕ → ℕ
+picked book hint = serving_tile book.placers hint (loads book.view)
+
+-- the count of events after one more, which stands at its greatest value
+abbrev pub counted : ℕ → ℕ
+counted steps = min (steps + 1) (2 ^ 64 - 1)
+
+-- the placers without the first one, unless that is the last
+abbrev pub without_first : List Policy → List Policy
+without_first [] = []
+without_first (placer ∷ []) = placer ∷ []
+without_first (placer ∷ next ∷ placers) = next ∷ placers
+
+-- the placers after the commit that reached this number of commits: each serves for one phase of them, and the last one serves on
+abbrev pub placers_after_commit : ℕ → ℕ → List Policy → List Policy
+placers_after_commit phase commits placers = if commits % phase == 0 then without_first placers else placers

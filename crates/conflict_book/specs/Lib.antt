@@ -1,0 +1,10 @@
+pub mod Sound
+pub mod Book
+pub mod End
+pub mod Causes
+pub mod Events
+pub mod Happens
+pub mod Opening
+pub mod Advancing
+pub mod Closing
+pub mod Laws
