@@ -1,5 +1,5 @@
 -- What is found behind an image is found, and can be written.
-use Rattle.std.proofs.Common.{◌≡◌, ℕ, ◌≤◌, List, [], ◌∷◌, length, refl, sym, ap, ◌∙◌, subst, arith, Result, Ok, Err, Bool, true, false, nat_lt, if◌then◌else◌}
+use Rattle.std.proofs.Common.{◌≡◌, ℕ, ◌≤◌, List, length, refl, sym, ap, ◌∙◌, subst, arith, Result, Ok, Err, Bool, true, false, nat_lt, if◌then◌else◌}
 use Rattle.std.specs.declared.option.Option.{Option}
 use Rattle.std.proofs.lemmas.Bool.Decides.{nat_tests}
 use Rattle.std.proofs.lemmas.Grind.{common_steps}
@@ -7,12 +7,9 @@ use Rattle.guest_image.specs.ImageValue.{ImageValue, IsImage}
 use Rattle.guest_image.specs.Reading.{image_of, after_header, header_fault, whole_length, value_of}
 use Rattle.guest_image.specs.declared.fault.ImageFault.{ImageFault}
 use Rattle.guest_image.specs.declared.fault.ImageFault.TheVariants as faults
-use Rattle.serial_machine.specs.declared.journal.Entry.{Entry}
-use Rattle.serial_machine.specs.State.{State}
-use Rattle.serial_machine.specs.Run.{Runs, opening}
+use Rattle.run_law.proofs.Sized.{run_sized}
 use Rattle.report_text.specs.declared.report.Report.{Report}
 use Rattle.report_text.specs.Check.{IsReportOf}
-use Rattle.report_text.proofs.Sizes.{turn-keeps, length-opening}
 use Rattle.fractal_sim.specs.declared.words.Request.{Request}
 use Rattle.fractal_sim.specs.declared.finding.Closed.{Closed}
 use Rattle.fractal_sim.specs.declared.finding.Finding.{Finding}
@@ -49,14 +46,10 @@ found-given words left left' read read' request image rest (finding.Ran image' c
     let same : IsRan words left left' image closed = record { request = request; rest = rest; given = g; command = h.command; run = h.run; over = h.over } in
     subst (λ i. IsRan words left left' i closed) (sym h.same) same
 
--- a run keeps the size of the memory
-pub runs-size : (image : ImageValue) (budget : ℕ) (s : State) (es : List Entry) (after : State) → Runs image budget s es after → length after.memory ≡ length s.memory
-runs-size image budget s [] after r = ap (λ t. length t.memory) (sym r)
-runs-size image budget s (e ∷ es) after (mid, t, rest) = runs-size image budget mid es after rest ∙ (turn-keeps image budget s mid e.name e t).size
-
+-- the memory is as long as the image's data
 pub holds-writable : (image : ImageValue) (commits budget : ℕ) (closed : Closed) → IsImage image → HoldsRun image commits budget closed.journal closed.memory closed.output closed.end
     → length closed.memory ≡ image.data_size
-holds-writable image commits budget closed fits h = ap length h.memory_is ∙ runs-size image budget (opening image) closed.journal h.state h.run ∙ length-opening image fits
+holds-writable image commits budget closed fits h = ap length h.memory_is ∙ run_sized image budget closed.journal h.state fits h.run
 
 abbrev size_in : Result (ImageValue × ℕ) ImageFault → ℕ
 size_in (Ok x) = x.1

@@ -7,3 +7,4 @@ pub mod Complete
 pub mod Deeper
 pub mod Forced
 pub mod Lawful
+pub mod Sized

@@ -43,10 +43,10 @@ HaveDomains-sub : (outer sub : Option Kind) (kind : Kind) (spawns : List Spawn) 
 HaveDomains-sub outer sub kind [] h = tt
 HaveDomains-sub outer sub kind (s ∷ ss) h = (HasDomain-sub outer sub kind s.place h.0, HaveDomains-sub outer sub kind ss h.1)
 
-abbrev IsPlaced : Option Kind → TaskState → Type 0
+abbrev pub IsPlaced : Option Kind → TaskState → Type 0
 IsPlaced outer task = HaveDomains outer task.sub task.spawns
 
-abbrev IsStepPlaced : Option Kind → Stepped → Type 0
+abbrev pub IsStepPlaced : Option Kind → Stepped → Type 0
 IsStepPlaced outer (Continues task) = IsPlaced outer task
 IsStepPlaced outer (Ends task) = IsPlaced outer task
 IsStepPlaced outer (Traps cause pc) = Unit {0}
@@ -82,7 +82,7 @@ either : (outer : Option Kind) (b : Bool) (x y : Stepped) → IsStepPlaced outer
 either outer true x y h k = h
 either outer false x y h k = k
 
-called-placed : (ctx : Ctx) (task : TaskState) → IsPlaced ctx.outer task → IsStepPlaced ctx.outer (called ctx task)
+pub called-placed : (ctx : Ctx) (task : TaskState) → IsPlaced ctx.outer task → IsStepPlaced ctx.outer (called ctx task)
 unfolding called
 called-placed ctx task h =
     either ctx.outer (register task.core 17 == 0) _ _ h

@@ -9,16 +9,16 @@ use Rattle.turn_law.specs.Sound.{AreSound, IdleLeastIsAny}
 use Rattle.turn_law.specs.Grows.{Starts, DispatchKeepsTasks, made_by, Enqueues, EnqueueKeepsTasks, Places, PlacementKeepsTasks, NoTasksAreSound}
 
 module _ {X : Type 0} where
-  get_front : (xs ys : List X) (i : ℕ) (x : X) → slice_get xs i ≡ Some x → slice_get (xs ++ ys) i ≡ Some x
+  pub get_front : (xs ys : List X) (i : ℕ) (x : X) → slice_get xs i ≡ Some x → slice_get (xs ++ ys) i ≡ Some x
   get_front [] ys i x at = absurd (cc)
   get_front (a ∷ xs) ys zero x at = at
   get_front (a ∷ xs) ys (suc i) x at = get_front xs ys i x at
 
-  get_last : (xs : List X) (x : X) → slice_get (xs ++ x ∷ []) (length xs) ≡ Some x
+  pub get_last : (xs : List X) (x : X) → slice_get (xs ++ x ∷ []) (length xs) ≡ Some x
   get_last [] x = refl
   get_last (a ∷ xs) x = get_last xs x
 
-  get_cases : (xs : List X) (x : X) (i : ℕ) (y : X) → slice_get (xs ++ x ∷ []) i ≡ Some y → (slice_get xs i ≡ Some y) ⊎ ((i ≡ length xs) × (x ≡ y))
+  pub get_cases : (xs : List X) (x : X) (i : ℕ) (y : X) → slice_get (xs ++ x ∷ []) i ≡ Some y → (slice_get xs i ≡ Some y) ⊎ ((i ≡ length xs) × (x ≡ y))
   get_cases [] x zero y at = let same : x ≡ y = cc in inr (refl, same)
   get_cases [] x (suc i) y at = absurd (cc)
   get_cases (a ∷ xs) x zero y at = inl at

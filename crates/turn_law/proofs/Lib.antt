@@ -12,3 +12,4 @@ pub mod Grown
 pub mod Fitting
 pub mod Whole
 pub mod Subdomains
+pub mod Resized

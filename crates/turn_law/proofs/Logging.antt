@@ -35,10 +35,10 @@ Replays-more : (memory : List ℕ) (log : List Access) (access : Access) → Rep
 Replays-more memory log access chain = (Replays-front memory log (access ∷ []) chain, sym (Replays-back memory log (access ∷ []) chain).0.old_is)
 
 -- a task on another memory, and a step that doesn't read the memory
-abbrev on_memory : List ℕ → TaskState → TaskState
+abbrev pub on_memory : List ℕ → TaskState → TaskState
 on_memory memory task = record task { memory = memory }
 
-abbrev stepped_on : List ℕ → Stepped → Stepped
+abbrev pub stepped_on : List ℕ → Stepped → Stepped
 stepped_on memory (Continues task) = Continues (on_memory memory task)
 stepped_on memory (Ends task) = Ends (on_memory memory task)
 stepped_on memory (Traps cause pc) = Traps cause pc
@@ -60,7 +60,7 @@ module _ (memory : List ℕ) (ctx : Ctx) (task : TaskState) where
   either-on true x y x' y' e f = e
   either-on false x y x' y' e f = f
 
-  called-on : called ctx (on_memory memory task) ≡ stepped_on memory (called ctx task)
+  pub called-on : called ctx (on_memory memory task) ≡ stepped_on memory (called ctx task)
   unfolding called
   called-on =
       either-on (register task.core 17 == 0) _ _ _ _ refl
@@ -189,7 +189,7 @@ module _ (image : ImageValue) (budget : ℕ) (ctx : Ctx) (memory : List ℕ) whe
       ∙ runs.same ∙ steps-stop image budget ctx t stop.Call at runs.within
       ∙ ap (followed (steps image budget ctx (budget - (t.core.used + 1)))) (called-on (replayed memory log) ctx is.before ∙ ap (stepped_on (replayed memory log)) is.ends)
 
-  traps-on : (m : List ℕ) (task : TaskState) (s : Stop) (cause pc : ℕ) → stopped ctx task s ≡ Traps cause pc → stopped ctx (on_memory m task) s ≡ Traps cause pc
+  pub traps-on : (m : List ℕ) (task : TaskState) (s : Stop) (cause pc : ℕ) → stopped ctx task s ≡ Traps cause pc → stopped ctx (on_memory m task) s ≡ Traps cause pc
   traps-on m task (stop.Load width rd addr) cause pc e = absurd (cc (e))
   traps-on m task (stop.Store width addr value) cause pc e = absurd (cc (e))
   traps-on m task stop.Call cause pc e = called-on m ctx task ∙ ap (stepped_on m) e

@@ -32,7 +32,7 @@ found_from name task (t ∷ tasks) at named only = by_test (is_named name t) ref
     by_test false e (inr later) go = go later
 
 -- the first bag of what is left of a stack holds a task
-head_has : (stack : List BagValue) (bag : BagValue) (outer : List BagValue) → inner stack ≡ bag ∷ outer → (p : PendingTask) × In p bag.tasks
+pub head_has : (stack : List BagValue) (bag : BagValue) (outer : List BagValue) → inner stack ≡ bag ∷ outer → (p : PendingTask) × In p bag.tasks
 head_has [] bag outer e = absurd (cc)
 head_has (b ∷ bs) bag outer e = by_test (length b.tasks == 0) refl (head_has bs bag outer) e
   where

@@ -35,7 +35,7 @@ two_bags : (outer : List BagValue) → IsSome (kind_outside outer) → 1 ≤ len
 two_bags [] is = absurd (cc (is))
 two_bags (bag ∷ outer) is = omega arith
 
-have_domains : (bag : BagValue) (outer : List BagValue) (depth : ℕ) (sub : Option Kind) (spawns : List Spawn) → IsStack (bag ∷ outer) → bag.depth ≡ depth → HavePlaces (kind_outside outer) sub spawns → HaveDomains depth sub spawns
+pub have_domains : (bag : BagValue) (outer : List BagValue) (depth : ℕ) (sub : Option Kind) (spawns : List Spawn) → IsStack (bag ∷ outer) → bag.depth ≡ depth → HavePlaces (kind_outside outer) sub spawns → HaveDomains depth sub spawns
 have_domains bag outer depth sub spawns falls deep have =
     record {
       inside = λ index spawn at e. some_kind sub (subst (HasDomain (kind_outside outer) sub) e (place_at (kind_outside outer) sub spawns index spawn have at));

@@ -2,8 +2,9 @@ use Rattle.std.proofs.Common.{◌≡◌, ◌+◌, ◌∙◌, Some, refl, sym, ap
 use Rattle.serial_machine.specs.Turn.{turn}
 use Rattle.serial_machine.specs.Run.{IsRun, opening}
 use Rattle.run_law.proofs.RunSteps.{Runs-more}
+use Rattle.run_law.proofs.Sized.{length-opening}
 use Rattle.report_text.proofs.Replays.{take-more}
-use Rattle.report_text.proofs.Sizes.{turn-keeps, length-opening}
+use Rattle.report_text.proofs.Sizes.{turn-keeps}
 use Rattle.report_text.proofs.checking.replay.Goals as goal
 
 pub loop-index-init : goal.loop-index-init

@@ -1,0 +1,65 @@
+-- A trap that stands at a core is one of the instruction there.
+use Rattle.std.proofs.Common.{◌≡◌, ℕ, ◌%◌, ◌==◌, not, Bool, true, false, List, Option, Some, None, refl, subst, nat_lt, if◌then◌else◌}
+use Rattle.guest_image.specs.Fetch.{fetched, text_loaded}
+use Rattle.rv_table.specs.declared.instr.Effect.{Effect}
+use Rattle.rv_table.specs.declared.instr.Effect.TheVariants as does
+use Rattle.rv_table.specs.declared.instr.Instr.{Instr}
+use Rattle.rv_table.specs.declared.instr.LoadWidth.{LoadWidth}
+use Rattle.rv_table.specs.Exec.{acts_on}
+use Rattle.rv_table.specs.Table.{decoded}
+use Rattle.rv_core.specs.declared.state.Core.{Core}
+use Rattle.rv_core.specs.declared.state.Stop.{Stop}
+use Rattle.rv_core.specs.declared.state.Stop.TheVariants as stop
+use Rattle.rv_core.specs.Next.{Next, Goes, Stops}
+use Rattle.rv_core.specs.Memory.{data_start, is_within, load_bytes, store_bytes}
+use Rattle.rv_core.specs.Legs.{next_at, word_next, instr_next, effect_next, load_next, traps}
+
+-- a stop that is a trap is one of this pc
+abbrev IsStopHere : ℕ → Stop → Type 0
+IsStopHere pc (stop.Trap cause at) = at ≡ pc
+IsStopHere pc (stop.Load width rd addr) = Unit {0}
+IsStopHere pc (stop.Store width addr value) = Unit {0}
+IsStopHere pc stop.Call = Unit {0}
+IsStopHere pc stop.Quantum = Unit {0}
+
+abbrev IsHere : Core → Next → Type 0
+IsHere core (Goes to) = Unit {0}
+IsHere core (Stops found) = IsStopHere core.pc found
+
+either_here : (core : Core) (test : Bool) (one other : Next) → IsHere core one → IsHere core other → IsHere core (if test then one else other)
+either_here core true one other here there = here
+either_here core false one other here there = there
+
+load_here : (size : ℕ) (core : Core) (width : LoadWidth) (rd addr : ℕ) (raw : Option ℕ) → IsHere core (load_next size core width rd addr raw)
+load_here size core width rd addr (Some raw) = tt
+load_here size core width rd addr None =
+    either_here core (is_within data_start size addr (load_bytes width)) (Stops (stop.Load width rd addr)) (traps core 5) tt refl
+
+effect_here : (text : List ℕ) (size : ℕ) (core : Core) (effect : Effect) → IsHere core (effect_next text size core effect)
+effect_here text size core (does.Plain pc rd value) = tt
+effect_here text size core (does.Load width rd addr) =
+    either_here core (not (addr % load_bytes width == 0)) (traps core 4) (load_next size core width rd addr (text_loaded text addr (load_bytes width)))
+    refl (load_here size core width rd addr (text_loaded text addr (load_bytes width)))
+effect_here text size core (does.Store width addr value) =
+    either_here core (not (addr % store_bytes width == 0)) (traps core 6) _ refl
+    (either_here core (is_within data_start size addr (store_bytes width)) (Stops (stop.Store width addr value)) (traps core 7) tt refl)
+effect_here text size core does.Call = tt
+effect_here text size core does.Break = refl
+effect_here text size core does.Misaligned = refl
+
+instr_here : (text : List ℕ) (size : ℕ) (core : Core) (instr : Option Instr) → IsHere core (instr_next text size core instr)
+instr_here text size core None = refl
+instr_here text size core (Some instr) = effect_here text size core (acts_on core.pc core.regs instr)
+
+word_here : (text : List ℕ) (size : ℕ) (core : Core) (word : Option ℕ) → IsHere core (word_next text size core word)
+word_here text size core None = refl
+word_here text size core (Some word) = instr_here text size core (decoded word)
+
+next_here : (text : List ℕ) (size budget : ℕ) (core : Core) → IsHere core (next_at text size budget core)
+unfolding next_at
+next_here text size budget core =
+    either_here core (nat_lt core.used budget) (word_next text size core (fetched text core.pc)) (traps core 17) (word_here text size core (fetched text core.pc)) refl
+
+-- a trap that stands next at a core has its pc
+pub next_at-here : (text : List ℕ) (size budget : ℕ) (core : Core) (cause pc : ℕ) → next_at text size budget core ≡ Stops (stop.Trap cause pc) → pc ≡ core.pc
+next_at-here text size budget core cause pc stands = subst (IsHere core) stands (next_here text size budget core)

@@ -1,0 +1,131 @@
+-- A logged run whose log replays on a memory is one on a memory of that size.
+use Rattle.std.proofs.Common.{◌≡◌, ◌≤◌, ◌+◌, ◌-◌, ◌%◌, ◌==◌, ◌∷◌, ◌++◌, ℕ, Bool, true, false, List, [], length, not, nat_lt, Option, Some, None, refl, sym, ap, subst, ◌∙◌, arith, if◌then◌else◌}
+use Rattle.std.proofs.lemmas.Bool.Decides.{nat_tests}
+use Rattle.std.proofs.lemmas.Grind.{common_steps}
+use Rattle.guest_image.specs.Fetch.{fetched, text_loaded}
+use Rattle.guest_image.specs.ImageValue.{ImageValue}
+use Rattle.memory_law.specs.Accesses.{Replays}
+use Rattle.memory_law.proofs.Joins.{length-replayed}
+use Rattle.memory_law.proofs.Replays.{Replays-front, Replays-back}
+use Rattle.rv_core.specs.declared.state.Core.{Core}
+use Rattle.rv_core.specs.declared.state.Stop.TheVariants as stop
+use Rattle.rv_core.specs.Legs.{next_at, word_next, instr_next, effect_next, load_next, traps}
+use Rattle.rv_core.specs.Memory.{data_start, is_within, load_bytes, store_bytes}
+use Rattle.rv_core.specs.Next.{Next, Goes, Stops}
+use Rattle.rv_table.specs.declared.instr.Effect.{Effect}
+use Rattle.rv_table.specs.declared.instr.Effect.TheVariants as does
+use Rattle.rv_table.specs.declared.instr.Instr.{Instr}
+use Rattle.rv_table.specs.declared.instr.LoadWidth.{LoadWidth}
+use Rattle.rv_table.specs.Exec.{acts_on}
+use Rattle.rv_table.specs.Table.{decoded}
+use Rattle.serial_machine.specs.TaskState.{TaskState}
+use Rattle.task_desc.specs.declared.desc.Ctx.{Ctx}
+use Rattle.turn_law.specs.Logged.{LoggedRun, none, plain, call, load, store}
+use Rattle.undo_log.specs.declared.access.Access.{Access}
+
+-- what stands next is no trap, and an access ends within so many bytes of data
+abbrev Reaches : ℕ → Next → Type 0
+Reaches size (Goes core) = Unit {0}
+Reaches size (Stops (stop.Load width rd addr)) = addr + load_bytes width ≤ data_start + size
+Reaches size (Stops (stop.Store width addr value)) = addr + store_bytes width ≤ data_start + size
+Reaches size (Stops stop.Call) = Unit {0}
+Reaches size (Stops (stop.Trap cause pc)) = ⊥
+Reaches size (Stops stop.Quantum) = Unit {0}
+
+-- what lies within one size and ends within another lies within that one
+within_other : (start size other addr n : ℕ) → is_within start size addr n ≡ true → addr + n ≤ start + other → is_within start other addr n ≡ true
+within_other start size other addr n within ends = grind (arith, nat_tests, common_steps)
+
+-- what does not depend on the size of the data beyond its own access
+module _ (text : List ℕ) (size other budget : ℕ) (core : Core) where
+  -- where an access within the one size ends within the other, the test of its range has one answer
+  in_range : (start addr n : ℕ) (found : Next) (cause : ℕ) → (Reaches other found → addr + n ≤ start + other)
+      → Reaches other (if is_within start size addr n then found else traps core cause)
+      → (if is_within start other addr n then found else traps core cause) ≡ (if is_within start size addr n then found else traps core cause)
+  in_range start addr n found cause ends reaches = by_test (is_within start size addr n) refl reaches
+    where
+      by_test : (b : Bool) → is_within start size addr n ≡ b → Reaches other (if b then found else traps core cause)
+          → (if is_within start other addr n then found else traps core cause) ≡ (if b then found else traps core cause)
+      by_test true within reach = ap (λ b. if b then found else traps core cause) (within_other start size other addr n within (ends reach))
+      by_test false within reach = absurd reach
+
+  -- a load
+  load_same : (width : LoadWidth) (rd addr : ℕ) (raw : Option ℕ) → Reaches other (load_next size core width rd addr raw)
+      → load_next other core width rd addr raw ≡ load_next size core width rd addr raw
+  load_same width rd addr (Some raw) reaches = refl
+  load_same width rd addr None reaches = in_range data_start addr (load_bytes width) (Stops (stop.Load width rd addr)) 5 (λ reach. reach) reaches
+
+  -- a test whose other branch is a trap
+  either_same : (b : Bool) (cause : ℕ) (one two : Next) → (Reaches other two → one ≡ two) → Reaches other (if b then traps core cause else two)
+      → (if b then traps core cause else one) ≡ (if b then traps core cause else two)
+  either_same true cause one two same reaches = absurd reaches
+  either_same false cause one two same reaches = same reaches
+
+  -- what an instruction does
+  effect_same : (effect : Effect) → Reaches other (effect_next text size core effect) → effect_next text other core effect ≡ effect_next text size core effect
+  effect_same (does.Plain pc rd value) reaches = refl
+  effect_same (does.Load width rd addr) reaches =
+      either_same (not (addr % load_bytes width == 0)) 4 (load_next other core width rd addr (text_loaded text addr (load_bytes width)))
+      (load_next size core width rd addr (text_loaded text addr (load_bytes width)))
+      (load_same width rd addr (text_loaded text addr (load_bytes width))) reaches
+  effect_same (does.Store width addr value) reaches =
+      either_same (not (addr % store_bytes width == 0)) 6
+      (if is_within data_start other addr (store_bytes width) then Stops (stop.Store width addr value) else traps core 7)
+      (if is_within data_start size addr (store_bytes width) then Stops (stop.Store width addr value) else traps core 7)
+      (in_range data_start addr (store_bytes width) (Stops (stop.Store width addr value)) 7 (λ reach. reach)) reaches
+  effect_same does.Call reaches = refl
+  effect_same does.Break reaches = absurd reaches
+  effect_same does.Misaligned reaches = absurd reaches
+
+  -- an instruction
+  instr_same : (instr : Option Instr) → Reaches other (instr_next text size core instr) → instr_next text other core instr ≡ instr_next text size core instr
+  instr_same None reaches = absurd reaches
+  instr_same (Some instr) reaches = effect_same (acts_on core.pc core.regs instr) reaches
+
+  -- a word
+  word_same : (word : Option ℕ) → Reaches other (word_next text size core word) → word_next text other core word ≡ word_next text size core word
+  word_same None reaches = absurd reaches
+  word_same (Some word) reaches = instr_same (decoded word) reaches
+
+  -- what stands at the core
+  next_same : Reaches other (next_at text size budget core) → next_at text other budget core ≡ next_at text size budget core
+  unfolding next_at
+  next_same reaches = by_test (nat_lt core.used budget) reaches
+    where
+      by_test : (b : Bool) → Reaches other (if b then word_next text size core (fetched text core.pc) else traps core 17)
+          → (if b then word_next text other core (fetched text core.pc) else traps core 17) ≡ (if b then word_next text size core (fetched text core.pc) else traps core 17)
+      by_test true reach = word_same (fetched text core.pc) reach
+      by_test false reach = absurd reach
+
+  -- what stands next at one size, where it reaches no further than the other, stands next there too
+  pub stands_so : (found : Next) → next_at text size budget core ≡ found → Reaches other found → next_at text other budget core ≡ found
+  stands_so found at reaches = next_same (subst (Reaches other) (sym at) reaches) ∙ at
+
+-- an access that has room ends within so many bytes of data
+ends_within : (start addr offset width bytes size : ℕ) → offset ≡ addr - start → width ≡ bytes → offset + width ≤ size → addr + bytes ≤ start + size
+ends_within start addr offset width bytes size is_offset is_width room = omega (arith, is_offset, is_width, room)
+
+module _ (image : ImageValue) (budget size : ℕ) (ctx : Ctx) (start : TaskState) (memory : List ℕ) where
+  -- the last access of a log that replays has room
+  last_room : (log : List Access) (access : Access) → Replays memory (log ++ access ∷ []) → access.offset + access.width ≤ length memory
+  last_room log access chain =
+      let fits = (Replays-back memory log (access ∷ []) chain).0 in
+      omega (arith, fits.within, length-replayed memory log)
+
+  -- each step of the run is one on the memory
+  pub logged_on : {log : List Access} {task : TaskState} → LoggedRun image budget size ctx start log task → Replays memory log
+      → LoggedRun image budget (length memory) ctx start log task
+  logged_on none chain = none
+  logged_on (plain {log} {task} core run at) chain = plain core (logged_on run chain) (stands_so image.text size (length memory) budget task.core (Goes core) at tt)
+  logged_on (call {log} {task} after run at goes) chain =
+      call after (logged_on run chain) (stands_so image.text size (length memory) budget task.core (Stops stop.Call) at tt) goes
+  logged_on (load {log} {task} access width rd addr run at is_offset is_width is_load) chain =
+      load access width rd addr (logged_on run (Replays-front memory log (access ∷ []) chain))
+      (stands_so image.text size (length memory) budget task.core (Stops (stop.Load width rd addr)) at
+      (ends_within data_start addr access.offset access.width (load_bytes width) (length memory) is_offset is_width (last_room log access chain)))
+      is_offset is_width is_load
+  logged_on (store {log} {task} access width addr value run at is_offset is_width is_store) chain =
+      store access width addr value (logged_on run (Replays-front memory log (access ∷ []) chain))
+      (stands_so image.text size (length memory) budget task.core (Stops (stop.Store width addr value)) at
+      (ends_within data_start addr access.offset access.width (store_bytes width) (length memory) is_offset is_width (last_room log access chain)))
+      is_offset is_width is_store
