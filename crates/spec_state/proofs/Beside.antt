@@ -16,7 +16,7 @@ mapped_some f None y at = absurd (cc (at))
 mapped_some f (Some x) y at = (x, refl, cc)
 
 -- an id below the bound passes the test for it
-low_test : (k bound : ℕ) → k < bound → nat_lt k bound ≡ true
+pub low_test : (k bound : ℕ) → k < bound → nat_lt k bound ≡ true
 low_test k bound low = grind (arith, nat_tests)
 
 -- an id from the bound on fails it

@@ -7,7 +7,7 @@ use Rattle.spec_state.specs.View.{View}
 use Rattle.spec_state.specs.Groups.{all_spilled, bag_spilled}
 use Rattle.spec_state.specs.Least.{HasName, IsHeir}
 use Rattle.spec_state.specs.Laws.{SpilledAreFirm}
-use Rattle.spec_state.proofs.Places.{contains_get, in_map}
+use Rattle.spec_state.proofs.Places.{contained_in_map}
 
 -- a name with the next commit number is that of a child of the heir, where there is one
 heir_name : (view : View) (heir : Option ℕ) (name : Name)
@@ -18,7 +18,7 @@ heir_name view (Some id) name is_heir some next =
 
 pub spilled_are_firm : SpilledAreFirm
 spilled_are_firm image view sound s has =
-    elim (sound.tasks.names.firm s.desc.depth (bag_spilled s).task (let place = contains_get (all_spilled view) s has in in_map bag_spilled (all_spilled view) place.0 s place.1)) [
+    elim (sound.tasks.names.firm s.desc.depth (bag_spilled s).task (contained_in_map bag_spilled (all_spilled view) s has)) [
       | inl low ↦ (Committed s.desc.name.creator s.desc.name.index, (low, refl))
       | inr next ↦ heir_name view sound.heir s.desc.name sound.is_heir next.1 next.0
     ]

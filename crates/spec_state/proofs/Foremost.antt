@@ -22,7 +22,7 @@ committed_is_none (Committed t i) turn index e = refl
 committed_is_none (Live task i) turn index e = absurd (cc (e))
 
 -- what is at most another passes the test for it
-le_test : (a b : ℕ) → a ≤ b → nat_le a b ≡ true
+pub le_test : (a b : ℕ) → a ≤ b → nat_le a b ≡ true
 le_test a b low = grind (arith, nat_tests)
 
 module _ (view : View) (sizes : SoundSizes view) (heir : Option ℕ) where

@@ -10,7 +10,7 @@ use Rattle.spec_state.specs.View.{View, task_at}
 use Rattle.spec_state.specs.Tasks.{HasNotes}
 use Rattle.spec_state.specs.Groups.{logged}
 use Rattle.spec_state.specs.Aborts.{is_marked}
-use Rattle.spec_state.specs.Glue.{TakesMarked, AbortKeepsMemory}
+use Rattle.spec_state.specs.AbortLaws.{TakesMarked, AbortKeepsMemory}
 use Rattle.spec_state.proofs.Taken.{unmarked_stays, marked_is_back, holds_later, logs_taken_back}
 
 -- a line of the settings has as many bytes as a line may have

@@ -21,7 +21,7 @@ use Rattle.spec_state.specs.Groups.{all_keyed, all_spilled, keyed, keyed_task, k
 use Rattle.spec_state.specs.Least.{Queued, Spilled_at, spot_cmp, IsHeir, IsLeastTask}
 use Rattle.spec_state.specs.Aborts.{is_marked, is_marked_creator}
 use Rattle.spec_state.specs.Sound.{SoundOrder, SoundSizes}
-use Rattle.spec_state.specs.Glue.{TakesMarked, AbortKeepsHeir}
+use Rattle.spec_state.specs.AbortLaws.{TakesMarked, AbortKeepsHeir}
 use Rattle.spec_state.proofs.Beside.{mapped_some, id_below, queued_stands}
 use Rattle.spec_state.proofs.Taken.{unmarked_stays, marked_idles}
 use Rattle.spec_state.proofs.Rebound.{which, entry_there, below_all}
@@ -34,18 +34,18 @@ use Rattle.spec_state.proofs.Leasts.{less_of, makes_least}
 use Rattle.spec_state.proofs.Ranked.{first_not_greater}
 use Rattle.spec_state.proofs.Lowest.{lowest}
 
-some_of : {X : Type 0} (o : Option X) → is_some o ≡ true → (x : X) × (o ≡ Some x)
+pub some_of : {X : Type 0} (o : Option X) → is_some o ≡ true → (x : X) × (o ≡ Some x)
 some_of None is = absurd (cc)
 some_of (Some x) is = (x, refl)
 
 -- what the test says of two answers
-upto_of : (o : Ordering) → is_gt o ≡ false → o ≢ Greater
+pub upto_of : (o : Ordering) → is_gt o ≡ false → o ≢ Greater
 upto_of Less is e = absurd (cc)
 upto_of Equal is e = absurd (cc)
 upto_of Greater is e = absurd (cc)
 
 -- keys of which neither is above the other are one
-same_key : (a b : Key) → key_cmp a b ≢ Greater → key_cmp b a ≢ Greater → a ≡ b
+pub same_key : (a b : Key) → key_cmp a b ≢ Greater → key_cmp b a ≢ Greater → a ≡ b
 same_key a b one two = by_order (key_cmp a b) refl
   where
     by_order : (o : Ordering) → key_cmp a b ≡ o → a ≡ b
@@ -53,7 +53,7 @@ same_key a b one two = by_order (key_cmp a b) refl
     by_order Equal is = (equal_keys_tie a b).0 is
     by_order Greater is = absurd (one is)
 
-not_above : (a b : Key) → (key_cmp b a ≡ Less → ⊥) → key_cmp a b ≢ Greater
+pub not_above : (a b : Key) → (key_cmp b a ≡ Less → ⊥) → key_cmp a b ≢ Greater
 not_above a b none is = none (key_cmp_total.antisymm b a ∙ ap ordering_reverse is)
 
 module _ (marks : List Bool) (old new : View) (takes : TakesMarked marks old new) (sizes : SoundSizes old) where
@@ -66,7 +66,7 @@ module _ (marks : List Bool) (old new : View) (takes : TakesMarked marks old new
   spilled_now : (tile place : ℕ) (s : Spilled) → slice_get (block_at old tile) place ≡ Some s → slice_get (block_at new tile) place ≡ Some s
   spilled_now tile place s at = subst (λ blocks. slice_get (slice_index_or blocks tile []) place ≡ Some s) (sym same_blocks) at
 
-  -- a heir that is spared is the least task, and dispatched
+  -- an heir that is spared is the least task, and dispatched
   module _ (id : ℕ) (out : is_marked marks id ≡ false) (order : SoundOrder old (Some id)) (heir : IsHeir old (Some id)) where
     -- it was below each other queued task, since numbers differ
     above_before : (k : ℕ) (t : Task) → k ≢ id → task_at old k ≡ Some t → key_cmp heir.0.key t.key ≡ Less

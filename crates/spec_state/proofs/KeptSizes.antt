@@ -15,13 +15,13 @@ use Rattle.spec_state.specs.Groups.{waiting, waiting_task}
 use Rattle.spec_state.specs.Aborts.{is_marked, freed_core}
 use Rattle.spec_state.specs.Queries.{IsQueued}
 use Rattle.spec_state.specs.Sound.{HoldsCore, HasTask, SoundSizes}
-use Rattle.spec_state.specs.Glue.{TakesMarked, AbortKeepsSizes}
+use Rattle.spec_state.specs.AbortLaws.{TakesMarked, AbortKeepsSizes}
 use Rattle.spec_state.proofs.Taken.{unmarked_stays}
 use Rattle.spec_state.proofs.KeptTasks.{each_now}
 use Rattle.spec_state.proofs.Filtered.{filter_shorter, filter_was, filter_is, filter_leaves, queue_filtered, list_mapped, got_mapped, get_mapped}
 
 -- bounded lists of distinct ids stay so
-bounded_filtered : (p : ℕ → Bool) (bound : ℕ) (lists : List (List ℕ)) → All (λ ids. (length ids ≤ bound) × AreDistinct ids) lists
+pub bounded_filtered : (p : ℕ → Bool) (bound : ℕ) (lists : List (List ℕ)) → All (λ ids. (length ids ≤ bound) × AreDistinct ids) lists
     → All (λ ids. (length ids ≤ bound) × AreDistinct ids) (map (filter p) lists)
 bounded_filtered p bound lists each =
     All-map (λ ids. (length ids ≤ bound) × AreDistinct ids) (filter p) lists

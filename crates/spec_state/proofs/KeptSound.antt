@@ -13,7 +13,7 @@ use Rattle.spec_state.specs.Least.{IsHeir}
 use Rattle.spec_state.specs.Queries.{Conflicts, IsLater}
 use Rattle.spec_state.specs.Aborts.{Only}
 use Rattle.spec_state.specs.Sound.{Sound}
-use Rattle.spec_state.specs.Glue.{AbortKeepsSound, AbortOfOneIsSound, AbortOfConflictsIsSound, AbortOfLaterIsSound, AbortForRoomIsSound}
+use Rattle.spec_state.specs.AbortLaws.{AbortKeepsSound, AbortOfOneIsSound, AbortOfConflictsIsSound, AbortOfLaterIsSound, AbortForRoomIsSound}
 use Rattle.spec_state.proofs.Taken.{abort_takes}
 use Rattle.spec_state.proofs.Kept.{abort_keeps_memory}
 use Rattle.spec_state.proofs.Rebound.{abort_keeps_order}

@@ -14,7 +14,7 @@ use Rattle.spec_state.specs.Tasks.{Descriptor, descriptor_of, idle_again, spille
 use Rattle.spec_state.specs.Groups.{bag_tasks, bags_spilled, domains_of, live_creator}
 use Rattle.spec_state.specs.Aborts.{is_marked, is_marked_creator}
 use Rattle.spec_state.specs.Sound.{StandsAs, IsMadeBy, SoundTasks}
-use Rattle.spec_state.specs.Glue.{TakesMarked, SparesHeir, AbortKeepsTasks}
+use Rattle.spec_state.specs.AbortLaws.{TakesMarked, SparesHeir, AbortKeepsTasks}
 use Rattle.spec_state.proofs.Taken.{IsBack, unmarked_stays, marked_is_back, bags_taken_back}
 use Rattle.spec_state.proofs.Rebound.{changed_to}
 

@@ -33,7 +33,7 @@ use Rattle.spec_state.proofs.Returned.{spilled_has_turn}
 use Rattle.spec_state.proofs.Stacked.{run_stack}
 
 -- a task without an uncommitted creator has a committed one
-none_is_committed : (c : Creator) → live_creator c ≡ None → (turn : ℕ) × (index : ℕ) × (c ≡ Committed turn index)
+pub none_is_committed : (c : Creator) → live_creator c ≡ None → (turn : ℕ) × (index : ℕ) × (c ≡ Committed turn index)
 none_is_committed (Committed turn index) e = (turn, index, refl)
 none_is_committed (Live task index) e = absurd (cc (e))
 
@@ -58,11 +58,11 @@ above_test : (a b : ℕ) → a ≡ b + 1 → nat_le a b ≡ false
 above_test a b above = grind (arith, nat_tests)
 
 -- a spilled task is one for the bags
-in_spilled : (view : View) (k : ℕ) (s : Spilled) → slice_get (all_spilled view) k ≡ Some s → IsSpilled (bags_spilled view) s.desc.depth (bag_spilled s).task
+pub in_spilled : (view : View) (k : ℕ) (s : Spilled) → slice_get (all_spilled view) k ≡ Some s → IsSpilled (bags_spilled view) s.desc.depth (bag_spilled s).task
 in_spilled view k s at = in_map bag_spilled (all_spilled view) k s at
 
 -- the spot of a task, queued or spilled, with its levels
-record HasSpot (view : View) (x : Keyed) : Type 0 where
+pub record HasSpot (view : View) (x : Keyed) : Type 0 where
   pub spot : Spot
   pub key : Key
   pub has : HasKey view spot key
@@ -70,7 +70,7 @@ record HasSpot (view : View) (x : Keyed) : Type 0 where
 
 module _ (view : View) (sizes : SoundSizes view) (heir : Option ℕ) where
   -- each task stands at some spot
-  spot_of : (k : ℕ) (x : Keyed) → all_keyed view heir k ≡ Some x → HasSpot view x
+  pub spot_of : (k : ℕ) (x : Keyed) → all_keyed view heir k ≡ Some x → HasSpot view x
   spot_of k x at = elim (which view heir k x at) [
     | inl q ↦
         let at_tile = (sizes.queued_are q.0.tile k).1 (q.0, q.1, refl, tt) in
@@ -99,7 +99,7 @@ module _ (view : View) (sizes : SoundSizes view) (heir : Option ℕ) where
 
 module _ (image : ImageValue) (view : View) (sound : Sound image view) where
   -- the task at the least spot stands innermost in the order of tasks
-  least_is_innermost : (spot : Spot) (least : IsLeastSpot view spot) (k : ℕ) (x : Keyed) → all_keyed view sound.heir k ≡ Some x → order.levels x ≡ levels least.key
+  pub least_is_innermost : (spot : Spot) (least : IsLeastSpot view spot) (k : ℕ) (x : Keyed) → all_keyed view sound.heir k ≡ Some x → order.levels x ≡ levels least.key
       → IsInnermost (all_keyed view sound.heir) x
   least_is_innermost spot least k x at same =
       innermost (all_keyed view sound.heir) (map closed view.path) view.next k x sound.order.order
@@ -123,7 +123,7 @@ module _ (image : ImageValue) (view : View) (sound : Sound image view) where
       }
 
   -- a spilled task without an uncommitted creator has a committed one: were it a child of the heir, the heir would be its creator
-  firm_is_committed : (k : ℕ) (s : Spilled) → slice_get (all_spilled view) k ≡ Some s → heir_unless (nat_le s.desc.name.creator (length view.history)) sound.heir ≡ None
+  pub firm_is_committed : (k : ℕ) (s : Spilled) → slice_get (all_spilled view) k ≡ Some s → heir_unless (nat_le s.desc.name.creator (length view.history)) sound.heir ≡ None
       → s.desc.name.creator ≤ length view.history
   firm_is_committed k s at none = elim (sound.tasks.names.firm s.desc.depth (bag_spilled s).task (in_spilled view k s at)) [
     | inl low ↦ low

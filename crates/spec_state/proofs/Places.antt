@@ -65,3 +65,7 @@ pub in_map : {X Y : Type 0} (f : X → Y) (xs : List X) (k : ℕ) (x : X) → sl
 in_map f [] k x at = absurd (cc (at))
 in_map f (y ∷ xs) zero x at = let same : y ≡ x = cc in inl (ap f (sym same))
 in_map f (y ∷ xs) (suc k) x at = inr (in_map f xs k x at)
+
+-- and so does what the list contains
+pub contained_in_map : {X Y : Type 0} (f : X → Y) (xs : List X) (x : X) → Contains xs x → In (f x) (map f xs)
+contained_in_map f xs x has = let place = contains_get xs x has in in_map f xs place.0 x place.1

@@ -1,4 +1,5 @@
--- An abort that spares the heir keeps the order of all uncommitted tasks.
+-- Another bound for the ids of spilled tasks renames them and keeps the order of all uncommitted tasks; and so an abort that spares the heir
+-- keeps it.
 use Rattle.std.proofs.Common.{◌≡◌, ◌⊎◌, ◌∷◌, [], ℕ, zero, suc, ◌+◌, ◌-◌, ◌<◌, Bool, true, false, List, length, Option, Some, None, refl, sym, ap, subst, ◌∙◌, inl, inr, arith, map, slice_get, nat_lt, nat_le, if◌then◌else◌}
 use Rattle.std.proofs.lemmas.Bool.Decides.{nat_tests}
 use Rattle.std.proofs.lemmas.Option.{slice_get_within}
@@ -15,7 +16,7 @@ use Rattle.spec_state.specs.View.{View, task_at}
 use Rattle.spec_state.specs.Groups.{all_keyed, all_spilled, heir_unless, keyed, keyed_spilled, keyed_task}
 use Rattle.spec_state.specs.Aborts.{is_marked}
 use Rattle.spec_state.specs.Sound.{SoundOrder}
-use Rattle.spec_state.specs.Glue.{AbortKeepsOrder}
+use Rattle.spec_state.specs.AbortLaws.{AbortKeepsOrder}
 use Rattle.spec_state.proofs.Beside.{mapped_some, id_below}
 use Rattle.spec_state.proofs.Taken.{gone_stays, order_aborts}
 
@@ -27,10 +28,10 @@ high_test bound j = grind (arith, nat_tests)
 
 -- what stands beside entries is a task or an entry
 module _ (bound : ℕ) (tasks : ℕ → Option Keyed) (entries : List Keyed) where
-  low_is : (k : ℕ) → nat_lt k bound ≡ true → beside bound tasks entries k ≡ tasks k
+  pub low_is : (k : ℕ) → nat_lt k bound ≡ true → beside bound tasks entries k ≡ tasks k
   low_is k low = ap (λ b. if b then tasks k else slice_get entries (k - bound)) low
 
-  high_is : (k : ℕ) → nat_lt k bound ≡ false → beside bound tasks entries k ≡ slice_get entries (k - bound)
+  pub high_is : (k : ℕ) → nat_lt k bound ≡ false → beside bound tasks entries k ≡ slice_get entries (k - bound)
   high_is k high = ap (λ b. if b then tasks k else slice_get entries (k - bound)) high
 
   pub which : (k : ℕ) (x : Keyed) → beside bound tasks entries k ≡ Some x → (tasks k ≡ Some x) ⊎ IsEntry x entries
@@ -57,7 +58,7 @@ module _ (bound : ℕ) (tasks : ℕ → Option Keyed) (entries : List Keyed) whe
       (bound + is.0, high_is (bound + is.0) (high_test bound is.0) ∙ ap (slice_get entries) same ∙ is.1)
 
 -- entries that are idle stand under other ids where the bound is another one
-rebound : (bound other : ℕ) (tasks : ℕ → Option Keyed) (entries : List Keyed)
+pub rebound : (bound other : ℕ) (tasks : ℕ → Option Keyed) (entries : List Keyed)
     → ((k : ℕ) (x : Keyed) → tasks k ≡ Some x → (k < bound) × (k < other)) → ((x : Keyed) → IsEntry x entries → x.last.tb ≡ None)
     → Renames (beside bound tasks entries) (beside other tasks entries)
 rebound bound other tasks entries bounded idle =
@@ -90,7 +91,7 @@ module _ (count : ℕ) (heir : Option ℕ) where
   heir_is true c is = absurd (cc)
   heir_is false c is = is
 
-  entry_creator : (entries : List Spilled) (x : Keyed) (c : ℕ) → IsEntry x (map (keyed_spilled count heir) entries) → x.creator ≡ Some c → heir ≡ Some c
+  pub entry_creator : (entries : List Spilled) (x : Keyed) (c : ℕ) → IsEntry x (map (keyed_spilled count heir) entries) → x.creator ≡ Some c → heir ≡ Some c
   entry_creator entries x c is made =
       let read = entry_of entries x is.0 is.1 in
       heir_is (nat_le read.0.desc.name.creator count) c (sym (ap (λ t. t.creator) read.1) ∙ made)

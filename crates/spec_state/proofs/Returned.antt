@@ -13,11 +13,11 @@ use Rattle.turn_law.proofs.Coalesce.{splits_keep}
 use Rattle.turn_law.proofs.Turning.{least_has_turn}
 
 -- a number passes the test for itself
-same_test : (n : ℕ) → (n == n) ≡ true
+pub same_test : (n : ℕ) → (n == n) ≡ true
 same_test n = grind (arith, nat_tests)
 
 -- any other number fails it
-other_test : (k n : ℕ) → k ≢ n → (k == n) ≡ false
+pub other_test : (k n : ℕ) → k ≢ n → (k == n) ≡ false
 other_test k n other = grind (arith, nat_tests)
 
 -- the spilled task as a queued one, idle

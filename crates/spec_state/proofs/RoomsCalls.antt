@@ -18,12 +18,13 @@ use Rattle.turn_law.specs.Logged.{LoggedRun, none, plain, call, load, store}
 use Rattle.undo_log.specs.declared.access.Access.{Access}
 use Rattle.spec_state.specs.Tasks.{kind_if}
 
--- the step made no child, or one that is allowed, at the timestamp that its domain takes
+-- the step made a child that is allowed, at the timestamp that its domain takes, and no subdomain
 pub record AddsChild (ctx : Ctx) (before after : TaskState) : Type 0 where
   pub asked : Spawn
   pub ts : ℕ
   pub allows : allowed (context ctx before) asked ≡ Ok ts
   pub is : after.spawns ≡ before.spawns ++ record asked { ts = ts } ∷ []
+  pub sub : after.sub ≡ before.sub
 
 abbrev IsStepAllowed : Ctx → TaskState → Stepped → Type 0
 IsStepAllowed ctx before (Continues after) = (after.spawns ≡ before.spawns) ⊎ AddsChild ctx before after
@@ -48,7 +49,7 @@ both_ways P false x y one other = other
 module _ (ctx : Ctx) (before : TaskState) where
   spawned_allowed : (asked : Spawn) (r : Result ℕ ℕ) → allowed (context ctx before) asked ≡ r → IsStepAllowed ctx before (spawned before asked r)
   spawned_allowed asked (Err cause) e = tt
-  spawned_allowed asked (Ok ts) e = inr (record { asked = asked; ts = ts; allows = e; is = refl })
+  spawned_allowed asked (Ok ts) e = inr (record { asked = asked; ts = ts; allows = e; is = refl; sub = refl })
 
   enqueued_allowed : (place : Place) → IsStepAllowed ctx before (enqueued ctx before place)
   enqueued_allowed place = spawned_allowed (spawn_at before.core place) _ refl

@@ -17,8 +17,8 @@ use Rattle.spec_state.specs.View.{View, task_at, queue_at}
 use Rattle.spec_state.specs.Tasks.{is_dispatched}
 use Rattle.spec_state.specs.Groups.{keyed_task, all_keyed, waiting_task, waiting}
 use Rattle.spec_state.specs.Least.{Spot, Queued, Spilled_at, IsLeastSpot, IsHeir}
-use Rattle.spec_state.specs.Room.{NoneMoves, IsVictim}
-use Rattle.spec_state.specs.RoomLaws.{AsksAsLeast, IsTaken, MayBeTaken, VictimIsLater}
+use Rattle.spec_state.specs.Room.{NoneMoves, IsVictim, IsTakenFor}
+use Rattle.spec_state.specs.RoomLaws.{AsksAsLeast, MayBeTaken, VictimIsLater}
 use Rattle.spec_state.specs.Sound.{Sound}
 use Rattle.spec_state.proofs.Beside.{mapped_some, spilled_key, queued_stands, spilled_stands, which}
 use Rattle.spec_state.proofs.Next.{queued_key, none_below}
@@ -100,12 +100,12 @@ module _ (image : ImageValue) (view : View) (sound : Sound image view) where
       }
 
   -- what is taken back for the victim is so by the laws of room
-  first_to : (v first : ℕ) (task : Task) → IsTaken view v task first → room.IsFirst sound.heir v (waiting_task task) first
+  first_to : (v first : ℕ) (task : Task) → IsTakenFor view v task first → room.IsFirst sound.heir v (waiting_task task) first
   first_to v first task (inl firm) = inl ((firm_is_firm image view sound task).0 firm.0, firm.1)
   first_to v first task (inr loose) = inr (λ firm. loose.0 ((firm_is_firm image view sound task).1 firm), loose.1)
 
   taken_later : (tile : ℕ) (asker : Option ℕ) (low : Key) (v first : ℕ) (task : Task)
-      → AsksAsLeast view tile asker low → NoneMoves view tile → IsVictim view tile asker v task → IsTaken view v task first → MayBeTaken view asker low first
+      → AsksAsLeast view tile asker low → NoneMoves view tile → IsVictim view tile asker v task → IsTakenFor view v task first → MayBeTaken view asker low first
   taken_later tile asker low v first task asker_is none victim taken =
       let may = victims_are_legal (waiting view) sound.heir (queue_at view tile) asker (levels low) v first (waiting_task task) creators_run (asks tile asker low asker_is)
       (λ k moves. none k ((movable_is_movable image view sound tile k).1 moves)) (victim_is_victim view tile asker v task victim) (first_to v first task taken) in

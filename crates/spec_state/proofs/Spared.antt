@@ -10,7 +10,7 @@ use Rattle.spec_state.specs.View.{View, task_at, queue_at}
 use Rattle.spec_state.specs.Least.{IsLeastTask, IsHeir, IsQueuedAt, Queued, spot_cmp}
 use Rattle.spec_state.specs.Aborts.{is_marked}
 use Rattle.spec_state.specs.Sound.{Sound, SoundSizes}
-use Rattle.spec_state.specs.Glue.{CascadeSparesHeir, ConflictsSpareHeir}
+use Rattle.spec_state.specs.AbortLaws.{CascadeSparesHeir, ConflictsSpareHeir}
 use Rattle.spec_state.proofs.Places.{contains_get}
 use Rattle.spec_state.proofs.Pulled.{IsTaskAbove}
 use Rattle.spec_state.proofs.Cascades.{cascade_is_later, conflicts_are_later}
@@ -46,7 +46,7 @@ pub heir_is_least : (view : View) (heir : Option ℕ) (h : ℕ) → IsHeir view 
 heir_is_least view None h is same = absurd (cc)
 heir_is_least view (Some id) h is same = let eq : id ≡ h = cc in (is.0, subst (λ k. IsLeastTask view k is.0) eq is.1)
 
--- where each marked task, but for `own`, lies above a task, a heir other than `own` is unmarked
+-- where each marked task, but for `own`, lies above a task, an heir other than `own` is unmarked
 spared_by : (image : ImageValue) (view : View) (sound : Sound image view) (id : ℕ) (task : Task) (marks : List Bool) → task_at view id ≡ Some task
     → (h : ℕ) → sound.heir ≡ Some h → (is_marked marks h ≡ true → IsTaskAbove view task h) → is_marked marks h ≡ false
 spared_by image view sound id task marks there h heir above = by_mark (is_marked marks h) refl

@@ -13,7 +13,7 @@ use Rattle.spec_state.specs.View.{View, task_at}
 use Rattle.spec_state.specs.Tasks.{idle_again}
 use Rattle.spec_state.specs.Groups.{keyed, keyed_task, logged, logged_task, bag_tasks, bag_task, bag_creator, live_creator}
 use Rattle.spec_state.specs.Aborts.{Pulls, IsCascade, is_marked, is_marked_creator, taken_back, Aborts, Only}
-use Rattle.spec_state.specs.Glue.{HoldsPulled, TakesMarked, AbortTakesMarked, ConflictsTakeMarked}
+use Rattle.spec_state.specs.AbortLaws.{HoldsPulled, TakesMarked, AbortTakesMarked, ConflictsTakeMarked}
 use Rattle.spec_state.proofs.Beside.{mapped_some, id_below}
 
 -- a marked id lies within the marks

@@ -16,7 +16,7 @@ pub record IsChildOf (view : View) (a b : ℕ) : Type 0 where
   pub there : task_at view b ≡ Some child
   pub made_by : live_creator child.creator ≡ Some a
 
--- the second task is a later dispatched one that touched a line which the first wrote, by their filters
+-- the first task is dispatched, and the second is a later dispatched one that touched a line which the first wrote, by their filters
 pub record ReadsFrom (view : View) (a b : ℕ) : Type 0 where
   pub writer : Task
   pub there : task_at view a ≡ Some writer

@@ -95,9 +95,9 @@ creator_after id n (Committed turn index) = Committed turn index
 creator_after id n (Live task index) = if task.0 == id then Committed n index else Live task index
 
 -- the task of this id leaves, its children's creator is committed, and all others stay
-abbrev pub committed_slot : ℕ → ℕ → ℕ → Option Task → Option Task
-committed_slot id n k None = None
-committed_slot id n k (Some task) = if k == id then None else Some (record task { creator = creator_after id n task.creator })
+abbrev pub after_commit : ℕ → ℕ → ℕ → Option Task → Option Task
+after_commit id n k None = None
+after_commit id n k (Some task) = if k == id then None else Some (record task { creator = creator_after id n task.creator })
 
 -- a commit: the least task, which is finished, leaves; its entry joins the history and its bytes the output, and the levels of its key
 -- are the path
@@ -109,7 +109,7 @@ pub record Commits (old new : View) : Type 0 where
   pub turn : ℕ
   pub index : ℕ
   pub creator : task.creator ≡ Committed turn index
-  pub each : (k : ℕ) → task_at new k ≡ committed_slot id (length old.history + 1) k (task_at old k)
+  pub each : (k : ℕ) → task_at new k ≡ after_commit id (length old.history + 1) k (task_at old k)
   pub history : new.history
       ≡ old.history ++ record { name = record { creator = turn; index = index }; depth = depth_of task; ts = task.key.ts } ∷ []
   pub output : new.output ≡ old.output ++ task.bytes

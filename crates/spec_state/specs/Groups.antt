@@ -31,6 +31,7 @@ keyed_task task = record {
   creator = live_creator task.creator;
 }
 
+-- what it reads of the queued tasks, by id
 abbrev pub keyed : View → ℕ → Option Keyed
 keyed view id = option_map keyed_task (task_at view id)
 
@@ -67,6 +68,7 @@ logged_task task = record {
   wrote = has_written task;
 }
 
+-- what it reads of the queued tasks, by id
 abbrev pub logged : View → ℕ → Option Logged
 logged view id = option_map logged_task (task_at view id)
 
@@ -86,6 +88,7 @@ bag_task task = record {
   spawns = task.spawns;
 }
 
+-- what they read of the queued tasks, by id
 abbrev pub bag_tasks : View → ℕ → Option bags.Task
 bag_tasks view id = option_map bag_task (task_at view id)
 
@@ -93,6 +96,7 @@ bag_tasks view id = option_map bag_task (task_at view id)
 abbrev pub bag_spilled : Spilled → bags.SpilledTask
 bag_spilled s = record { depth = s.desc.depth; task = record { name = s.desc.name; entry = s.desc.entry; ts = s.desc.ts; args = s.desc.args } }
 
+-- what they read of the spilled tasks of all tiles
 abbrev pub bags_spilled : View → List bags.SpilledTask
 bags_spilled view = map bag_spilled (all_spilled view)
 
@@ -100,6 +104,7 @@ bags_spilled view = map bag_spilled (all_spilled view)
 abbrev pub waiting_task : Task → Waiting
 waiting_task task = record { levels = levels task.key; dispatched = is_dispatched task; creator = live_creator task.creator }
 
+-- what it reads of the queued tasks, by id
 abbrev pub waiting : View → ℕ → Option Waiting
 waiting view id = option_map waiting_task (task_at view id)
 

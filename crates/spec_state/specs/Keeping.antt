@@ -14,74 +14,70 @@ use Rattle.spec_state.specs.Tasks.{progressed, depth_of}
 use Rattle.spec_state.specs.Queries.{Conflicts}
 use Rattle.spec_state.specs.Room.{Coalesces, Splits, HasFreeEntry}
 use Rattle.spec_state.specs.Changes.{Dispatches, TakesLeg, comes_to, Keeps, KeepsTrap, access_at, Accesses, Enqueues, Finishes, Commits}
-use Rattle.spec_state.specs.Sound.{Sound}
-
--- the new view is sound, against the same state of the serial machine
-abbrev pub StaysSound : (image : ImageValue) (old : View) → Sound image old → View → Type 0
-StaysSound image old sound new = (now : Sound image new) × (now.serial ≡ sound.serial)
+use Rattle.spec_state.specs.Sound.{Sound, StaysSound}
 
 -- a dispatch keeps a view sound
 abbrev pub DispatchStaysSound : Type 0
 DispatchStaysSound = (image : ImageValue) (old new : View) (sound : Sound image old) (tile : ℕ) → Dispatches tile old new → StaysSound image old sound new
 
 -- the leg is one of a running task: it begins at the task's core and is a run of plain instructions of the image
-pub record IsTaken (image : ImageValue) (view : View) (tile core : ℕ) (leg : LegValue) (id : ℕ) (task : Task) : Type 0 where
+pub record IsLegOf (image : ImageValue) (view : View) (tile core : ℕ) (leg : LegValue) (id : ℕ) (task : Task) : Type 0 where
   pub takes : TakesLeg view tile core leg id task
   pub run : IsRun image.text image.data_size view.settings.budget leg
 
--- so does a leg that did its quantum
+-- a leg of a running task, up to its quantum, keeps a view sound
 abbrev pub QuantumStaysSound : Type 0
 QuantumStaysSound =
     (image : ImageValue) (old new : View) (sound : Sound image old) (tile core id : ℕ) (leg : LegValue) (task : Task)
-    → IsTaken image old tile core leg id task → Keeps id (record task { core = leg.to }) old new → StaysSound image old sound new
+    → IsLegOf image old tile core leg id task → Keeps id (record task { core = leg.to }) old new → StaysSound image old sound new
 
--- so does a trap, or a call that traps
+-- a trap, or a call that traps, keeps a view sound
 abbrev pub TrapStaysSound : Type 0
 TrapStaysSound =
     (image : ImageValue) (old new : View) (sound : Sound image old) (tile core id cause pc : ℕ) (leg : LegValue) (task : Task)
-    → IsTaken image old tile core leg id task → comes_to old task leg ≡ Traps cause pc → KeepsTrap id task leg core cause old new
+    → IsLegOf image old tile core leg id task → comes_to old task leg ≡ Traps cause pc → KeepsTrap id task leg core cause old new
     → StaysSound image old sound new
 
--- so does a load or a store with which no task conflicts
+-- a load or a store with which no task conflicts keeps a view sound
 abbrev pub AccessStaysSound : Type 0
 AccessStaysSound =
     (image : ImageValue) (old new : View) (sound : Sound image old) (tile core id : ℕ) (leg : LegValue) (task : Task) (access : Access) (after : TaskState)
-    → IsTaken image old tile core leg id task → access_at old.memory leg.stop ≡ Some access → comes_to old task leg ≡ Continues after
+    → IsLegOf image old tile core leg id task → access_at old.memory leg.stop ≡ Some access → comes_to old task leg ≡ Continues after
     → ((k : ℕ) → Conflicts old task (access.offset / old.settings.line) (is_some access.new) k → ⊥)
     → Accesses id task access after old new → StaysSound image old sound new
 
--- so does an enqueue that is allowed, to a tile whose task queue has a free entry
+-- an enqueue that is allowed, to a tile whose task queue has a free entry, keeps a view sound
 abbrev pub EnqueueStaysSound : Type 0
 EnqueueStaysSound =
     (image : ImageValue) (old new : View) (sound : Sound image old) (tile core id target : ℕ) (leg : LegValue) (task : Task) (after : TaskState) (spawn : Spawn)
-    → IsTaken image old tile core leg id task → leg.stop ≡ stop.Call → comes_to old task leg ≡ Continues after
+    → IsLegOf image old tile core leg id task → leg.stop ≡ stop.Call → comes_to old task leg ≡ Continues after
     → target < old.settings.tiles → HasFreeEntry old target → Enqueues id task after spawn target old new → StaysSound image old sound new
 
--- so does a subdomain or a byte
+-- a call that makes a subdomain or emits a byte keeps a view sound
 abbrev pub CallStaysSound : Type 0
 CallStaysSound =
     (image : ImageValue) (old new : View) (sound : Sound image old) (tile core id : ℕ) (leg : LegValue) (task : Task) (after : TaskState)
-    → IsTaken image old tile core leg id task → leg.stop ≡ stop.Call → comes_to old task leg ≡ Continues after → after.spawns ≡ task.spawns
+    → IsLegOf image old tile core leg id task → leg.stop ≡ stop.Call → comes_to old task leg ≡ Continues after → after.spawns ≡ task.spawns
     → Keeps id (progressed task after) old new → StaysSound image old sound new
 
--- so does an end call, where the commit queue has a free entry
+-- an end call, where the commit queue has a free entry, keeps a view sound
 abbrev pub EndStaysSound : Type 0
 EndStaysSound =
     (image : ImageValue) (old new : View) (sound : Sound image old) (tile core id : ℕ) (leg : LegValue) (task : Task) (after : TaskState)
-    → IsTaken image old tile core leg id task → comes_to old task leg ≡ Ends after
+    → IsLegOf image old tile core leg id task → comes_to old task leg ≡ Ends after
     → length (finished_at old tile) < old.settings.commit_queue → Finishes tile core id task after old new → StaysSound image old sound new
 
--- so does a coalescing
+-- a coalescing keeps a view sound
 abbrev pub CoalesceStaysSound : Type 0
 CoalesceStaysSound = (image : ImageValue) (old new : View) (sound : Sound image old) (tile : ℕ) → Coalesces tile old new → StaysSound image old sound new
 
--- so does a split, where the task queue has a free entry
+-- a split, where the task queue has a free entry, keeps a view sound
 abbrev pub SplitStaysSound : Type 0
 SplitStaysSound =
     (image : ImageValue) (old new : View) (sound : Sound image old) (tile : ℕ)
     → tile < old.settings.tiles → HasFreeEntry old tile → Splits tile old new → StaysSound image old sound new
 
--- a commit is a turn of the serial machine, and its view is sound against the state after that turn
+-- a commit, while fewer tasks have committed than may, is a turn of the serial machine, and its view is sound against the state after that turn
 abbrev pub CommitIsSoundTurn : Type 0
 CommitIsSoundTurn =
     (image : ImageValue) (old new : View) (sound : Sound image old) → length old.history < old.settings.commits → (commit : Commits old new)

@@ -36,7 +36,7 @@ abbrev pub LeastIsNext : Type 0
 LeastIsNext =
     (image : ImageValue) (view : View) (sound : Sound image view) (id : ℕ) (task : Task) → IsLeastTask view id task → MayTakeTurn sound.serial.stack task
 
--- so may it where it is spilled
+-- the same holds where it is spilled
 abbrev pub LeastSpilledIsNext : Type 0
 LeastSpilledIsNext =
     (image : ImageValue) (view : View) (sound : Sound image view) (tile place : ℕ) (s : Spilled) → IsLeastSpot view (Spilled_at tile place)

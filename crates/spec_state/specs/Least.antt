@@ -92,7 +92,7 @@ abbrev pub HasName : View → Creator → Name → Type 0
 HasName view (Committed turn index) name = (turn ≤ length view.history) × (name ≡ record { creator = turn; index = index })
 HasName view (Live task index) name = IsHeir view (Some task.0) × (name ≡ record { creator = length view.history + 1; index = index })
 
--- in a tile's task queue one task comes before another: its key is less, or ties and it stands at an earlier place
+-- of two tasks of a tile's task queue one comes before the other: its key is less, or ties and it stands at an earlier place
 abbrev pub Precedes : View → ℕ → ℕ → ℕ → Type 0
 Precedes view tile a b =
     (p q : ℕ) (x y : Task) → IsQueuedAt view tile p a x → IsQueuedAt view tile q b y

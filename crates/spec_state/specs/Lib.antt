@@ -11,6 +11,6 @@ pub mod Changes
 pub mod Sound
 pub mod Opening
 pub mod Laws
-pub mod Glue
+pub mod AbortLaws
 pub mod Keeping
 pub mod RoomLaws

@@ -1,9 +1,10 @@
--- A view before the first task.
-use Rattle.std.specs.Prelude.{◌≡◌, ℕ, [], replicate, None}
+-- A view before the first task, and a task that comes to be.
+use Rattle.std.specs.Prelude.{◌≡◌, ℕ, [], replicate, Some, None}
 use Rattle.guest_image.specs.ImageValue.{ImageValue}
 use Rattle.serial_machine.specs.Run.{opening_memory}
 use Rattle.spec_state.specs.declared.settings.Settings.{Settings}
-use Rattle.spec_state.specs.View.{View, task_at}
+use Rattle.spec_state.specs.declared.task.Task.{Task}
+use Rattle.spec_state.specs.View.{View, task_at, queued_last, ChangesTask}
 
 -- the view without a task: the initial data, and nothing else
 pub record IsEmptyView (image : ImageValue) (settings : Settings) (view : View) : Type 0 where
@@ -21,3 +22,10 @@ pub record IsEmptyView (image : ImageValue) (settings : Settings) (view : View) 
     cores = replicate settings.tiles (replicate settings.cores None);
     blocks = replicate settings.tiles [];
   }
+
+-- a task stands under an id that held nothing, as the last one of its tile's task queue
+pub record Adds (id : ℕ) (task : Task) (old new : View) : Type 0 where
+  pub vacant : task_at old id ≡ None
+  pub changes : ChangesTask old new id (Some task)
+  pub queues : new.queues ≡ queued_last old task.tile id
+  pub rest : new ≡ record old { tasks = new.tasks; queues = new.queues }

@@ -34,7 +34,7 @@ pub record IsDispatched (view : View) (tile id : ℕ) (task : Task) : Type 0 whe
   pub there : task_at view id ≡ Some task
   pub dispatched : is_dispatched task ≡ true
 
--- a task that a core of the tile holds: it runs there, or is trapped
+-- the core of the tile holds this task
 pub record IsOnCore (view : View) (tile core id : ℕ) (task : Task) : Type 0 where
   pub held : slice_get (cores_at view tile) core ≡ Some (Some id)
   pub there : task_at view id ≡ Some task
@@ -44,12 +44,12 @@ pub record IsRunning (view : View) (tile core id : ℕ) (task : Task) : Type 0 w
   pub on : IsOnCore view tile core id task
   pub running : task.status ≡ Running core
 
--- a finished task of the tile
+-- a task in the commit queue of the tile
 pub record IsFinished (view : View) (tile id : ℕ) (task : Task) : Type 0 where
   pub queued : Contains (finished_at view tile) id
   pub there : task_at view id ≡ Some task
 
--- of the tasks of this kind, which are dispatched, the one with the greatest key
+-- of the tasks of this kind one with the greatest key; dispatched tasks never tie
 pub record IsLatest (kind : ℕ → Task → Type 0) (id : ℕ) (task : Task) : Type 0 where
   pub this : kind id task
   pub latest : (k : ℕ) (x : Task) → kind k x → key_cmp x.key task.key ≢ Greater
@@ -75,7 +75,7 @@ pub record IsLowestFree (view : View) (tile core : ℕ) : Type 0 where
   pub free : IsFreeCore view tile core
   pub lowest : (other : ℕ) → other < core → IsFreeCore view tile other → ⊥
 
--- the second task is later: both are dispatched, and its key is greater
+-- the second task is dispatched, and its key is greater
 pub record IsLater (view : View) (task : Task) (k : ℕ) (x : Task) : Type 0 where
   pub there : task_at view k ≡ Some x
   pub dispatched : is_dispatched x ≡ true

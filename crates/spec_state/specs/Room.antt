@@ -1,6 +1,6 @@
 -- Room in a task queue: spilling, its return, and the four rules by which a full queue gets a free entry (Jeffrey et al. 2015, section
 -- 4.7: coalescers and splitters).
-use Rattle.std.specs.Prelude.{◌≡◌, ◌≢◌, ◌↔◌, ◌-◌, ◌++◌, ℕ, ◌<◌, ◌≤◌, List, [], length, map, drop, AllPairs, Contains, Option, Some, None, slice_set}
+use Rattle.std.specs.Prelude.{◌≡◌, ◌⊎◌, ◌≢◌, ◌↔◌, ◌-◌, ◌++◌, ℕ, ◌<◌, ◌≤◌, List, [], length, map, drop, AllPairs, Contains, Option, Some, None, slice_set}
 use Rattle.std.specs.List.{AllZip}
 use Rattle.spill_store.specs.Entries.{Entry as Spilled, TakesLeast}
 use Rattle.task_desc.specs.declared.desc.Name.{Name}
@@ -39,7 +39,7 @@ pub record IsSpilledAs (view : View) (id : ℕ) (s : Spilled) : Type 0 where
   pub named : HasName view task.creator name
   pub is : s ≡ spilled_as name (descriptor_of task)
 
--- a coalescing: the latest idle firm tasks of the tile move into its block, the least of them first
+-- a coalescing: the latest idle firm tasks of the tile, at most so many as move at once, move into its block, the least of them first
 pub record Coalesces (tile : ℕ) (old new : View) : Type 0 where
   pub ids : List ℕ
   pub movable : AreMovable old tile ids
@@ -90,6 +90,10 @@ pub record IsVictim (view : View) (tile : ℕ) (asker : Option ℕ) (id : ℕ) (
   pub there : task_at view id ≡ Some task
   pub other : asker ≢ Some id
   pub last : (k : ℕ) → k ≢ id → asker ≢ Some k → IsQueued view tile k → Precedes view tile k id
+
+-- what is taken back for a victim: itself where it is firm, and else its creator
+abbrev pub IsTakenFor : View → ℕ → Task → ℕ → Type 0
+IsTakenFor view v task first = (IsFirm view task × (first ≡ v)) ⊎ ((IsFirm view task → ⊥) × (live_creator task.creator ≡ Some first))
 
 -- how a tile's task queue gets a free entry for a task that asks: at `asker`, or at None for the least spilled task of the tile; and so
 -- many tasks are taken back for it

@@ -1,5 +1,5 @@
 -- How the words on room in a task queue fit the laws of room, and how a child's key fits the law of order.
-use Rattle.std.specs.Prelude.{◌≡◌, ◌≢◌, ◌⊎◌, ◌↔◌, ◌∷◌, ◌++◌, ℕ, ◌<◌, ◌≤◌, true, [], length, Option, Some, None, slice_get}
+use Rattle.std.specs.Prelude.{◌≡◌, ◌≢◌, ◌↔◌, ◌∷◌, ◌++◌, ℕ, ◌<◌, ◌≤◌, true, [], length, Option, Some, None, slice_get}
 use Rattle.std.specs.declared.cmp.Ordering.TheVariants.{Less}
 use Rattle.fractal_vt.specs.declared.key.Key.{Key}
 use Rattle.fractal_vt.specs.Keys.{key_cmp}
@@ -14,9 +14,9 @@ use Rattle.spec_state.specs.declared.task.Creator.TheVariants.{Live}
 use Rattle.spec_state.specs.declared.task.Task.{Task}
 use Rattle.spec_state.specs.View.{View, task_at, queue_at, block_at}
 use Rattle.spec_state.specs.Tasks.{is_dispatched, child_descriptor, idle_task}
-use Rattle.spec_state.specs.Groups.{keyed_task, waiting_task, waiting, live_creator}
+use Rattle.spec_state.specs.Groups.{keyed_task, waiting_task, waiting}
 use Rattle.spec_state.specs.Least.{IsFirm, IsLeastTask, IsLeastSpilled}
-use Rattle.spec_state.specs.Room.{IsMovable, Coalesces, Splits, HasFreeEntry, NoneMoves, IsVictim, MakesRoom}
+use Rattle.spec_state.specs.Room.{IsMovable, Coalesces, Splits, HasFreeEntry, NoneMoves, IsVictim, MakesRoom, IsTakenFor}
 use Rattle.spec_state.specs.Changes.{TakesLeg, comes_to}
 use Rattle.spec_state.specs.Sound.{Sound}
 
@@ -42,10 +42,6 @@ abbrev pub AsksAsLeast : View → ℕ → Option ℕ → Key → Type 0
 AsksAsLeast view tile (Some id) low = (task : Task) × IsLeastTask view id task × (is_dispatched task ≡ true) × (low ≡ task.key)
 AsksAsLeast view tile None low = (least : IsLeastSpilled view tile) × (low ≡ least.least.key)
 
--- what is taken back for a victim: itself where it is firm, and else its creator
-abbrev pub IsTaken : View → ℕ → Task → ℕ → Type 0
-IsTaken view v task first = (IsFirm view task × (first ≡ v)) ⊎ ((IsFirm view task → ⊥) × (live_creator task.creator ≡ Some first))
-
 -- the task is dispatched, is not the asker, and its key is above this one
 pub record MayBeTaken (view : View) (asker : Option ℕ) (low : Key) (first : ℕ) : Type 0 where
   pub task : Task
@@ -58,7 +54,7 @@ pub record MayBeTaken (view : View) (asker : Option ℕ) (low : Key) (first : �
 abbrev pub VictimIsLater : Type 0
 VictimIsLater =
     (image : ImageValue) (view : View) (tile : ℕ) (asker : Option ℕ) (low : Key) (v first : ℕ) (task : Task)
-    → Sound image view → AsksAsLeast view tile asker low → NoneMoves view tile → IsVictim view tile asker v task → IsTaken view v task first
+    → Sound image view → AsksAsLeast view tile asker low → NoneMoves view tile → IsVictim view tile asker v task → IsTakenFor view v task first
     → MayBeTaken view asker low first
 
 -- a coalescing makes the tile's queue shorter, and no queue longer

@@ -1,14 +1,10 @@
 -- The ranges of the settings.
-use Rattle.std.specs.Prelude.{◌≡◌, ◌⊎◌, ◌≤◌, ◌&&◌, ℕ, nat_le, Bool}
+use Rattle.std.specs.Prelude.{◌≡◌, ◌⊎◌, ◌≤◌, ℕ}
 use Rattle.spec_state.specs.declared.settings.Settings.{Settings}
 
 -- the number lies between these two, both included
 abbrev pub IsBetween : ℕ → ℕ → ℕ → Type 0
 IsBetween number least greatest = (least ≤ number) × (number ≤ greatest)
-
--- the test of it
-abbrev pub is_within : ℕ → ℕ → ℕ → Bool
-is_within number least greatest = nat_le least number && nat_le number greatest
 
 -- a line has one of these numbers of bytes
 abbrev pub IsLine : ℕ → Type 0

@@ -142,3 +142,7 @@ pub record Sound (image : ImageValue) (view : View) : Type 0 where
   pub memory : SoundMemory view serial
   pub order : SoundOrder view heir
   pub sizes : SoundSizes view
+
+-- the new view is sound, against the same state of the serial machine
+abbrev pub StaysSound : (image : ImageValue) (old : View) → Sound image old → View → Type 0
+StaysSound image old sound new = (now : Sound image new) × (now.serial ≡ sound.serial)

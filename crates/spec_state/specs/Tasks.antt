@@ -36,6 +36,7 @@ abbrev pub ordered_to : ℕ → ℕ → List Bool
 ordered_to zero kinds = []
 ordered_to (suc n) kinds = is_ordered_at 0 kinds ∷ ordered_to n (kinds / 2)
 
+-- the kind of a domain that is ordered or not
 abbrev pub kind_if : Bool → Kind
 kind_if true = Ordered
 kind_if false = Unordered
@@ -49,7 +50,7 @@ abbrev pub outer_kind : ℕ → ℕ → Option Kind
 outer_kind zero kinds = None
 outer_kind (suc outer) kinds = Some (kind_at outer kinds)
 
--- the floor of the domain with these levels, which lies in one of this floor: the timestamp of its creator
+-- the floor of a domain: the timestamp of its last level, which is its creator's, or the given floor where it has none
 abbrev pub floor_in : ℕ → List Level → ℕ
 floor_in floor [] = floor
 floor_in floor (level ∷ levels) = floor_in level.ts levels
@@ -95,19 +96,6 @@ has_touched task = touched_of task.lines
 abbrev pub has_written : Task → ℕ → Bool
 has_written task = wrote_of task.lines
 
--- the task as it is before its dispatch: with an open tiebreaker, and nothing done
-abbrev pub idle_again : Task → Task
-idle_again task = record task {
-  key = record task.key { tb = None };
-  status = Idle;
-  core = start_core task;
-  log = [];
-  lines = [];
-  spawns = [];
-  bytes = [];
-  sub = None;
-}
-
 -- what is fixed of a task when it is made, but for its creator: its entry, arguments, hint and timestamp, the levels of its domain, and
 -- the kinds of the domains on its path
 pub record Descriptor : Type 0 where
@@ -118,6 +106,7 @@ pub record Descriptor : Type 0 where
   pub domain : List Level
   pub kinds : ℕ
 
+-- the descriptor of a task
 abbrev pub descriptor_of : Task → Descriptor
 descriptor_of task = record { entry = task.entry; args = task.args; hint = task.hint; ts = task.key.ts; domain = task.key.domain; kinds = task.kinds }
 
@@ -150,6 +139,10 @@ idle_task d creator tile = record {
   bytes = [];
   sub = None;
 }
+
+-- the task as it is before its dispatch: idle, with an open tiebreaker, and nothing done
+abbrev pub idle_again : Task → Task
+idle_again task = idle_task (descriptor_of task) task.creator task.tile
 
 -- the last level of a dispatched task's key
 abbrev pub own_level : Task → Level

@@ -13,7 +13,7 @@ pub fn least_is_next()
     ensures { LeastIsNext }
 {}
 
-/// The same holds where the least task is spilled.
+/// In a sound view the least task, where it is spilled, may take the serial machine's next turn: its creator has committed.
 pub fn least_spilled_is_next()
     ensures { LeastSpilledIsNext }
 {}

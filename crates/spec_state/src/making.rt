@@ -1,29 +1,23 @@
-//! A state without a task, and the image's tasks in it.
+//! A state without a task.
 
-ghost use Rattle.std.specs.Prelude.{◌≡◌, ◌<◌, ◌≤◌, [], length, replicate, map, None, All, vec_len, IfOk, OnErr, OnOk};
-ghost use Rattle.tile_queues.specs.Queue.{QueueValue};
-ghost use Rattle.spec_state.specs.declared.task.Creator.TheVariants as creator;
+ghost use Rattle.std.specs.Prelude.{◌≡◌, ◌<◌, [], replicate, map, None, All, vec_len, IfOk};
 ghost use Rattle.spec_state.specs.Settings.{IsValid};
-ghost use Rattle.spec_state.specs.View.{core_ids, queue_at};
-ghost use Rattle.spec_state.specs.Tasks.{idle_task, spilled_descriptor};
+ghost use Rattle.spec_state.specs.View.{core_ids};
 ghost use Rattle.spec_state.specs.Opening.{IsEmptyView};
 
-use crate::emitted::Emitted;
 use crate::settings::Settings;
 use crate::state::State;
-use crate::task::{Creator, Status, Task, TaskId};
-use fractal_vt::{Key, Vt};
+use crate::task::TaskId;
+use fractal_vt::Vt;
 use guest_image::Image;
-use line_table::Exact;
-use rv_core::{Core, Naming};
-use serial_machine::{Bytes, Items, Journal};
+use rv_core::Naming;
+use serial_machine::{Bytes, Journal};
 use slab::Slab;
 use spill_store::Block;
 use std::alloc::{AllocError, Global};
 use std::marker::PhantomData;
-use task_desc::Desc;
 use tile_queues::Queue;
-use undo_log::{Log, Memory};
+use undo_log::Memory;
 
 /// An empty queue for each tile.
 fn empty_queues<Kind>(
@@ -86,7 +80,7 @@ fn empty_blocks(alloc: Global, tiles: u32) -> Result<Vec<Block>, AllocError>
 
 impl<N: Naming> State<N> {
     /// A state without a task, of a machine of valid settings, with the image's data. It has room for all tasks of its queues and
-    /// for the whole history.
+    /// for the whole history; `AllocError` where memory is wanting.
     pub fn new(alloc: Global, image: &Image, settings: Settings) -> Result<State<N>, AllocError>
         requires valid { IsValid settings }
         requires image { image.now ≡ N.image }

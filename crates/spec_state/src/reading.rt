@@ -1,8 +1,8 @@
-//! What a state tells of itself and of one task. No call takes memory.
+//! What a state tells of itself. No call takes memory.
 
-ghost use Rattle.std.specs.Prelude.{◌≡◌, ◌+◌, ◌<◌, ◌≤◌, ℕ, length, map, All, Some, None, option_map, slice_get, IfSome, IsNone, IsSome, ◌↔◌};
+ghost use Rattle.std.specs.Prelude.{◌≡◌, ◌+◌, ◌<◌, ◌≤◌, length, map, All, Some, option_map, slice_get};
 ghost use Rattle.spec_state.specs.declared.loads.TheConstants.{MAX_TILES};
-ghost use Rattle.spec_state.specs.View.{task_at, queue_at, finished_at, cores_at, block_at, loads};
+ghost use Rattle.spec_state.specs.View.{finished_at, cores_at, block_at, loads};
 
 use crate::loads::Loads;
 use crate::settings::Settings;

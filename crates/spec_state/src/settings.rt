@@ -1,5 +1,5 @@
 ghost use Rattle.std.specs.Prelude.{◌≡◌, ◌↔◌, IsTrue};
-ghost use Rattle.spec_state.specs.Settings.{IsValid, IsLine, is_within};
+ghost use Rattle.spec_state.specs.Settings.{IsValid, IsLine, IsBetween};
 
 /// How large a machine is and how far it runs. Each number has a range, which [`valid`](Settings::valid) tests.
 #[derive(Clone, Copy, Debug, PartialEq, Eq)]
@@ -46,7 +46,7 @@ impl Settings {
 
 /// Whether the number lies in this range, its ends included.
 fn is_in(number: u32, least: u32, greatest: u32) -> bool
-    ensures { result ≡ is_within number least greatest }
+    ensures { IsTrue result ↔ IsBetween number least greatest }
 {
     least <= number && number <= greatest
 }

@@ -9,7 +9,9 @@ use std::marker::{Model, PhantomData};
 use tile_queues::{CommitQueue, TaskQueue};
 use undo_log::Memory;
 
-/// The machine between two events. Contracts see it as a `View`; its type keeps that its settings are valid, with the limits that `N`
+/// The machine between two events. Its fields are public for the crates that change a state; all others use its calls.
+///
+/// Contracts see it as a `View`; its type keeps that its settings are valid, with the limits that `N`
 /// names, and that each tile has its queues, of the capacities of the settings, its cores and its block.
 #[derive(Drop)]
 pub struct State<N: Naming> {

@@ -2,7 +2,7 @@ ghost use Rattle.std.specs.Prelude.{◌≡◌};
 ghost use Rattle.spec_state.specs.Settings.{IsValid};
 
 use crate::{Emitted, Settings, State};
-use guest_image::{Image, Kind};
+use guest_image::{Image, ImageTask, Kind};
 use rv_core::Naming;
 use std::alloc::{Alloc, Global};
 use std::marker::Brand;
@@ -91,7 +91,7 @@ fn empty_state<N: Naming + Send>(
 #[test]
 fn a_new_state_has_no_task(rt: HostRuntime) -> Result<(), Fail> {
     let alloc = rt.alloc();
-    let task = guest_image::ImageTask {
+    let task = ImageTask {
         entry: 0x0001_0000,
         ts: 0,
         args: [0; 3],
