@@ -32,7 +32,7 @@ module _ (view : View) (one_spot : (a b : Spot) → IsLeastSpot view a → IsLea
       cc
 
   -- a least task is uncommitted
-  not_all : (id : ℕ) (task : Task) → IsLeastTask view id task → IsAllCommitted view → ⊥
+  pub not_all : (id : ℕ) (task : Task) → IsLeastTask view id task → IsAllCommitted view → ⊥
   not_all id task least all = all (Queued task.tile least.place) least.least.key least.least.has
 
   -- the trap of the least task is one
@@ -46,7 +46,7 @@ module _ (view : View) (one_spot : (a b : Spot) → IsLeastSpot view a → IsLea
       sym one.named ∙ (ap (λ t. t.creator) same ∙ two.named) in
       let creators : name.creator ≡ other.creator = cc in
       let indices : name.index ≡ other.index = cc in
-      let at : pc ≡ other_pc = sym one.at ∙ (ap (λ t. t.core.pc) same ∙ two.at) in
+      let at : pc ≡ other_pc = cc (one.at, two.at, same) in
       λ i. ends.Trap (record { creator = creators i; index = indices i }) (causes i) (at i)
 
   -- so is any end

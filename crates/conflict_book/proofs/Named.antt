@@ -31,7 +31,7 @@ use Rattle.conflict_book.proofs.Lists.{all_of_lists, from_option}
 use Rattle.conflict_book.proofs.Queued.{queue_within}
 use Rattle.conflict_book.proofs.Rooted.{IsImageSpilled, AreImageTasks, coalesces_keeps, places_keeps, none_are}
 use Rattle.conflict_book.proofs.Sized.{IsSized, coalesced_sized, last_one, room_sized, placed_sized, none_sized}
-use Rattle.conflict_book.proofs.Coalesced.{coalesced_bags}
+use Rattle.spec_state.proofs.CoalesceBags.{coalesced_bags}
 
 -- what holds of each element holds of what stands among them
 each_in : {X : Type 0} (P : X → Type 0) (xs : List X) (x : X) → AllByRecursion P xs → In x xs → P x

@@ -80,7 +80,7 @@ StandsSo view (standing.Running used) =
 StandsSo view standing.Idle = (IsOver view → ⊥) × (id : ℕ) × (task : Task) × IsLeastTask view id task × (task.status ≡ Idle)
 StandsSo view standing.Spilled = (IsOver view → ⊥) × (tile : ℕ) × IsLeastSpilled view tile
 
--- at most so many events for the least task are left, up to and with its commit, or up to the end of the run
+-- the number that stands for what is left of the least task's way, up to and with its commit, or 1 where the run is over
 pub record HasRest (view : View) (left : ℕ) : Type 0 where
   pub stands : Standing
   pub so : StandsSo view stands

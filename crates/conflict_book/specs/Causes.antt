@@ -88,7 +88,7 @@ pub record StallsAtSplit (view : View) (tile : ℕ) : Type 0 where
   pub full : IsFull view tile
   pub not_least : IsLeastSpilled view tile → ⊥
 
--- a cause for which an event is refused with a reply, before the order of the causes is looked at; the run that is over is one for each
+-- a cause for which an event is refused with a reply, before the order of the causes is looked at; that the run is over is a cause for each event
 abbrev pub Cause : {N : Type 0} → BookView → Event N → Reply → Type 0
 Cause book event reply.Ended = IsOver book.view
 Cause book (event.Dispatch tile) reply.Empty = (id : ℕ) (task : Task) → IsIdle book.view tile id task → ⊥

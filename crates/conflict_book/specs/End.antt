@@ -9,7 +9,7 @@ use Rattle.spec_state.specs.declared.task.Task.{Task}
 use Rattle.spec_state.specs.View.{View}
 use Rattle.spec_state.specs.Least.{IsAllCommitted, IsLeastTask}
 
--- the least task is trapped: this is its name, and there it stands
+-- the least task is trapped, with this name, cause and pc
 pub record LeastIsTrapped (view : View) (name : Name) (cause pc : ℕ) : Type 0 where
   pub id : ℕ
   pub task : Task
@@ -19,7 +19,7 @@ pub record LeastIsTrapped (view : View) (name : Name) (cause pc : ℕ) : Type 0 
   pub named : task.creator ≡ Committed name.creator name.index
   pub at : task.core.pc ≡ pc
 
--- the run is over, and ended so: no task is uncommitted; or as many have committed as may; or else the least task is trapped
+-- the run is over, and ended so, in this order: no task is uncommitted; as many have committed as may; the least task is trapped
 abbrev pub HasEnd : View → End → Type 0
 HasEnd view ends.Normal = IsAllCommitted view
 HasEnd view ends.Limit = (IsAllCommitted view → ⊥) × (length view.history ≡ view.settings.commits)

@@ -31,6 +31,7 @@ pub data FreesCore (tile : ℕ) (old : View) : ℕ → View → Type 0 where
   aborts_latest : (aborted v : ℕ) (task : Task) (new : View) → AllCoresHeld old tile → IsLatestOnCore old tile v task → Aborts (Only v) old aborted new
       → FreesCore tile old aborted new
 
+-- a core is freed where none is free, and then the least idle task is dispatched
 pub record DispatchEvent (tile : ℕ) (old : View) (aborted : ℕ) (new : View) : Type 0 where
   pub mid : View
   pub forced : FreesCore tile old aborted mid
@@ -105,20 +106,20 @@ pub record EndEvent (tile core : ℕ) (leg : LegValue) (after : TaskState) (old 
   pub change : change.Finishes tile core id task after mid new
 
 -- none is taken back and no placer is told
-pub record Quietly (aborted : ℕ) (before after : List Policy) : Type 0 where
+pub record IsQuiet (aborted : ℕ) (before after : List Policy) : Type 0 where
   pub none : aborted ≡ 0
   pub same : after ≡ before
 
 -- a step by what its leg stopped at
 abbrev pub StepEvent : ℕ → ℕ → LegValue → Stop → BookView → ℕ → View → List Policy → Type 0
-StepEvent tile core leg stop.Quantum book aborted new placers = QuantumEvent tile core leg book.view new × Quietly aborted book.placers placers
-StepEvent tile core leg (stop.Trap cause pc) book aborted new placers = TrapEvent tile core leg book.view new × Quietly aborted book.placers placers
+StepEvent tile core leg stop.Quantum book aborted new placers = QuantumEvent tile core leg book.view new × IsQuiet aborted book.placers placers
+StepEvent tile core leg (stop.Trap cause pc) book aborted new placers = TrapEvent tile core leg book.view new × IsQuiet aborted book.placers placers
 StepEvent tile core leg (stop.Load width rd addr) book aborted new placers = AccessEvent tile core leg false book.view aborted new × (placers ≡ book.placers)
 StepEvent tile core leg (stop.Store width addr value) book aborted new placers = AccessEvent tile core leg true book.view aborted new × (placers ≡ book.placers)
 StepEvent tile core leg stop.Call book aborted new placers =
-    (TrapEvent tile core leg book.view new × Quietly aborted book.placers placers)
+    (TrapEvent tile core leg book.view new × IsQuiet aborted book.placers placers)
     ⊎ ((after : TaskState) × EnqueueEvent tile core leg after book aborted new placers)
-    ⊎ ((after : TaskState) × CallEvent tile core leg after book.view new × Quietly aborted book.placers placers)
+    ⊎ ((after : TaskState) × CallEvent tile core leg after book.view new × IsQuiet aborted book.placers placers)
     ⊎ ((after : TaskState) × EndEvent tile core leg after book.view aborted new × (placers ≡ book.placers))
 
 -- the latest dispatched task of the tile is taken back
@@ -142,7 +143,7 @@ Makes book (event.Step tile core leg) aborted new placers = StepEvent tile core 
 Makes book (event.Abort tile) aborted new placers = AbortEvent tile book.view aborted new × (placers ≡ book.placers)
 Makes book event.Commit aborted new placers =
     change.Commits book.view new × (aborted ≡ 0) × (placers ≡ placers_after_commit book.view.settings.phase (length new.history) book.placers)
-Makes book (event.Coalesce tile) aborted new placers = Coalesces tile book.view new × Quietly aborted book.placers placers
+Makes book (event.Coalesce tile) aborted new placers = Coalesces tile book.view new × IsQuiet aborted book.placers placers
 Makes book (event.Split tile) aborted new placers = SplitEvent tile book.view aborted new × (placers ≡ book.placers)
 
 -- an event that may be handed to a book of these settings: its tile and its core are there, and its leg is a run of plain instructions of

@@ -1,9 +1,9 @@
 -- Laws of events.
-use Rattle.std.specs.Prelude.{◌≡◌, ◌≢◌, ◌+◌, ℕ, ◌≤◌, true, List, All}
+use Rattle.std.specs.Prelude.{◌≡◌, ◌≢◌, ◌+◌, ◌^◌, ◌<◌, ℕ, ◌≤◌, true, List, All}
 use Rattle.guest_image.specs.ImageValue.{ImageValue, IsImage}
 use Rattle.place_policy.specs.Policy.{Policy}
 use Rattle.serial_machine.specs.declared.fault.End.{End}
-use Rattle.serial_machine.specs.Run.{IsRun}
+use Rattle.serial_machine.specs.Run.{IsEnd, IsRun}
 use Rattle.serial_machine.specs.State.{State}
 use Rattle.spec_state.specs.declared.settings.Settings.{Settings}
 use Rattle.spec_state.specs.Settings.{IsValid}
@@ -19,7 +19,9 @@ use Rattle.conflict_book.specs.Events.{IsGiven}
 use Rattle.conflict_book.specs.Happens.{Happens, HappenAll}
 use Rattle.conflict_book.specs.Sound.{IsSoundCount}
 use Rattle.conflict_book.specs.Opening.{IsOpening}
-use Rattle.conflict_book.specs.Advancing.{HasRest}
+use Rattle.conflict_book.specs.Advancing.{HasRest, IsNextEvent, IsNoCommit}
+use Rattle.conflict_book.specs.Causes.{Cause}
+use Rattle.spec_state.specs.Sound.{Sound}
 
 -- an event that is not answered Ok changes nothing and takes no task back
 abbrev pub RefusalsChangeNothing : Type 0 → Type 0
@@ -46,20 +48,20 @@ RestIsBounded = (view : View) (left : ℕ) → HasRest view left → left ≤ vi
 abbrev pub IsSoundBook : ImageValue → BookView → Type 0
 IsSoundBook image book = IsSoundCount image (record { view = book.view; steps = book.steps })
 
--- the opening is sound, within the limits of an image: of memory it is kept that each number is a byte, which the initial data must be
+-- the opening of an image within its limits is sound: its initial data has to be bytes, since of memory it is kept that each number is one
 abbrev pub OpeningIsSound : Type 0
 OpeningIsSound =
     (image : ImageValue) (settings : Settings) (placers : List Policy) (book : BookView)
     → IsImage image → IsValid settings → IsOpening image settings placers book → IsSoundBook image book
 
--- each event keeps a book sound, whatever it is answered
+-- each event keeps a book sound, whatever it is answered; the count of events is a number of 64 bits
 abbrev pub EventStaysSound : Type 0 → Type 0
 EventStaysSound N =
     (image : ImageValue) (old new : BookView) (event : Event N) (answer : Reply) (aborted : ℕ)
-    → IsGiven image old.view.settings event → IsSoundBook image old → Happens old event answer aborted new → IsSoundBook image new
+    → IsGiven image old.view.settings event → old.steps < 2 ^ 64 → IsSoundBook image old → Happens old event answer aborted new → IsSoundBook image new
 
--- what a book's history means: it is a run of the serial machine from the image, the output is that run's, and so is whatever memory is left
--- where all uncommitted tasks are taken back
+-- what a book's history means: it is a run of the serial machine from the image, the output is that run's, and its memory is what is
+-- left where all uncommitted tasks are taken back
 pub record IsSerialRun (image : ImageValue) (budget : ℕ) (view : View) : Type 0 where
   pub serial : State
   pub is_run : IsRun image budget view.history serial
@@ -72,3 +74,23 @@ HistoriesAreRuns N =
     (image : ImageValue) (settings : Settings) (placers : List Policy) (opened book : BookView) (events : List (Event N)) (answers : List Applied)
     → IsImage image → IsValid settings → IsOpening image settings placers opened → All (IsGiven image settings) events → HappenAll opened events answers book
     → IsSerialRun image settings.budget book.view
+
+-- a run that is over ends as the serial machine's run does: nothing is pending there, as many turns were taken as may be, or its next task
+-- traps so
+abbrev pub EndIsSerial : Type 0
+EndIsSerial =
+    (image : ImageValue) (view : View) (end : End) → IsImage image → (sound : Sound image view) → HasEnd view end
+    → IsEnd image view.settings.budget view.settings.commits view.history sound.serial end
+
+-- the event for the least task is refused for want of dispatch numbers alone
+abbrev pub LeastEventIsGranted : Type 0 → Type 0
+LeastEventIsGranted N =
+    (image : ImageValue) (old : BookView) (event : Event N) (answer : Reply)
+    → Sound image old.view → IsNextEvent image old.view event → Cause old event answer → answer ≡ reply.Spent
+
+-- each event for the least task but its commit brings it nearer to that, or to the end of the run
+abbrev pub AdvancesFall : Type 0 → Type 0
+AdvancesFall N =
+    (image : ImageValue) (old new : BookView) (event : Event N) (aborted before after : ℕ)
+    → Sound image old.view → IsNextEvent image old.view event → IsNoCommit event → Happens old event reply.Ok aborted new
+    → HasRest old.view before → HasRest new.view after → after < before

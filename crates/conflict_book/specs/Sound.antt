@@ -4,7 +4,7 @@ use Rattle.guest_image.specs.ImageValue.{ImageValue}
 use Rattle.spec_state.specs.View.{View}
 use Rattle.spec_state.specs.Sound.{Sound}
 
--- a view, and how many events have been made on it
+-- a view, and how many events have been made on it: what a type can keep of a book, since the placers are functions
 pub record CountedView : Type 0 where
   pub view : View
   pub steps : ℕ
