@@ -83,3 +83,5 @@ pub mod CommitHeir
 pub mod CommitTurn
 pub mod CommitTasks
 pub mod CommitSound
+pub mod Joined
+pub mod Floors

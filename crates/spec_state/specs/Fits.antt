@@ -1,7 +1,8 @@
 -- What the type of a state keeps.
-use Rattle.std.specs.Prelude.{◌≡◌, ℕ, List, All, length}
+use Rattle.std.specs.Prelude.{◌≡◌, ℕ, List, All, Contains, Option, None, IsSome, length, slice_index_or}
 use Rattle.tile_queues.specs.Queue.{QueueValue}
 use Rattle.spec_state.specs.declared.settings.Settings.{Settings}
+use Rattle.spec_state.specs.declared.task.Task.{Task}
 use Rattle.spec_state.specs.Settings.{IsValid}
 
 -- the settings are valid, with these limits
@@ -18,3 +19,7 @@ pub record HasTiles (settings : Settings) (queues finished : List QueueValue) (c
   pub block_count : blocks ≡ settings.tiles
   pub task_queues : All (λ queue. queue.capacity ≡ settings.task_queue) queues
   pub commit_queues : All (λ queue. queue.capacity ≡ settings.commit_queue) finished
+
+-- each id in a queue is that of a task
+abbrev pub HasTasks : List (Option Task) → List QueueValue → Type 0
+HasTasks tasks queues = All (λ queue. (id : ℕ) → Contains queue.ids id → IsSome (slice_index_or tasks id None)) queues

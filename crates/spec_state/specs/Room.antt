@@ -70,15 +70,15 @@ pub record Splits (tile : ℕ) (old new : View) : Type 0 where
 abbrev pub HasFreeEntry : View → ℕ → Type 0
 HasFreeEntry view tile = length (queue_at view tile) < view.settings.task_queue
 
--- it has none
+-- the task queue of the tile is full
 abbrev pub IsFull : View → ℕ → Type 0
 IsFull view tile = view.settings.task_queue ≤ length (queue_at view tile)
 
--- it holds no idle firm task
+-- the task queue of the tile holds no idle firm task
 abbrev pub NoneMoves : View → ℕ → Type 0
 NoneMoves view tile = (id : ℕ) → IsMovable view tile id → ⊥
 
--- it is full, nothing in it moves, and who asks for an entry is not the least task
+-- the task queue of the tile is full, nothing in it moves, and who asks for an entry is not the least task
 pub record Stalls (view : View) (tile : ℕ) (asks_as_least : Type 0) : Type 0 where
   pub full : IsFull view tile
   pub none_moves : NoneMoves view tile

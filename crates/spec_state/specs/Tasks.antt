@@ -10,12 +10,14 @@ use Rattle.rv_core.specs.Legs.{start_of}
 use Rattle.serial_machine.specs.TaskState.{TaskState}
 use Rattle.spill_store.specs.Entries.{Entry as Spilled}
 use Rattle.task_desc.specs.declared.desc.Ctx.{Ctx}
+use Rattle.task_desc.specs.declared.desc.Desc.{Desc}
 use Rattle.task_desc.specs.declared.desc.Name.{Name}
 use Rattle.task_desc.specs.declared.desc.Place.{Place}
 use Rattle.task_desc.specs.declared.desc.Place.TheVariants.{Same, Sub, Super}
 use Rattle.task_desc.specs.declared.desc.Spawn.{Spawn}
 use Rattle.spec_state.specs.declared.task.Creator.{Creator}
-use Rattle.spec_state.specs.declared.task.Status.TheVariants.{Idle}
+use Rattle.spec_state.specs.declared.task.Status.{Status}
+use Rattle.spec_state.specs.declared.task.Status.TheVariants.{Idle, Running, Trapped, Finished}
 use Rattle.spec_state.specs.declared.task.Task.{Task}
 
 -- the depth of the task's domain
@@ -72,6 +74,20 @@ start_context task = record {
 abbrev pub context_of : Task → Ctx
 context_of task = record (start_context task) { sub = task.sub; children = length task.spawns; bytes = length task.bytes }
 
+-- the core that a dispatched task keeps: none while it is idle
+abbrev pub kept_core : Status → Core → Option Core
+kept_core Idle core = None
+kept_core (Running tile_core) core = Some core
+kept_core (Trapped tile_core cause) core = Some core
+kept_core Finished core = Some core
+
+-- the cause of the trap at which it stands
+abbrev pub trap_in : Status → Option ℕ
+trap_in Idle = None
+trap_in (Running tile_core) = None
+trap_in (Trapped tile_core cause) = Some cause
+trap_in Finished = None
+
 -- the core at which it starts
 abbrev pub start_core : Task → Core
 start_core task = start_of task.entry task.key.ts task.args
@@ -109,6 +125,10 @@ pub record Descriptor : Type 0 where
 -- the descriptor of a task
 abbrev pub descriptor_of : Task → Descriptor
 descriptor_of task = record { entry = task.entry; args = task.args; hint = task.hint; ts = task.key.ts; domain = task.key.domain; kinds = task.kinds }
+
+-- the descriptor of a task of the root domain
+abbrev pub root_descriptor : Desc → Descriptor
+root_descriptor desc = record { entry = desc.entry; args = desc.args; hint = desc.hint; ts = desc.ts; domain = []; kinds = desc.kinds }
 
 -- the descriptor that a spilled task has
 abbrev pub spilled_descriptor : Spilled → Descriptor

@@ -8,6 +8,7 @@
 mod aborting;
 mod accessing;
 mod committing;
+mod context;
 mod emitted;
 mod laws;
 mod loads;

@@ -1,23 +1,29 @@
-//! A state without a task.
+//! A state without a task, and a task that comes to be.
 
-ghost use Rattle.std.specs.Prelude.{◌≡◌, ◌<◌, [], replicate, map, None, All, vec_len, IfOk};
+ghost use Rattle.std.specs.Prelude.{◌≡◌, ◌<◌, [], ◌∷◌, ◌++◌, length, replicate, map, None, All, Contains, vec_len, IfOk, OnErr};
 ghost use Rattle.spec_state.specs.Settings.{IsValid};
+ghost use Rattle.spec_state.specs.declared.task.Creator.TheVariants.{Committed};
 ghost use Rattle.spec_state.specs.View.{core_ids};
-ghost use Rattle.spec_state.specs.Opening.{IsEmptyView};
+ghost use Rattle.spec_state.specs.Tasks.{idle_task, root_descriptor};
+ghost use Rattle.spec_state.specs.Opening.{IsEmptyView, Adds};
+ghost use Rattle.spec_state.specs.Room.{HasFreeEntry};
 
+use crate::emitted::Emitted;
 use crate::settings::Settings;
 use crate::state::State;
-use crate::task::TaskId;
-use fractal_vt::Vt;
+use crate::task::{Creator, Spawns, Status, Task, TaskId};
+use fractal_vt::{Key, Vt};
 use guest_image::Image;
-use rv_core::Naming;
+use line_table::Exact;
+use rv_core::{Core, Naming};
 use serial_machine::{Bytes, Journal};
 use slab::Slab;
 use spill_store::Block;
 use std::alloc::{AllocError, Global};
 use std::marker::PhantomData;
-use tile_queues::Queue;
-use undo_log::Memory;
+use task_desc::Desc;
+use tile_queues::{Queue, TaskQueue};
+use undo_log::{Log, Memory};
 
 /// An empty queue for each tile.
 fn empty_queues<Kind>(
@@ -78,6 +84,40 @@ fn empty_blocks(alloc: Global, tiles: u32) -> Result<Vec<Block>, AllocError>
     Ok(blocks)
 }
 
+/// Puts an id that is not there into a queue with a free entry, as the last one.
+fn put_last(queue: &mut TaskQueue, id: usize)
+    requires absent { ¬ Contains queue.old.ids id }
+    requires free { length queue.old.ids < queue.old.capacity }
+    ensures { queue.new ≡ record queue.old { ids = queue.old.ids ++ id ∷ [] } }
+{
+    let _ = queue.put(id);
+}
+
+/// An idle task of the root domain with a committed creator, in a tile. It takes no memory.
+fn root_task(alloc: Global, desc: &Desc, tile: u32) -> Task
+    ensures { result ≡ idle_task (root_descriptor desc.now) (Committed desc.now.name.creator desc.now.name.index) tile }
+{
+    Task {
+        entry: desc.entry,
+        args: desc.args,
+        hint: desc.hint,
+        kinds: desc.kinds,
+        key: Key::root(desc.ts),
+        creator: Creator::Committed {
+            turn: desc.name.creator,
+            index: desc.name.index,
+        },
+        tile,
+        status: Status::Idle,
+        core: Core::start(desc.entry, desc.ts, desc.args),
+        log: Log::new(alloc),
+        lines: Exact::new(alloc),
+        spawns: Spawns::new(alloc),
+        bytes: Emitted::new(),
+        sub: None,
+    }
+}
+
 impl<N: Naming> State<N> {
     /// A state without a task, of a machine of valid settings, with the image's data. It has room for all tasks of its queues and
     /// for the whole history; `AllocError` where memory is wanting.
@@ -101,7 +141,21 @@ impl<N: Naming> State<N> {
             finished: empty_queues(alloc, settings.tiles, settings.commit_queue)?,
             cores: all_free_cores(alloc, settings.tiles, settings.cores)?,
             blocks: empty_blocks(alloc, settings.tiles)?,
+            alloc,
             naming: PhantomData,
         })
+    }
+
+    /// Adds an idle task of the image, under the descriptor's name, as the last one of the task queue of the tile, which has a free
+    /// entry. `AllocError` where memory is wanting; then nothing has changed.
+    pub fn add(&mut self, desc: &Desc, tile: u32) -> Result<TaskId, AllocError>
+        requires tile { tile < self.old.settings.tiles }
+        requires free { HasFreeEntry self.old tile }
+        ensures ok { IfOk result (λ id. Adds id.0 (idle_task (root_descriptor desc.now) (Committed desc.now.name.creator desc.now.name.index) tile) self.old self.new) }
+        ensures err { OnErr result (self.new ≡ self.old) }
+    {
+        let id = self.tasks.insert(root_task(self.alloc, desc, tile))?;
+        put_last(&mut self.queues[tile as usize], id);
+        Ok(TaskId(id))
     }
 }

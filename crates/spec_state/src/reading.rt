@@ -1,16 +1,21 @@
 //! What a state tells of itself. No call takes memory.
 
-ghost use Rattle.std.specs.Prelude.{◌≡◌, ◌+◌, ◌<◌, ◌≤◌, length, map, All, Some, option_map, slice_get};
+ghost use Rattle.std.specs.Prelude.{◌≡◌, ◌+◌, ◌<◌, ◌≤◌, length, map, All, Some, IsSome, IfSome, option_map, option_copied, slice_get};
+ghost use Rattle.fractal_vt.specs.declared.vt.TheConstants.{MAX_LEVELS};
+ghost use Rattle.task_desc.specs.Calls.{max_children};
 ghost use Rattle.spec_state.specs.declared.loads.TheConstants.{MAX_TILES};
-ghost use Rattle.spec_state.specs.View.{finished_at, cores_at, block_at, loads};
+ghost use Rattle.spec_state.specs.View.{task_at, finished_at, cores_at, block_at, loads};
+ghost use Rattle.spec_state.specs.Tasks.{kept_core, trap_in, context_of};
 
+use crate::context::context;
 use crate::loads::Loads;
 use crate::settings::Settings;
 use crate::state::State;
-use crate::task::TaskId;
-use fractal_vt::Vt;
-use rv_core::Naming;
+use crate::task::{Status, Task, TaskId};
+use fractal_vt::{Key, Vt};
+use rv_core::{Core, Naming};
 use serial_machine::Entry;
+use task_desc::Ctx;
 use tile_queues::TaskQueue;
 
 impl<N: Naming> State<N> {
@@ -79,6 +84,63 @@ impl<N: Naming> State<N> {
         ensures { result ≡ loads self.now }
     {
         loads_of(self.queues.as_slice(), self.settings.task_queue)
+    }
+
+    /// The task of this id, which has to be there.
+    fn task(&self, task: TaskId) -> &Task
+        requires live { IsSome (task_at self.now task.0) }
+        ensures { task_at self.now task.0 ≡ Some result.now }
+    {
+        &self.tasks[task.0]
+    }
+
+    /// The tile in whose task queue the task stands.
+    pub fn tile_of(&self, task: TaskId) -> u32
+        requires live { IsSome (task_at self.now task.0) }
+        ensures { IfSome (task_at self.now task.0) (λ t. result ≡ t.tile) }
+    {
+        self.task(task).tile
+    }
+
+    /// The task's virtual time. Its tiebreaker is open while it is idle.
+    pub fn key_of(&self, task: TaskId) -> &Key
+        requires live { IsSome (task_at self.now task.0) }
+        ensures { IfSome (task_at self.now task.0) (λ t. result.now ≡ t.key) }
+    {
+        &self.task(task).key
+    }
+
+    /// The core that the task has come to since its dispatch; None exactly where it is idle.
+    pub fn core_of(&self, task: TaskId) -> Option<&Core>
+        requires live { IsSome (task_at self.now task.0) }
+        ensures { IfSome (task_at self.now task.0) (λ t. option_copied result ≡ kept_core t.status t.core) }
+    {
+        let found = self.task(task);
+        match found.status {
+            Status::Idle => None,
+            Status::Running { .. } | Status::Trapped { .. } | Status::Finished => Some(&found.core),
+        }
+    }
+
+    /// The cause of the trap at which the task stands, 1 to 17; None exactly where it isn't trapped.
+    pub fn trap_of(&self, task: TaskId) -> Option<u8>
+        requires live { IsSome (task_at self.now task.0) }
+        ensures { IfSome (task_at self.now task.0) (λ t. result ≡ trap_in t.status) }
+    {
+        match self.task(task).status {
+            Status::Trapped { cause, .. } => Some(cause),
+            Status::Idle | Status::Running { .. } | Status::Finished => None,
+        }
+    }
+
+    /// What the task's next call depends on. Its domain lies at depth 8 at most, and it has made 64 children at most.
+    pub fn ctx_of(&self, task: TaskId) -> Ctx
+        requires live { IsSome (task_at self.now task.0) }
+        requires shallow { IfSome (task_at self.now task.0) (λ t. length t.key.domain < MAX_LEVELS) }
+        requires children { IfSome (task_at self.now task.0) (λ t. length t.spawns ≤ max_children) }
+        ensures { IfSome (task_at self.now task.0) (λ t. result ≡ context_of t) }
+    {
+        context(self.task(task))
     }
 }
 

@@ -5,6 +5,7 @@ use rv_core::Naming;
 use serial_machine::{Bytes, Journal};
 use slab::Slab;
 use spill_store::Block;
+use std::alloc::Global;
 use std::marker::{Model, PhantomData};
 use tile_queues::{CommitQueue, TaskQueue};
 use undo_log::Memory;
@@ -12,7 +13,8 @@ use undo_log::Memory;
 /// The machine between two events. Its fields are public for the crates that change a state; all others use its calls.
 ///
 /// Contracts see it as a `View`; its type keeps that its settings are valid, with the limits that `N`
-/// names, and that each tile has its queues, of the capacities of the settings, its cores and its block.
+/// names, that each tile has its queues, of the capacities of the settings, its cores and its block, and that each id in a task
+/// queue is that of a task.
 #[derive(Drop)]
 pub struct State<N: Naming> {
     /// How large it is and how far it runs.
@@ -37,6 +39,8 @@ pub struct State<N: Naming> {
     pub cores: Vec<Vec<Option<TaskId>>>,
     /// The spilled tasks of each tile.
     pub blocks: Vec<Block>,
+    /// What new tasks take their memory from.
+    pub alloc: Global,
     /// What the state is about: the limits are those that `N` names.
     pub naming: PhantomData<N>,
 }
@@ -44,7 +48,7 @@ pub struct State<N: Naming> {
 impl<N: Naming> Model for State<N> {
     ghost use Rattle.std.specs.Prelude.{◌≡◌, map, vec_len, All};
     ghost use Rattle.spec_state.specs.View.{View, core_ids};
-    ghost use Rattle.spec_state.specs.Fits.{HasLimits, HasTiles};
+    ghost use Rattle.spec_state.specs.Fits.{HasLimits, HasTiles, HasTasks};
 
     ghost Value = { View };
 
@@ -62,5 +66,5 @@ impl<N: Naming> Model for State<N> {
       blocks = map (λ block. block.entries) s.blocks.items;
     } };
 
-    ghost invariant = { λ s. HasLimits N.budget N.commits s.settings × HasTiles s.settings s.queues.items s.finished.items (vec_len s.cores) (vec_len s.blocks) × All (λ held. vec_len held ≡ s.settings.cores) s.cores.items };
+    ghost invariant = { λ s. HasLimits N.budget N.commits s.settings × HasTiles s.settings s.queues.items s.finished.items (vec_len s.cores) (vec_len s.blocks) × All (λ held. vec_len held ≡ s.settings.cores) s.cores.items × HasTasks s.tasks.slots s.queues.items };
 }

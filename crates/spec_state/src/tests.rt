@@ -8,6 +8,7 @@ use std::alloc::{Alloc, Global};
 use std::marker::Brand;
 use std::process::Abort;
 use std::test::Fail;
+use task_desc::{Ctx, Desc, Name};
 
 /// The settings of a run that no option changes.
 const DEFAULTS: Settings = Settings {
@@ -88,17 +89,16 @@ fn empty_state<N: Naming + Send>(
     Ok(())
 }
 
-#[test]
-fn a_new_state_has_no_task(rt: HostRuntime) -> Result<(), Fail> {
-    let alloc = rt.alloc();
+/// An image with one task, in an ordered root domain.
+fn small_image(alloc: Global) -> Result<Image, Fail> {
     let task = ImageTask {
         entry: 0x0001_0000,
-        ts: 0,
+        ts: 5,
         args: [0; 3],
     };
     let mut tasks = Vec::new(alloc);
     tasks.push(task)?;
-    let image = Image::new(
+    Image::new(
         Kind::Ordered,
         Vec::new(alloc),
         Vec::new(alloc),
@@ -107,6 +107,64 @@ fn a_new_state_has_no_task(rt: HostRuntime) -> Result<(), Fail> {
         0,
         tasks,
     )
-    .map_err(|_| Fail::from("no image"))?;
+    .map_err(|_| Fail::from("no image"))
+}
+
+#[test]
+fn a_new_state_has_no_task(rt: HostRuntime) -> Result<(), Fail> {
+    let image = small_image(rt.alloc())?;
     empty_state::<Brand>(&rt, &image, DEFAULTS)
+}
+
+/// The image's task.
+const FIRST: Desc = Desc {
+    name: Name {
+        creator: 0,
+        index: 0,
+    },
+    entry: 0x0001_0000,
+    ts: 5,
+    args: [0; 3],
+    hint: 0,
+    depth: 1,
+    kinds: 1,
+};
+
+/// What a state tells of the one task that was added to it.
+fn state_of_one<N: Naming>(
+    rt: &(impl Abort + Alloc<A = Global>),
+    image: &Image,
+    settings: Settings,
+) -> Result<(), Fail>
+    requires valid { IsValid settings }
+    requires image { image.now ≡ N.image }
+    requires budget { settings.budget ≡ N.budget }
+    requires commits { settings.commits ≡ N.commits }
+{
+    let mut state = State::<N>::new(rt.alloc(), image, settings)?;
+    let tile = settings.tiles - 1;
+    let task = state.add(&FIRST, tile)?;
+    assert_eq!(rt; state.loads().as_slice(), [0, 0, 0, 1].as_slice());
+    assert_eq!(rt; state.tile_of(task), tile);
+    let key = state.key_of(task);
+    assert!(rt; key.domain.levels().is_empty() && key.ts == 5 && key.tb.is_none());
+    assert!(rt; state.core_of(task).is_none() && state.trap_of(task).is_none());
+    let ctx = Ctx {
+        depth: 1,
+        own: Kind::Ordered,
+        outer: None,
+        ts: 5,
+        floor: 0,
+        sub: None,
+        children: 0,
+        bytes: 0,
+    };
+    assert_eq!(rt; state.ctx_of(task), ctx);
+    Ok(())
+}
+
+#[test]
+fn an_added_task_is_idle(rt: HostRuntime) -> Result<(), Fail> {
+    let image = small_image(rt.alloc())?;
+    state_of_one::<Brand>(&rt, &image, DEFAULTS)
 }
