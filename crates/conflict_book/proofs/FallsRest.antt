@@ -27,7 +27,7 @@ some_left budget used (Trapped core cause) = omega arith
 some_left budget used Finished = omega arith
 
 -- the least task isn't both queued and spilled
-not_both : (view : View) (id tile : ℕ) (task : Task) → IsLeastTask view id task → IsLeastSpilled view tile → ⊥
+pub not_both : (view : View) (id tile : ℕ) (task : Task) → IsLeastTask view id task → IsLeastSpilled view tile → ⊥
 not_both view id tile task least spilled =
     let same : Queued task.tile least.place ≡ Spilled_at tile spilled.place =
     least_is_one view (Queued task.tile least.place) (Spilled_at tile spilled.place) least.least spilled.least in

@@ -32,3 +32,7 @@ pub mod FallsDispatch
 pub mod FallsSteps
 pub mod FallsEnqueue
 pub mod Falls
+pub mod Search
+pub mod LeastSpot
+pub mod RestThere
+pub mod RestOne

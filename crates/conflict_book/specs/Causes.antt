@@ -47,7 +47,7 @@ pub record EnqueuesNext (view : View) (task : Task) (leg : LegValue) (spawn : Sp
   pub goes_on : comes_to view task leg ≡ Continues after
   pub spawns : after.spawns ≡ task.spawns ++ spawn ∷ []
 
--- it stopped at the task's end call
+-- the leg stopped at the task's end call
 pub record EndsNext (view : View) (task : Task) (leg : LegValue) : Type 0 where
   pub at_call : leg.stop ≡ stop.Call
   pub after : TaskState

@@ -44,7 +44,7 @@ pub record QuantumEvent (tile core : ℕ) (leg : LegValue) (old new : View) : Ty
   pub takes : TakesLeg old tile core leg id task
   pub change : change.Keeps id (record task { core = leg.to }) old new
 
--- it came to a trap, or to a call that traps: the task is at the leg's end, and keeps the trap
+-- the leg of a running task came to a trap, or to a call that traps: the task is at the leg's end, and keeps the trap
 pub record TrapEvent (tile core : ℕ) (leg : LegValue) (old new : View) : Type 0 where
   pub id : ℕ
   pub task : Task
@@ -54,7 +54,7 @@ pub record TrapEvent (tile core : ℕ) (leg : LegValue) (old new : View) : Type 
   pub traps : comes_to old task leg ≡ Traps cause pc
   pub change : change.KeepsTrap id task leg core cause old new
 
--- it came to a load or a store: the cascades of all tasks that conflict with it are taken back, as one set, and then it is made
+-- the leg came to a load or a store: the cascades of all tasks that conflict with it are taken back, as one set, and then it is made
 pub record AccessEvent (tile core : ℕ) (leg : LegValue) (write : Bool) (old : View) (aborted : ℕ) (new : View) : Type 0 where
   pub id : ℕ
   pub task : Task
@@ -67,7 +67,7 @@ pub record AccessEvent (tile core : ℕ) (leg : LegValue) (write : Bool) (old : 
   pub steps : comes_to mid task leg ≡ Continues after
   pub change : change.Accesses id task access after mid new
 
--- it came to an enqueue that is allowed: the tile that the serving placer picks makes room, the child stands there, and that placer is told
+-- the leg came to an enqueue that is allowed: the tile that the serving placer picks makes room, the child stands there, and that placer is told
 pub record EnqueueEvent (tile core : ℕ) (leg : LegValue) (after : TaskState) (book : BookView) (aborted : ℕ) (new : View) (placers : List Policy) : Type 0 where
   pub id : ℕ
   pub task : Task
@@ -80,7 +80,7 @@ pub record EnqueueEvent (tile core : ℕ) (leg : LegValue) (after : TaskState) (
   pub change : change.Enqueues id task after spawn (picked book spawn.hint) mid new
   pub told : placers ≡ first_placed book.placers (picked book spawn.hint)
 
--- it came to another call that is allowed: the task has a subdomain, or a byte more
+-- the leg came to another call that is allowed: the task has a subdomain, or a byte more
 pub record CallEvent (tile core : ℕ) (leg : LegValue) (after : TaskState) (old new : View) : Type 0 where
   pub id : ℕ
   pub task : Task
@@ -95,7 +95,7 @@ pub data FreesCommit (tile : ℕ) (task : Task) (old : View) : ℕ → View → 
   aborts_latest : (aborted v : ℕ) (x : Task) (new : View) → IsCommitFull old tile → IsLatestFinished old tile v x → IsLater old task v x
       → Aborts (Only v) old aborted new → FreesCommit tile task old aborted new
 
--- it came to the end call
+-- the leg came to the end call: the task leaves its core for the commit queue, which gets a free entry first
 pub record EndEvent (tile core : ℕ) (leg : LegValue) (after : TaskState) (old : View) (aborted : ℕ) (new : View) : Type 0 where
   pub id : ℕ
   pub task : Task

@@ -1,5 +1,5 @@
 -- Laws of events.
-use Rattle.std.specs.Prelude.{◌≡◌, ◌≢◌, ◌+◌, ◌^◌, ◌<◌, ℕ, ◌≤◌, true, List, All}
+use Rattle.std.specs.Prelude.{◌≡◌, ◌≢◌, ◌⊎◌, ◌+◌, ◌^◌, ◌<◌, ℕ, ◌≤◌, true, List, All}
 use Rattle.guest_image.specs.ImageValue.{ImageValue, IsImage}
 use Rattle.place_policy.specs.Policy.{Policy}
 use Rattle.serial_machine.specs.declared.fault.End.{End}
@@ -14,7 +14,7 @@ use Rattle.conflict_book.specs.declared.event.Event.{Event}
 use Rattle.conflict_book.specs.declared.event.Reply.{Reply}
 use Rattle.conflict_book.specs.declared.event.Reply.TheVariants as reply
 use Rattle.conflict_book.specs.Book.{BookView}
-use Rattle.conflict_book.specs.End.{HasEnd}
+use Rattle.conflict_book.specs.End.{HasEnd, IsOver}
 use Rattle.conflict_book.specs.Events.{IsGiven}
 use Rattle.conflict_book.specs.Happens.{Happens, HappenAll}
 use Rattle.conflict_book.specs.Sound.{IsSoundCount}
@@ -94,3 +94,20 @@ AdvancesFall N =
     (image : ImageValue) (old new : BookView) (event : Event N) (aborted before after : ℕ)
     → Sound image old.view → IsNextEvent image old.view event → IsNoCommit event → Happens old event reply.Ok aborted new
     → HasRest old.view before → HasRest new.view after → after < before
+
+-- a sound view has a rest: its run is over, or its least task stands in one of the ways that are told apart
+abbrev pub RestIsThere : Type 0
+RestIsThere = (image : ImageValue) (view : View) → Sound image view → (left : ℕ) × HasRest view left
+
+-- a view has one rest at most
+abbrev pub RestIsOne : Type 0
+RestIsOne = (view : View) (left other : ℕ) → HasRest view left → HasRest view other → left ≡ other
+
+-- the run is over and ended so, and in no other way
+pub record IsTheEnd (view : View) (end : End) : Type 0 where
+  pub has : HasEnd view end
+  pub only : (other : End) → HasEnd view other → end ≡ other
+
+-- of each sound view it is decided whether its run is over, and where it is there is exactly one end
+abbrev pub EndIsThere : Type 0
+EndIsThere = (image : ImageValue) (view : View) → Sound image view → ((end : End) × IsTheEnd view end) ⊎ (IsOver view → ⊥)

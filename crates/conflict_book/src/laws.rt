@@ -1,6 +1,6 @@
 //! Laws of events. Each is the contract of a function that does nothing.
 
-ghost use Rattle.conflict_book.specs.Laws.{AdvancesFall, EndIsOne, EndIsSerial, EventStaysSound, HistoriesAreRuns, LeastEventIsGranted, OpeningIsSound, RefusalsChangeNothing, ReplyIsOne, RestIsBounded};
+ghost use Rattle.conflict_book.specs.Laws.{AdvancesFall, EndIsOne, EndIsSerial, EndIsThere, EventStaysSound, HistoriesAreRuns, LeastEventIsGranted, OpeningIsSound, RefusalsChangeNothing, ReplyIsOne, RestIsBounded, RestIsOne, RestIsThere};
 
 use rv_core::Naming;
 
@@ -54,4 +54,19 @@ pub fn least_event_is_granted<N: Naming>()
 /// Each event for the least task but its commit brings it nearer to that, or to the end of the run.
 pub fn advances_fall<N: Naming>()
     ensures { AdvancesFall N }
+{}
+
+/// A sound view has a number that stands for what is left: its run is over, or its least task is spilled, idle, running or finished.
+pub fn rest_is_there()
+    ensures { RestIsThere }
+{}
+
+/// A view has one such number at most.
+pub fn rest_is_one()
+    ensures { RestIsOne }
+{}
+
+/// Of each sound view it is decided whether its run is over, and where it is there is exactly one end.
+pub fn end_is_there()
+    ensures { EndIsThere }
 {}

@@ -12,7 +12,7 @@ mod laws;
 pub use book::{Book, Closed, SoundState};
 pub use event::{Advance, Applied, Event, Halt, Reply};
 pub use laws::{
-    advances_fall, end_is_one, end_is_serial, event_stays_sound, histories_are_runs,
+    advances_fall, end_is_one, end_is_serial, end_is_there, event_stays_sound, histories_are_runs,
     least_event_is_granted, opening_is_sound, refusals_change_nothing, reply_is_one,
-    rest_is_bounded,
+    rest_is_bounded, rest_is_one, rest_is_there,
 };
