@@ -84,4 +84,3 @@ pub mod CommitTurn
 pub mod CommitTasks
 pub mod CommitSound
 pub mod Joined
-pub mod Floors

@@ -38,13 +38,6 @@ impl Emitted {
         self.bytes.push(byte);
     }
 
-    /// How many bytes there are: at most `MAX_EMITTED`.
-    pub fn len(&self) -> u32
-        ensures { result ≡ length self.now }
-    {
-        self.bytes.len() as u32
-    }
-
     /// The bytes.
     pub fn as_slice(&self) -> &[u8]
         ensures { result.now ≡ self.now }

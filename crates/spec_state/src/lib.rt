@@ -8,7 +8,6 @@
 mod aborting;
 mod accessing;
 mod committing;
-mod context;
 mod emitted;
 mod laws;
 mod loads;

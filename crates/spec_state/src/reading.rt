@@ -1,13 +1,10 @@
 //! What a state tells of itself. No call takes memory.
 
 ghost use Rattle.std.specs.Prelude.{◌≡◌, ◌+◌, ◌<◌, ◌≤◌, length, map, All, Some, IsSome, IfSome, option_map, option_copied, slice_get};
-ghost use Rattle.fractal_vt.specs.declared.vt.TheConstants.{MAX_LEVELS};
-ghost use Rattle.task_desc.specs.Calls.{max_children};
 ghost use Rattle.spec_state.specs.declared.loads.TheConstants.{MAX_TILES};
 ghost use Rattle.spec_state.specs.View.{task_at, finished_at, cores_at, block_at, loads};
-ghost use Rattle.spec_state.specs.Tasks.{kept_core, trap_in, context_of};
+ghost use Rattle.spec_state.specs.Tasks.{kept_core, trap_in};
 
-use crate::context::context;
 use crate::loads::Loads;
 use crate::settings::Settings;
 use crate::state::State;
@@ -15,7 +12,6 @@ use crate::task::{Status, Task, TaskId};
 use fractal_vt::{Key, Vt};
 use rv_core::{Core, Naming};
 use serial_machine::Entry;
-use task_desc::Ctx;
 use tile_queues::TaskQueue;
 
 impl<N: Naming> State<N> {
@@ -131,16 +127,6 @@ impl<N: Naming> State<N> {
             Status::Trapped { cause, .. } => Some(cause),
             Status::Idle | Status::Running { .. } | Status::Finished => None,
         }
-    }
-
-    /// What the task's next call depends on. Its domain lies at depth 8 at most, and it has made 64 children at most.
-    pub fn ctx_of(&self, task: TaskId) -> Ctx
-        requires live { IsSome (task_at self.now task.0) }
-        requires shallow { IfSome (task_at self.now task.0) (λ t. length t.key.domain < MAX_LEVELS) }
-        requires children { IfSome (task_at self.now task.0) (λ t. length t.spawns ≤ max_children) }
-        ensures { IfSome (task_at self.now task.0) (λ t. result ≡ context_of t) }
-    {
-        context(self.task(task))
     }
 }
 

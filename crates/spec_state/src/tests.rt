@@ -8,7 +8,7 @@ use std::alloc::{Alloc, Global};
 use std::marker::Brand;
 use std::process::Abort;
 use std::test::Fail;
-use task_desc::{Ctx, Desc, Name};
+use task_desc::{Desc, Name};
 
 /// The settings of a run that no option changes.
 const DEFAULTS: Settings = Settings {
@@ -149,17 +149,6 @@ fn state_of_one<N: Naming>(
     let key = state.key_of(task);
     assert!(rt; key.domain.levels().is_empty() && key.ts == 5 && key.tb.is_none());
     assert!(rt; state.core_of(task).is_none() && state.trap_of(task).is_none());
-    let ctx = Ctx {
-        depth: 1,
-        own: Kind::Ordered,
-        outer: None,
-        ts: 5,
-        floor: 0,
-        sub: None,
-        children: 0,
-        bytes: 0,
-    };
-    assert_eq!(rt; state.ctx_of(task), ctx);
     Ok(())
 }
 
