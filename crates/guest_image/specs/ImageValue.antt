@@ -14,6 +14,18 @@ pub record ImageValue : Type 0 where
   pub window_words : ℕ
   pub tasks : List ImageTask
 
+-- an image of these values
+abbrev pub image_value : Kind → List ℕ → List ℕ → ℕ → ℕ → ℕ → List ImageTask → ImageValue
+image_value kind text initial data_size window_offset window_words tasks = record {
+  kind = kind;
+  text = text;
+  initial = initial;
+  data_size = data_size;
+  window_offset = window_offset;
+  window_words = window_words;
+  tasks = tasks;
+}
+
 -- a task of words: an entry, a timestamp and three arguments of 4 bytes each
 pub record IsTask (task : ImageTask) : Type 0 where
   pub entry : task.entry < 2 ^ 32

@@ -6,7 +6,8 @@ use Rattle.guest_image.specs.ImageValue.{ImageValue}
 
 -- each row of the table of limits, over the lengths of the text, the initial data and the tasks: where the test holds it
 -- is this fault, else the next row is tried
-unfoldable pub limits_fault : (text initial data_size window_offset window_words tasks : ℕ) → Result (Unit {0}) ImageFault
+unfoldable pub limits_fault : (text initial data_size window_offset window_words tasks : ℕ)
+    → Result (Unit {0}) ImageFault
 limits_fault text initial data_size window_offset window_words tasks =
     if nat_lt 65536 text then Err (faults.Limit 8 text)
     else if nat_lt 16777216 data_size then Err (faults.Limit 16 data_size)
@@ -28,6 +29,12 @@ pub record AreWithinLimits (text_words initial_len size offset words task_count 
   pub window_aligned : offset % 4 ≡ 0
   pub window_inside : offset + 4 * words ≤ size
 
+-- an image's numbers are within the limits
+abbrev pub AreInLimits : ImageValue → Type 0
+AreInLimits image =
+    AreWithinLimits (length image.text) (length image.initial) image.data_size image.window_offset image.window_words
+    (length image.tasks)
+
 -- a length as a fault tells it, in a number of 4 bytes
 abbrev pub told : ℕ → ℕ
 told n = min n 4294967295
@@ -41,5 +48,6 @@ unless_fault (Err e) value = Err e
 unfoldable pub image_made : ImageValue → Result ImageValue ImageFault
 image_made value =
     unless_fault
-    (limits_fault (told (length value.text)) (told (length value.initial)) value.data_size value.window_offset value.window_words (told (length value.tasks)))
+    (limits_fault (told (length value.text)) (told (length value.initial)) value.data_size value.window_offset
+    value.window_words (told (length value.tasks)))
     value

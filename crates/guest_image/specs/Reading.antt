@@ -33,11 +33,14 @@ header_fault bytes =
     if not (word_at bytes 0 == 0x43415246) then Err faults.Magic
     else if not (half_at bytes 4 == 1) then Err (faults.Version (half_at bytes 4))
     else if nat_lt 1 (half_at bytes 6) then Err (faults.RootKind (half_at bytes 6))
-    else limits_fault (word_at bytes 8) (word_at bytes 12) (word_at bytes 16) (word_at bytes 20) (word_at bytes 24) (word_at bytes 28)
+    else limits_fault (word_at bytes 8) (word_at bytes 12) (word_at bytes 16) (word_at bytes 20) (word_at bytes 24)
+    (word_at bytes 28)
 
 -- what the header of an image keeps
 abbrev pub HeaderFits : List ℕ → Type 0
-HeaderFits bytes = AreWithinLimits (word_at bytes 8) (word_at bytes 12) (word_at bytes 16) (word_at bytes 20) (word_at bytes 24) (word_at bytes 28)
+HeaderFits bytes =
+    AreWithinLimits (word_at bytes 8) (word_at bytes 12) (word_at bytes 16) (word_at bytes 20) (word_at bytes 24)
+    (word_at bytes 28)
 
 -- how long the image is that the header tells
 unfoldable pub whole_length : List ℕ → ℕ

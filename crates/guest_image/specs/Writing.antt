@@ -13,11 +13,17 @@ abbrev pub kind_number : Kind → ℕ
 kind_number Unordered = 0
 kind_number Ordered = 1
 
+-- the six numbers of the header, in the order of their offsets
+abbrev pub header_numbers : ImageValue → List ℕ
+header_numbers image =
+    length image.text ∷ length image.initial ∷ image.data_size ∷ image.window_offset ∷ image.window_words
+    ∷ length image.tasks ∷ []
+
 -- the 32 bytes of the header: `FRAC`, the version, the root kind, and six numbers in the order of their offsets
 abbrev pub header_bytes : ImageValue → List ℕ
 header_bytes image =
     word_bytes 0x43415246 ++ half_bytes 1 ++ half_bytes (kind_number image.kind)
-    ++ flat_map word_bytes (length image.text ∷ length image.initial ∷ image.data_size ∷ image.window_offset ∷ image.window_words ∷ length image.tasks ∷ [])
+    ++ flat_map word_bytes (header_numbers image)
 
 -- the 20 bytes of a task: its entry, its timestamp and its arguments
 abbrev pub task_bytes : ImageTask → List ℕ
@@ -25,7 +31,8 @@ task_bytes task = flat_map word_bytes (task.entry ∷ task.ts ∷ task.args)
 
 -- the bytes of an image: its header, its text, its initial data and its tasks
 unfoldable pub image_bytes : ImageValue → List ℕ
-image_bytes image = header_bytes image ++ flat_map word_bytes image.text ++ image.initial ++ flat_map task_bytes image.tasks
+image_bytes image =
+    header_bytes image ++ flat_map word_bytes image.text ++ image.initial ++ flat_map task_bytes image.tasks
 
 -- an image that was written is read back, whatever follows its bytes
 abbrev pub ReadsBack : Type 0

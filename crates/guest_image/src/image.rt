@@ -6,6 +6,7 @@ ghost use Rattle.guest_image.specs.ImageValue.{IsTask};
 
 use crate::fault::ImageFault;
 use crate::limits::{check_limits, told};
+use crate::memory_map::TEXT_START;
 use std::marker::Model;
 
 /// Whether a domain's timestamps count.
@@ -43,13 +44,16 @@ pub struct Image {
 }
 
 impl Model for Image {
-    ghost use Rattle.guest_image.specs.ImageValue.{ImageValue, IsImage};
+    ghost use Rattle.guest_image.specs.ImageValue.{ImageValue, IsImage, image_value};
 
     ghost Value = { ImageValue };
 
-    ghost view = { λ i. record { kind = i.kind; text = i.text.items; initial = i.initial.items; data_size = i.data_size; window_offset = i.window_offset; window_words = i.window_words; tasks = i.tasks.items } };
+    ghost view = { λ i.
+        image_value i.kind i.text.items i.initial.items i.data_size i.window_offset i.window_words i.tasks.items };
 
-    ghost invariant = { λ i. IsImage (record { kind = i.kind; text = i.text.items; initial = i.initial.items; data_size = i.data_size; window_offset = i.window_offset; window_words = i.window_words; tasks = i.tasks.items }) };
+    ghost invariant = { λ i.
+        IsImage
+        (image_value i.kind i.text.items i.initial.items i.data_size i.window_offset i.window_words i.tasks.items) };
 }
 
 /// A value of the type is a task of words.
@@ -68,8 +72,8 @@ fn visit_all(tasks: &[ImageTask])
 }
 
 impl Image {
-    ghost use Rattle.guest_image.specs.ImageValue.{IsImage};
-    ghost use Rattle.guest_image.specs.Limits.{AreWithinLimits, image_made};
+    ghost use Rattle.guest_image.specs.ImageValue.{IsImage, image_value};
+    ghost use Rattle.guest_image.specs.Limits.{AreWithinLimits, AreInLimits, image_made};
 
     /// An image of the given values, or the first of the limits that they exceed, in the order in which the limits of a
     /// header are tried. `kind` is that of the root domain; `data_size` and `window_offset` are in bytes. A list longer than
@@ -84,8 +88,10 @@ impl Image {
         window_words: u32,
         tasks: Vec<ImageTask>,
     ) -> Result<Image, ImageFault>
-        ensures made { result ≡ image_made (record { kind = kind; text = text.items; initial = initial.items; data_size = data_size; window_offset = window_offset; window_words = window_words; tasks = tasks.items }) }
-        ensures accepted { IsOk result ↔ AreWithinLimits (length text.items) (length initial.items) data_size window_offset window_words (length tasks.items) }
+        ensures made { result ≡ image_made
+            (image_value kind text.items initial.items data_size window_offset window_words tasks.items) }
+        ensures accepted { IsOk result ↔ AreInLimits
+            (image_value kind text.items initial.items data_size window_offset window_words tasks.items) }
     {
         check_limits(
             told(text.len()),
@@ -116,8 +122,9 @@ impl Image {
         window_words: u32,
         tasks: Vec<ImageTask>,
     ) -> Image
-        requires { AreWithinLimits (length text.items) (length initial.items) data_size window_offset window_words (length tasks.items) }
-        ensures { result ≡ record { kind = kind; text = text.items; initial = initial.items; data_size = data_size; window_offset = window_offset; window_words = window_words; tasks = tasks.items } }
+        requires { AreInLimits
+            (image_value kind text.items initial.items data_size window_offset window_words tasks.items) }
+        ensures { result ≡ image_value kind text.items initial.items data_size window_offset window_words tasks.items }
     {
         visit_all(&tasks);
         Image {
@@ -138,7 +145,7 @@ impl Image {
         self.kind
     }
 
-    /// The words of the text, the first of them at the address 0x00010000.
+    /// The words of the text, the first of them at the address `TEXT_START`.
     pub fn text(&self) -> &[u32]
         ensures { result.now ≡ self.now.text }
     {
@@ -179,10 +186,10 @@ impl Image {
     pub fn fetch(&self, addr: u32) -> Option<u32>
         ensures { result ≡ fetched self.now.text addr }
     {
-        if addr % 4 != 0 || addr < 0x1_0000 {
+        if addr % 4 != 0 || addr < TEXT_START {
             return None;
         }
-        self.text.get((addr - 0x1_0000) as usize / 4).copied()
+        self.text.get((addr - TEXT_START) as usize / 4).copied()
     }
 
     /// 1, 2 or 4 bytes of the text as a little-endian number, at an address that is a multiple of their number; None where
@@ -193,10 +200,10 @@ impl Image {
         ensures value { result ≡ text_loaded self.now.text addr bytes }
         ensures small { IfSome result (λ raw. raw < 2 ^ (8 * bytes)) }
     {
-        if addr < 0x1_0000 {
+        if addr < TEXT_START {
             return None;
         }
-        let word = *self.text.get((addr - 0x1_0000) as usize / 4)?;
+        let word = *self.text.get((addr - TEXT_START) as usize / 4)?;
         let low = word >> (8 * (addr % 4));
         Some(match bytes {
             1 => low % 0x100,

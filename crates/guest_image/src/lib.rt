@@ -9,6 +9,7 @@ mod fault;
 mod image;
 mod layout;
 mod limits;
+mod memory_map;
 mod reading;
 #[cfg(test)]
 mod tests;
@@ -16,5 +17,6 @@ mod writing;
 
 pub use fault::ImageFault;
 pub use image::{Image, ImageTask, Kind};
+pub use memory_map::{DATA_START, TEXT_START};
 pub use reading::read_image;
 pub use writing::{write_image, written_images_read_back};

@@ -32,7 +32,8 @@ pub(crate) fn check_limits(
 ) -> Result<(), ImageFault>
     ensures fault { result ≡ limits_fault text_words initial_len data_size window_offset window_words task_count }
     ensures own { IfErr result (λ fault. fault ≢ ImageFault.Memory) }
-    ensures within { IsOk result ↔ AreWithinLimits text_words initial_len data_size window_offset window_words task_count }
+    ensures within { IsOk result
+        ↔ AreWithinLimits text_words initial_len data_size window_offset window_words task_count }
 {
     if text_words > MAX_TEXT_WORDS {
         return above(8, text_words);

@@ -4,7 +4,7 @@ ghost use Rattle.std.specs.Prelude.{◌≡◌, ◌++◌, ◌∷◌, [], length, 
 ghost use Rattle.std.specs.List.{flat_map};
 ghost use Rattle.guest_image.specs.Numbers.{word_bytes, half_bytes};
 ghost use Rattle.guest_image.specs.Reading.{image_of};
-ghost use Rattle.guest_image.specs.Writing.{kind_number, header_bytes, task_bytes, image_bytes, ReadsBack};
+ghost use Rattle.guest_image.specs.Writing.{kind_number, header_bytes, task_bytes, image_bytes, ReadsBack, header_numbers};
 
 use crate::image::{Image, ImageTask, Kind};
 use crate::layout::{HEADER, MAGIC, TASK, VERSION};
@@ -59,7 +59,7 @@ fn number_of(kind: Kind) -> u16
 
 /// The six numbers of the header, in the order of their offsets.
 fn numbers_of(image: &Image) -> [u32; 6]
-    ensures { result ≡ length image.now.text ∷ length image.now.initial ∷ image.now.data_size ∷ image.now.window_offset ∷ image.now.window_words ∷ length image.now.tasks ∷ [] }
+    ensures { result ≡ header_numbers image.now }
 {
     let task_count = image.tasks().len() as u32;
     let (window_offset, window_words) = image.window();

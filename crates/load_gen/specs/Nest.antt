@@ -2,17 +2,18 @@
 use Rattle.std.specs.Prelude.{ℕ, ◌+◌, ◌*◌, ◌%◌, [], ◌∷◌, map}
 use Rattle.std.specs.List.{range_with_len}
 use Rattle.guest_image.specs.ImageValue.{ImageValue}
+use Rattle.guest_image.specs.declared.memory_map.TheConstants.{DATA_START, TEXT_START}
 use Rattle.guest_image.specs.declared.image.Kind.TheVariants.{Unordered}
 use Rattle.guest_image.specs.declared.image.ImageTask.{ImageTask}
 use Rattle.load_gen.specs.Programs.{nest_words}
 
 -- the address of a cell: there are eight, and they are counted round
 abbrev pub cell : ℕ → ℕ
-cell place = 0x10000000 + 4 * (place % 8)
+cell place = DATA_START + 4 * (place % 8)
 
 -- a root task: its amount and its two cells
 abbrev pub nest_task : ℕ → ℕ → ImageTask
-nest_task seed place = record { entry = 0x10000; ts = 0; args = (seed % 1000 + place) ∷ cell place ∷ cell (place + 3) ∷ [] }
+nest_task seed place = record { entry = TEXT_START; ts = 0; args = (seed % 1000 + place) ∷ cell place ∷ cell (place + 3) ∷ [] }
 
 -- the image: the additions as text, eight cells of zeros, which are the window, and as many tasks as the size tells
 abbrev pub nest_image : ℕ → ℕ → ImageValue

@@ -3,6 +3,7 @@ use Rattle.std.specs.Prelude.{ℕ, zero, suc, ◌+◌, ◌*◌, ◌-◌, ◌%◌
 use Rattle.std.specs.List.{range_with_len, flat_map}
 use Rattle.guest_image.specs.Numbers.{word_bytes}
 use Rattle.guest_image.specs.ImageValue.{ImageValue}
+use Rattle.guest_image.specs.declared.memory_map.TheConstants.{DATA_START, TEXT_START}
 use Rattle.guest_image.specs.declared.image.Kind.TheVariants.{Ordered}
 use Rattle.load_gen.specs.Programs.{walk_words}
 
@@ -37,5 +38,5 @@ walk_image seed size = record {
   data_size = 16 * size;
   window_offset = 16 * size - 4 * min 4 size;
   window_words = min 4 size;
-  tasks = record { entry = 0x10000; ts = 0; args = 0 ∷ (0x10000000 + 12 * size) ∷ 0 ∷ [] } ∷ [];
+  tasks = record { entry = TEXT_START; ts = 0; args = 0 ∷ (DATA_START + 12 * size) ∷ 0 ∷ [] } ∷ [];
 }

@@ -1,7 +1,8 @@
 //! The loads, and the making of their images.
 
 ghost use Rattle.std.specs.Prelude.{◌≡◌, IfOk, length};
-ghost use Rattle.guest_image.specs.Limits.{AreWithinLimits};
+ghost use Rattle.guest_image.specs.ImageValue.{image_value};
+ghost use Rattle.guest_image.specs.Limits.{AreInLimits};
 ghost use Rattle.load_gen.specs.Generated.{IsSize, generated};
 
 use crate::nest::nest_image;
@@ -31,8 +32,9 @@ pub(crate) fn image_of(
     window_words: u32,
     tasks: Vec<ImageTask>,
 ) -> Image
-    requires { AreWithinLimits (length text.items) (length initial.items) data_size window_offset window_words (length tasks.items) }
-    ensures { result ≡ record { kind = kind; text = text.items; initial = initial.items; data_size = data_size; window_offset = window_offset; window_words = window_words; tasks = tasks.items } }
+    requires { AreInLimits
+        (image_value kind text.items initial.items data_size window_offset window_words tasks.items) }
+    ensures { result ≡ image_value kind text.items initial.items data_size window_offset window_words tasks.items }
 {
     Image::new(
         kind,

@@ -8,7 +8,7 @@ ghost use Rattle.load_gen.specs.Nest.{cell as cell_lem, nest_task as nest_task_l
 
 use crate::assembly::{add, addi, ecall, lui, lw, sw};
 use crate::making::image_of;
-use guest_image::{Image, ImageTask, Kind};
+use guest_image::{DATA_START, Image, ImageTask, Kind, TEXT_START};
 use std::alloc::{AllocError, Global};
 
 /// Nested additions. In a task of the root x10 is its amount, and x11 and x12 are the addresses of its cells.
@@ -61,7 +61,7 @@ fn nest_words() -> [u32; 23]
 fn cell(place: u32) -> u32
     ensures { result ≡ cell_lem place }
 {
-    0x1000_0000 + 4 * (place % 8)
+    DATA_START + 4 * (place % 8)
 }
 
 /// A task of the root.
@@ -70,7 +70,7 @@ fn nest_task(seed: u32, place: u32) -> ImageTask
     ensures { result ≡ nest_task_lem seed place }
 {
     ImageTask {
-        entry: 0x1_0000,
+        entry: TEXT_START,
         ts: 0,
         args: [seed % 1000 + place, cell(place), cell(place + 3)],
     }

@@ -9,7 +9,7 @@ ghost use Rattle.load_gen.specs.Walk.{next_random as next_random_lem, edge as ed
 
 use crate::assembly::{add, addi, branch, ecall, lui, lw, slli, sw};
 use crate::making::image_of;
-use guest_image::{Image, ImageTask, Kind};
+use guest_image::{DATA_START, Image, ImageTask, Kind, TEXT_START};
 use rv_table::Cond;
 use std::alloc::{AllocError, Global};
 
@@ -124,9 +124,9 @@ pub(crate) fn walk_image(alloc: Global, seed: u32, size: u32) -> Result<Image, A
     let initial = adjacency(alloc, seed, size)?;
     let mut tasks = Vec::with_capacity(alloc, 1)?;
     tasks.push(ImageTask {
-        entry: 0x1_0000,
+        entry: TEXT_START,
         ts: 0,
-        args: [0, 0x1000_0000 + 12 * size, 0],
+        args: [0, DATA_START + 12 * size, 0],
     })?;
     let window_words = size.min(4);
     Ok(image_of(

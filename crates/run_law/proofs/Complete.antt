@@ -6,7 +6,7 @@ use Rattle.std.proofs.lemmas.Option.{same_Some}
 use Rattle.guest_image.specs.ImageValue.{ImageValue}
 use Rattle.task_desc.specs.declared.desc.Name.{Name}
 use Rattle.task_desc.specs.declared.desc.Spawn.{Spawn}
-use Rattle.serial_machine.specs.declared.journal.Entry.{Entry}
+use Rattle.run_journal.specs.declared.journal.Entry.{Entry}
 use Rattle.serial_machine.specs.State.{State}
 use Rattle.serial_machine.specs.Names.{one, times, times_in}
 use Rattle.serial_machine.specs.Turn.{child}

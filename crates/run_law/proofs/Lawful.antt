@@ -1,7 +1,7 @@
 -- Every run keeps the laws.
 use Rattle.std.proofs.Common.{ℕ, List}
 use Rattle.guest_image.specs.ImageValue.{ImageValue}
-use Rattle.serial_machine.specs.declared.journal.Entry.{Entry}
+use Rattle.run_journal.specs.declared.journal.Entry.{Entry}
 use Rattle.serial_machine.specs.State.{State}
 use Rattle.serial_machine.specs.Run.{IsRun}
 use Rattle.run_law.specs.Laws.{AreLawful}

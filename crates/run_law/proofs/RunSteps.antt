@@ -2,17 +2,12 @@
 use Rattle.std.proofs.Common.{◌≡◌, refl, sym, ap, ◌∙◌, subst, ℕ, List, [], ◌∷◌, ◌++◌, Some}
 use Rattle.std.proofs.lemmas.Option.{same_Some}
 use Rattle.guest_image.specs.ImageValue.{ImageValue}
-use Rattle.serial_machine.specs.declared.journal.Entry.{Entry}
+use Rattle.run_journal.specs.declared.journal.Entry.{Entry}
 use Rattle.serial_machine.specs.State.{State}
 use Rattle.serial_machine.specs.Turn.{turn}
 use Rattle.serial_machine.specs.Run.{Runs, IsRun, opening}
+pub use Rattle.serial_machine.proofs.WholeRuns.{Runs-more}
 use Rattle.run_law.specs.Laws.{IsTurnOf}
-
--- a run goes on by one more turn
-pub Runs-more : (image : ImageValue) (budget : ℕ) (es : List Entry) (s before after : State) (e : Entry)
-    → Runs image budget s es before → turn image budget before e.name ≡ Some (after, e) → Runs image budget s (es ++ e ∷ []) after
-Runs-more image budget [] s before after e run t = (after, ap (λ m. turn image budget m e.name) run ∙ t, refl)
-Runs-more image budget (x ∷ xs) s before after e (mid, first, rest) t = (mid, first, Runs-more image budget xs mid before after e rest t)
 
 -- a run is a run of its first entries and then one of the others
 pub Runs-append : (image : ImageValue) (budget : ℕ) (es more : List Entry) (s after : State)

@@ -3,7 +3,7 @@ use Rattle.std.specs.Prelude.{ℕ, ◌≡◌, ◌≤◌, ◌<◌, ◌+◌, ◌==
 use Rattle.std.specs.List.{AllByRecursion}
 use Rattle.guest_image.specs.ImageValue.{ImageValue}
 use Rattle.task_desc.specs.declared.desc.Name.{Name}
-use Rattle.serial_machine.specs.declared.journal.Entry.{Entry}
+use Rattle.run_journal.specs.declared.journal.Entry.{Entry}
 use Rattle.serial_machine.specs.BagValue.{BagValue}
 use Rattle.serial_machine.specs.declared.bag.PendingTask.{PendingTask}
 use Rattle.serial_machine.specs.State.{State}
@@ -27,7 +27,8 @@ abbrev pub AreDistinct : List Entry → Type 0
 AreDistinct journal = (name : Name) → turns_of name journal ≤ 1
 
 -- the entry stands in the journal right behind these entries, whose run led to this state
-pub record IsTurnOf (image : ImageValue) (budget : ℕ) (journal before : List Entry) (state : State) (entry : Entry) : Type 0 where
+pub record IsTurnOf (image : ImageValue) (budget : ℕ) (journal before : List Entry) (state : State)
+    (entry : Entry) : Type 0 where
   pub rest : List Entry
   pub stands : journal ≡ before ++ entry ∷ rest
   pub run : IsRun image budget before state
@@ -72,8 +73,10 @@ pub record IsInside (owner : ℕ) (before : List Entry) (entry : Entry) : Type 0
 -- where a task takes its turn from a domain that another task made, all turns behind that other task's up to and with this one are
 -- deeper (Subramanian et al. 2017, section 3: a task and its subdomain run as one unit)
 abbrev pub AreDeeper : ImageValue → ℕ → List Entry → Type 0
-AreDeeper image budget journal = (before : List Entry) → (state : State) → (entry : Entry) → IsTurnOf image budget journal before state entry
-    → (bag : BagValue) → (outer : List BagValue) → inner state.stack ≡ bag ∷ outer → 1 ≤ bag.owner → IsInside bag.owner before entry
+AreDeeper image budget journal =
+    (before : List Entry) → (state : State) → (entry : Entry) → IsTurnOf image budget journal before state entry
+    → (bag : BagValue) → (outer : List BagValue) → inner state.stack ≡ bag ∷ outer → 1 ≤ bag.owner
+    → IsInside bag.owner before entry
 
 -- at most one task of the innermost bag that isn't empty has the least timestamp there (of a stack from `inner`)
 abbrev pub IsUntied : List BagValue → Type 0
@@ -82,12 +85,15 @@ IsUntied (bag ∷ outer) = length (filter (λ t. is_least t.ts bag.tasks) bag.ta
 
 -- at no turn of the journal two tasks share the least timestamp of that bag
 abbrev pub AreUntied : ImageValue → ℕ → List Entry → Type 0
-AreUntied image budget journal = (before : List Entry) → (state : State) → (entry : Entry) → IsTurnOf image budget journal before state entry → IsUntied (inner state.stack)
+AreUntied image budget journal =
+    (before : List Entry) → (state : State) → (entry : Entry) → IsTurnOf image budget journal before state entry
+    → IsUntied (inner state.stack)
 
 -- where there is no such tie, every run of the same length has this journal and leads to this state
 abbrev pub IsForced : ImageValue → ℕ → List Entry → State → Type 0
 IsForced image budget journal state = AreUntied image budget journal
-    → (other : List Entry) → (after : State) → IsRun image budget other after → length other ≡ length journal → (other ≡ journal) × (after ≡ state)
+    → (other : List Entry) → (after : State) → IsRun image budget other after → length other ≡ length journal
+    → (other ≡ journal) × (after ≡ state)
 
 -- all laws of a run
 pub record AreLawful (image : ImageValue) (budget : ℕ) (journal : List Entry) (state : State) : Type 0 where

@@ -5,7 +5,7 @@ ghost use Rattle.guest_image.specs.ImageValue.{ImageValue};
 ghost use Rattle.run_law.specs.Laws.{AreLawful};
 ghost use Rattle.serial_machine.specs.Run.{IsRun};
 ghost use Rattle.serial_machine.specs.State.{State};
-ghost use Rattle.serial_machine.specs.declared.journal.Entry.{Entry};
+ghost use Rattle.run_journal.specs.declared.journal.Entry.{Entry};
 
 /// The laws of every run of every image, with any budget of its tasks:
 /// - `distinct`: no name takes two turns;

@@ -13,7 +13,8 @@ use Rattle.rv_core.specs.declared.state.Core.{Core}
 use Rattle.rv_core.specs.declared.state.Stop.{Stop}
 use Rattle.rv_core.specs.declared.state.Stop.TheVariants as stop
 use Rattle.rv_core.specs.Next.{Next, Goes, Stops}
-use Rattle.rv_core.specs.Memory.{load_bytes, store_bytes, data_start, is_within}
+use Rattle.guest_image.specs.declared.memory_map.TheConstants.{DATA_START}
+use Rattle.rv_core.specs.Memory.{load_bytes, store_bytes, is_within}
 use Rattle.rv_core.specs.Legs.{next_at, word_next, instr_next, effect_next, load_next, traps, PlainStep, PlainSteps, IsInside}
 
 -- what stands next at a core is counted where it goes on, and lies inside the data and is no quantum where it stops
@@ -39,7 +40,7 @@ true_from_not true h = refl
 true_from_not false h = cc
 
 -- an access that passes both tests of the code lies in the data
-inside : (size addr n : ℕ) → not (addr % n == 0) ≡ false → is_within data_start size addr n ≡ true → (data_start ≤ addr) × (addr + n ≤ data_start + size) × (addr % n ≡ 0)
+inside : (size addr n : ℕ) → not (addr % n == 0) ≡ false → is_within DATA_START size addr n ≡ true → (DATA_START ≤ addr) × (addr + n ≤ DATA_START + size) × (addr % n ≡ 0)
 inside size addr n aligned within =
     let (low, high) = both _ _ within in
     (leb-true _ _ low, leb-true _ _ high, eqb-true _ _ (true_from_not _ aligned))
@@ -47,14 +48,14 @@ inside size addr n aligned within =
 load_keeps : (size : ℕ) (core : Core) (width : LoadWidth) (rd addr : ℕ) (raw : Option ℕ) → not (addr % load_bytes width == 0) ≡ false → Keeps size core (load_next size core width rd addr raw)
 load_keeps size core width rd addr (Some raw) aligned = refl
 load_keeps size core width rd addr None aligned =
-    either size core (is_within data_start size addr (load_bytes width)) (Stops (stop.Load width rd addr)) (traps core 5)
+    either size core (is_within DATA_START size addr (load_bytes width)) (Stops (stop.Load width rd addr)) (traps core 5)
     (λ within. (inside size addr (load_bytes width) aligned within, λ e. cc))
     (λ _. trap_keeps size core 5)
 
 store_keeps : (size : ℕ) (core : Core) (width : StoreWidth) (addr value : ℕ) → not (addr % store_bytes width == 0) ≡ false
-    → Keeps size core (if is_within data_start size addr (store_bytes width) then Stops (stop.Store width addr value) else traps core 7)
+    → Keeps size core (if is_within DATA_START size addr (store_bytes width) then Stops (stop.Store width addr value) else traps core 7)
 store_keeps size core width addr value aligned =
-    either size core (is_within data_start size addr (store_bytes width)) (Stops (stop.Store width addr value)) (traps core 7)
+    either size core (is_within DATA_START size addr (store_bytes width)) (Stops (stop.Store width addr value)) (traps core 7)
     (λ within. (inside size addr (store_bytes width) aligned within, λ e. cc))
     (λ _. trap_keeps size core 7)
 

@@ -11,7 +11,8 @@ use Rattle.rv_core.specs.declared.state.Core.{Core}
 use Rattle.rv_core.specs.declared.state.Stop.{Stop}
 use Rattle.rv_core.specs.declared.state.Stop.TheVariants as stop
 use Rattle.rv_core.specs.Next.{Next, Goes, Stops}
-use Rattle.rv_core.specs.Memory.{data_start, is_within, load_bytes, store_bytes}
+use Rattle.guest_image.specs.declared.memory_map.TheConstants.{DATA_START}
+use Rattle.rv_core.specs.Memory.{is_within, load_bytes, store_bytes}
 use Rattle.rv_core.specs.Legs.{next_at, word_next, instr_next, effect_next, load_next, traps}
 
 -- a stop that is a trap is one of this pc
@@ -33,7 +34,7 @@ either_here core false one other here there = there
 load_here : (size : ℕ) (core : Core) (width : LoadWidth) (rd addr : ℕ) (raw : Option ℕ) → IsHere core (load_next size core width rd addr raw)
 load_here size core width rd addr (Some raw) = tt
 load_here size core width rd addr None =
-    either_here core (is_within data_start size addr (load_bytes width)) (Stops (stop.Load width rd addr)) (traps core 5) tt refl
+    either_here core (is_within DATA_START size addr (load_bytes width)) (Stops (stop.Load width rd addr)) (traps core 5) tt refl
 
 effect_here : (text : List ℕ) (size : ℕ) (core : Core) (effect : Effect) → IsHere core (effect_next text size core effect)
 effect_here text size core (does.Plain pc rd value) = tt
@@ -42,7 +43,7 @@ effect_here text size core (does.Load width rd addr) =
     refl (load_here size core width rd addr (text_loaded text addr (load_bytes width)))
 effect_here text size core (does.Store width addr value) =
     either_here core (not (addr % store_bytes width == 0)) (traps core 6) _ refl
-    (either_here core (is_within data_start size addr (store_bytes width)) (Stops (stop.Store width addr value)) (traps core 7) tt refl)
+    (either_here core (is_within DATA_START size addr (store_bytes width)) (Stops (stop.Store width addr value)) (traps core 7) tt refl)
 effect_here text size core does.Call = tt
 effect_here text size core does.Break = refl
 effect_here text size core does.Misaligned = refl

@@ -12,13 +12,16 @@ use Rattle.rv_core.specs.declared.state.Core.{Core}
 use Rattle.rv_core.specs.declared.state.Stop.{Stop}
 use Rattle.rv_core.specs.declared.state.Stop.TheVariants as stop
 use Rattle.rv_core.specs.Next.{Next, Goes, Stops}
-use Rattle.rv_core.specs.Memory.{load_bytes, store_bytes, data_start, is_within}
+use Rattle.guest_image.specs.declared.memory_map.TheConstants.{DATA_START}
+use Rattle.rv_core.specs.Memory.{load_bytes, store_bytes, is_within}
 
 -- the core of a task that starts: x10 to x12 are its arguments, x13 is its timestamp, and no instruction is used
 abbrev pub start_of : ℕ → ℕ → List ℕ → Core
 start_of entry ts args = record {
   pc = entry;
-  regs = set_word (set_word (set_word (set_word (replicate 32 0) 10 (slice_index args 0)) 11 (slice_index args 1)) 12 (slice_index args 2)) 13 ts;
+  regs =
+      set_word (set_word (set_word (set_word (replicate 32 0)
+      10 (slice_index args 0)) 11 (slice_index args 1)) 12 (slice_index args 2)) 13 ts;
   used = 0;
 }
 
@@ -42,7 +45,7 @@ traps core cause = Stops (stop.Trap cause core.pc)
 abbrev pub load_next : ℕ → Core → LoadWidth → ℕ → ℕ → Option ℕ → Next
 load_next size core width rd addr (Some raw) = Goes (after_load_of core width rd raw)
 load_next size core width rd addr None =
-    if is_within data_start size addr (load_bytes width) then Stops (stop.Load width rd addr)
+    if is_within DATA_START size addr (load_bytes width) then Stops (stop.Load width rd addr)
     else traps core 5
 
 -- what comes of what an instruction does (trap 3: target misaligned, 4 and 6: access misaligned, 7: store range, 8: break)
@@ -53,7 +56,7 @@ effect_next text size core (does.Load width rd addr) =
     else load_next size core width rd addr (text_loaded text addr (load_bytes width))
 effect_next text size core (does.Store width addr value) =
     if not (addr % store_bytes width == 0) then traps core 6
-    else if is_within data_start size addr (store_bytes width) then Stops (stop.Store width addr value)
+    else if is_within DATA_START size addr (store_bytes width) then Stops (stop.Store width addr value)
     else traps core 7
 effect_next text size core does.Call = Stops stop.Call
 effect_next text size core does.Break = traps core 8
@@ -97,9 +100,9 @@ pub record IsLeg (text : List ℕ) (size budget quantum : ℕ) (from to : Core) 
 -- a load or a store that stands next is aligned and lies wholly in data of this size
 abbrev pub IsInside : ℕ → Stop → Type 0
 IsInside size (stop.Load width rd addr) =
-    (data_start ≤ addr) × (addr + load_bytes width ≤ data_start + size) × (addr % load_bytes width ≡ 0)
+    (DATA_START ≤ addr) × (addr + load_bytes width ≤ DATA_START + size) × (addr % load_bytes width ≡ 0)
 IsInside size (stop.Store width addr value) =
-    (data_start ≤ addr) × (addr + store_bytes width ≤ data_start + size) × (addr % store_bytes width ≡ 0)
+    (DATA_START ≤ addr) × (addr + store_bytes width ≤ DATA_START + size) × (addr % store_bytes width ≡ 0)
 IsInside size stop.Call = Unit {0}
 IsInside size (stop.Trap cause pc) = Unit {0}
 IsInside size stop.Quantum = Unit {0}

@@ -1,17 +1,9 @@
--- Where the text and the data lie, and how many bytes a load or a store takes.
+-- How many bytes a load or a store takes, and whether they lie within a range.
 use Rattle.std.specs.Prelude.{ℕ, ◌+◌, ◌&&◌, nat_le, Bool}
 use Rattle.rv_table.specs.declared.instr.LoadWidth.{LoadWidth}
 use Rattle.rv_table.specs.declared.instr.LoadWidth.TheVariants as load
 use Rattle.rv_table.specs.declared.instr.StoreWidth.{StoreWidth}
 use Rattle.rv_table.specs.declared.instr.StoreWidth.TheVariants as store
-
--- the address of the first word of the text
-abbrev pub text_start : ℕ
-text_start = 0x00010000
-
--- the address of the first byte of the data
-abbrev pub data_start : ℕ
-data_start = 0x10000000
 
 -- how many bytes a load reads
 abbrev pub load_bytes : LoadWidth → ℕ

@@ -1,20 +1,17 @@
 //! Runs of plain instructions.
 
-ghost use Rattle.std.specs.Prelude.{◌≡◌, ◌+◌, ◌%◌, ◌^◌, ◌<◌, ◌≤◌, OnSome};
+ghost use Rattle.std.specs.Prelude.{◌≡◌, ◌+◌, ◌%◌, ◌^◌, ◌-◌, ◌<◌, ◌≤◌, OnSome};
 ghost use Rattle.guest_image.specs.Fetch.{text_loaded};
 ghost use Rattle.rv_core.specs.Memory.{load_bytes, store_bytes, is_within};
 ghost use Rattle.rv_core.specs.Legs.{moved, after_other_of, after_load_of, load_next, effect_next, next_at, given, IsLeg, IsInside};
 
 use crate::state::{Core, Plain, Stop};
-use guest_image::Image;
+use guest_image::{DATA_START, Image};
 use rv_table::{Effect, LoadWidth, Reg, StoreWidth, decode, effect, loaded};
 
-/// The address of the first byte of the data.
-const DATA_START: u32 = 0x1000_0000;
-
-/// How many bytes a load reads.
+/// How many bytes a load of this width reads: 1, 2 or 4.
 #[inline(always)]
-fn load_len(width: LoadWidth) -> u32
+pub fn bytes_of_load(width: LoadWidth) -> u8
     ensures { result ≡ load_bytes width }
 {
     match width {
@@ -24,9 +21,9 @@ fn load_len(width: LoadWidth) -> u32
     }
 }
 
-/// How many bytes a store writes.
+/// How many bytes a store of this width writes: 1, 2 or 4.
 #[inline(always)]
-fn store_len(width: StoreWidth) -> u32
+pub fn bytes_of_store(width: StoreWidth) -> u8
     ensures { result ≡ store_bytes width }
 {
     match width {
@@ -75,10 +72,11 @@ fn load(
 ) -> Option<Stop>
     requires room { core.old.used + 1 < 2 ^ 32 }
     requires aligned { addr % load_bytes width ≡ 0 }
-    ensures next { given core.new result ≡ load_next data_size core.old width rd addr (text_loaded image.now.text addr (load_bytes width)) }
+    ensures next { let raw = text_loaded image.now.text addr (load_bytes width) in
+        given core.new result ≡ load_next data_size core.old width rd addr raw }
     ensures stopped { OnSome result (core.new ≡ core.old) }
 {
-    let len = load_len(width);
+    let len = u32::from(bytes_of_load(width));
     match image.text_load(addr, len) {
         Some(raw) => {
             let next = core.pc.wrapping_add(4);
@@ -108,14 +106,14 @@ fn obey(image: &Image, data_size: u32, core: &mut Core, effect: Effect) -> Optio
             None
         }
         Effect::Load { width, rd, addr } => {
-            if addr % load_len(width) == 0 {
+            if addr % u32::from(bytes_of_load(width)) == 0 {
                 load(image, data_size, core, width, rd, addr)
             } else {
                 trap(core, 4)
             }
         }
         Effect::Store { width, addr, value } => {
-            let len = store_len(width);
+            let len = u32::from(bytes_of_store(width));
             if addr % len != 0 {
                 trap(core, 6)
             } else if is_in(DATA_START, data_size, addr, len) {
@@ -198,7 +196,7 @@ pub fn run_plain(image: &Image, from: &Core, quantum: u32, budget: u32) -> Plain
 
 /// The core after a load that read these bytes, the first the lowest in `raw`. It goes on to the next instruction.
 pub fn after_load(core: &Core, width: LoadWidth, rd: Reg, raw: u32) -> Core
-    requires { core.now.used < 4294967295 }
+    requires { core.now.used < 2 ^ 32 - 1 }
     ensures { result ≡ after_load_of core.now width rd raw }
 {
     let mut after = *core;
@@ -208,7 +206,7 @@ pub fn after_load(core: &Core, width: LoadWidth, rd: Reg, raw: u32) -> Core
 
 /// The core after an instruction that writes no register. It goes on to the next instruction.
 pub fn after_other(core: &Core) -> Core
-    requires { core.now.used < 4294967295 }
+    requires { core.now.used < 2 ^ 32 - 1 }
     ensures { result ≡ after_other_of core.now }
 {
     Core {

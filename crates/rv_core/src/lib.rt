@@ -9,6 +9,8 @@ mod state;
 #[cfg(test)]
 mod tests;
 
-pub use legs::{after_load, after_other, run_plain, run_plain_within};
+pub use legs::{
+    after_load, after_other, bytes_of_load, bytes_of_store, run_plain, run_plain_within,
+};
 pub use naming::{Leg, Naming, run_leg};
 pub use state::{Core, Plain, Stop};

@@ -1,7 +1,7 @@
 //! Legs that keep in their type which image and which budget they ran with.
 
 ghost use Rattle.std.specs.Prelude.{◌≡◌, ◌≤◌, ℕ, []};
-ghost use Rattle.guest_image.specs.ImageValue.{ImageValue};
+ghost use Rattle.guest_image.specs.ImageValue.{ImageValue, image_value};
 ghost use Rattle.guest_image.specs.declared.image.Kind.TheVariants.{Unordered};
 ghost use Rattle.rv_core.specs.Legs.{IsLeg};
 ghost use Rattle.rv_core.specs.LegValue.{IsRun};
@@ -26,7 +26,7 @@ pub trait Naming {
 
 /// At each call with `Brand` the caller's proof picks the image and the limits.
 impl Naming for Brand {
-    ghost image = { record { kind = Unordered; text = []; initial = []; data_size = 0; window_offset = 0; window_words = 0; tasks = [] } };
+    ghost image = { image_value Unordered [] [] 0 0 0 [] };
 
     ghost budget = { 0 };
 
@@ -51,7 +51,9 @@ impl<N: Naming> Model for Leg<N> {
 
     ghost view = { λ l. record { from = l.from; to = l.to; steps = l.steps; stop = l.stop } };
 
-    ghost invariant = { λ l. IsRun N.image.text N.image.data_size N.budget (record { from = l.from; to = l.to; steps = l.steps; stop = l.stop }) };
+    ghost invariant = { λ l.
+        IsRun N.image.text N.image.data_size N.budget
+        (record { from = l.from; to = l.to; steps = l.steps; stop = l.stop }) };
 }
 
 impl<N: Naming> Leg<N> {

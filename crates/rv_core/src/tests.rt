@@ -231,14 +231,24 @@ fn told(stop: Stop) -> (&'static str, u32) {
     }
 }
 
+/// Takes what may go to another thread.
+fn is_sent<T: Send>(_value: &T) {}
+
 /// A leg at a naming, as a core, a number of instructions and a stop.
-fn leg_of<N: Naming>(image: &Image, from: &Core, quantum: u32, budget: u32) -> (Core, u32, Stop)
+fn leg_of<N: Naming + Send>(
+    image: &Image,
+    from: &Core,
+    quantum: u32,
+    budget: u32,
+) -> (Core, u32, Stop)
     requires image { image.now ≡ N.image }
     requires budget { budget ≡ N.budget }
     requires quantum { (1 ≤ quantum) × (quantum ≤ 1024) }
     requires used { from.now.used ≤ budget }
 {
     let leg = run_leg::<N>(image, from, quantum, budget);
+    is_sent(&leg);
+    is_sent(leg.to());
     (*leg.to(), leg.steps(), leg.stop())
 }
 

@@ -47,7 +47,8 @@ s_immediate word = signed 12 (bits 31 25 word * 2 ^ 5 + bits 11 7 word)
 
 -- the B-immediate: an even number of 13 bits in four pieces, sign-extended
 abbrev pub b_immediate : ℕ → ℤ
-b_immediate word = signed 13 (bits 31 31 word * 2 ^ 12 + bits 7 7 word * 2 ^ 11 + bits 30 25 word * 2 ^ 5 + bits 11 8 word * 2)
+b_immediate word =
+    signed 13 (bits 31 31 word * 2 ^ 12 + bits 7 7 word * 2 ^ 11 + bits 30 25 word * 2 ^ 5 + bits 11 8 word * 2)
 
 -- the U-immediate: the upper 20 bits, with 12 zeros below
 abbrev pub u_immediate : ℕ → ℕ
@@ -55,4 +56,5 @@ u_immediate word = bits 31 12 word * 2 ^ 12
 
 -- the J-immediate: an even number of 21 bits in four pieces, sign-extended
 abbrev pub j_immediate : ℕ → ℤ
-j_immediate word = signed 21 (bits 31 31 word * 2 ^ 20 + bits 19 12 word * 2 ^ 12 + bits 20 20 word * 2 ^ 11 + bits 30 21 word * 2)
+j_immediate word =
+    signed 21 (bits 31 31 word * 2 ^ 20 + bits 19 12 word * 2 ^ 12 + bits 20 20 word * 2 ^ 11 + bits 30 21 word * 2)

@@ -1,7 +1,7 @@
 //! From a word to its instruction, by its opcode and then by its other fixed fields.
 
 ghost use Rattle.std.specs.Prelude.{◌≡◌, ◌<◌, pos};
-ghost use Rattle.rv_table.specs.Fields.{opcode, rd, funct3, rs1, rs2, funct7, shamt, i_immediate, s_immediate, b_immediate, u_immediate, j_immediate};
+ghost use Rattle.rv_table.specs.Fields as field;
 ghost use Rattle.rv_table.specs.Table.{decoded};
 
 use crate::instr::{Cond, ImmOp, Instr, LoadWidth, RegOp, StoreWidth};
@@ -21,72 +21,72 @@ fn register(number: u32) -> Reg
 
 /// The field rd.
 #[inline(always)]
-fn destination(word: u32) -> Reg
-    ensures { result ≡ rd word }
+fn rd(word: u32) -> Reg
+    ensures { result ≡ field.rd word }
 {
     register(word >> 7 & 31)
 }
 
 /// The field rs1.
 #[inline(always)]
-fn first_source(word: u32) -> Reg
-    ensures { result ≡ rs1 word }
+fn rs1(word: u32) -> Reg
+    ensures { result ≡ field.rs1 word }
 {
     register(word >> 15 & 31)
 }
 
 /// The field rs2.
 #[inline(always)]
-fn second_source(word: u32) -> Reg
-    ensures { result ≡ rs2 word }
+fn rs2(word: u32) -> Reg
+    ensures { result ≡ field.rs2 word }
 {
     register(word >> 20 & 31)
 }
 
 /// The field funct3.
 #[inline(always)]
-fn middle_field(word: u32) -> u32
-    ensures { result ≡ funct3 word }
+fn funct3(word: u32) -> u32
+    ensures { result ≡ field.funct3 word }
 {
     word >> 12 & 7
 }
 
 /// The field funct7.
 #[inline(always)]
-fn upper_field(word: u32) -> u32
-    ensures { result ≡ funct7 word }
+fn funct7(word: u32) -> u32
+    ensures { result ≡ field.funct7 word }
 {
     word >> 25
 }
 
 /// The I-immediate. The shift copies the sign.
 #[inline(always)]
-fn immediate(word: u32) -> i32
-    ensures { result ≡ i_immediate word }
+fn i_immediate(word: u32) -> i32
+    ensures { result ≡ field.i_immediate word }
 {
     word.cast_signed() >> 20
 }
 
 /// The field shamt.
 #[inline(always)]
-fn shift_amount(word: u32) -> i32
-    ensures { result ≡ pos (shamt word) }
+fn shamt(word: u32) -> i32
+    ensures { result ≡ pos (field.shamt word) }
 {
     (word >> 20 & 31) as i32
 }
 
 /// The S-immediate.
 #[inline(always)]
-fn store_offset(word: u32) -> i32
-    ensures { result ≡ s_immediate word }
+fn s_immediate(word: u32) -> i32
+    ensures { result ≡ field.s_immediate word }
 {
     (word.cast_signed() >> 25) * 32 + (word >> 7 & 31) as i32
 }
 
 /// The B-immediate.
 #[inline(always)]
-fn branch_offset(word: u32) -> i32
-    ensures { result ≡ b_immediate word }
+fn b_immediate(word: u32) -> i32
+    ensures { result ≡ field.b_immediate word }
 {
     let low = (word >> 7 & 1) * 2048 + (word >> 25 & 63) * 32 + (word >> 8 & 15) * 2;
     (word.cast_signed() >> 31) * 4096 + low as i32
@@ -94,8 +94,8 @@ fn branch_offset(word: u32) -> i32
 
 /// The J-immediate.
 #[inline(always)]
-fn jump_offset(word: u32) -> i32
-    ensures { result ≡ j_immediate word }
+fn j_immediate(word: u32) -> i32
+    ensures { result ≡ field.j_immediate word }
 {
     let low = (word >> 12 & 255) * 4096 + (word >> 20 & 1) * 2048 + (word >> 21 & 1023) * 2;
     (word.cast_signed() >> 31) * 0x10_0000 + low as i32
@@ -103,101 +103,101 @@ fn jump_offset(word: u32) -> i32
 
 /// The U-immediate.
 #[inline(always)]
-fn upper_immediate(word: u32) -> u32
-    ensures { result ≡ u_immediate word }
+fn u_immediate(word: u32) -> u32
+    ensures { result ≡ field.u_immediate word }
 {
     (word >> 12) << 12
 }
 
 #[inline(always)]
 fn jalr_of(word: u32) -> Instr
-    ensures { result ≡ Instr.Jalr (rd word) (rs1 word) (i_immediate word) }
+    ensures { result ≡ Instr.Jalr (field.rd word) (field.rs1 word) (field.i_immediate word) }
 {
     Instr::Jalr {
-        rd: destination(word),
-        rs1: first_source(word),
-        imm: immediate(word),
+        rd: rd(word),
+        rs1: rs1(word),
+        imm: i_immediate(word),
     }
 }
 
 #[inline(always)]
 fn branch_of(cond: Cond, word: u32) -> Instr
-    ensures { result ≡ Instr.Branch cond (rs1 word) (rs2 word) (b_immediate word) }
+    ensures { result ≡ Instr.Branch cond (field.rs1 word) (field.rs2 word) (field.b_immediate word) }
 {
     Instr::Branch {
         cond,
-        rs1: first_source(word),
-        rs2: second_source(word),
-        imm: branch_offset(word),
+        rs1: rs1(word),
+        rs2: rs2(word),
+        imm: b_immediate(word),
     }
 }
 
 #[inline(always)]
 fn load_of(width: LoadWidth, word: u32) -> Instr
-    ensures { result ≡ Instr.Load width (rd word) (rs1 word) (i_immediate word) }
+    ensures { result ≡ Instr.Load width (field.rd word) (field.rs1 word) (field.i_immediate word) }
 {
     Instr::Load {
         width,
-        rd: destination(word),
-        rs1: first_source(word),
-        imm: immediate(word),
+        rd: rd(word),
+        rs1: rs1(word),
+        imm: i_immediate(word),
     }
 }
 
 #[inline(always)]
 fn store_of(width: StoreWidth, word: u32) -> Instr
-    ensures { result ≡ Instr.Store width (rs1 word) (rs2 word) (s_immediate word) }
+    ensures { result ≡ Instr.Store width (field.rs1 word) (field.rs2 word) (field.s_immediate word) }
 {
     Instr::Store {
         width,
-        rs1: first_source(word),
-        rs2: second_source(word),
-        imm: store_offset(word),
+        rs1: rs1(word),
+        rs2: rs2(word),
+        imm: s_immediate(word),
     }
 }
 
 #[inline(always)]
 fn op_imm_of(op: ImmOp, word: u32) -> Instr
-    ensures { result ≡ Instr.OpImm op (rd word) (rs1 word) (i_immediate word) }
+    ensures { result ≡ Instr.OpImm op (field.rd word) (field.rs1 word) (field.i_immediate word) }
 {
     Instr::OpImm {
         op,
-        rd: destination(word),
-        rs1: first_source(word),
-        imm: immediate(word),
+        rd: rd(word),
+        rs1: rs1(word),
+        imm: i_immediate(word),
     }
 }
 
 #[inline(always)]
 fn shift_of(op: ImmOp, word: u32) -> Instr
-    ensures { result ≡ Instr.OpImm op (rd word) (rs1 word) (pos (shamt word)) }
+    ensures { result ≡ Instr.OpImm op (field.rd word) (field.rs1 word) (pos (field.shamt word)) }
 {
     Instr::OpImm {
         op,
-        rd: destination(word),
-        rs1: first_source(word),
-        imm: shift_amount(word),
+        rd: rd(word),
+        rs1: rs1(word),
+        imm: shamt(word),
     }
 }
 
 #[inline(always)]
 fn op_of(op: RegOp, word: u32) -> Instr
-    ensures { result ≡ Instr.Op op (rd word) (rs1 word) (rs2 word) }
+    ensures { result ≡ Instr.Op op (field.rd word) (field.rs1 word) (field.rs2 word) }
 {
     Instr::Op {
         op,
-        rd: destination(word),
-        rs1: first_source(word),
-        rs2: second_source(word),
+        rd: rd(word),
+        rs1: rs1(word),
+        rs2: rs2(word),
     }
 }
 
 #[inline(always)]
 fn decode_jalr(word: u32) -> Option<Instr>
-    requires { opcode word ≡ 0b1100111 }
+    requires { field.opcode word ≡ 0b1100111 }
     ensures { result ≡ decoded word }
 {
-    match middle_field(word) {
+    match funct3(word) {
         0b000 => Some(jalr_of(word)),
         _ => None,
     }
@@ -205,10 +205,10 @@ fn decode_jalr(word: u32) -> Option<Instr>
 
 #[inline(always)]
 fn decode_branch(word: u32) -> Option<Instr>
-    requires { opcode word ≡ 0b1100011 }
+    requires { field.opcode word ≡ 0b1100011 }
     ensures { result ≡ decoded word }
 {
-    match middle_field(word) {
+    match funct3(word) {
         0b000 => Some(branch_of(Cond::Eq, word)),
         0b001 => Some(branch_of(Cond::Ne, word)),
         0b100 => Some(branch_of(Cond::Lt, word)),
@@ -221,10 +221,10 @@ fn decode_branch(word: u32) -> Option<Instr>
 
 #[inline(always)]
 fn decode_load(word: u32) -> Option<Instr>
-    requires { opcode word ≡ 0b0000011 }
+    requires { field.opcode word ≡ 0b0000011 }
     ensures { result ≡ decoded word }
 {
-    match middle_field(word) {
+    match funct3(word) {
         0b000 => Some(load_of(LoadWidth::B, word)),
         0b001 => Some(load_of(LoadWidth::H, word)),
         0b010 => Some(load_of(LoadWidth::W, word)),
@@ -236,10 +236,10 @@ fn decode_load(word: u32) -> Option<Instr>
 
 #[inline(always)]
 fn decode_store(word: u32) -> Option<Instr>
-    requires { opcode word ≡ 0b0100011 }
+    requires { field.opcode word ≡ 0b0100011 }
     ensures { result ≡ decoded word }
 {
-    match middle_field(word) {
+    match funct3(word) {
         0b000 => Some(store_of(StoreWidth::B, word)),
         0b001 => Some(store_of(StoreWidth::H, word)),
         0b010 => Some(store_of(StoreWidth::W, word)),
@@ -249,29 +249,29 @@ fn decode_store(word: u32) -> Option<Instr>
 
 #[inline(always)]
 fn decode_op_imm(word: u32) -> Option<Instr>
-    requires { opcode word ≡ 0b0010011 }
+    requires { field.opcode word ≡ 0b0010011 }
     ensures { result ≡ decoded word }
 {
-    match middle_field(word) {
+    match funct3(word) {
         0b000 => Some(op_imm_of(ImmOp::Add, word)),
         0b010 => Some(op_imm_of(ImmOp::Slt, word)),
         0b011 => Some(op_imm_of(ImmOp::Sltu, word)),
         0b100 => Some(op_imm_of(ImmOp::Xor, word)),
         0b110 => Some(op_imm_of(ImmOp::Or, word)),
         0b111 => Some(op_imm_of(ImmOp::And, word)),
-        0b001 if upper_field(word) == 0b000_0000 => Some(shift_of(ImmOp::Sll, word)),
-        0b101 if upper_field(word) == 0b000_0000 => Some(shift_of(ImmOp::Srl, word)),
-        0b101 if upper_field(word) == 0b010_0000 => Some(shift_of(ImmOp::Sra, word)),
+        0b001 if funct7(word) == 0b000_0000 => Some(shift_of(ImmOp::Sll, word)),
+        0b101 if funct7(word) == 0b000_0000 => Some(shift_of(ImmOp::Srl, word)),
+        0b101 if funct7(word) == 0b010_0000 => Some(shift_of(ImmOp::Sra, word)),
         _ => None,
     }
 }
 
 #[inline(always)]
 fn decode_op(word: u32) -> Option<Instr>
-    requires { opcode word ≡ 0b0110011 }
+    requires { field.opcode word ≡ 0b0110011 }
     ensures { result ≡ decoded word }
 {
-    match (middle_field(word), upper_field(word)) {
+    match (funct3(word), funct7(word)) {
         (0b000, 0b000_0000) => Some(op_of(RegOp::Add, word)),
         (0b000, 0b010_0000) => Some(op_of(RegOp::Sub, word)),
         (0b001, 0b000_0000) => Some(op_of(RegOp::Sll, word)),
@@ -288,10 +288,10 @@ fn decode_op(word: u32) -> Option<Instr>
 
 #[inline(always)]
 fn decode_fence(word: u32) -> Option<Instr>
-    requires { opcode word ≡ 0b0001111 }
+    requires { field.opcode word ≡ 0b0001111 }
     ensures { result ≡ decoded word }
 {
-    match middle_field(word) {
+    match funct3(word) {
         0b000 => Some(Instr::Fence),
         _ => None,
     }
@@ -299,7 +299,7 @@ fn decode_fence(word: u32) -> Option<Instr>
 
 #[inline(always)]
 fn decode_system(word: u32) -> Option<Instr>
-    requires { opcode word ≡ 0b1110011 }
+    requires { field.opcode word ≡ 0b1110011 }
     ensures { result ≡ decoded word }
 {
     match word {
@@ -316,16 +316,16 @@ pub fn decode(word: u32) -> Option<Instr>
 {
     match word & 0x7f {
         0b011_0111 => Some(Instr::Lui {
-            rd: destination(word),
-            imm: upper_immediate(word),
+            rd: rd(word),
+            imm: u_immediate(word),
         }),
         0b001_0111 => Some(Instr::Auipc {
-            rd: destination(word),
-            imm: upper_immediate(word),
+            rd: rd(word),
+            imm: u_immediate(word),
         }),
         0b110_1111 => Some(Instr::Jal {
-            rd: destination(word),
-            imm: jump_offset(word),
+            rd: rd(word),
+            imm: j_immediate(word),
         }),
         0b110_0111 => decode_jalr(word),
         0b110_0011 => decode_branch(word),

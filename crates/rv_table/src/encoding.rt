@@ -1,7 +1,7 @@
 //! From an instruction to its word.
 
 ghost use Rattle.std.specs.Prelude.{◌≡◌, ◌<◌, ◌^◌, ◌%◌, pos, Some, IsTrue};
-ghost use Rattle.rv_table.specs.Fields.{opcode, rd, funct3, rs1, rs2, funct7, shamt, i_immediate, s_immediate, b_immediate, u_immediate, j_immediate};
+ghost use Rattle.rv_table.specs.Fields as field;
 ghost use Rattle.rv_table.specs.Table.{decoded};
 ghost use Rattle.rv_table.specs.Valid.{valid, is_branch_offset, is_even as even, is_jump_offset, is_operand as operand, is_twelve_bits as twelve_bits};
 
@@ -45,113 +45,115 @@ fn is_operand(op: ImmOp, imm: i32) -> bool
 }
 
 /// The word with these six fields, from the right to the left.
-fn word_of(kind: u32, low: u32, middle: u32, first: u32, second: u32, upper: u32) -> u32
-    requires small { (kind < 2 ^ 7) × (low < 2 ^ 5) × (middle < 2 ^ 3) × (first < 2 ^ 5) × (second < 2 ^ 5) × (upper < 2 ^ 7) }
-    ensures opcode { opcode result ≡ kind }
-    ensures rd { rd result ≡ low }
-    ensures funct3 { funct3 result ≡ middle }
-    ensures rs1 { rs1 result ≡ first }
-    ensures rs2 { rs2 result ≡ second }
-    ensures funct7 { funct7 result ≡ upper }
+fn word_of(opcode: u32, rd: u32, funct3: u32, rs1: u32, rs2: u32, funct7: u32) -> u32
+    requires functions { (opcode < 2 ^ 7) × (funct3 < 2 ^ 3) × (funct7 < 2 ^ 7) }
+    requires registers { (rd < 2 ^ 5) × (rs1 < 2 ^ 5) × (rs2 < 2 ^ 5) }
+    ensures opcode { field.opcode result ≡ opcode }
+    ensures rd { field.rd result ≡ rd }
+    ensures funct3 { field.funct3 result ≡ funct3 }
+    ensures rs1 { field.rs1 result ≡ rs1 }
+    ensures rs2 { field.rs2 result ≡ rs2 }
+    ensures funct7 { field.funct7 result ≡ funct7 }
 {
-    kind | low << 7 | middle << 12 | first << 15 | second << 20 | upper << 25
+    opcode | rd << 7 | funct3 << 12 | rs1 << 15 | rs2 << 20 | funct7 << 25
 }
 
 /// An R-type word of an operation on two registers.
-fn r_type(upper: u32, middle: u32, to: Reg, first: Reg, second: Reg) -> u32
-    requires { (upper < 2 ^ 7) × (middle < 2 ^ 3) }
-    ensures fixed { (funct7 result ≡ upper) × (funct3 result ≡ middle) × (opcode result ≡ 0b0110011) }
-    ensures registers { (rd result ≡ to) × (rs1 result ≡ first) × (rs2 result ≡ second) }
+fn r_type(funct7: u32, funct3: u32, rd: Reg, rs1: Reg, rs2: Reg) -> u32
+    requires { (funct7 < 2 ^ 7) × (funct3 < 2 ^ 3) }
+    ensures functions { (field.funct7 result ≡ funct7) × (field.funct3 result ≡ funct3) }
+    ensures opcode { field.opcode result ≡ 0b0110011 }
+    ensures registers { (field.rd result ≡ rd) × (field.rs1 result ≡ rs1) × (field.rs2 result ≡ rs2) }
 {
     word_of(
         0b011_0011,
-        u32::from(to.number()),
-        middle,
-        u32::from(first.number()),
-        u32::from(second.number()),
-        upper,
+        u32::from(rd.number()),
+        funct3,
+        u32::from(rs1.number()),
+        u32::from(rs2.number()),
+        funct7,
     )
 }
 
 /// An I-type word.
-fn i_type(middle: u32, kind: u32, to: Reg, first: Reg, imm: i32) -> u32
-    requires fixed { (middle < 2 ^ 3) × (kind < 2 ^ 7) }
+fn i_type(funct3: u32, opcode: u32, rd: Reg, rs1: Reg, imm: i32) -> u32
+    requires fixed { (funct3 < 2 ^ 3) × (opcode < 2 ^ 7) }
     requires imm { IsTrue (twelve_bits imm) }
-    ensures fixed { (funct3 result ≡ middle) × (opcode result ≡ kind) }
-    ensures registers { (rd result ≡ to) × (rs1 result ≡ first) }
-    ensures imm { i_immediate result ≡ imm }
+    ensures fixed { (field.funct3 result ≡ funct3) × (field.opcode result ≡ opcode) }
+    ensures registers { (field.rd result ≡ rd) × (field.rs1 result ≡ rs1) }
+    ensures imm { field.i_immediate result ≡ imm }
 {
     let bits = imm.cast_unsigned() % 4096;
     word_of(
-        kind,
-        u32::from(to.number()),
-        middle,
-        u32::from(first.number()),
+        opcode,
+        u32::from(rd.number()),
+        funct3,
+        u32::from(rs1.number()),
         bits % 32,
         bits / 32,
     )
 }
 
 /// An S-type word: a store.
-fn s_type(middle: u32, first: Reg, second: Reg, imm: i32) -> u32
-    requires fixed { middle < 2 ^ 3 }
+fn s_type(funct3: u32, rs1: Reg, rs2: Reg, imm: i32) -> u32
+    requires fixed { funct3 < 2 ^ 3 }
     requires imm { IsTrue (twelve_bits imm) }
-    ensures fixed { (funct3 result ≡ middle) × (opcode result ≡ 0b0100011) }
-    ensures registers { (rs1 result ≡ first) × (rs2 result ≡ second) }
-    ensures imm { s_immediate result ≡ imm }
+    ensures fixed { (field.funct3 result ≡ funct3) × (field.opcode result ≡ 0b0100011) }
+    ensures registers { (field.rs1 result ≡ rs1) × (field.rs2 result ≡ rs2) }
+    ensures imm { field.s_immediate result ≡ imm }
 {
     let bits = imm.cast_unsigned() % 4096;
     word_of(
         0b010_0011,
         bits % 32,
-        middle,
-        u32::from(first.number()),
-        u32::from(second.number()),
+        funct3,
+        u32::from(rs1.number()),
+        u32::from(rs2.number()),
         bits / 32,
     )
 }
 
 /// A B-type word: a branch.
-fn b_type(middle: u32, first: Reg, second: Reg, imm: i32) -> u32
-    requires fixed { middle < 2 ^ 3 }
+fn b_type(funct3: u32, rs1: Reg, rs2: Reg, imm: i32) -> u32
+    requires fixed { funct3 < 2 ^ 3 }
     requires imm { IsTrue (is_branch_offset imm) }
-    ensures fixed { (funct3 result ≡ middle) × (opcode result ≡ 0b1100011) }
-    ensures registers { (rs1 result ≡ first) × (rs2 result ≡ second) }
-    ensures imm { b_immediate result ≡ imm }
+    ensures fixed { (field.funct3 result ≡ funct3) × (field.opcode result ≡ 0b1100011) }
+    ensures registers { (field.rs1 result ≡ rs1) × (field.rs2 result ≡ rs2) }
+    ensures imm { field.b_immediate result ≡ imm }
 {
     let bits = imm.cast_unsigned() % 8192;
     word_of(
         0b110_0011,
         bits / 2 % 16 * 2 + bits / 2048 % 2,
-        middle,
-        u32::from(first.number()),
-        u32::from(second.number()),
+        funct3,
+        u32::from(rs1.number()),
+        u32::from(rs2.number()),
         bits / 4096 * 64 + bits / 32 % 64,
     )
 }
 
 /// A U-type word.
-fn u_type(kind: u32, to: Reg, imm: u32) -> u32
-    requires fixed { kind < 2 ^ 7 }
+fn u_type(opcode: u32, rd: Reg, imm: u32) -> u32
+    requires fixed { opcode < 2 ^ 7 }
     requires imm { imm % 2 ^ 12 ≡ 0 }
-    ensures fixed { opcode result ≡ kind }
-    ensures registers { rd result ≡ to }
-    ensures imm { u_immediate result ≡ imm }
+    ensures fixed { field.opcode result ≡ opcode }
+    ensures registers { field.rd result ≡ rd }
+    ensures imm { field.u_immediate result ≡ imm }
 {
-    imm + u32::from(to.number()) * 128 + kind
+    imm + u32::from(rd.number()) * 128 + opcode
 }
 
 /// A J-type word: JAL.
-fn j_type(to: Reg, imm: i32) -> u32
+fn j_type(rd: Reg, imm: i32) -> u32
     requires { IsTrue (is_jump_offset imm) }
-    ensures fixed { opcode result ≡ 0b1101111 }
-    ensures registers { rd result ≡ to }
-    ensures imm { j_immediate result ≡ imm }
+    ensures fixed { field.opcode result ≡ 0b1101111 }
+    ensures registers { field.rd result ≡ rd }
+    ensures imm { field.j_immediate result ≡ imm }
 {
     let bits = imm.cast_unsigned() % 0x20_0000;
     word_of(
         0b110_1111,
-        u32::from(to.number()),
+        u32::from(rd.number()),
         bits / 0x1000 % 8,
         bits / 0x8000 % 32,
         bits / 2 % 16 * 2 + bits / 0x800 % 2,
@@ -159,93 +161,94 @@ fn j_type(to: Reg, imm: i32) -> u32
     )
 }
 
-fn encode_branch(cond: Cond, first: Reg, second: Reg, imm: i32) -> u32
+fn encode_branch(cond: Cond, rs1: Reg, rs2: Reg, imm: i32) -> u32
     requires { IsTrue (is_branch_offset imm) }
-    ensures { decoded result ≡ Some (Instr.Branch cond first second imm) }
+    ensures { decoded result ≡ Some (Instr.Branch cond rs1 rs2 imm) }
 {
     match cond {
-        Cond::Eq => b_type(0b000, first, second, imm),
-        Cond::Ne => b_type(0b001, first, second, imm),
-        Cond::Lt => b_type(0b100, first, second, imm),
-        Cond::Ge => b_type(0b101, first, second, imm),
-        Cond::Ltu => b_type(0b110, first, second, imm),
-        Cond::Geu => b_type(0b111, first, second, imm),
+        Cond::Eq => b_type(0b000, rs1, rs2, imm),
+        Cond::Ne => b_type(0b001, rs1, rs2, imm),
+        Cond::Lt => b_type(0b100, rs1, rs2, imm),
+        Cond::Ge => b_type(0b101, rs1, rs2, imm),
+        Cond::Ltu => b_type(0b110, rs1, rs2, imm),
+        Cond::Geu => b_type(0b111, rs1, rs2, imm),
     }
 }
 
-fn encode_load(width: LoadWidth, to: Reg, first: Reg, imm: i32) -> u32
+fn encode_load(width: LoadWidth, rd: Reg, rs1: Reg, imm: i32) -> u32
     requires { IsTrue (twelve_bits imm) }
-    ensures { decoded result ≡ Some (Instr.Load width to first imm) }
+    ensures { decoded result ≡ Some (Instr.Load width rd rs1 imm) }
 {
     match width {
-        LoadWidth::B => i_type(0b000, 0b000_0011, to, first, imm),
-        LoadWidth::H => i_type(0b001, 0b000_0011, to, first, imm),
-        LoadWidth::W => i_type(0b010, 0b000_0011, to, first, imm),
-        LoadWidth::Bu => i_type(0b100, 0b000_0011, to, first, imm),
-        LoadWidth::Hu => i_type(0b101, 0b000_0011, to, first, imm),
+        LoadWidth::B => i_type(0b000, 0b000_0011, rd, rs1, imm),
+        LoadWidth::H => i_type(0b001, 0b000_0011, rd, rs1, imm),
+        LoadWidth::W => i_type(0b010, 0b000_0011, rd, rs1, imm),
+        LoadWidth::Bu => i_type(0b100, 0b000_0011, rd, rs1, imm),
+        LoadWidth::Hu => i_type(0b101, 0b000_0011, rd, rs1, imm),
     }
 }
 
-fn encode_store(width: StoreWidth, first: Reg, second: Reg, imm: i32) -> u32
+fn encode_store(width: StoreWidth, rs1: Reg, rs2: Reg, imm: i32) -> u32
     requires { IsTrue (twelve_bits imm) }
-    ensures { decoded result ≡ Some (Instr.Store width first second imm) }
+    ensures { decoded result ≡ Some (Instr.Store width rs1 rs2 imm) }
 {
     match width {
-        StoreWidth::B => s_type(0b000, first, second, imm),
-        StoreWidth::H => s_type(0b001, first, second, imm),
-        StoreWidth::W => s_type(0b010, first, second, imm),
+        StoreWidth::B => s_type(0b000, rs1, rs2, imm),
+        StoreWidth::H => s_type(0b001, rs1, rs2, imm),
+        StoreWidth::W => s_type(0b010, rs1, rs2, imm),
     }
 }
 
 /// The word of a shift by a constant.
-fn shift(upper: u32, middle: u32, to: Reg, first: Reg, amount: i32) -> u32
-    requires fixed { (upper < 2 ^ 7) × (middle < 2 ^ 3) }
-    requires amount { IsTrue (operand ImmOp.Sll amount) }
-    ensures fixed { (funct7 result ≡ upper) × (funct3 result ≡ middle) × (opcode result ≡ 0b0010011) }
-    ensures registers { (rd result ≡ to) × (rs1 result ≡ first) }
-    ensures amount { pos (shamt result) ≡ amount }
+fn shift(funct7: u32, funct3: u32, rd: Reg, rs1: Reg, shamt: i32) -> u32
+    requires fixed { (funct7 < 2 ^ 7) × (funct3 < 2 ^ 3) }
+    requires shamt { IsTrue (operand ImmOp.Sll shamt) }
+    ensures functions { (field.funct7 result ≡ funct7) × (field.funct3 result ≡ funct3) }
+    ensures opcode { field.opcode result ≡ 0b0010011 }
+    ensures registers { (field.rd result ≡ rd) × (field.rs1 result ≡ rs1) }
+    ensures shamt { pos (field.shamt result) ≡ shamt }
 {
     word_of(
         0b001_0011,
-        u32::from(to.number()),
-        middle,
-        u32::from(first.number()),
-        amount as u32,
-        upper,
+        u32::from(rd.number()),
+        funct3,
+        u32::from(rs1.number()),
+        shamt as u32,
+        funct7,
     )
 }
 
-fn encode_op_imm(op: ImmOp, to: Reg, first: Reg, imm: i32) -> u32
+fn encode_op_imm(op: ImmOp, rd: Reg, rs1: Reg, imm: i32) -> u32
     requires { IsTrue (operand op imm) }
-    ensures { decoded result ≡ Some (Instr.OpImm op to first imm) }
+    ensures { decoded result ≡ Some (Instr.OpImm op rd rs1 imm) }
 {
     match op {
-        ImmOp::Add => i_type(0b000, 0b001_0011, to, first, imm),
-        ImmOp::Slt => i_type(0b010, 0b001_0011, to, first, imm),
-        ImmOp::Sltu => i_type(0b011, 0b001_0011, to, first, imm),
-        ImmOp::Xor => i_type(0b100, 0b001_0011, to, first, imm),
-        ImmOp::Or => i_type(0b110, 0b001_0011, to, first, imm),
-        ImmOp::And => i_type(0b111, 0b001_0011, to, first, imm),
-        ImmOp::Sll => shift(0b000_0000, 0b001, to, first, imm),
-        ImmOp::Srl => shift(0b000_0000, 0b101, to, first, imm),
-        ImmOp::Sra => shift(0b010_0000, 0b101, to, first, imm),
+        ImmOp::Add => i_type(0b000, 0b001_0011, rd, rs1, imm),
+        ImmOp::Slt => i_type(0b010, 0b001_0011, rd, rs1, imm),
+        ImmOp::Sltu => i_type(0b011, 0b001_0011, rd, rs1, imm),
+        ImmOp::Xor => i_type(0b100, 0b001_0011, rd, rs1, imm),
+        ImmOp::Or => i_type(0b110, 0b001_0011, rd, rs1, imm),
+        ImmOp::And => i_type(0b111, 0b001_0011, rd, rs1, imm),
+        ImmOp::Sll => shift(0b000_0000, 0b001, rd, rs1, imm),
+        ImmOp::Srl => shift(0b000_0000, 0b101, rd, rs1, imm),
+        ImmOp::Sra => shift(0b010_0000, 0b101, rd, rs1, imm),
     }
 }
 
-fn encode_op(op: RegOp, to: Reg, first: Reg, second: Reg) -> u32
-    ensures { decoded result ≡ Some (Instr.Op op to first second) }
+fn encode_op(op: RegOp, rd: Reg, rs1: Reg, rs2: Reg) -> u32
+    ensures { decoded result ≡ Some (Instr.Op op rd rs1 rs2) }
 {
     match op {
-        RegOp::Add => r_type(0b000_0000, 0b000, to, first, second),
-        RegOp::Sub => r_type(0b010_0000, 0b000, to, first, second),
-        RegOp::Sll => r_type(0b000_0000, 0b001, to, first, second),
-        RegOp::Slt => r_type(0b000_0000, 0b010, to, first, second),
-        RegOp::Sltu => r_type(0b000_0000, 0b011, to, first, second),
-        RegOp::Xor => r_type(0b000_0000, 0b100, to, first, second),
-        RegOp::Srl => r_type(0b000_0000, 0b101, to, first, second),
-        RegOp::Sra => r_type(0b010_0000, 0b101, to, first, second),
-        RegOp::Or => r_type(0b000_0000, 0b110, to, first, second),
-        RegOp::And => r_type(0b000_0000, 0b111, to, first, second),
+        RegOp::Add => r_type(0b000_0000, 0b000, rd, rs1, rs2),
+        RegOp::Sub => r_type(0b010_0000, 0b000, rd, rs1, rs2),
+        RegOp::Sll => r_type(0b000_0000, 0b001, rd, rs1, rs2),
+        RegOp::Slt => r_type(0b000_0000, 0b010, rd, rs1, rs2),
+        RegOp::Sltu => r_type(0b000_0000, 0b011, rd, rs1, rs2),
+        RegOp::Xor => r_type(0b000_0000, 0b100, rd, rs1, rs2),
+        RegOp::Srl => r_type(0b000_0000, 0b101, rd, rs1, rs2),
+        RegOp::Sra => r_type(0b010_0000, 0b101, rd, rs1, rs2),
+        RegOp::Or => r_type(0b000_0000, 0b110, rd, rs1, rs2),
+        RegOp::And => r_type(0b000_0000, 0b111, rd, rs1, rs2),
     }
 }
 

@@ -7,15 +7,21 @@ use Rattle.rv_core.specs.declared.state.Core.{Core}
 use Rattle.rv_core.specs.declared.state.Stop.{Stop}
 use Rattle.rv_core.specs.declared.state.Stop.TheVariants as stop
 use Rattle.rv_core.specs.Next.{Stops}
-use Rattle.rv_core.specs.Legs.{next_at, PlainStep, PlainSteps, IsLeg}
+use Rattle.rv_core.specs.Legs.{next_at, PlainStep, PlainSteps, IsLeg, IsInside}
 use Rattle.rv_core.proofs.Runs.{PlainStep-within, PlainStep-counted}
 use Rattle.task_desc.specs.declared.desc.Ctx.{Ctx}
 use Rattle.serial_machine.specs.declared.progress.Flow.{Flow}
 use Rattle.serial_machine.specs.declared.progress.Flow.TheVariants as flow
 use Rattle.serial_machine.specs.declared.running.RunEnd.TheVariants as ends
 use Rattle.serial_machine.specs.TaskState.{TaskState}
-use Rattle.serial_machine.specs.TaskRun.{steps, followed, stopped, TaskEnd, Stepped, Continues, Ends, Traps}
-use Rattle.serial_machine.specs.Legs.{LegLeads, Counts, CountsOne, CanCount, Leads, Finishes}
+use Rattle.task_step.specs.declared.request.Request.{Request}
+use Rattle.task_step.specs.declared.request.Request.TheVariants as request
+use Rattle.task_step.specs.Conditions.{IsInData, HasRoom}
+use Rattle.task_step.specs.Requests.{request_at}
+use Rattle.task_step.proofs.Asked.{call_at-is}
+use Rattle.task_step.proofs.Stepping.{HasUsed, HasSize, after_request-size, after_stop-used}
+use Rattle.serial_machine.specs.TaskRun.{context, steps, followed, after_stop, TaskEnd, Stepped, Continues, Ends, Traps}
+use Rattle.serial_machine.specs.Legs.{LegLeads, CanCount, StopCanCount, CanPerform, Leads, Finishes}
 
 -- where the budget is used up, trap 17 stands
 pub spent_traps : (text : List ℕ) (size budget : ℕ) (core : Core) (s : Stop) → next_at text size budget core ≡ Stops s → budget ≤ core.used → s ≡ stop.Trap 17 core.pc
@@ -38,23 +44,62 @@ followed-Trapped rest (Continues t) cause pc new h = absurd h
 followed-Trapped rest (Ends t) cause pc new h = absurd h
 followed-Trapped rest (Traps c p) cause pc new h = h
 
--- a step that goes on is no quantum's end, and counts one
-pub Counts-Continues : (s : Stop) (old new : TaskState) → s ≢ stop.Quantum → Counts s flow.Continues old new → CountsOne flow.Continues old new
-Counts-Continues stop.Quantum old new ne h = absurd (ne refl)
-Counts-Continues stop.Call old new ne h = h
-Counts-Continues (stop.Load width rd addr) old new ne h = h
-Counts-Continues (stop.Store width addr value) old new ne h = h
-Counts-Continues (stop.Trap cause pc) old new ne h = h
+-- a step that goes on, to a task that has used so many instructions
+Leads-used : (used : ℕ) (x : Stepped) (new : TaskState) → Leads x flow.Continues new → HasUsed used x → new.core.used ≡ used
+Leads-used used (Continues t) new leads has = ap (λ t. t.core.used) leads ∙ has
+Leads-used used (Ends t) new leads has = absurd leads
+Leads-used used (Traps cause pc) new leads has = absurd leads
+
+-- a step that goes on, to a task with a memory of this size
+Leads-size : (size : ℕ) (x : Stepped) (new : TaskState) → Leads x flow.Continues new → HasSize size x → length new.memory ≡ size
+Leads-size size (Continues t) new leads has = ap (λ t. length t.memory) leads ∙ has
+Leads-size size (Ends t) new leads has = absurd leads
+Leads-size size (Traps cause pc) new leads has = absurd leads
 
 -- what stands next, if it is no trap, stands within the budget, so it can be counted
-pub can_count : (text : List ℕ) (size budget : ℕ) (core : Core) (s : Stop) → next_at text size budget core ≡ Stops s → budget < 2 ^ 32 → CanCount core.used s
-can_count text size budget core s h fits = elim (cases_lt core.used budget) [ inl lt ↦ within s lt | inr ge ↦ (let P : Stop → Type 0 = CanCount core.used in subst P (sym (spent_traps text size budget core s h ge)) tt) ] where
-  within : (s : Stop) → core.used < budget → CanCount core.used s
+pub can_count : (text : List ℕ) (size budget : ℕ) (core : Core) (s : Stop) → next_at text size budget core ≡ Stops s → budget < 2 ^ 32 → StopCanCount core.used s
+can_count text size budget core s h fits = elim (cases_lt core.used budget) [ inl lt ↦ within s lt | inr ge ↦ (let P : Stop → Type 0 = StopCanCount core.used in subst P (sym (spent_traps text size budget core s h ge)) tt) ] where
+  within : (s : Stop) → core.used < budget → StopCanCount core.used s
   within stop.Quantum lt = tt
   within (stop.Trap cause pc) lt = tt
   within stop.Call lt = omega arith
   within (stop.Load width rd addr) lt = omega arith
   within (stop.Store width addr value) lt = omega arith
+
+-- a request that is executed can be counted
+abbrev RequestCanCount : ℕ → Request → Type 0
+RequestCanCount used request.Continue = Unit {0}
+RequestCanCount used (request.Trap cause) = Unit {0}
+RequestCanCount used other = CanCount used
+
+-- so can what a task asks for at its stop
+request-can_count : (ctx : Ctx) (core : Core) (s : Stop) → StopCanCount core.used s → RequestCanCount core.used (request_at ctx core s)
+request-can_count ctx core (stop.Load width rd addr) can = can
+request-can_count ctx core (stop.Store width addr value) can = can
+request-can_count ctx core stop.Call can =
+    call_at-is (RequestCanCount core.used) ctx core can (λ place ts is. can) (λ kind is. can) (λ is. can) (λ cause. tt)
+request-can_count ctx core (stop.Trap cause pc) can = tt
+request-can_count ctx core stop.Quantum can = tt
+
+-- the code can do what can be counted, lies in the memory and has room
+can_do : (ctx : Ctx) (task : TaskState) (asked : Request) → RequestCanCount task.core.used asked → IsInData (length task.memory) asked
+    → HasRoom (context ctx task) asked → CanPerform task asked
+can_do ctx task request.Continue count lies room = tt
+can_do ctx task (request.Load width rd offset) count lies room = (count, lies)
+can_do ctx task (request.Store offset bytes value) count lies room = (count, lies)
+can_do ctx task (request.Enqueue child) count lies room = (count, room)
+can_do ctx task (request.MakeSub kind) count lies room = count
+can_do ctx task (request.Emit byte) count lies room = (count, room)
+can_do ctx task request.End count lies room = count
+can_do ctx task (request.Trap cause) count lies room = tt
+
+-- it can do what a task asks for at its stop
+pub can_perform : (ctx : Ctx) (task : TaskState) (s : Stop) (asked : Request) → asked ≡ request_at (context ctx task) task.core s
+    → StopCanCount task.core.used s → IsInside (length task.memory) s → ((size : ℕ) → IsInside size s → IsInData size asked)
+    → HasRoom (context ctx task) asked → CanPerform task asked
+can_perform ctx task s asked is count inside lies room =
+    let P : Request → Type 0 = RequestCanCount task.core.used in
+    can_do ctx task asked (subst P (sym is) (request-can_count (context ctx task) task.core s count)) (lies (length task.memory) inside) room
 
 module _ (image : ImageValue) (budget : ℕ) (ctx : Ctx) where
   pub steps-plain_step : (t : TaskState) (to : Core) → PlainStep image.text (length t.memory) budget t.core to
@@ -72,77 +117,79 @@ module _ (image : ImageValue) (budget : ℕ) (ctx : Ctx) where
 
   -- what stands at the end of a leg is followed, also where the budget is used up
   pub steps-stop : (t : TaskState) (s : Stop) → next_at image.text (length t.memory) budget t.core ≡ Stops s → t.core.used ≤ budget
-      → steps image budget ctx (budget - t.core.used) t ≡ followed (steps image budget ctx (budget - (t.core.used + 1))) (stopped ctx t s)
+      → steps image budget ctx (budget - t.core.used) t ≡ followed (steps image budget ctx (budget - (t.core.used + 1))) (after_stop ctx t s)
   steps-stop t s h le = elim (cases_lt t.core.used budget) [ inl lt ↦ within lt | inr ge ↦ spent ge ] where
-    within : t.core.used < budget → steps image budget ctx (budget - t.core.used) t ≡ followed (steps image budget ctx (budget - (t.core.used + 1))) (stopped ctx t s)
+    within : t.core.used < budget → steps image budget ctx (budget - t.core.used) t ≡ followed (steps image budget ctx (budget - (t.core.used + 1))) (after_stop ctx t s)
     within lt = let e : budget - t.core.used ≡ suc (budget - (t.core.used + 1)) = omega arith in rw (e, h) refl
 
-    spent : budget ≤ t.core.used → steps image budget ctx (budget - t.core.used) t ≡ followed (steps image budget ctx (budget - (t.core.used + 1))) (stopped ctx t s)
+    spent : budget ≤ t.core.used → steps image budget ctx (budget - t.core.used) t ≡ followed (steps image budget ctx (budget - (t.core.used + 1))) (after_stop ctx t s)
     spent ge =
         let e : budget - t.core.used ≡ zero = omega arith in
         let k : s ≡ stop.Trap 17 t.core.pc = spent_traps image.text (length t.memory) budget t.core s h ge in
         rw (e, k) refl
 
   -- where a stop is followed and goes on, the budget isn't used up
-  pub budget_left : (t : TaskState) (s : Stop) (new : TaskState) → next_at image.text (length t.memory) budget t.core ≡ Stops s → Leads (stopped ctx t s) flow.Continues new → t.core.used < budget
+  pub budget_left : (t : TaskState) (s : Stop) (new : TaskState) → next_at image.text (length t.memory) budget t.core ≡ Stops s → Leads (after_stop ctx t s) flow.Continues new → t.core.used < budget
   budget_left t s new h leads = elim (cases_lt t.core.used budget) [ inl lt ↦ lt | inr ge ↦ absurd (spent ge) ] where
     spent : budget ≤ t.core.used → ⊥
-    spent ge = let P : Stop → Type 0 = λ x. Leads (stopped ctx t x) flow.Continues new in subst P (spent_traps image.text (length t.memory) budget t.core s h ge) leads
+    spent ge = let P : Stop → Type 0 = λ x. Leads (after_stop ctx t x) flow.Continues new in subst P (spent_traps image.text (length t.memory) budget t.core s h ge) leads
 
   -- a leg that stopped before its quantum's end
   pub leg-stopped : (old : TaskState) (to : Core) (n : ℕ) (s : Stop) (f : Flow) (new : TaskState)
       → PlainSteps image.text (length old.memory) budget n old.core to → to.used ≡ old.core.used + n → to.used ≤ budget
       → next_at image.text (length old.memory) budget to ≡ Stops s → s ≢ stop.Quantum
-      → Leads (stopped ctx (record old { core = to }) s) f new → Counts s f (record old { core = to }) new
-      → LegLeads image budget ctx old f new
-  leg-stopped old to n s flow.Continues new run used within next other leads counts =
+      → Leads (after_stop ctx (record old { core = to }) s) f new → LegLeads image budget ctx old f new
+  leg-stopped old to n s flow.Continues new run used within next other leads =
       let mid : TaskState = record old { core = to } in
-      let one = Counts-Continues s mid new other counts in
+      let one = Leads-used (to.used + 1) (after_stop ctx mid s) new leads (after_stop-used ctx mid s other) in
       record {
-        same = ap (λ k. steps image budget ctx (budget - k) new) one.0 ∙ sym (steps-plain_steps n old to run ∙ steps-stop mid s next within ∙ followed-Continues _ _ new leads);
+        same = ap (λ k. steps image budget ctx (budget - k) new) one ∙ sym (steps-plain_steps n old to run ∙ steps-stop mid s next within ∙ followed-Continues _ _ new leads);
         used = omega arith;
         within = let lt = budget_left mid s new next leads in omega (arith, lt);
-        memory = one.1;
+        memory = Leads-size (length old.memory) (after_stop ctx mid s) new leads (after_request-size mid (request_at (context ctx mid) to s));
       }
-  leg-stopped old to n s flow.Ended new run used within next other leads counts =
+  leg-stopped old to n s flow.Ended new run used within next other leads =
       let P : TaskEnd → Type 0 = λ o. Finishes o ends.Done new in
       subst P (sym (steps-plain_steps n old to run ∙ steps-stop (record old { core = to }) s next within)) (followed-Ended _ _ new leads)
-  leg-stopped old to n s (flow.Trapped cause pc) new run used within next other leads counts =
+  leg-stopped old to n s (flow.Trapped cause pc) new run used within next other leads =
       let P : TaskEnd → Type 0 = λ o. Finishes o (ends.Trapped cause pc) new in
       subst P (sym (steps-plain_steps n old to run ∙ steps-stop (record old { core = to }) s next within)) (followed-Trapped _ _ cause pc new leads)
 
   -- a leg that came to its quantum's end
   pub leg-full : (old : TaskState) (to : Core) (n : ℕ) (s : Stop) (f : Flow) (new : TaskState)
       → PlainSteps image.text (length old.memory) budget n old.core to → to.used ≡ old.core.used + n → to.used ≤ budget → 0 < n → s ≡ stop.Quantum
-      → Counts s f (record old { core = to }) new → LegLeads image budget ctx old f new
-  leg-full old to n s f new run used within some e counts =
-      let P : Stop → Type 0 = λ x. Counts x f (record old { core = to }) new in
-      let both = subst P e counts in
-      rw (both.0, both.1) (record {
+      → Leads (after_stop ctx (record old { core = to }) s) f new → LegLeads image budget ctx old f new
+  leg-full old to n s f new run used within some e leads =
+      let P : Stop → Type 0 = λ x. Leads (after_stop ctx (record old { core = to }) x) f new in
+      goes f (subst P e leads)
+    where
+      goes : (f : Flow) → Leads (Continues (record old { core = to })) f new → LegLeads image budget ctx old f new
+      goes flow.Continues same = rw same (record {
         same = sym (steps-plain_steps n old to run);
         used = omega arith;
         within = within;
         memory = refl;
       })
+      goes flow.Ended never = absurd never
+      goes (flow.Trapped cause pc) never = absurd never
 
   -- a leg of at most so many instructions, whatever it stopped for
   pub leg-leads : (quantum : ℕ) (old : TaskState) (to : Core) (n : ℕ) (s : Stop) (f : Flow) (new : TaskState)
       → 0 < quantum → IsLeg image.text (length old.memory) budget quantum old.core to n s → to.used ≡ old.core.used + n → to.used ≤ budget
-      → Leads (stopped ctx (record old { core = to }) s) f new → Counts s f (record old { core = to }) new
-      → LegLeads image budget ctx old f new
-  leg-leads quantum old to n s f new some leg used within leads counts = elim (cases_lt n quantum) [ inl lt ↦ before lt | inr ge ↦ full ge ] where
+      → Leads (after_stop ctx (record old { core = to }) s) f new → LegLeads image budget ctx old f new
+  leg-leads quantum old to n s f new some leg used within leads = elim (cases_lt n quantum) [ inl lt ↦ before lt | inr ge ↦ full ge ] where
     before : n < quantum → LegLeads image budget ctx old f new
-    before lt = leg-stopped old to n s f new leg.run used within (leg.next lt) (leg.other lt) leads counts
+    before lt = leg-stopped old to n s f new leg.run used within (leg.next lt) (leg.other lt) leads
 
     full : quantum ≤ n → LegLeads image budget ctx old f new
     full ge =
         let b : n ≤ quantum = leg.bound in
         let e : n ≡ quantum = omega arith in
-        leg-full old to n s f new leg.run used within (omega arith) (leg.full e) counts
+        leg-full old to n s f new leg.run used within (omega arith) (leg.full e) leads
 
 -- after a leg that ended its quantum nothing is to be counted; else what stands next can be
-pub leg-can_count : (text : List ℕ) (size budget quantum : ℕ) (from to : Core) (n : ℕ) (s : Stop) → IsLeg text size budget quantum from to n s → budget < 2 ^ 32 → CanCount to.used s
+pub leg-can_count : (text : List ℕ) (size budget quantum : ℕ) (from to : Core) (n : ℕ) (s : Stop) → IsLeg text size budget quantum from to n s → budget < 2 ^ 32 → StopCanCount to.used s
 leg-can_count text size budget quantum from to n s leg fits = elim (cases_lt n quantum) [
   | inl lt ↦ can_count text size budget to s (leg.next lt) fits
-  | inr ge ↦ (let b : n ≤ quantum = leg.bound in let e : n ≡ quantum = omega arith in let P : Stop → Type 0 = CanCount to.used in subst P (sym (leg.full e)) tt)
+  | inr ge ↦ (let b : n ≤ quantum = leg.bound in let e : n ≡ quantum = omega arith in let P : Stop → Type 0 = StopCanCount to.used in subst P (sym (leg.full e)) tt)
 ]

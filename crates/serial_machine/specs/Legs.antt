@@ -1,19 +1,24 @@
 -- Words for the code that runs a task leg by leg.
-use Rattle.std.specs.Prelude.{◌≡◌, ◌≤◌, ◌<◌, ◌≢◌, ℕ, ◌+◌, ◌-◌, ◌^◌, List, length, Option, Some, None}
+use Rattle.std.specs.Prelude.{◌≡◌, ◌≤◌, ◌<◌, ◌≢◌, ℕ, ◌-◌, ◌^◌, List, length, Option, Some, None}
 use Rattle.guest_image.specs.declared.image.Kind.{Kind}
 use Rattle.guest_image.specs.ImageValue.{ImageValue}
 use Rattle.rv_core.specs.declared.state.Stop.{Stop}
 use Rattle.rv_core.specs.declared.state.Stop.TheVariants as stop
+use Rattle.rv_core.specs.Memory.{load_bytes}
+use Rattle.task_desc.specs.declared.calls.TheConstants.{MAX_BYTES, MAX_CHILDREN, MAX_DEPTH}
 use Rattle.task_desc.specs.declared.desc.Ctx.{Ctx}
+use Rattle.task_step.specs.declared.request.Request.{Request}
+use Rattle.task_step.specs.declared.request.Request.TheVariants as request
+use Rattle.task_step.specs.Steps.{Stepped, Continues, Ends, Traps}
+use Rattle.task_step.specs.TaskState.{TaskState}
+use Rattle.undo_log.specs.Number.{IsAccessible}
 use Rattle.serial_machine.specs.declared.progress.Flow.{Flow}
 use Rattle.serial_machine.specs.declared.progress.Flow.TheVariants as flow
 use Rattle.serial_machine.specs.declared.running.RunEnd.{RunEnd}
 use Rattle.serial_machine.specs.declared.running.RunEnd.TheVariants as ends
 use Rattle.serial_machine.specs.declared.fault.TurnFault.{TurnFault}
 use Rattle.serial_machine.specs.declared.fault.TurnFault.TheVariants as faults
-use Rattle.serial_machine.specs.State.{max_depth}
-use Rattle.serial_machine.specs.TaskState.{TaskState}
-use Rattle.serial_machine.specs.TaskRun.{steps, Stepped, Continues, Ends, Traps, TaskEnd, Done, Trapped}
+use Rattle.serial_machine.specs.TaskRun.{steps, TaskEnd, Done, Trapped}
 
 -- a task in progress, and the memory that it began with
 pub record Tracked : Type 0 where
@@ -35,29 +40,32 @@ Leads (Traps cause pc) flow.Ended new = ⊥
 -- a task at the greatest depth makes no subdomain
 abbrev pub SubFits : ℕ → Option Kind → Type 0
 SubFits depth None = Unit {0}
-SubFits depth (Some kind) = depth ≢ max_depth
+SubFits depth (Some kind) = depth ≢ MAX_DEPTH
 
--- a step that goes on counts one instruction and keeps the size of the memory
-abbrev pub CountsOne : Flow → TaskState → TaskState → Type 0
-CountsOne flow.Continues old new = (new.core.used ≡ old.core.used + 1) × (length new.memory ≡ length old.memory)
-CountsOne flow.Ended old new = Unit {0}
-CountsOne (flow.Trapped cause pc) old new = Unit {0}
+-- one more instruction can be counted
+abbrev pub CanCount : ℕ → Type 0
+CanCount used = used < 2 ^ 32 - 1
 
--- the end of a quantum counts none
-abbrev pub Counts : Stop → Flow → TaskState → TaskState → Type 0
-Counts stop.Quantum found old new = (new ≡ old) × (found ≡ flow.Continues)
-Counts stop.Call found old new = CountsOne found old new
-Counts (stop.Load width rd addr) found old new = CountsOne found old new
-Counts (stop.Store width addr value) found old new = CountsOne found old new
-Counts (stop.Trap cause pc) found old new = CountsOne found old new
+-- what stands at the end of a leg can be counted, if it is executed
+abbrev pub StopCanCount : ℕ → Stop → Type 0
+StopCanCount used (stop.Load width rd addr) = CanCount used
+StopCanCount used (stop.Store width addr value) = CanCount used
+StopCanCount used stop.Call = CanCount used
+StopCanCount used (stop.Trap cause pc) = Unit {0}
+StopCanCount used stop.Quantum = Unit {0}
 
--- the instruction that stands next, if it is no trap, can still be counted
-abbrev pub CanCount : ℕ → Stop → Type 0
-CanCount used stop.Quantum = Unit {0}
-CanCount used (stop.Trap cause pc) = Unit {0}
-CanCount used stop.Call = used < 2 ^ 32 - 1
-CanCount used (stop.Load width rd addr) = used < 2 ^ 32 - 1
-CanCount used (stop.Store width addr value) = used < 2 ^ 32 - 1
+-- the code can do what a task asks for: an instruction can be counted, an access lies in the memory, and there is room for a child or a byte
+abbrev pub CanPerform : TaskState → Request → Type 0
+CanPerform task request.Continue = Unit {0}
+CanPerform task (request.Load width rd offset) =
+    CanCount task.core.used × IsAccessible (length task.memory) offset (load_bytes width)
+CanPerform task (request.Store offset bytes value) =
+    CanCount task.core.used × IsAccessible (length task.memory) offset bytes
+CanPerform task (request.Enqueue child) = CanCount task.core.used × (length task.spawns < MAX_CHILDREN)
+CanPerform task (request.MakeSub kind) = CanCount task.core.used
+CanPerform task (request.Emit byte) = CanCount task.core.used × (length task.bytes < MAX_BYTES)
+CanPerform task request.End = CanCount task.core.used
+CanPerform task (request.Trap cause) = Unit {0}
 
 -- the run is over so, and left this task
 abbrev pub Finishes : TaskEnd → RunEnd → TaskState → Type 0
@@ -66,9 +74,13 @@ Finishes (Trapped cause pc) (ends.Trapped found at) new = (found ≡ cause) × (
 Finishes (Done task) (ends.Trapped found at) new = ⊥
 Finishes (Trapped cause pc) ends.Done new = ⊥
 
+-- how the run of a task in progress ends
+abbrev pub end_of : ImageValue → ℕ → Ctx → TaskState → TaskEnd
+end_of image budget ctx task = steps image budget ctx (budget - task.core.used) task
+
 -- the steps that are left after a leg are those that were left before it
 pub record Advances (image : ImageValue) (budget : ℕ) (ctx : Ctx) (old new : TaskState) : Type 0 where
-  pub same : steps image budget ctx (budget - new.core.used) new ≡ steps image budget ctx (budget - old.core.used) old
+  pub same : end_of image budget ctx new ≡ end_of image budget ctx old
   pub used : old.core.used < new.core.used
   pub within : new.core.used ≤ budget
   pub memory : length new.memory ≡ length old.memory
@@ -76,8 +88,9 @@ pub record Advances (image : ImageValue) (budget : ℕ) (ctx : Ctx) (old new : T
 -- where a leg, and what stands at its end, lead
 abbrev pub LegLeads : ImageValue → ℕ → Ctx → TaskState → Flow → TaskState → Type 0
 LegLeads image budget ctx old flow.Continues new = Advances image budget ctx old new
-LegLeads image budget ctx old flow.Ended new = Finishes (steps image budget ctx (budget - old.core.used) old) ends.Done new
-LegLeads image budget ctx old (flow.Trapped cause pc) new = Finishes (steps image budget ctx (budget - old.core.used) old) (ends.Trapped cause pc) new
+LegLeads image budget ctx old flow.Ended new = Finishes (end_of image budget ctx old) ends.Done new
+LegLeads image budget ctx old (flow.Trapped cause pc) new =
+    Finishes (end_of image budget ctx old) (ends.Trapped cause pc) new
 
 -- why a task's run is not done
 abbrev pub RunFails : TaskEnd → TurnFault → Type 0

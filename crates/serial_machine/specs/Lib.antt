@@ -7,3 +7,4 @@ pub mod Names
 pub mod Run
 pub mod Legs
 pub mod Stack
+pub mod WholeRun

@@ -6,15 +6,20 @@ use Rattle.guest_image.specs.declared.image.ImageTask.{ImageTask}
 use Rattle.guest_image.specs.ImageValue.{ImageValue}
 use Rattle.task_desc.specs.Calls.{domain_ts}
 use Rattle.serial_machine.specs.declared.bag.PendingTask.{PendingTask}
-use Rattle.serial_machine.specs.declared.journal.Entry.{Entry}
-use Rattle.serial_machine.specs.declared.fault.End.{End}
-use Rattle.serial_machine.specs.declared.fault.End.TheVariants as ends
+use Rattle.run_journal.specs.declared.journal.Entry.{Entry}
+use Rattle.run_journal.specs.declared.end.End.{End}
+use Rattle.run_journal.specs.declared.end.End.TheVariants as ends
 use Rattle.serial_machine.specs.State.{State}
 use Rattle.serial_machine.specs.Turn.{turn, inner, TrapsSo}
 
 -- the image's task at a place, pending in the root domain
 abbrev pub image_task : Kind → ℕ × ImageTask → PendingTask
-image_task kind e = record { name = record { creator = 0; index = e.0 }; entry = e.1.entry; ts = domain_ts kind e.1.ts; args = e.1.args }
+image_task kind e = record {
+  name = record { creator = 0; index = e.0 };
+  entry = e.1.entry;
+  ts = domain_ts kind e.1.ts;
+  args = e.1.args;
+}
 
 -- the initial data, then zeros
 abbrev pub opening_memory : ImageValue → List ℕ
@@ -23,7 +28,13 @@ opening_memory image = image.initial ++ replicate (image.data_size - length imag
 -- the state before the first turn: the image's tasks pend in the root domain
 abbrev pub opening : ImageValue → State
 opening image = record {
-  stack = record { depth = 1; kind = image.kind; floor = 0; owner = 0; tasks = map (image_task image.kind) (enumerate_from 0 image.tasks) } ∷ [];
+  stack = record {
+    depth = 1;
+    kind = image.kind;
+    floor = 0;
+    owner = 0;
+    tasks = map (image_task image.kind) (enumerate_from 0 image.tasks);
+  } ∷ [];
   memory = opening_memory image;
   output = [];
   count = 0;
@@ -32,7 +43,8 @@ opening image = record {
 -- the turns of these entries lead from one state to another, each with the entry's depth and timestamp
 abbrev pub Runs : ImageValue → ℕ → State → List Entry → State → Type 0
 Runs image budget s [] after = s ≡ after
-Runs image budget s (e ∷ es) after = (mid : State) × (turn image budget s e.name ≡ Some (mid, e)) × Runs image budget mid es after
+Runs image budget s (e ∷ es) after =
+    (mid : State) × (turn image budget s e.name ≡ Some (mid, e)) × Runs image budget mid es after
 
 -- a journal is a run of the image: its turns lead from the opening to this state
 abbrev pub IsRun : ImageValue → ℕ → List Entry → State → Type 0
@@ -42,5 +54,6 @@ IsRun image budget journal after = Runs image budget (opening image) journal aft
 abbrev pub IsEnd : ImageValue → ℕ → ℕ → List Entry → State → End → Type 0
 IsEnd image budget commits journal s ends.Normal = inner s.stack ≡ []
 IsEnd image budget commits journal s ends.Limit = (inner s.stack ≢ []) × (length journal ≡ commits)
-IsEnd image budget commits journal s (ends.Trap name cause pc) = (length journal < commits) × TrapsSo image budget s name cause pc
+IsEnd image budget commits journal s (ends.Trap name cause pc) =
+    (length journal < commits) × TrapsSo image budget s name cause pc
 IsEnd image budget commits journal s ends.Unfinished = (inner s.stack ≢ []) × (length journal < commits)

@@ -8,15 +8,25 @@ use Rattle.serial_machine.specs.BagValue.{BagValue}
 use Rattle.serial_machine.specs.declared.bag.PendingTask.{PendingTask}
 use Rattle.serial_machine.specs.declared.fault.TurnFault.{TurnFault}
 use Rattle.serial_machine.specs.declared.fault.TurnFault.TheVariants as faults
-use Rattle.serial_machine.specs.Turn.{without, children, with_super, is_pending, MayTurn, IsNotTop, IsNotLeast}
+use Rattle.serial_machine.specs.State.{State}
+use Rattle.serial_machine.specs.Turn.{inner, without, children, with_super, is_pending, MayTurn, IsNotTop, IsNotLeast}
 use Rattle.serial_machine.specs.Names.{times}
 
 -- what a bag says, whatever room it has
 abbrev pub bag_value : Bag → BagValue
-bag_value bag = record { depth = bag.depth; kind = bag.kind; floor = bag.floor; owner = bag.owner; tasks = bag.tasks.items }
+bag_value bag =
+    record { depth = bag.depth; kind = bag.kind; floor = bag.floor; owner = bag.owner; tasks = bag.tasks.items }
 
 abbrev pub bags : List Bag → List BagValue
 bags stack = map bag_value stack
+
+-- the state that the parts of a machine say
+abbrev pub state_of : List Bag → List ℕ → List ℕ → ℕ → State
+state_of stack memory output count = record { stack = bags stack; memory = memory; output = output; count = count }
+
+-- the innermost bag that isn't empty stands at this place
+abbrev pub IsTopAt : List Bag → ℕ → Type 0
+IsTopAt stack place = (place < length stack) × (inner (bags stack) ≡ bags (drop place stack))
 
 -- a new bag, if there is one
 abbrev pub new_bags : Option Bag → List BagValue
@@ -37,7 +47,8 @@ IsOnceInFirst name (bag ∷ outer) = times name bag.tasks ≤ 1
 abbrev pub settled : Name → ℕ → List Spawn → List BagValue → List BagValue → List BagValue
 settled name owner spawns new [] = new
 settled name owner spawns new (bag ∷ outer) =
-    new ++ record bag { tasks = without name bag.tasks ++ children Same owner spawns } ∷ with_super (children Super owner spawns) outer
+    new ++ record bag { tasks = without name bag.tasks ++ children Same owner spawns }
+    ∷ with_super (children Super owner spawns) outer
 
 -- the first of these bags holds the task of a name, which may take the next turn of a stack
 abbrev pub IsSelectedFrom : List BagValue → Name → PendingTask → List Bag → Type 0

@@ -1,5 +1,6 @@
 -- The serial machine's state.
 use Rattle.std.specs.Prelude.{ℕ, ◌≡◌, ◌≤◌, ◌+◌, List, [], ◌∷◌, length}
+use Rattle.task_desc.specs.declared.calls.TheConstants.{MAX_DEPTH}
 use Rattle.serial_machine.specs.BagValue.{BagValue}
 
 -- the stack of bags, innermost first, the memory, the output and the number of turns
@@ -14,11 +15,7 @@ pub record SerialValue : Type 0 where
   pub state : State
   pub budget : ℕ
 
--- the greatest depth of a domain
-abbrev pub max_depth : ℕ
-max_depth = 8
-
 -- the depths of a stack fall by one down to 1, and none is above the greatest
 abbrev pub IsStack : List BagValue → Type 0
 IsStack [] = Unit {0}
-IsStack (bag ∷ outer) = (bag.depth ≡ length outer + 1) × (bag.depth ≤ max_depth) × IsStack outer
+IsStack (bag ∷ outer) = (bag.depth ≡ length outer + 1) × (bag.depth ≤ MAX_DEPTH) × IsStack outer

@@ -9,7 +9,7 @@ use Rattle.task_desc.specs.declared.desc.Ctx.{Ctx}
 use Rattle.task_desc.specs.declared.desc.Place.{Place}
 use Rattle.task_desc.specs.declared.desc.Place.TheVariants.{Same, Sub, Super}
 use Rattle.serial_machine.specs.declared.bag.PendingTask.{PendingTask}
-use Rattle.serial_machine.specs.declared.journal.Entry.{Entry}
+use Rattle.run_journal.specs.declared.journal.Entry.{Entry}
 use Rattle.serial_machine.specs.declared.fault.TurnFault.{TurnFault}
 use Rattle.serial_machine.specs.declared.fault.TurnFault.TheVariants as faults
 use Rattle.serial_machine.specs.BagValue.{BagValue}
@@ -49,7 +49,16 @@ kind_outside (bag ∷ outer) = Some bag.kind
 
 -- what the calls of a task of a bag depend on as it starts
 abbrev pub context_of : BagValue → List BagValue → PendingTask → Ctx
-context_of bag outer task = record { depth = bag.depth; own = bag.kind; outer = kind_outside outer; ts = task.ts; floor = bag.floor; sub = None; children = 0; bytes = 0 }
+context_of bag outer task = record {
+  depth = bag.depth;
+  own = bag.kind;
+  outer = kind_outside outer;
+  ts = task.ts;
+  floor = bag.floor;
+  sub = None;
+  children = 0;
+  bytes = 0;
+}
 
 abbrev pub place_number : Place → ℕ
 place_number Same = 0
@@ -72,7 +81,8 @@ children place n spawns = map (child n) (filter (is_for place) (enumerate_from 0
 abbrev pub sub_bags : ℕ → ℕ → ℕ → List PendingTask → Option Kind → List BagValue
 sub_bags depth floor owner tasks None = []
 sub_bags depth floor owner tasks (Some kind) =
-    if length tasks == 0 then [] else record { depth = depth; kind = kind; floor = floor; owner = owner; tasks = tasks } ∷ []
+    if length tasks == 0 then []
+    else record { depth = depth; kind = kind; floor = floor; owner = owner; tasks = tasks } ∷ []
 
 -- the bags outside, with further tasks at the end of the next one out
 abbrev pub with_super : List PendingTask → List BagValue → List BagValue
@@ -95,11 +105,17 @@ abbrev pub after_run : State → Name → BagValue → List BagValue → Pending
 after_run s name bag outer task (Trapped cause pc) = None
 after_run s name bag outer task (Done t) =
     Some (
-      record { stack = stack_after bag outer name (s.count + 1) task.ts t.spawns t.sub; memory = t.memory; output = s.output ++ t.bytes; count = s.count + 1 },
+      record {
+        stack = stack_after bag outer name (s.count + 1) task.ts t.spawns t.sub;
+        memory = t.memory;
+        output = s.output ++ t.bytes;
+        count = s.count + 1;
+      },
       record { name = name; depth = bag.depth; ts = task.ts },
     )
 
-abbrev pub chosen : ImageValue → ℕ → State → Name → BagValue → List BagValue → Option PendingTask → Option (State × Entry)
+abbrev pub chosen : ImageValue → ℕ → State → Name → BagValue → List BagValue → Option PendingTask
+    → Option (State × Entry)
 chosen image budget s name bag outer None = None
 chosen image budget s name bag outer (Some task) =
     if is_least task.ts bag.tasks then after_run s name bag outer task (run_of image budget s bag outer task) else None
@@ -112,8 +128,13 @@ turned image budget s name (bag ∷ outer) = chosen image budget s name bag oute
 unfoldable pub turn : ImageValue → ℕ → State → Name → Option (State × Entry)
 turn image budget s name = turned image budget s name (inner s.stack)
 
+-- the turn of a name leads from one state to another, and has this entry
+abbrev pub TakesTurn : ImageValue → ℕ → State → Name → State → Entry → Type 0
+TakesTurn image budget before name after entry = turn image budget before name ≡ Some (after, entry)
+
 -- the task of a name may take the next turn: it stands in the innermost bag that isn't empty, with a least timestamp there
-pub record MayTurn (stack : List BagValue) (name : Name) (bag : BagValue) (outer : List BagValue) (task : PendingTask) : Type 0 where
+pub record MayTurn (stack : List BagValue) (name : Name) (bag : BagValue) (outer : List BagValue)
+    (task : PendingTask) : Type 0 where
   pub top : inner stack ≡ bag ∷ outer
   pub found : find_named name bag.tasks ≡ Some task
   pub least : is_least task.ts bag.tasks ≡ true

@@ -6,8 +6,7 @@
 
 mod bag;
 mod fault;
-mod items;
-mod journal;
+mod limits;
 mod progress;
 mod running;
 mod serial;
@@ -15,9 +14,11 @@ mod stack;
 #[cfg(test)]
 mod tests;
 mod turning;
+mod whole_run;
 
 pub use bag::PendingTask;
-pub use fault::{End, TurnFault};
-pub use items::Items;
-pub use journal::{Bytes, Entry, Journal};
+pub use fault::TurnFault;
+pub use limits::{MAX_BUDGET, MAX_COMMITS};
+pub use run_journal::{Bytes, End, Entry, Items, Journal};
 pub use serial::Serial;
+pub use whole_run::{SerialRun, run_image};

@@ -1,12 +1,11 @@
 //! A task in progress.
 
-ghost use Rattle.std.specs.Prelude.{◌≡◌, ◌<◌, slice_index};
-ghost use Rattle.serial_machine.specs.TaskRun.{begun};
+ghost use Rattle.std.specs.Prelude.{◌≡◌};
+ghost use Rattle.task_step.specs.TaskState.{begun};
 
 use crate::bag::PendingTask;
 use guest_image::Kind;
 use rv_core::Core;
-use rv_table::Reg;
 use std::alloc::Global;
 use std::marker::Model;
 use task_desc::Spawn;
@@ -34,24 +33,25 @@ pub(crate) struct Progress {
 impl Model for Progress {
     ghost use Rattle.std.specs.Prelude.{length, ◌≤◌};
     ghost use Rattle.undo_log.specs.Undo.{undone, AllAccessible};
+    ghost use Rattle.task_desc.specs.declared.calls.TheConstants.{MAX_BYTES, MAX_CHILDREN};
     ghost use Rattle.serial_machine.specs.Legs.{Tracked};
 
     ghost Value = { Tracked };
 
-    ghost view = { λ p. record { task = record { core = p.core; memory = p.memory; spawns = p.spawns.items; bytes = p.bytes.items; sub = p.sub }; first = undone p.log p.memory } };
+    ghost view = { λ p. record {
+      task = record {
+        core = p.core;
+        memory = p.memory;
+        spawns = p.spawns.items;
+        bytes = p.bytes.items;
+        sub = p.sub;
+      };
+      first = undone p.log p.memory;
+    } };
 
-    ghost invariant = { λ p. (length p.spawns.items ≤ 64) × (length p.bytes.items ≤ 256) × AllAccessible (length p.memory) p.log };
-}
-
-/// The value of a register.
-pub(crate) fn register(core: &Core, number: u8) -> u32
-    requires { number < 32 }
-    ensures { result ≡ slice_index core.now.regs number }
-{
-    match Reg::new(number) {
-        Some(reg) => core.regs.get(reg),
-        None => unreachable!(),
-    }
+    ghost invariant = { λ p.
+        (length p.spawns.items ≤ MAX_CHILDREN) × (length p.bytes.items ≤ MAX_BYTES)
+        × AllAccessible (length p.memory) p.log };
 }
 
 /// A task at its start, on this memory.

@@ -1,18 +1,19 @@
 //! The serial machine.
 
-ghost use Rattle.std.specs.Prelude.{◌≡◌, ◌≢◌, ◌≤◌, ◌<◌, [], length, map, ◌+◌, IfOk, IfErr, OnOk, OnErr, Some, MatchBool, MatchOption};
+ghost use Rattle.std.specs.Prelude.{◌≡◌, ◌≢◌, ◌≤◌, ◌<◌, [], length, map, ◌+◌, IfOk, IfErr, OnOk, OnErr, MatchBool, MatchOption};
 ghost use Rattle.std.specs.List.{enumerate_from};
 ghost use Rattle.serial_machine.specs.Names.{next_in, IsNext};
 ghost use Rattle.serial_machine.specs.Run.{opening, image_task};
 ghost use Rattle.serial_machine.specs.Stack.{bags};
-ghost use Rattle.serial_machine.specs.Turn.{turn, inner, Refuses};
+ghost use Rattle.serial_machine.specs.Turn.{inner, Refuses, TakesTurn};
 
 use crate::bag::{Bag, PendingTask};
 use crate::fault::TurnFault;
-use crate::journal::{Bytes, Entry};
+use crate::limits::MAX_COMMITS;
 use crate::stack::{bag_at, first, top};
 use crate::turning::take_turn;
 use guest_image::{Image, ImageTask, Kind};
+use run_journal::{Bytes, Entry};
 use std::alloc::{AllocError, Global};
 use std::marker::Model;
 use task_desc::Name;
@@ -33,13 +34,15 @@ impl Model for Serial {
     ghost use Rattle.std.specs.Prelude.{◌≤◌, length};
     ghost use Rattle.serial_machine.specs.State.{SerialValue, IsStack};
     ghost use Rattle.serial_machine.specs.Names.{AreNamed};
-    ghost use Rattle.serial_machine.specs.Stack.{bags};
+    ghost use Rattle.serial_machine.specs.Stack.{bags, state_of};
 
     ghost Value = { SerialValue };
 
-    ghost view = { λ s. record { state = record { stack = bags s.stack.items; memory = s.memory; output = s.output.items; count = s.count }; budget = s.budget } };
+    ghost view = { λ s.
+        record { state = state_of s.stack.items s.memory s.output.items s.count; budget = s.budget } };
 
-    ghost invariant = { λ s. IsStack (bags s.stack.items) × AreNamed s.count (bags s.stack.items) × (length s.memory ≤ 16777216) };
+    ghost invariant = { λ s.
+        IsStack (bags s.stack.items) × AreNamed s.count (bags s.stack.items) × (length s.memory ≤ 16777216) };
 }
 
 impl Serial {
@@ -71,8 +74,8 @@ impl Serial {
     ///
     /// A turn that is refused leaves the machine as it was; want of memory may come in place of another refusal.
     pub fn turn(&mut self, image: &Image, name: Name) -> Result<Entry, TurnFault>
-        requires { self.old.state.count < 1000000 }
-        ensures ok { IfOk result (λ entry. turn image.now self.old.budget self.old.state name ≡ Some (self.new.state, entry)) }
+        requires { self.old.state.count < MAX_COMMITS }
+        ensures ok { IfOk result (TakesTurn image.now self.old.budget self.old.state name self.new.state) }
         ensures named { IfOk result (λ entry. entry.name ≡ name) }
         ensures counted { OnOk result (self.new.state.count ≡ self.old.state.count + 1) }
         ensures refused { IfErr result (Refuses image.now self.old.budget self.old.state name) }

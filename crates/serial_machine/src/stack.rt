@@ -4,7 +4,7 @@ ghost use Rattle.std.specs.Prelude.{◌≡◌, ◌≤◌, ◌<◌, ◌+◌, ◌+
 ghost use Rattle.std.specs.List.{list_any, position_from};
 ghost use Rattle.serial_machine.specs.Turn.{is_named, find_named, without, is_least, inner, is_pending, place_number, children, sub_bags, with_super};
 ghost use Rattle.serial_machine.specs.Names.{earlier, first_least, next_in, times};
-ghost use Rattle.serial_machine.specs.Stack.{bags, new_bags, HaveRoom, IsOnceInFirst, settled};
+ghost use Rattle.serial_machine.specs.Stack.{bags, new_bags, HaveRoom, IsOnceInFirst, IsTopAt, settled};
 
 use crate::bag::{Bag, PendingTask};
 use guest_image::Kind;
@@ -44,7 +44,7 @@ pub(crate) fn smaller(ts: u32, tasks: &[PendingTask]) -> Option<u32>
 
 /// Where the innermost bag stands that isn't empty.
 pub(crate) fn top(stack: &[Bag]) -> Option<usize>
-    ensures { MatchOption result (inner (bags stack.now) ≡ []) (λ k. (k < length stack.now) × (inner (bags stack.now) ≡ bags (drop k stack.now))) }
+    ensures { MatchOption result (inner (bags stack.now) ≡ []) (IsTopAt stack.now) }
 {
     for k in 0..stack.len() {
         if !is_empty_at(stack, k) {
@@ -56,7 +56,9 @@ pub(crate) fn top(stack: &[Bag]) -> Option<usize>
 
 fn is_empty_at(stack: &[Bag], k: usize) -> bool
     requires { k < length stack.now }
-    ensures { MatchBool result (inner (bags (drop k stack.now)) ≡ inner (bags (drop (k + 1) stack.now))) (inner (bags (drop k stack.now)) ≡ bags (drop k stack.now)) }
+    ensures { let here = bags (drop k stack.now) in
+        let outer = bags (drop (k + 1) stack.now) in
+        MatchBool result (inner here ≡ inner outer) (inner here ≡ here) }
 {
     stack[k].tasks.is_empty()
 }
@@ -179,7 +181,8 @@ pub(crate) fn subdomain(
     spawns: &[Spawn],
 ) -> Result<Option<Bag>, AllocError>
     requires { length spawns.now ≤ 64 }
-    ensures { IfOk result (λ new. new_bags new ≡ sub_bags depth floor owner (children Place.Sub owner spawns.now) kind) }
+    ensures { let tasks = children Place.Sub owner spawns.now in
+        IfOk result (λ new. new_bags new ≡ sub_bags depth floor owner tasks kind) }
 {
     let Some(kind) = kind else {
         return Ok(None);

@@ -1,6 +1,6 @@
 //! Each public call once, with ample memory.
 
-use crate::{Bytes, Journal, Serial};
+use crate::{Bytes, End, Journal, MAX_COMMITS, Serial, run_image};
 use guest_image::{Image, ImageTask, Kind};
 use std::alloc::Global;
 use std::test::Fail;
@@ -34,7 +34,7 @@ fn a_task_takes_its_turn(rt: HostRuntime) -> Result<(), Fail> {
     assert!(rt; serial.pending());
     let mut journal = Journal::new(alloc);
     if let Some(name) = serial.next() {
-        if serial.count() < 1_000_000 {
+        if serial.count() < MAX_COMMITS {
             if let Ok(entry) = serial.turn(&image, name) {
                 journal.push(entry)?;
             }
@@ -52,5 +52,17 @@ fn a_task_takes_its_turn(rt: HostRuntime) -> Result<(), Fail> {
     assert_eq!(rt; again.as_slice().len(), 0);
     is_sent(&journal);
     is_sent(&memory);
+    Ok(())
+}
+
+#[test]
+fn a_run_goes_to_its_end(rt: HostRuntime) -> Result<(), Fail> {
+    let image = emitting(rt.alloc())?;
+    let run = run_image(rt.alloc(), &image, MAX_COMMITS, 5)?;
+    assert_eq!(rt; run.end, Some(End::Normal));
+    assert_eq!(rt; run.journal.as_slice().len(), 1);
+    assert_eq!(rt; run.output.as_slice(), b"A".as_slice());
+    let none = run_image(rt.alloc(), &image, 0, 5)?;
+    assert_eq!(rt; none.end, Some(End::Limit));
     Ok(())
 }

@@ -3,18 +3,19 @@
 ghost use Rattle.std.specs.Prelude.{◌≡◌, ◌≤◌, ◌<◌, ◌+◌, ◌++◌, ◌∷◌, ◌^◌, ℕ, length, drop, IfOk, IfErr, OnOk, OnErr, Some, IsSome, ◌↔◌, MatchBool};
 ghost use Rattle.serial_machine.specs.Legs.{SubFits, Finishes, RunFails};
 ghost use Rattle.serial_machine.specs.Names.{AreNamed};
-ghost use Rattle.serial_machine.specs.Stack.{bag_value, bags, new_bags, settled, IsSelected, IsUnselected, IsOnceInFirst};
+ghost use Rattle.serial_machine.specs.Stack.{bag_value, bags, new_bags, settled, IsSelected, IsUnselected, IsOnceInFirst, state_of};
 ghost use Rattle.serial_machine.specs.State.{IsStack};
 ghost use Rattle.serial_machine.specs.TaskRun.{task_run, Done};
-ghost use Rattle.serial_machine.specs.Turn.{turn, Refuses, context_of, children, sub_bags, IsNotTop, is_pending, kind_outside};
+ghost use Rattle.serial_machine.specs.Turn.{TakesTurn, Refuses, context_of, children, sub_bags, IsNotTop, is_pending, kind_outside};
 
 use crate::bag::{Bag, PendingTask};
 use crate::fault::TurnFault;
-use crate::journal::Entry;
+use crate::limits::MAX_COMMITS;
 use crate::progress::{Progress, started, taken_back};
 use crate::running::{RunEnd, run};
 use crate::stack::{bag_at, find, make_room, pending, settle, smaller, subdomain, top};
 use guest_image::{Image, Kind};
+use run_journal::Entry;
 use std::alloc::{AllocError, Global};
 use std::mem::replace;
 use task_desc::{Ctx, Name, Place};
@@ -22,7 +23,8 @@ use undo_log::Memory;
 
 /// Why a name is not in the innermost bag that isn't empty, which has this depth.
 fn missing(stack: &[Bag], name: Name, depth: u8) -> TurnFault
-    ensures { MatchBool (is_pending name (bags stack.now)) (result ≡ TurnFault.NotTop depth) (result ≡ TurnFault.NotPending) }
+    ensures { let pends = is_pending name (bags stack.now) in
+        MatchBool pends (result ≡ TurnFault.NotTop depth) (result ≡ TurnFault.NotPending) }
 {
     if pending(name, stack) {
         TurnFault::NotTop { depth }
@@ -60,10 +62,7 @@ fn kind_of_first(outer: &[Bag]) -> Option<Kind>
 
 /// What the calls of a task depend on as it starts.
 fn context(bag: &Bag, outer: &[Bag], task: &PendingTask) -> Ctx
-    requires { IsStack (bag_value bag.now ∷ bags outer.now) }
-    ensures is { result ≡ context_of (bag_value bag.now) (bags outer.now) task.now }
-    ensures depth { 1 ≤ result.depth }
-    ensures outer { IsSome result.outer ↔ (1 < result.depth) }
+    ensures { result ≡ context_of (bag_value bag.now) (bags outer.now) task.now }
 {
     Ctx {
         depth: bag.depth,
@@ -86,15 +85,15 @@ fn run_done(
     task: &PendingTask,
     memory: &mut Memory,
 ) -> Result<Progress, TurnFault>
-    requires depth { 1 ≤ ctx.now.depth }
-    requires outer { IsSome ctx.now.outer ↔ (1 < ctx.now.depth) }
     requires ts { ctx.now.ts ≡ task.now.ts }
     requires size { length memory.old < 2 ^ 32 }
-    ensures done { IfOk result (λ p. task_run image.now budget ctx.now task.now.entry task.now.args memory.old ≡ Done p.task) }
+    ensures done { let end = task_run image.now budget ctx.now task.now.entry task.now.args memory.old in
+        IfOk result (λ p. end ≡ Done p.task) }
     ensures first { IfOk result (λ p. p.first ≡ memory.old) }
     ensures sub { IfOk result (λ p. SubFits ctx.now.depth p.task.sub) }
     ensures size { IfOk result (λ p. length p.task.memory ≡ length memory.old) }
-    ensures refused { IfErr result (RunFails (task_run image.now budget ctx.now task.now.entry task.now.args memory.old)) }
+    ensures refused { let end = task_run image.now budget ctx.now task.now.entry task.now.args memory.old in
+        IfErr result (RunFails end) }
     ensures unchanged { OnErr result (memory.new ≡ memory.old) }
 {
     let Ok(empty) = Memory::new(alloc, &[], 0) else {
@@ -127,7 +126,11 @@ fn join_all(
     requires within { place < length stack.old.items }
     requires depth { entry.depth < 255 }
     requires once { IsOnceInFirst entry.name (drop place (bags stack.old.items)) }
-    ensures stack { OnOk result (bags stack.new.items ≡ settled entry.name owner done.now.task.spawns (sub_bags (entry.depth + 1) entry.ts owner (children Place.Sub owner done.now.task.spawns) done.now.task.sub) (drop place (bags stack.old.items))) }
+    ensures stack { let spawns = done.now.task.spawns in
+        let inside = children Place.Sub owner spawns in
+        let new = sub_bags (entry.depth + 1) entry.ts owner inside done.now.task.sub in
+        let old = drop place (bags stack.old.items) in
+        OnOk result (bags stack.new.items ≡ settled entry.name owner spawns new old) }
     ensures output { OnOk result (output.new.items ≡ output.old.items ++ done.now.task.bytes) }
     ensures stack_unchanged { OnErr result (bags stack.new.items ≡ bags stack.old.items) }
     ensures output_unchanged { OnErr result (output.new.items ≡ output.old.items) }
@@ -157,13 +160,16 @@ pub(crate) fn take_turn(
     count: u32,
     name: Name,
 ) -> Result<Entry, TurnFault>
-    requires count { count < 1000000 }
+    requires count { count < MAX_COMMITS }
     requires stack { IsStack (bags stack.old.items) }
     requires named { AreNamed count (bags stack.old.items) }
     requires size { length memory.old < 2 ^ 32 }
-    ensures ok { IfOk result (λ entry. turn image.now budget (record { stack = bags stack.old.items; memory = memory.old; output = output.old.items; count = count }) name ≡ Some (record { stack = bags stack.new.items; memory = memory.new; output = output.new.items; count = count + 1 }, entry)) }
+    ensures ok { let before = state_of stack.old.items memory.old output.old.items count in
+        let after = state_of stack.new.items memory.new output.new.items (count + 1) in
+        IfOk result (TakesTurn image.now budget before name after) }
     ensures told { IfOk result (λ entry. entry.name ≡ name) }
-    ensures refused { IfErr result (Refuses image.now budget (record { stack = bags stack.old.items; memory = memory.old; output = output.old.items; count = count }) name) }
+    ensures refused { let before = state_of stack.old.items memory.old output.old.items count in
+        IfErr result (Refuses image.now budget before name) }
     ensures stack_unchanged { OnErr result (bags stack.new.items ≡ bags stack.old.items) }
     ensures memory_unchanged { OnErr result (memory.new ≡ memory.old) }
     ensures output_unchanged { OnErr result (output.new.items ≡ output.old.items) }

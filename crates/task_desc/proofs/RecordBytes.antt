@@ -9,7 +9,7 @@ use Rattle.std.proofs.lemmas.Bool.Decides.{nat_tests}
 use Rattle.byteorder.specs.Endian.{little_number}
 use Rattle.byteorder.specs.Numbers.{little_number-reads_back}
 use Rattle.guest_image.specs.Numbers.{word_at, half_at, word_bytes, half_bytes}
-use Rattle.task_desc.specs.Calls.{max_depth}
+use Rattle.task_desc.specs.declared.calls.TheConstants.{MAX_DEPTH}
 use Rattle.task_desc.specs.Record.{IsDesc, record_of, fields_of, is_desc, is_record, desc_of}
 use Rattle.task_desc.specs.declared.desc.Desc.{Desc}
 
@@ -115,7 +115,7 @@ fields_back desc fits =
 is_desc-true : (desc : Desc) → IsDesc desc → is_desc desc ≡ true
 is_desc-true desc is = by_tests desc.depth desc.kinds is.inside is.shallow is.kinds
   where
-    by_tests : (depth kinds : ℕ) → 1 ≤ depth → depth ≤ max_depth → kinds < 2 ^ depth → (nat_le 1 depth && nat_le depth max_depth && nat_lt kinds (2 ^ depth)) ≡ true
+    by_tests : (depth kinds : ℕ) → 1 ≤ depth → depth ≤ MAX_DEPTH → kinds < 2 ^ depth → (nat_le 1 depth && nat_le depth MAX_DEPTH && nat_lt kinds (2 ^ depth)) ≡ true
     by_tests depth kinds a b c = grind (arith, nat_tests)
 
 zeros : Desc → Bool
@@ -204,5 +204,5 @@ fields_of-valid bytes valid = by_desc (fields_of bytes) (first_true (is_desc (fi
     by_desc : (desc : Desc) → is_desc desc ≡ true → IsDesc desc
     by_desc desc passed = let parts = by_tests desc.depth desc.kinds passed in record { inside = parts.0; shallow = parts.1; kinds = parts.2 }
       where
-        by_tests : (depth kinds : ℕ) → (nat_le 1 depth && nat_le depth max_depth && nat_lt kinds (2 ^ depth)) ≡ true → (1 ≤ depth) × (depth ≤ max_depth) × (kinds < 2 ^ depth)
+        by_tests : (depth kinds : ℕ) → (nat_le 1 depth && nat_le depth MAX_DEPTH && nat_lt kinds (2 ^ depth)) ≡ true → (1 ≤ depth) × (depth ≤ MAX_DEPTH) × (kinds < 2 ^ depth)
         by_tests depth kinds e = (grind (arith, nat_tests), grind (arith, nat_tests), grind (arith, nat_tests))

@@ -2,22 +2,11 @@
 use Rattle.std.specs.Prelude.{ℕ, ◌==◌, nat_lt, Bool, false, Option, Some, None, Result, Ok, Err, if◌then◌else◌}
 use Rattle.guest_image.specs.declared.image.Kind.{Kind}
 use Rattle.guest_image.specs.declared.image.Kind.TheVariants.{Unordered, Ordered}
+use Rattle.task_desc.specs.declared.calls.TheConstants.{MAX_BYTES, MAX_CHILDREN, MAX_DEPTH}
 use Rattle.task_desc.specs.declared.desc.Ctx.{Ctx}
 use Rattle.task_desc.specs.declared.desc.Spawn.{Spawn}
 use Rattle.task_desc.specs.declared.desc.Place.{Place}
 use Rattle.task_desc.specs.declared.desc.Place.TheVariants.{Same, Sub, Super}
-
--- the depth of the innermost domain
-abbrev pub max_depth : ℕ
-max_depth = 8
-
--- how many children a task may enqueue
-abbrev pub max_children : ℕ
-max_children = 64
-
--- how many bytes a task may emit
-abbrev pub max_bytes : ℕ
-max_bytes = 256
 
 -- what a domain takes a timestamp for: an unordered one takes each as 0
 abbrev pub domain_ts : Kind → ℕ → ℕ
@@ -31,7 +20,7 @@ is_early Ordered ts bound = nat_lt ts bound
 
 -- one child more at this timestamp, and trap 15 at the child past the limit
 abbrev pub counted : Ctx → ℕ → Result ℕ ℕ
-counted ctx ts = if nat_lt ctx.children max_children then Ok ts else Err 15
+counted ctx ts = if nat_lt ctx.children MAX_CHILDREN then Ok ts else Err 15
 
 -- call 1, to the own domain: trap 10 below the own timestamp, then trap 15
 abbrev pub allowed_same : Ctx → ℕ → Result ℕ ℕ
@@ -64,7 +53,7 @@ kind_of value = if value == 0 then Unordered else Ordered
 -- a subdomain: trap 12 where one was made, then trap 14 at the greatest depth
 abbrev pub sub_of : Ctx → ℕ → Option Kind → Result Kind ℕ
 sub_of ctx value (Some made) = Err 12
-sub_of ctx value None = if ctx.depth == max_depth then Err 14 else Ok (kind_of value)
+sub_of ctx value None = if ctx.depth == MAX_DEPTH then Err 14 else Ok (kind_of value)
 
 -- call 4: trap 9 where the value is above 1, and then as above
 abbrev pub sub_allowed : Ctx → ℕ → Result Kind ℕ
@@ -72,4 +61,4 @@ sub_allowed ctx value = if nat_lt 1 value then Err 9 else sub_of ctx value ctx.s
 
 -- call 5: trap 16 at the byte past the limit
 abbrev pub byte_allowed : Ctx → Result (Unit {0}) ℕ
-byte_allowed ctx = if nat_lt ctx.bytes max_bytes then Ok tt else Err 16
+byte_allowed ctx = if nat_lt ctx.bytes MAX_BYTES then Ok tt else Err 16

@@ -4,20 +4,21 @@
 use Rattle.std.specs.Prelude.{ℕ, ◌≤◌, ◌<◌, ◌^◌, ◌==◌, ◌&&◌, nat_le, nat_lt, Bool, List, [], ◌∷◌, ◌++◌, drop, replicate, slice_index, Option, Some, None, if◌then◌else◌}
 use Rattle.std.specs.List.{list_all}
 use Rattle.guest_image.specs.Numbers.{word_at, half_at, word_bytes, half_bytes}
-use Rattle.task_desc.specs.Calls.{max_depth}
+use Rattle.task_desc.specs.declared.calls.TheConstants.{MAX_DEPTH}
 use Rattle.task_desc.specs.declared.desc.Desc.{Desc}
 
 -- the depth is that of a domain, and kinds has no bit at or past the depth
 pub record IsDesc (desc : Desc) : Type 0 where
   pub inside : 1 ≤ desc.depth
-  pub shallow : desc.depth ≤ max_depth
+  pub shallow : desc.depth ≤ MAX_DEPTH
   pub kinds : desc.kinds < 2 ^ desc.depth
 
 -- the bytes of a descriptor
 unfoldable pub record_of : Desc → List ℕ
 record_of desc =
     word_bytes desc.entry ++ word_bytes desc.ts
-    ++ word_bytes (slice_index desc.args 0) ++ word_bytes (slice_index desc.args 1) ++ word_bytes (slice_index desc.args 2)
+    ++ word_bytes (slice_index desc.args 0) ++ word_bytes (slice_index desc.args 1)
+    ++ word_bytes (slice_index desc.args 2)
     ++ word_bytes desc.hint ++ word_bytes desc.name.creator ++ word_bytes desc.name.index
     ++ half_bytes desc.depth ++ half_bytes desc.kinds ++ replicate 28 0
 
@@ -36,7 +37,7 @@ fields_of bytes =
 
 -- the test of a descriptor's depth and kinds
 abbrev pub is_desc : Desc → Bool
-is_desc desc = nat_le 1 desc.depth && nat_le desc.depth max_depth && nat_lt desc.kinds (2 ^ desc.depth)
+is_desc desc = nat_le 1 desc.depth && nat_le desc.depth MAX_DEPTH && nat_lt desc.kinds (2 ^ desc.depth)
 
 -- whether the bytes are a record: depth and kinds are a descriptor's, and zeros fill it up
 unfoldable pub is_record : List ℕ → Bool

@@ -1,5 +1,5 @@
-ghost use Rattle.std.specs.Prelude.{◌≡◌, ◌≢◌, ◌≤◌, ◌<◌, ◌↔◌, IsSome, OnOk};
-ghost use Rattle.task_desc.specs.Calls.{domain_ts, is_early, counted, allowed, sub_allowed, byte_allowed, max_bytes, max_children, max_depth};
+ghost use Rattle.std.specs.Prelude.{◌≡◌, ◌≢◌, ◌<◌, OnOk};
+ghost use Rattle.task_desc.specs.Calls.{domain_ts, is_early, counted, allowed, sub_allowed, byte_allowed};
 
 use crate::desc::{Ctx, Place, Spawn};
 use guest_image::Kind;
@@ -36,7 +36,7 @@ fn early(kind: Kind, ts: u32, bound: u32) -> bool
 /// One child more at this timestamp, or trap 15.
 fn count(ctx: &Ctx, ts: u32) -> Result<u32, u8>
     ensures value { result ≡ counted ctx.now ts }
-    ensures room { OnOk result (ctx.now.children < max_children) }
+    ensures room { OnOk result (ctx.now.children < MAX_CHILDREN) }
 {
     if ctx.children < MAX_CHILDREN {
         Ok(ts)
@@ -51,10 +51,8 @@ fn count(ctx: &Ctx, ts: u32) -> Result<u32, u8>
 /// - `Sub`: 11 where no subdomain was made, then 15;
 /// - `Super`: 13 at depth 1, then 10 where the superdomain is ordered and the timestamp below the floor, then 15.
 pub fn allow(ctx: &Ctx, spawn: &Spawn) -> Result<u32, u8>
-    requires depth { 1 ≤ ctx.now.depth }
-    requires outer { IsSome ctx.now.outer ↔ (1 < ctx.now.depth) }
     ensures value { result ≡ allowed ctx.now spawn.now }
-    ensures room { OnOk result (ctx.now.children < max_children) }
+    ensures room { OnOk result (ctx.now.children < MAX_CHILDREN) }
 {
     match spawn.place {
         Place::Same => {
@@ -83,7 +81,7 @@ pub fn allow(ctx: &Ctx, spawn: &Spawn) -> Result<u32, u8>
 /// comes: 9 where the value is above 1, then 12 where a subdomain was made, then 14 at the greatest depth.
 pub fn allow_sub(ctx: &Ctx, value: u32) -> Result<Kind, u8>
     ensures value { result ≡ sub_allowed ctx.now value }
-    ensures depth { OnOk result (ctx.now.depth ≢ max_depth) }
+    ensures depth { OnOk result (ctx.now.depth ≢ MAX_DEPTH) }
 {
     if value > 1 {
         return Err(9);
@@ -104,7 +102,7 @@ pub fn allow_sub(ctx: &Ctx, value: u32) -> Result<Kind, u8>
 /// Whether a task may emit one byte more by call 5; trap 16 exactly where it has emitted 256.
 pub fn allow_byte(ctx: &Ctx) -> Result<(), u8>
     ensures value { result ≡ byte_allowed ctx.now }
-    ensures room { OnOk result (ctx.now.bytes < max_bytes) }
+    ensures room { OnOk result (ctx.now.bytes < MAX_BYTES) }
 {
     if ctx.bytes < MAX_BYTES {
         Ok(())

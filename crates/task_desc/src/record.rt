@@ -2,7 +2,6 @@ ghost use Rattle.std.specs.Prelude.{◌≡◌, true, ◌+◌, ◌≤◌, ◌^◌
 ghost use Rattle.std.specs.Bool.{OnTrue};
 ghost use Rattle.std.specs.List.{list_all};
 ghost use Rattle.guest_image.specs.Numbers.{word_at, half_at, word_bytes, half_bytes};
-ghost use Rattle.task_desc.specs.Calls.{max_depth};
 ghost use Rattle.task_desc.specs.Record.{IsDesc, record_of, fields_of, is_record, desc_of};
 
 use crate::calls::MAX_DEPTH;
@@ -84,15 +83,15 @@ pub fn get_desc(bytes: &[u8; RECORD_BYTES]) -> Option<Desc>
 #[tactic(auto, unfolding(crate::specs::Record::is_record, crate::specs::Record::fields_of))]
 fn is_valid(bytes: &[u8; RECORD_BYTES]) -> bool
     ensures value { result ≡ is_record bytes.now }
-    ensures shallow { OnTrue result (half_at bytes.now 32 ≤ max_depth) }
+    ensures shallow { OnTrue result (half_at bytes.now 32 ≤ MAX_DEPTH) }
 {
     is_of_path(half(bytes, 32), half(bytes, 34)) && is_zero(&bytes[PADDING..])
 }
 
 /// Whether the depth is that of a domain, and `kinds` has no bit at or past it.
 fn is_of_path(depth: u16, kinds: u16) -> bool
-    ensures value { result ≡ (nat_le 1 depth && nat_le depth max_depth && nat_lt kinds (2 ^ depth)) }
-    ensures shallow { OnTrue result (depth ≤ max_depth) }
+    ensures value { result ≡ (nat_le 1 depth && nat_le depth MAX_DEPTH && nat_lt kinds (2 ^ depth)) }
+    ensures shallow { OnTrue result (depth ≤ MAX_DEPTH) }
 {
     1 <= depth && depth <= u16::from(MAX_DEPTH) && u32::from(kinds) < 1 << depth
 }
@@ -106,7 +105,7 @@ fn is_zero(bytes: &[u8]) -> bool
 /// The descriptor whose fields stand in the bytes of a record.
 #[tactic(auto, unfolding(crate::specs::Record::fields_of))]
 fn fields(bytes: &[u8; RECORD_BYTES]) -> Desc
-    requires { half_at bytes.now 32 ≤ max_depth }
+    requires { half_at bytes.now 32 ≤ MAX_DEPTH }
     ensures { result ≡ fields_of bytes.now }
 {
     Desc {

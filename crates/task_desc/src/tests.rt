@@ -1,6 +1,9 @@
 use crate::{Ctx, Desc, Name, Place, Spawn, allow, allow_byte, allow_sub, get_desc, put_desc};
 use guest_image::Kind;
 
+/// Takes what may go to another thread.
+fn is_sent<T: Send>(_value: &T) {}
+
 #[test]
 fn a_record_is_read_back(rt: HostRuntime) {
     let desc = Desc {
@@ -19,6 +22,7 @@ fn a_record_is_read_back(rt: HostRuntime) {
         0, 0, 1, 0, 5, 0, 0, 0, 1, 0, 0, 0, 2, 0, 0, 0, 3, 0, 0, 0, 7, 0, 0, 0, 1, 0, 0, 0, 2, 0,
         0, 0, 2, 0, 3, 0,
     ];
+    is_sent(&desc);
     let mut record = put_desc(&desc);
     assert!(rt; record.starts_with(&fields) && record.ends_with(&[0; 28]));
     assert_eq!(rt; get_desc(&record), Some(desc));

@@ -1,4 +1,5 @@
 pub mod Advance
+pub mod Asking
 pub mod Taken
 pub mod Spill
 pub mod Coalesce

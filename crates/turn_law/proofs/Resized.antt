@@ -8,9 +8,11 @@ use Rattle.memory_law.specs.Accesses.{Replays}
 use Rattle.memory_law.proofs.Joins.{length-replayed}
 use Rattle.memory_law.proofs.Replays.{Replays-front, Replays-back}
 use Rattle.rv_core.specs.declared.state.Core.{Core}
+use Rattle.rv_core.specs.declared.state.Stop.{Stop}
 use Rattle.rv_core.specs.declared.state.Stop.TheVariants as stop
 use Rattle.rv_core.specs.Legs.{next_at, word_next, instr_next, effect_next, load_next, traps}
-use Rattle.rv_core.specs.Memory.{data_start, is_within, load_bytes, store_bytes}
+use Rattle.guest_image.specs.declared.memory_map.TheConstants.{DATA_START}
+use Rattle.rv_core.specs.Memory.{is_within, load_bytes, store_bytes}
 use Rattle.rv_core.specs.Next.{Next, Goes, Stops}
 use Rattle.rv_table.specs.declared.instr.Effect.{Effect}
 use Rattle.rv_table.specs.declared.instr.Effect.TheVariants as does
@@ -18,16 +20,20 @@ use Rattle.rv_table.specs.declared.instr.Instr.{Instr}
 use Rattle.rv_table.specs.declared.instr.LoadWidth.{LoadWidth}
 use Rattle.rv_table.specs.Exec.{acts_on}
 use Rattle.rv_table.specs.Table.{decoded}
-use Rattle.serial_machine.specs.TaskState.{TaskState}
+use Rattle.task_step.specs.declared.request.Request.{Request}
+use Rattle.task_step.specs.declared.request.Request.TheVariants as ask
+use Rattle.task_step.specs.Conditions.{IsCall}
+use Rattle.task_step.specs.TaskState.{TaskState, context}
+use Rattle.task_step.proofs.Asked.{request_at-call, request_at-end, request_at-load, request_at-store}
 use Rattle.task_desc.specs.declared.desc.Ctx.{Ctx}
-use Rattle.turn_law.specs.Logged.{LoggedRun, none, plain, call, load, store}
+use Rattle.turn_law.specs.Logged.{Asks, LoggedRun, none, plain, call, load, store}
 use Rattle.undo_log.specs.declared.access.Access.{Access}
 
 -- what stands next is no trap, and an access ends within so many bytes of data
 abbrev Reaches : ℕ → Next → Type 0
 Reaches size (Goes core) = Unit {0}
-Reaches size (Stops (stop.Load width rd addr)) = addr + load_bytes width ≤ data_start + size
-Reaches size (Stops (stop.Store width addr value)) = addr + store_bytes width ≤ data_start + size
+Reaches size (Stops (stop.Load width rd addr)) = addr + load_bytes width ≤ DATA_START + size
+Reaches size (Stops (stop.Store width addr value)) = addr + store_bytes width ≤ DATA_START + size
 Reaches size (Stops stop.Call) = Unit {0}
 Reaches size (Stops (stop.Trap cause pc)) = ⊥
 Reaches size (Stops stop.Quantum) = Unit {0}
@@ -53,7 +59,7 @@ module _ (text : List ℕ) (size other budget : ℕ) (core : Core) where
   load_same : (width : LoadWidth) (rd addr : ℕ) (raw : Option ℕ) → Reaches other (load_next size core width rd addr raw)
       → load_next other core width rd addr raw ≡ load_next size core width rd addr raw
   load_same width rd addr (Some raw) reaches = refl
-  load_same width rd addr None reaches = in_range data_start addr (load_bytes width) (Stops (stop.Load width rd addr)) 5 (λ reach. reach) reaches
+  load_same width rd addr None reaches = in_range DATA_START addr (load_bytes width) (Stops (stop.Load width rd addr)) 5 (λ reach. reach) reaches
 
   -- a test whose other branch is a trap
   either_same : (b : Bool) (cause : ℕ) (one two : Next) → (Reaches other two → one ≡ two) → Reaches other (if b then traps core cause else two)
@@ -70,9 +76,9 @@ module _ (text : List ℕ) (size other budget : ℕ) (core : Core) where
       (load_same width rd addr (text_loaded text addr (load_bytes width))) reaches
   effect_same (does.Store width addr value) reaches =
       either_same (not (addr % store_bytes width == 0)) 6
-      (if is_within data_start other addr (store_bytes width) then Stops (stop.Store width addr value) else traps core 7)
-      (if is_within data_start size addr (store_bytes width) then Stops (stop.Store width addr value) else traps core 7)
-      (in_range data_start addr (store_bytes width) (Stops (stop.Store width addr value)) 7 (λ reach. reach)) reaches
+      (if is_within DATA_START other addr (store_bytes width) then Stops (stop.Store width addr value) else traps core 7)
+      (if is_within DATA_START size addr (store_bytes width) then Stops (stop.Store width addr value) else traps core 7)
+      (in_range DATA_START addr (store_bytes width) (Stops (stop.Store width addr value)) 7 (λ reach. reach)) reaches
   effect_same does.Call reaches = refl
   effect_same does.Break reaches = absurd reaches
   effect_same does.Misaligned reaches = absurd reaches
@@ -112,20 +118,53 @@ module _ (image : ImageValue) (budget size : ℕ) (ctx : Ctx) (start : TaskState
       let fits = (Replays-back memory log (access ∷ []) chain).0 in
       omega (arith, fits.within, length-replayed memory log)
 
+  -- what a task asks for at one size it asks for at the memory's, where it reaches no further
+  asks_on : {task : TaskState} {request : Request} (asks : Asks image budget size ctx task request) → Reaches (length memory) (Stops asks.found)
+      → Asks image budget (length memory) ctx task request
+  asks_on {task} asks reaches = record {
+    found = asks.found;
+    stands = stands_so image.text size (length memory) budget task.core (Stops asks.found) asks.stands reaches;
+    asks = asks.asks;
+  }
+
+  call_on : {task : TaskState} {request : Request} → Asks image budget size ctx task request → IsCall request → Asks image budget (length memory) ctx task request
+  call_on {task} asks is_call =
+      let at_call = request_at-call (context ctx task) task.core asks.found (subst IsCall (sym asks.asks) is_call) in
+      let Near : Stop → Type 0 = λ found. Reaches (length memory) (Stops found) in
+      asks_on asks (subst Near (sym at_call) tt)
+
+  -- an end call
+  pub end_on : {task : TaskState} → Asks image budget size ctx task ask.End → Asks image budget (length memory) ctx task ask.End
+  end_on {task} asks =
+      let at_call = request_at-end (context ctx task) task.core asks.found asks.asks in
+      let Near : Stop → Type 0 = λ found. Reaches (length memory) (Stops found) in
+      asks_on asks (subst Near (sym at_call) tt)
+
+  load_on : {task : TaskState} (access : Access) {width : LoadWidth} {rd : ℕ} → Asks image budget size ctx task (ask.Load width rd access.offset)
+      → access.width ≡ load_bytes width → access.offset + access.width ≤ length memory
+      → Asks image budget (length memory) ctx task (ask.Load width rd access.offset)
+  load_on {task} access {width} {rd} asks is_width room =
+      let at = request_at-load (context ctx task) task.core asks.found width rd access.offset asks.asks in
+      let Near : Stop → Type 0 = λ found. Reaches (length memory) (Stops found) in
+      asks_on asks (subst Near (sym at.is) (ends_within DATA_START at.addr access.offset access.width (load_bytes width) (length memory) at.offset_is is_width room))
+
+  store_on : {task : TaskState} (access : Access) {value : ℕ} → Asks image budget size ctx task (ask.Store access.offset access.width value)
+      → access.offset + access.width ≤ length memory → Asks image budget (length memory) ctx task (ask.Store access.offset access.width value)
+  store_on {task} access {value} asks room =
+      let at = request_at-store (context ctx task) task.core asks.found access.offset access.width value asks.asks in
+      let Near : Stop → Type 0 = λ found. Reaches (length memory) (Stops found) in
+      asks_on asks (subst Near (sym at.is) (ends_within DATA_START at.addr access.offset access.width (store_bytes at.width) (length memory) at.offset_is at.bytes_is room))
+
   -- each step of the run is one on the memory
   pub logged_on : {log : List Access} {task : TaskState} → LoggedRun image budget size ctx start log task → Replays memory log
       → LoggedRun image budget (length memory) ctx start log task
   logged_on none chain = none
   logged_on (plain {log} {task} core run at) chain = plain core (logged_on run chain) (stands_so image.text size (length memory) budget task.core (Goes core) at tt)
-  logged_on (call {log} {task} after run at goes) chain =
-      call after (logged_on run chain) (stands_so image.text size (length memory) budget task.core (Stops stop.Call) at tt) goes
-  logged_on (load {log} {task} access width rd addr run at is_offset is_width is_load) chain =
-      load access width rd addr (logged_on run (Replays-front memory log (access ∷ []) chain))
-      (stands_so image.text size (length memory) budget task.core (Stops (stop.Load width rd addr)) at
-      (ends_within data_start addr access.offset access.width (load_bytes width) (length memory) is_offset is_width (last_room log access chain)))
-      is_offset is_width is_load
-  logged_on (store {log} {task} access width addr value run at is_offset is_width is_store) chain =
-      store access width addr value (logged_on run (Replays-front memory log (access ∷ []) chain))
-      (stands_so image.text size (length memory) budget task.core (Stops (stop.Store width addr value)) at
-      (ends_within data_start addr access.offset access.width (store_bytes width) (length memory) is_offset is_width (last_room log access chain)))
-      is_offset is_width is_store
+  logged_on (call {log} {task} request after run asks is_call goes) chain =
+      call request after (logged_on run chain) (call_on asks is_call) is_call goes
+  logged_on (load {log} {task} access width rd run asks is_width is_load) chain =
+      load access width rd (logged_on run (Replays-front memory log (access ∷ []) chain))
+      (load_on access asks is_width (last_room log access chain)) is_width is_load
+  logged_on (store {log} {task} access value run asks is_store) chain =
+      store access value (logged_on run (Replays-front memory log (access ∷ []) chain))
+      (store_on access asks (last_room log access chain)) is_store

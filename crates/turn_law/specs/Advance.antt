@@ -28,7 +28,8 @@ pub data Moves (budget : ℕ) : Standing → Standing → Type 0 where
 -- so many events, one after another, a commit aside
 pub data MovesOn (budget : ℕ) (first : Standing) : ℕ → Standing → Type 0 where
   stays : MovesOn budget first 0 first
-  moves : {n : ℕ} {mid : Standing} (last : Standing) → MovesOn budget first n mid → Moves budget mid last → MovesOn budget first (n + 1) last
+  moves : {n : ℕ} {mid : Standing} (last : Standing) → MovesOn budget first n mid → Moves budget mid last
+      → MovesOn budget first (n + 1) last
 
 -- each event for the least task brings it nearer to its commit
 abbrev pub EventsAdvance : Type 0

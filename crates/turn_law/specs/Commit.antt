@@ -17,11 +17,13 @@ Stands (bag ∷ outer) depth p = ((bag.depth ≡ depth) × In p bag.tasks) ⊎ S
 
 -- the free tasks are the pending tasks of the bags, each at its depth
 abbrev pub Matches : ℕ → (ℕ → Option Task) → List SpilledTask → List BagValue → Type 0
-Matches count tasks spilled stack = (depth : ℕ) (p : PendingTask) → IsFree tasks (IsSpilled spilled) count depth p ↔ Stands stack depth p
+Matches count tasks spilled stack =
+    (depth : ℕ) (p : PendingTask) → IsFree tasks (IsSpilled spilled) count depth p ↔ Stands stack depth p
 
 -- a queued free task below all others: no free task is deeper, and none of its depth has a smaller timestamp
 -- (Subramanian et al. 2017: a subdomain commits whole before the tasks outside it)
-pub record IsLeast (count : ℕ) (tasks : ℕ → Option Task) (spilled : List SpilledTask) (id : ℕ) (task : Task) (turn index : ℕ) : Type 0 where
+pub record IsLeast (count : ℕ) (tasks : ℕ → Option Task) (spilled : List SpilledTask) (id : ℕ) (task : Task)
+    (turn index : ℕ) : Type 0 where
   pub there : tasks id ≡ Some task
   pub creator : task.creator ≡ Committed turn index
   pub deepest : (depth : ℕ) (p : PendingTask) → IsFree tasks (IsSpilled spilled) count depth p → depth ≤ task.depth
@@ -37,8 +39,10 @@ pub record HasTurn (stack : List BagValue) (depth : ℕ) (task : PendingTask) : 
 -- the least task may take the next turn
 abbrev pub LeastHasTurn : Type 0
 LeastHasTurn =
-    (count least id turn index : ℕ) (runs : Bool) (tasks : ℕ → Option Task) (spilled : List SpilledTask) (stack : List BagValue) (task : Task)
-    → AreSound count least runs tasks spilled → Matches count tasks spilled stack → IsStack stack → IsLeast count tasks spilled id task turn index
+    (count least id turn index : ℕ) (runs : Bool) (tasks : ℕ → Option Task) (spilled : List SpilledTask)
+    (stack : List BagValue) (task : Task)
+    → AreSound count least runs tasks spilled → Matches count tasks spilled stack → IsStack stack
+    → IsLeast count tasks spilled id task turn index
     → HasTurn stack task.depth (pending turn index task.body task.ts)
 
 -- a queued child whose creator has committed as the n-th
@@ -48,13 +52,15 @@ with_turn task turn index = record task { creator = Committed turn index }
 -- the task leaves, its queued children are those of the turn, and all others stay
 pub record Commits (old new : ℕ → Option Task) (id turn : ℕ) : Type 0 where
   pub gone : new id ≡ None
-  pub children : (k : ℕ) (x : Task) (index : ℕ) → k ≢ id → old k ≡ Some x → x.creator ≡ Live id index → new k ≡ Some (with_turn x turn index)
+  pub children : (k : ℕ) (x : Task) (index : ℕ) → k ≢ id → old k ≡ Some x → x.creator ≡ Live id index
+      → new k ≡ Some (with_turn x turn index)
   pub others : (k : ℕ) (x : Task) → k ≢ id → old k ≡ Some x → ((index : ℕ) → x.creator ≢ Live id index) → new k ≡ Some x
   pub none : (k : ℕ) → old k ≡ None → new k ≡ None
 
 -- a child for a subdomain has one, and a child for the superdomain has one: the calls of a task allow no other
 pub record HaveDomains (depth : ℕ) (sub : Option Kind) (spawns : List Spawn) : Type 0 where
-  pub inside : (index : ℕ) (spawn : Spawn) → slice_get spawns index ≡ Some spawn → spawn.place ≡ Sub → (kind : Kind) × (sub ≡ Some kind)
+  pub inside : (index : ℕ) (spawn : Spawn) → slice_get spawns index ≡ Some spawn → spawn.place ≡ Sub
+      → (kind : Kind) × (sub ≡ Some kind)
   pub outside : (index : ℕ) (spawn : Spawn) → slice_get spawns index ≡ Some spawn → spawn.place ≡ Super → 2 ≤ depth
 
 -- a dispatched task with a committed creator commits as the next turn
@@ -67,8 +73,10 @@ pub record IsNextTurn (count : ℕ) (old new : ℕ → Option Task) (id : ℕ) (
 -- where a task that may take the next turn commits, the free tasks are the pending ones of the stack after that turn
 abbrev pub CommitIsTurn : Type 0
 CommitIsTurn =
-    (count id turn index : ℕ) (old new : ℕ → Option Task) (spilled : List SpilledTask) (stack : List BagValue) (task : Task) (sub : Option Kind)
-    → AreSound count id true old spilled → Matches count old spilled stack → IsStack stack → IsNextTurn count old new id task turn index
+    (count id turn index : ℕ) (old new : ℕ → Option Task) (spilled : List SpilledTask) (stack : List BagValue)
+    (task : Task) (sub : Option Kind)
+    → AreSound count id true old spilled → Matches count old spilled stack → IsStack stack
+    → IsNextTurn count old new id task turn index
     → HaveDomains task.depth sub task.spawns → (next : HasTurn stack task.depth (pending turn index task.body task.ts))
     → Matches (count + 1) new spilled
     (stack_after next.bag next.outer (record { creator = turn; index = index }) (count + 1) task.ts task.spawns sub)

@@ -32,22 +32,35 @@ first_kind (d ∷ ds) = Some d.kind
 -- what the calls of a task depend on as it starts, by its own domain and those outside it
 abbrev pub start_context : Domain → List Domain → ℕ → Ctx
 start_context own outer ts =
-    record { depth = length outer + 1; own = own.kind; outer = first_kind outer; ts = ts; floor = own.floor; sub = None; children = 0; bytes = 0 }
+    record {
+      depth = length outer + 1;
+      own = own.kind;
+      outer = first_kind outer;
+      ts = ts;
+      floor = own.floor;
+      sub = None;
+      children = 0;
+      bytes = 0;
+    }
 
 -- a task whose domains are those of the bags has in its own machine what the calls of its serial turn depend on
 abbrev pub ContextFits : Type 0
 ContextFits =
-    (stack : List BagValue) (task : PendingTask) (own : Domain) (outer : List Domain) → IsStack stack → FitsBags (own ∷ outer) stack
-    → (next : HasTurn stack (length outer + 1) task) → context_of next.bag next.outer task ≡ start_context own outer task.ts
+    (stack : List BagValue) (task : PendingTask) (own : Domain) (outer : List Domain) → IsStack stack
+    → FitsBags (own ∷ outer) stack
+    → (next : HasTurn stack (length outer + 1) task)
+    → context_of next.bag next.outer task ≡ start_context own outer task.ts
 
 -- the domains of a child: those of its creator, or a new one more, whose floor is the creator's timestamp, or one fewer
 abbrev pub ChildDomains : List Domain → ℕ → Option Kind → Place → List Domain → Type 0
 ChildDomains own ts sub Same child = child ≡ own
-ChildDomains own ts sub Sub child = (kind : Kind) × (sub ≡ Some kind) × (child ≡ record { kind = kind; floor = ts } ∷ own)
+ChildDomains own ts sub Sub child =
+    (kind : Kind) × (sub ≡ Some kind) × (child ≡ record { kind = kind; floor = ts } ∷ own)
 ChildDomains own ts sub Super child = (d : Domain) × (own ≡ d ∷ child)
 
 -- from one stack to the next, the domains of tasks that are no deeper than this stay, and those of the children are there
-pub record KeepsDomains (depth ts : ℕ) (own : List Domain) (sub : Option Kind) (spawns : List Spawn) (old new : List BagValue) : Type 0 where
+pub record KeepsDomains (depth ts : ℕ) (own : List Domain) (sub : Option Kind) (spawns : List Spawn)
+    (old new : List BagValue) : Type 0 where
   pub others : (domains : List Domain) → length domains ≤ depth → FitsBags domains old → FitsBags domains new
   pub children : (index : ℕ) (spawn : Spawn) (domains : List Domain) → slice_get spawns index ≡ Some spawn
       → ChildDomains own ts sub spawn.place domains → FitsBags domains new
@@ -55,6 +68,8 @@ pub record KeepsDomains (depth ts : ℕ) (own : List Domain) (sub : Option Kind)
 -- a turn keeps the domains of the other free tasks, and makes those of its children
 abbrev pub TurnKeepsDomains : Type 0
 TurnKeepsDomains =
-    (stack : List BagValue) (task : PendingTask) (own : List Domain) (depth n : ℕ) (spawns : List Spawn) (sub : Option Kind)
-    → IsStack stack → FitsBags own stack → length own ≡ depth → HaveDomains depth sub spawns → (next : HasTurn stack depth task)
+    (stack : List BagValue) (task : PendingTask) (own : List Domain) (depth n : ℕ) (spawns : List Spawn)
+    (sub : Option Kind)
+    → IsStack stack → FitsBags own stack → length own ≡ depth → HaveDomains depth sub spawns
+    → (next : HasTurn stack depth task)
     → KeepsDomains depth task.ts own sub spawns stack (stack_after next.bag next.outer task.name n task.ts spawns sub)

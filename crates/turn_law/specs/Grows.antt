@@ -18,14 +18,23 @@ pub record Starts (old new : ℕ → Option Task) (id : ℕ) (task : Task) : Typ
 -- it is from then on
 abbrev pub DispatchKeepsTasks : Type 0
 DispatchKeepsTasks =
-    (old new : ℕ → Option Task) (spilled : List SpilledTask) (count least id : ℕ) (task : Task) (runs now : Bool) → Starts old new id task
+    (old new : ℕ → Option Task) (spilled : List SpilledTask) (count least id : ℕ) (task : Task) (runs now : Bool)
+    → Starts old new id task
     → (id ≡ least → runs ≡ false) → (runs ≡ true → now ≡ true)
-    → SameFree count old spilled new spilled × (AreSound count least runs old spilled → AreSound count least now new spilled)
+    → SameFree count old spilled new spilled
+    × (AreSound count least runs old spilled → AreSound count least now new spilled)
 
 -- the new child, which is the next one of its creator
 abbrev pub made_by : ℕ → Task → Spawn → ℕ → Task
 made_by id task spawn depth =
-    record { depth = depth; body = spawn_body spawn; ts = spawn.ts; creator = Live id (length task.spawns); dispatched = false; spawns = [] }
+    record {
+      depth = depth;
+      body = spawn_body spawn;
+      ts = spawn.ts;
+      creator = Live id (length task.spawns);
+      dispatched = false;
+      spawns = [];
+    }
 
 -- a dispatched task enqueues a child, which is queued under an id that was unused
 pub record Enqueues (old new : ℕ → Option Task) (id child : ℕ) (task : Task) (spawn : Spawn) (depth : ℕ) : Type 0 where
@@ -40,12 +49,15 @@ pub record Enqueues (old new : ℕ → Option Task) (id child : ℕ) (task : Tas
 -- an enqueue leaves the free tasks as they are, names apart, families whole and spilled tasks firm
 abbrev pub EnqueueKeepsTasks : Type 0
 EnqueueKeepsTasks =
-    (old new : ℕ → Option Task) (spilled : List SpilledTask) (count least id child : ℕ) (task : Task) (spawn : Spawn) (depth : ℕ) (runs : Bool)
+    (old new : ℕ → Option Task) (spilled : List SpilledTask) (count least id child : ℕ) (task : Task)
+    (spawn : Spawn) (depth : ℕ) (runs : Bool)
     → Enqueues old new id child task spawn depth
-    → SameFree count old spilled new spilled × (AreSound count least runs old spilled → AreSound count least runs new spilled)
+    → SameFree count old spilled new spilled
+    × (AreSound count least runs old spilled → AreSound count least runs new spilled)
 
 -- a task with a committed creator, as one of the image has, is placed in a queue; no other task has its name
-pub record Places (count : ℕ) (old new : ℕ → Option Task) (spilled : List SpilledTask) (id : ℕ) (task : Task) (turn index : ℕ) : Type 0 where
+pub record Places (count : ℕ) (old new : ℕ → Option Task) (spilled : List SpilledTask) (id : ℕ) (task : Task)
+    (turn index : ℕ) : Type 0 where
   pub unused : old id ≡ None
   pub now : new id ≡ Some task
   pub others : (k : ℕ) → k ≢ id → new k ≡ old k
@@ -61,9 +73,12 @@ PlacementKeepsTasks =
     (old new : ℕ → Option Task) (spilled : List SpilledTask) (count least id turn index : ℕ) (task : Task) (runs : Bool)
     → Places count old new spilled id task turn index
     → ((depth : ℕ) (p : PendingTask) → IsFree new (IsSpilled spilled) count depth p
-    ↔ (IsFree old (IsSpilled spilled) count depth p ⊎ ((depth ≡ task.depth) × (p ≡ pending turn index task.body task.ts))))
+    ↔ (IsFree old (IsSpilled spilled) count depth p
+    ⊎ ((depth ≡ task.depth) × (p ≡ pending turn index task.body task.ts))))
     × (AreSound count least runs old spilled → AreSound count least runs new spilled)
 
 -- where there is no task, names are apart, families whole and spilled tasks firm
 abbrev pub NoTasksAreSound : Type 0
-NoTasksAreSound = (count least : ℕ) (runs : Bool) (tasks : ℕ → Option Task) → ((id : ℕ) → tasks id ≡ None) → AreSound count least runs tasks []
+NoTasksAreSound =
+    (count least : ℕ) (runs : Bool) (tasks : ℕ → Option Task) → ((id : ℕ) → tasks id ≡ None)
+    → AreSound count least runs tasks []

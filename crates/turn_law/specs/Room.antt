@@ -16,17 +16,20 @@ IsFirm heir task = (task.creator ≡ None) ⊎ ((l : ℕ) × (task.creator ≡ S
 
 -- an idle firm task of the queue
 abbrev pub IsMovable : (ℕ → Option Waiting) → Option ℕ → List ℕ → ℕ → Type 0
-IsMovable tasks heir queue k = In k queue × (task : Waiting) × (tasks k ≡ Some task) × (task.dispatched ≡ false) × IsFirm heir task
+IsMovable tasks heir queue k =
+    In k queue × (task : Waiting) × (tasks k ≡ Some task) × (task.dispatched ≡ false) × IsFirm heir task
 
 abbrev pub NoneMoves : (ℕ → Option Waiting) → Option ℕ → List ℕ → Type 0
 NoneMoves tasks heir queue = (k : ℕ) → IsMovable tasks heir queue k → ⊥
 
 -- the victim: the latest task of the queue other than the one that asks
-pub record IsVictim (tasks : ℕ → Option Waiting) (queue : List ℕ) (asker : Option ℕ) (v : ℕ) (task : Waiting) : Type 0 where
+pub record IsVictim (tasks : ℕ → Option Waiting) (queue : List ℕ) (asker : Option ℕ) (v : ℕ)
+    (task : Waiting) : Type 0 where
   pub there : tasks v ≡ Some task
   pub queued : In v queue
   pub other : asker ≢ Some v
-  pub latest : (k : ℕ) (x : Waiting) → In k queue → asker ≢ Some k → tasks k ≡ Some x → levels_cmp x.levels task.levels ≢ Greater
+  pub latest : (k : ℕ) (x : Waiting) → In k queue → asker ≢ Some k → tasks k ≡ Some x
+      → levels_cmp x.levels task.levels ≢ Greater
 
 -- which task is aborted for the victim: itself where it is firm, and else its creator
 abbrev pub IsFirst : Option ℕ → ℕ → Waiting → ℕ → Type 0
@@ -34,10 +37,13 @@ IsFirst heir v task first = (IsFirm heir task × (first ≡ v)) ⊎ ((IsFirm hei
 
 -- the rule that a queue of this capacity comes to: an entry is free; or an idle firm task moves; or the asker, which is not the least
 -- task, stalls; or a victim is aborted for it
-pub data Rule (tasks : ℕ → Option Waiting) (heir : Option ℕ) (queue : List ℕ) (capacity : ℕ) (asker : Option ℕ) (is_least : Bool) : Type 0 where
+pub data Rule (tasks : ℕ → Option Waiting) (heir : Option ℕ) (queue : List ℕ) (capacity : ℕ) (asker : Option ℕ)
+    (is_least : Bool) : Type 0 where
   Free : length queue < capacity → Rule tasks heir queue capacity asker is_least
-  Coalesces : length queue ≡ capacity → (k : ℕ) → IsMovable tasks heir queue k → Rule tasks heir queue capacity asker is_least
-  Stalls : length queue ≡ capacity → NoneMoves tasks heir queue → is_least ≡ false → Rule tasks heir queue capacity asker is_least
+  Coalesces : length queue ≡ capacity → (k : ℕ) → IsMovable tasks heir queue k
+      → Rule tasks heir queue capacity asker is_least
+  Stalls : length queue ≡ capacity → NoneMoves tasks heir queue → is_least ≡ false
+      → Rule tasks heir queue capacity asker is_least
   Takes : length queue ≡ capacity → NoneMoves tasks heir queue → is_least ≡ true → (v : ℕ) (task : Waiting) (first : ℕ)
       → IsVictim tasks queue asker v task → IsFirst heir v task first → Rule tasks heir queue capacity asker is_least
 
@@ -59,13 +65,16 @@ SomeRuleApplies =
 
 -- a creator that is to commit yet is dispatched
 abbrev pub CreatorsRun : (ℕ → Option Waiting) → Type 0
-CreatorsRun tasks = (k c : ℕ) (x : Waiting) → tasks k ≡ Some x → x.creator ≡ Some c → (y : Waiting) × (tasks c ≡ Some y) × (y.dispatched ≡ true)
+CreatorsRun tasks =
+    (k c : ℕ) (x : Waiting) → tasks k ≡ Some x → x.creator ≡ Some c
+    → (y : Waiting) × (tasks c ≡ Some y) × (y.dispatched ≡ true)
 
 -- the asker is the least task: queued, and then it is the heir, or spilled, and then there is none; its levels are these, and each other
 -- dispatched task is above them
 pub record AsksAsLeast (tasks : ℕ → Option Waiting) (heir asker : Option ℕ) (low : List Open) : Type 0 where
   pub is_heir : asker ≡ heir
-  pub others_above : (k : ℕ) (x : Waiting) → tasks k ≡ Some x → asker ≢ Some k → x.dispatched ≡ true → levels_cmp low x.levels ≡ Less
+  pub others_above : (k : ℕ) (x : Waiting) → tasks k ≡ Some x → asker ≢ Some k → x.dispatched ≡ true
+      → levels_cmp low x.levels ≡ Less
 
 -- a task that may be aborted for the least one: it is dispatched, is not the asker, and is above it
 pub record MayAbort (tasks : ℕ → Option Waiting) (asker : Option ℕ) (low : List Open) (first : ℕ) : Type 0 where
@@ -78,8 +87,10 @@ pub record MayAbort (tasks : ℕ → Option Waiting) (asker : Option ℕ) (low :
 -- what is aborted for a victim may be aborted
 abbrev pub VictimIsLegal : Type 0
 VictimIsLegal =
-    (tasks : ℕ → Option Waiting) (heir : Option ℕ) (queue : List ℕ) (asker : Option ℕ) (low : List Open) (v first : ℕ) (task : Waiting)
-    → CreatorsRun tasks → AsksAsLeast tasks heir asker low → NoneMoves tasks heir queue → IsVictim tasks queue asker v task → IsFirst heir v task first
+    (tasks : ℕ → Option Waiting) (heir : Option ℕ) (queue : List ℕ) (asker : Option ℕ) (low : List Open)
+    (v first : ℕ) (task : Waiting)
+    → CreatorsRun tasks → AsksAsLeast tasks heir asker low → NoneMoves tasks heir queue
+    → IsVictim tasks queue asker v task → IsFirst heir v task first
     → MayAbort tasks asker low first
 
 -- with each member a set holds its children
@@ -105,10 +116,12 @@ queue_after new (k ∷ ks) = kept_by (is_some (new k)) k (queue_after new ks)
 -- after the cascade of a victim the queue is shorter, or an idle firm task stands in it, which moves
 abbrev pub VictimMakesRoom : Type 0
 VictimMakesRoom =
-    (tasks new : ℕ → Option Waiting) (heir : Option ℕ) (queue : List ℕ) (asker : Option ℕ) (low : List Open) (v first : ℕ) (task : Waiting)
+    (tasks new : ℕ → Option Waiting) (heir : Option ℕ) (queue : List ℕ) (asker : Option ℕ) (low : List Open)
+    (v first : ℕ) (task : Waiting)
     (set : ℕ → Bool) (reopened : Waiting → List Open)
     → AsksAsLeast tasks heir asker low → IsVictim tasks queue asker v task → IsFirst heir v task first
-    → set first ≡ true → HoldsChildren set tasks → ((l : ℕ) → asker ≡ Some l → set l ≡ false) → TakenBack set reopened tasks new
+    → set first ≡ true → HoldsChildren set tasks → ((l : ℕ) → asker ≡ Some l → set l ≡ false)
+    → TakenBack set reopened tasks new
     → (length (queue_after new queue) < length queue) ⊎ IsMovable new heir (queue_after new queue) v
 
 -- each is no greater than those behind it
@@ -122,7 +135,8 @@ pub record IsChosen (tasks : ℕ → Option Waiting) (heir : Option ℕ) (queue 
   pub movable : (k : ℕ) → In k chosen → IsMovable tasks heir queue k
   pub few : length chosen ≤ 8
   pub all : length chosen < 8 → (k : ℕ) → IsMovable tasks heir queue k → In k chosen
-  pub latest : (j k : ℕ) (x y : Waiting) → In j chosen → IsMovable tasks heir queue k → (In k chosen → ⊥) → tasks j ≡ Some x → tasks k ≡ Some y → levels_cmp y.levels x.levels ≢ Greater
+  pub latest : (j k : ℕ) (x y : Waiting) → In j chosen → IsMovable tasks heir queue k → (In k chosen → ⊥)
+      → tasks j ≡ Some x → tasks k ≡ Some y → levels_cmp y.levels x.levels ≢ Greater
   pub rising : IsRising tasks chosen
 
 -- where something moves, a coalescing makes the queue shorter

@@ -11,7 +11,8 @@ AreDistinct tasks = (a b : ℕ) (x y : Task) → tasks a ≡ Some x → tasks b 
 -- no queued task has the name of a spilled one
 abbrev pub AreApart : ℕ → ℕ → (ℕ → Option Task) → (ℕ → PendingTask → Type 0) → Type 0
 AreApart count least tasks spilled =
-    (id : ℕ) (x : Task) (name : Name) (depth : ℕ) (p : PendingTask) → tasks id ≡ Some x → Names count least x.creator name → spilled depth p → p.name ≢ name
+    (id : ℕ) (x : Task) (name : Name) (depth : ℕ) (p : PendingTask) → tasks id ≡ Some x
+    → Names count least x.creator name → spilled depth p → p.name ≢ name
 
 -- the name is none of a list of spilled tasks
 abbrev pub IsFresh : Name → List SpilledTask → Type 0
@@ -24,24 +25,32 @@ NamesDiffer (e ∷ es) = IsFresh e.task.name es × NamesDiffer es
 
 -- a spilled task is firm: its creator is committed, or is the least task, which is dispatched then
 abbrev pub AreFirm : ℕ → Bool → (ℕ → PendingTask → Type 0) → Type 0
-AreFirm count runs spilled = (depth : ℕ) (p : PendingTask) → spilled depth p → (p.name.creator ≤ count) ⊎ ((p.name.creator ≡ count + 1) × (runs ≡ true))
+AreFirm count runs spilled =
+    (depth : ℕ) (p : PendingTask) → spilled depth p
+    → (p.name.creator ≤ count) ⊎ ((p.name.creator ≡ count + 1) × (runs ≡ true))
 
 -- creators that have committed took one of the turns so far, names are apart, spilled tasks are firm, and the children of each dispatched task are those that it has enqueued;
 -- `least` is the id of the least task, and `runs` says whether it is dispatched
-pub record AreSound (count least : ℕ) (runs : Bool) (tasks : ℕ → Option Task) (spilled : List SpilledTask) : Type 0 where
-  pub counted : (id : ℕ) (task : Task) (turn index : ℕ) → tasks id ≡ Some task → task.creator ≡ Committed turn index → turn ≤ count
+pub record AreSound (count least : ℕ) (runs : Bool) (tasks : ℕ → Option Task)
+    (spilled : List SpilledTask) : Type 0 where
+  pub counted : (id : ℕ) (task : Task) (turn index : ℕ) → tasks id ≡ Some task
+      → task.creator ≡ Committed turn index → turn ≤ count
   pub distinct : AreDistinct tasks
   pub apart : AreApart count least tasks (IsSpilled spilled)
   pub differ : NamesDiffer spilled
   pub firm : AreFirm count runs (IsSpilled spilled)
-  pub families : (id : ℕ) (task : Task) → tasks id ≡ Some task → task.dispatched ≡ true → IsFamily tasks (IsSpilled spilled) count least id task
+  pub families : (id : ℕ) (task : Task) → tasks id ≡ Some task → task.dispatched ≡ true
+      → IsFamily tasks (IsSpilled spilled) count least id task
 
 -- the free tasks are the same ones, each at its depth
 abbrev pub SameFree : ℕ → (ℕ → Option Task) → List SpilledTask → (ℕ → Option Task) → List SpilledTask → Type 0
-SameFree count old before new after = (depth : ℕ) (p : PendingTask) → IsFree old (IsSpilled before) count depth p ↔ IsFree new (IsSpilled after) count depth p
+SameFree count old before new after =
+    (depth : ℕ) (p : PendingTask)
+    → IsFree old (IsSpilled before) count depth p ↔ IsFree new (IsSpilled after) count depth p
 
 -- while the least task is not dispatched it does not matter which one it is
 abbrev pub IdleLeastIsAny : Type 0
 IdleLeastIsAny =
-    (count least other : ℕ) (runs : Bool) (tasks : ℕ → Option Task) (spilled : List SpilledTask) → AreSound count least false tasks spilled
+    (count least other : ℕ) (runs : Bool) (tasks : ℕ → Option Task) (spilled : List SpilledTask)
+    → AreSound count least false tasks spilled
     → AreSound count other runs tasks spilled

@@ -44,7 +44,8 @@ IsChildDepth depth Super child = child + 1 ≡ depth
 
 -- the pending task of this name
 abbrev pub pending : ℕ → ℕ → Body → ℕ → PendingTask
-pending turn index body ts = record { name = record { creator = turn; index = index }; entry = body.entry; ts = ts; args = body.args }
+pending turn index body ts =
+    record { name = record { creator = turn; index = index }; entry = body.entry; ts = ts; args = body.args }
 
 module _ (tasks : ℕ → Option Task) (spilled : ℕ → PendingTask → Type 0) (count : ℕ) where
   -- a queued task with a committed creator
@@ -86,10 +87,13 @@ pub record Matched (task : Task) (index depth : ℕ) (body : Body) (ts : ℕ) : 
   pub same_ts : ts ≡ spawn.ts
 
 -- the children of a task are those that it has enqueued
-pub record IsFamily (tasks : ℕ → Option Task) (spilled : ℕ → PendingTask → Type 0) (count least creator : ℕ) (task : Task) : Type 0 where
+pub record IsFamily (tasks : ℕ → Option Task) (spilled : ℕ → PendingTask → Type 0) (count least creator : ℕ)
+    (task : Task) : Type 0 where
   pub each : (index : ℕ) (spawn : Spawn) → slice_get task.spawns index ≡ Some spawn
-      → (depth : ℕ) × IsChildDepth task.depth spawn.place depth × IsChild tasks spilled count least creator index depth (spawn_body spawn) spawn.ts
-  pub only : (index depth : ℕ) (body : Body) (ts : ℕ) → IsChild tasks spilled count least creator index depth body ts → Matched task index depth body ts
+      → (depth : ℕ) × IsChildDepth task.depth spawn.place depth
+      × IsChild tasks spilled count least creator index depth (spawn_body spawn) spawn.ts
+  pub only : (index depth : ℕ) (body : Body) (ts : ℕ)
+      → IsChild tasks spilled count least creator index depth body ts → Matched task index depth body ts
 
 -- the name that a firm task has: that of its committed creator's child, or of a child of the least task, which takes the next turn
 abbrev pub Names : ℕ → ℕ → Creator → Name → Type 0

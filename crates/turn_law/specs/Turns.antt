@@ -13,17 +13,24 @@ use Rattle.memory_law.specs.Accesses.{replayed, Replays}
 use Rattle.turn_law.specs.Logged.{IsFinished, IsTrapped}
 
 -- a finished least task: its run by its log, from its own context, came to its end call, and the log replays on the serial memory
-pub record IsReady (image : ImageValue) (budget : ℕ) (s : State) (task : Task) (turn index : ℕ) (own : Domain) (outer : List Domain) (log : List Access) (after : TaskState) : Type 0 where
+pub record IsReady (image : ImageValue) (budget : ℕ) (s : State) (task : Task) (turn index : ℕ) (own : Domain)
+    (outer : List Domain) (log : List Access) (after : TaskState) : Type 0 where
   pub fits : FitsBags (own ∷ outer) s.stack
   pub deep : task.depth ≡ length outer + 1
-  pub finished : IsFinished image budget (length s.memory) (start_context own outer task.ts) (pending turn index task.body task.ts) log after
+  pub finished : IsFinished image budget (length s.memory) (start_context own outer task.ts)
+      (pending turn index task.body task.ts) log after
   pub spawns : task.spawns ≡ after.spawns
   pub replays : Replays s.memory log
 
 -- the state after the commit is that after the serial turn of the task, and its pending tasks are the free ones
-pub record IsSerialTurn (image : ImageValue) (budget : ℕ) (s : State) (new : ℕ → Option Task) (spilled : List SpilledTask) (task : Task) (turn_number index : ℕ) (log : List Access) (after : TaskState) (state : State) : Type 0 where
+pub record IsSerialTurn (image : ImageValue) (budget : ℕ) (s : State) (new : ℕ → Option Task)
+    (spilled : List SpilledTask) (task : Task) (turn_number index : ℕ) (log : List Access) (after : TaskState)
+    (state : State) : Type 0 where
   pub taken : turn image budget s (record { creator = turn_number; index = index })
-      ≡ Some (state, record { name = record { creator = turn_number; index = index }; depth = task.depth; ts = task.ts })
+      ≡ Some (
+        state,
+        record { name = record { creator = turn_number; index = index }; depth = task.depth; ts = task.ts },
+      )
   pub stack : IsStack state.stack
   pub matches : Matches (s.count + 1) new spilled state.stack
   pub memory : state.memory ≡ replayed s.memory log
@@ -33,7 +40,8 @@ pub record IsSerialTurn (image : ImageValue) (budget : ℕ) (s : State) (new : �
 -- a finished least task commits as the serial machine's next turn
 abbrev pub LeastCommitsSerially : Type 0
 LeastCommitsSerially =
-    (image : ImageValue) (budget id turn_number index : ℕ) (s : State) (old new : ℕ → Option Task) (spilled : List SpilledTask) (task : Task)
+    (image : ImageValue) (budget id turn_number index : ℕ) (s : State) (old new : ℕ → Option Task)
+    (spilled : List SpilledTask) (task : Task)
     (own : Domain) (outer : List Domain) (log : List Access) (after : TaskState)
     → AreSound s.count id true old spilled → Matches s.count old spilled s.stack → IsStack s.stack
     → IsLeast s.count old spilled id task turn_number index → IsNextTurn s.count old new id task turn_number index
@@ -43,10 +51,13 @@ LeastCommitsSerially =
 -- a trapped least task whose log replays on the serial memory is the serial machine's next task, and traps there too
 abbrev pub LeastTrapsSerially : Type 0
 LeastTrapsSerially =
-    (image : ImageValue) (budget id turn_number index : ℕ) (runs : Bool) (s : State) (tasks : ℕ → Option Task) (spilled : List SpilledTask) (task : Task)
+    (image : ImageValue) (budget id turn_number index : ℕ) (runs : Bool) (s : State) (tasks : ℕ → Option Task)
+    (spilled : List SpilledTask) (task : Task)
     (own : Domain) (outer : List Domain) (log : List Access) (cause pc : ℕ)
     → AreSound s.count id runs tasks spilled → Matches s.count tasks spilled s.stack → IsStack s.stack
-    → IsLeast s.count tasks spilled id task turn_number index → FitsBags (own ∷ outer) s.stack → task.depth ≡ length outer + 1
-    → IsTrapped image budget (length s.memory) (start_context own outer task.ts) (pending turn_number index task.body task.ts) log cause pc
+    → IsLeast s.count tasks spilled id task turn_number index → FitsBags (own ∷ outer) s.stack
+    → task.depth ≡ length outer + 1
+    → IsTrapped image budget (length s.memory) (start_context own outer task.ts)
+    (pending turn_number index task.body task.ts) log cause pc
     → Replays s.memory log
     → TrapsSo image budget s (record { creator = turn_number; index = index }) cause pc

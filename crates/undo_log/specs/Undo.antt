@@ -10,7 +10,8 @@ pub data Call : Type 0 where
 
 -- the access that the call logs, on the bytes before it
 abbrev pub access_of : List ℕ → Call → Access
-access_of bytes (Load offset width) = record { offset = offset; width = width; old = number_at bytes offset width; new = None }
+access_of bytes (Load offset width) =
+    record { offset = offset; width = width; old = number_at bytes offset width; new = None }
 access_of bytes (Store offset width value) =
     record { offset = offset; width = width; old = number_at bytes offset width; new = Some value }
 
@@ -49,4 +50,5 @@ AllAccessible size log = All (λ access. IsAccessible size access.offset access.
 
 -- to undo the log of any calls gives the bytes before them
 abbrev pub UndoRestores : Type 0
-UndoRestores = (bytes : List ℕ) (calls : List Call) → AreBytes bytes → undone (log_of bytes calls) (after_calls bytes calls) ≡ bytes
+UndoRestores =
+    (bytes : List ℕ) (calls : List Call) → AreBytes bytes → undone (log_of bytes calls) (after_calls bytes calls) ≡ bytes

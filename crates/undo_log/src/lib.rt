@@ -1,11 +1,12 @@
 //! The guest's data memory, and the logs by which the stores of a task are taken back.
 //!
 //! A log keeps each access of its task in order, with the value that stood there before. A load or a store is one read or write of the
-//! whole number and one push to the log. To undo a log costs one write for each store in it, and no memory.
+//! whole number and one push to the log, which may go by room that was made before. To undo a log costs one write for each store in it, and no memory.
 #![tactic(auto)]
 
 mod access;
 mod calls;
+mod covered;
 mod log;
 mod memory;
 #[cfg(test)]
@@ -13,5 +14,6 @@ mod tests;
 
 pub use access::Access;
 pub use calls::{load, store, undo, undo_restores};
+pub use covered::{load_with, store_with};
 pub use log::Log;
 pub use memory::Memory;

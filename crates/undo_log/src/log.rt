@@ -1,8 +1,9 @@
 // The accesses of one task.
 
-ghost use Rattle.std.specs.Prelude.{◌≡◌, [], ◌∷◌, ◌++◌, OnOk, OnErr};
+ghost use Rattle.std.specs.Prelude.{◌≡◌, ◌<◌, [], ◌∷◌, ◌++◌, length, OnOk, OnErr};
 
 use crate::Access;
+use spare_buffer::Buffer;
 use std::alloc::{AllocError, Global};
 use std::marker::Model;
 
@@ -51,5 +52,17 @@ impl Log {
     {
         self.accesses.push(access)?;
         Ok(())
+    }
+
+    /// Adds an access at the end, by the buffer's room where the log has none. It takes no memory.
+    pub(crate) fn push_with(&mut self, room: &mut Buffer<Access>, access: Access)
+        requires { length self.old < room.old }
+        ensures { self.new ≡ self.old ++ access ∷ [] }
+    {
+        room.make_room_in(&mut self.accesses, 1);
+        match self.accesses.push(access) {
+            Ok(()) => {}
+            Err(_) => unreachable!(),
+        }
     }
 }

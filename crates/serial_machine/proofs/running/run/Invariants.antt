@@ -1,6 +1,5 @@
 use Rattle.std.proofs.Common.{◌≡◌, ◌-◌, ◌≤◌, length}
-use Rattle.serial_machine.specs.TaskRun.{steps}
-use Rattle.serial_machine.specs.Legs.{SubFits}
+use Rattle.serial_machine.specs.Legs.{end_of}
 use Rattle.serial_machine.proofs.running.run.Given as goal
 
 abbrev pub invariant-legs : goal.invariant-legs
@@ -8,8 +7,7 @@ invariant-legs l = record {
   first : l.task.first ≡ l.fn.task.first;
   used : l.task.task.core.used ≤ l.budget;
   memory : length l.task.task.memory ≡ length l.fn.task.task.memory;
-  sub : SubFits l.ctx.depth l.task.task.sub;
-  same : steps l.image l.budget l.ctx (l.budget - l.task.task.core.used) l.task.task ≡ steps l.image l.budget l.ctx (l.budget - l.fn.task.task.core.used) l.fn.task.task;
+  same : end_of l.image l.budget l.ctx l.task.task ≡ end_of l.image l.budget l.ctx l.fn.task.task;
 }
 
 abbrev pub decreases-legs : goal.decreases-legs

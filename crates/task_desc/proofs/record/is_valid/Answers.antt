@@ -2,13 +2,13 @@ use Rattle.std.proofs.Common.{ℕ, ◌^◌, ◌==◌, ◌≤◌, Bool, nat_le, n
 use Rattle.std.specs.List.{list_all}
 use Rattle.std.proofs.lemmas.List.{take_all, length-drop}
 use Rattle.guest_image.specs.Numbers.{half_at}
-use Rattle.task_desc.specs.Calls.{max_depth}
+use Rattle.task_desc.specs.declared.calls.TheConstants.{MAX_DEPTH}
 use Rattle.task_desc.specs.Record.{is_record, fields_of}
 use Rattle.task_desc.proofs.record.is_valid.Goals as goal
 
 -- the test of a depth and kinds
 abbrev test : ℕ → ℕ → Bool
-test depth kinds = nat_le 1 depth && nat_le depth max_depth && nat_lt kinds (2 ^ depth)
+test depth kinds = nat_le 1 depth && nat_le depth MAX_DEPTH && nat_lt kinds (2 ^ depth)
 
 pub returns-then-is_of_path-clause-value : goal.returns-then-is_of_path-clause-value
 unfolding is_record fields_of

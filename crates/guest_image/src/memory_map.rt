@@ -1,0 +1,7 @@
+//! Where a program's text and data lie among the addresses of its tasks.
+
+/// The address of the first word of the text.
+pub const TEXT_START: u32 = 0x0001_0000;
+
+/// The address of the first byte of the data.
+pub const DATA_START: u32 = 0x1000_0000;

@@ -1,0 +1,92 @@
+-- What each step of a task keeps holds of a task that is done.
+use Rattle.std.proofs.Common.{◌≡◌, ◌≢◌, ℕ, zero, suc, ◌==◌, nat_lt, Bool, true, false, List, length, Option, Some, None, refl, ◌∙◌, arith, if◌then◌else◌}
+use Rattle.std.specs.Prelude.{Result, Ok, Err}
+use Rattle.std.proofs.lemmas.Bool.Decides.{nat_tests}
+use Rattle.guest_image.specs.declared.image.Kind.{Kind}
+use Rattle.guest_image.specs.ImageValue.{ImageValue}
+use Rattle.rv_core.specs.declared.state.Core.{Core}
+use Rattle.rv_core.specs.Next.{Next, Goes, Stops}
+use Rattle.rv_core.specs.Legs.{next_at}
+use Rattle.task_desc.specs.declared.calls.TheConstants.{MAX_DEPTH}
+use Rattle.task_desc.specs.declared.desc.Ctx.{Ctx}
+use Rattle.task_desc.specs.Calls.{kind_of, sub_of, sub_allowed}
+use Rattle.task_step.specs.declared.request.Request.{Request}
+use Rattle.task_step.specs.declared.request.Request.TheVariants as request
+use Rattle.task_step.specs.Requests.{request_at}
+use Rattle.task_step.specs.TaskState.{TaskState}
+use Rattle.task_step.specs.Steps.{after_request}
+use Rattle.task_step.proofs.Asked.{AllowedBy, request_at-allowed, sub_allowed-room}
+use Rattle.task_step.proofs.Stepping.{HasSize, after_request-size}
+use Rattle.serial_machine.specs.Legs.{SubFits}
+use Rattle.serial_machine.specs.TaskRun.{context, begun, after_next, step, followed, steps, task_run, Stepped, Continues, Ends, Traps, TaskEnd, Done, Trapped}
+
+module _ (Holds : TaskState → Type 0) where
+  -- where the step goes on or ends, this holds of the task
+  abbrev pub StepHolds : Stepped → Type 0
+  StepHolds (Continues task) = Holds task
+  StepHolds (Ends task) = Holds task
+  StepHolds (Traps cause pc) = Unit {0}
+
+  -- where the run is done, this holds of the task
+  abbrev pub EndHolds : TaskEnd → Type 0
+  EndHolds (Done task) = Holds task
+  EndHolds (Trapped cause pc) = Unit {0}
+
+  followed-holds : (rest : TaskState → TaskEnd) (x : Stepped) → StepHolds x → ((t : TaskState) → Holds t → EndHolds (rest t)) → EndHolds (followed rest x)
+  followed-holds rest (Continues task) here on = on task here
+  followed-holds rest (Ends task) here on = here
+  followed-holds rest (Traps cause pc) here on = tt
+
+  -- each plain instruction keeps it, and so does each request that the rules of calls allow
+  module _ (image : ImageValue) (budget : ℕ) (ctx : Ctx) (moves : (task : TaskState) (core : Core) → Holds task → Holds (record task { core = core }))
+      (asks : (task : TaskState) (asked : Request) → AllowedBy (context ctx task) asked → Holds task → StepHolds (after_request task asked)) where
+    pub step-holds : (task : TaskState) (next : Next) → Holds task → StepHolds (after_next ctx task next)
+    step-holds task (Goes core) here = moves task core here
+    step-holds task (Stops found) here =
+        asks task (request_at (context ctx task) task.core found) (request_at-allowed (context ctx task) task.core found) here
+
+    pub steps-hold : (left : ℕ) (task : TaskState) → Holds task → EndHolds (steps image budget ctx left task)
+    steps-hold zero task here = tt
+    steps-hold (suc left) task here =
+        followed-holds (steps image budget ctx left) (step image budget ctx task)
+        (step-holds task (next_at image.text (length task.memory) budget task.core) here) (steps-hold left)
+
+    -- so it holds of a task that is done, where it held of the task that had done nothing
+    pub task_run-holds : (entry : ℕ) (args memory : List ℕ) → Holds (begun entry ctx.ts args memory) → EndHolds (task_run image budget ctx entry args memory)
+    unfolding task_run
+    task_run-holds entry args memory here = steps-hold budget (begun entry ctx.ts args memory) here
+
+-- a task at the greatest depth makes no subdomain
+pub request-sub_fits : (ctx : Ctx) (task : TaskState) (asked : Request) → AllowedBy (context ctx task) asked → SubFits ctx.depth task.sub
+    → StepHolds (λ t. SubFits ctx.depth t.sub) (after_request task asked)
+request-sub_fits ctx task request.Continue allows fits = fits
+request-sub_fits ctx task (request.Load width rd offset) allows fits = fits
+request-sub_fits ctx task (request.Store offset bytes value) allows fits = fits
+request-sub_fits ctx task (request.Enqueue child) allows fits = fits
+request-sub_fits ctx task (request.MakeSub kind) allows fits = (sub_allowed-room (context ctx task) allows.0 kind allows.1).1
+request-sub_fits ctx task (request.Emit byte) allows fits = fits
+request-sub_fits ctx task request.End allows fits = fits
+request-sub_fits ctx task (request.Trap cause) allows fits = tt
+
+-- nor has it made one when it is done
+pub task_run-sub_fits : (image : ImageValue) (budget : ℕ) (ctx : Ctx) (entry : ℕ) (args memory : List ℕ)
+    → EndHolds (λ task. SubFits ctx.depth task.sub) (task_run image budget ctx entry args memory)
+task_run-sub_fits image budget ctx entry args memory =
+    task_run-holds (λ task. SubFits ctx.depth task.sub) image budget ctx (λ task core fits. fits) (request-sub_fits ctx) entry args memory tt
+
+-- a task that is done leaves a memory of the size that it began with
+pub task_run-size : (image : ImageValue) (budget : ℕ) (ctx : Ctx) (entry : ℕ) (args memory : List ℕ)
+    → EndHolds (λ task. length task.memory ≡ length memory) (task_run image budget ctx entry args memory)
+task_run-size image budget ctx entry args memory =
+    task_run-holds Sized image budget ctx (λ task core sized. sized) asks entry args memory refl
+  where
+    Sized : TaskState → Type 0
+    Sized task = length task.memory ≡ length memory
+
+    same : (x : Stepped) (size : ℕ) → size ≡ length memory → HasSize size x → StepHolds Sized x
+    same (Continues task) size e has = has ∙ e
+    same (Ends task) size e has = has ∙ e
+    same (Traps cause pc) size e has = tt
+
+    asks : (task : TaskState) (asked : Request) → AllowedBy (context ctx task) asked → Sized task → StepHolds Sized (after_request task asked)
+    asks task asked allows sized = same (after_request task asked) (length task.memory) sized (after_request-size task asked)

@@ -1,0 +1,77 @@
+//! Room that is taken before it is needed, for lists that contracts see without their capacity.
+//!
+//! A `Buffer` is an empty vector of a capacity that contracts see. A list that is full moves its items into the buffer, and the two
+//! vectors change places: so a push after a reservation takes no memory, whichever list it is. The layers that keep lists of their own
+//! (a task's log, its children, the output) call it. To reserve costs an allocation at most, and a push amortized a constant: a move of
+//! all items only where the list was full.
+#![tactic(auto)]
+
+ghost use Rattle.std.specs.Prelude.{◌≡◌, ◌≤◌, ◌+◌, [], vec_len, vec_capacity, IsOk, OnOk, OnErr};
+
+#[cfg(test)]
+mod tests;
+
+use std::alloc::{AllocError, Global};
+use std::marker::Model;
+use std::mem;
+
+/// Room that a list can grow into. Contracts see how many items it has room for.
+#[derive(Drop)]
+pub struct Buffer<T> {
+    empty: Vec<T>,
+}
+
+impl<T> Model for Buffer<T> {
+    ghost use Rattle.std.specs.Prelude.{◌≡◌, ℕ, [], vec_capacity};
+
+    ghost Value = { ℕ };
+
+    ghost view = { λ b. vec_capacity b.empty };
+
+    ghost invariant = { λ b. b.empty.items ≡ [] };
+}
+
+impl<T> Buffer<T> {
+    /// No room, which grows in `alloc`.
+    pub fn new(alloc: Global) -> Self {
+        Buffer {
+            empty: Vec::new(alloc),
+        }
+    }
+
+    /// Makes room for so many items. Where there is as much, no memory is taken; after an error there is as much as before.
+    pub fn reserve(&mut self, items: usize) -> Result<(), AllocError>
+        ensures room { OnOk result (items ≤ self.new) }
+        ensures stays { self.old ≤ self.new }
+        ensures enough { items ≤ self.old → IsOk result }
+        ensures err { OnErr result (self.new ≡ self.old) }
+    {
+        self.empty.reserve(items)
+    }
+
+    /// Sees to it that the list has room for `more` items: where it has not, its items move into the buffer's room, and the buffer keeps
+    /// what room the list had. It takes no memory.
+    pub fn make_room_in(&mut self, list: &mut Vec<T>, more: usize)
+        requires { vec_len list.old + more ≤ self.old }
+        ensures items { list.new.items ≡ list.old.items }
+        ensures room { vec_len list.new + more ≤ vec_capacity list.new }
+    {
+        if list.capacity() - list.len() < more {
+            swap_into(list, &mut self.empty, more);
+        }
+    }
+}
+
+/// Moves the items into an empty vector that is large enough, and takes that one's place.
+fn swap_into<T>(items: &mut Vec<T>, empty: &mut Vec<T>, more: usize)
+    requires empty { empty.old.items ≡ [] }
+    requires room { vec_len items.old + more ≤ vec_capacity empty.old }
+    ensures items { items.new.items ≡ items.old.items }
+    ensures room { vec_len items.new + more ≤ vec_capacity items.new }
+    ensures empty { empty.new.items ≡ [] }
+{
+    match empty.append(items) {
+        Ok(()) => mem::swap(items, empty),
+        Err(_) => unreachable!(),
+    }
+}

@@ -1,0 +1,4 @@
+pub mod Requests
+pub mod Conditions
+pub mod TaskState
+pub mod Steps
