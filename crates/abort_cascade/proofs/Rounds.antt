@@ -4,7 +4,7 @@ use Rattle.std.proofs.lemmas.Bool.{cases_eq}
 use Rattle.std.proofs.lemmas.List.{get_or-set_other, get_or-set_same, length-set}
 use Rattle.std.proofs.lemmas.List.Sums.{sum_by-set}
 use Rattle.abort_cascade.specs.Cascade.{Marked, Reached, start, step}
-use Rattle.abort_cascade.specs.Round.{Spreads, Tells}
+use Rattle.abort_cascade.specs.Growth.{Spreads, Tells}
 use Rattle.abort_cascade.proofs.Union.{reached_twice}
 
 -- a new mark is one more

@@ -1,2 +1,2 @@
 pub mod Cascade
-pub mod Round
+pub mod Growth

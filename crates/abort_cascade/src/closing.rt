@@ -1,72 +1,79 @@
-// Sets that are closed under a relation.
+// Sets that are closed under a relation, each grown in one walk.
 
-ghost use Rattle.std.specs.Prelude.{◌≡◌, ℕ, ◌<◌, true, false, length};
-ghost use Rattle.abort_cascade.specs.Cascade.{Marked, IsClosed, IsLeastClosed, Only, ClosesToUnion, ClosesToLeast};
-ghost use Rattle.abort_cascade.specs.Round.{Spreads, Tells};
+ghost use Rattle.std.specs.Prelude.{◌≡◌, ℕ, ◌<◌, ◌≤◌, ◌↔◌, true, length, take, count_by, slice_index, Contains};
+ghost use Rattle.abort_cascade.specs.Cascade.{Marked, IsLeastClosed, ClosesToUnion, ClosesToLeast};
+ghost use Rattle.abort_cascade.specs.Growth.{Spreads, IsListOf};
 
 use crate::Pulls;
 
-/// Marks exactly the least set that holds the first node and with each node all that it pulls.
+/// Grows the marks to exactly the least set that holds them and with each node all that it pulls, and tells its size.
 ///
-/// What the marks were before does not matter.
-pub fn mark<P: Pulls>(relation: &P, first: usize, marks: &mut [bool])
-    requires len { length marks.old ≡ P.count relation.now }
-    requires node { first < P.count relation.now }
-    ensures { IsLeastClosed (P.count relation.now) (P.pull relation.now) (Only first) marks.new }
+/// Its nodes then stand at the front of `members`, each once, in the order in which they were found. `pulls` is called at
+/// most once for each of them and each node.
+pub fn close<P: Pulls>(relation: &P, marks: &mut [bool], members: &mut [usize]) -> usize
+    requires marks { length marks.old ≡ P.count relation.now }
+    requires members { length members.old ≡ P.count relation.now }
+    ensures least { IsLeastClosed (P.count relation.now) (P.pull relation.now) (Marked marks.old) marks.new }
+    ensures size { result ≡ count_by (λ mark. mark) marks.new }
+    ensures listed { (node : ℕ) → Marked marks.new node ↔ Contains (take result members.new) node }
 {
-    marks.fill(false);
-    marks[first] = true;
-    close(relation, marks);
-}
-
-/// Grows the marks to exactly the least set that holds them and with each node all that it pulls.
-pub fn close<P: Pulls>(relation: &P, marks: &mut [bool])
-    requires { length marks.old ≡ P.count relation.now }
-    ensures { IsLeastClosed (P.count relation.now) (P.pull relation.now) (Marked marks.old) marks.new }
-{
-    let mut grown = true;
-    while grown {
-        grown = pass(relation, marks);
+    let mut found = list_marked(marks, members);
+    let mut next = 0;
+    while next < found {
+        found = spread(relation, members[next], marks, members, found);
+        next += 1;
     }
+    found
 }
 
-/// Two laws. The closed set of several nodes is the union of the closed sets of each, and each closed set that holds those nodes holds it.
+/// Two laws. The closed set of several nodes is the union of the closed sets of each, and each closed set that holds those
+/// nodes holds it.
 pub fn closed_sets()
     ensures union { ClosesToUnion }
     ensures least { ClosesToLeast }
 {}
 
-/// Marks what each marked node pulls, and says whether a mark is new.
-fn pass<P: Pulls>(relation: &P, marks: &mut [bool]) -> bool
-    requires { length marks.old ≡ P.count relation.now }
-    ensures spreads { Spreads (P.count relation.now) (P.pull relation.now) marks.old marks.new }
-    ensures closed { result ≡ false → IsClosed (P.count relation.now) (P.pull relation.now) (Marked marks.new) }
-    ensures tells { Tells marks.old marks.new result }
+/// Lists the marked nodes, and tells how many they are.
+fn list_marked(marks: &[bool], members: &mut [usize]) -> usize
+    requires { length members.old ≡ length marks.now }
+    ensures { IsListOf marks.now members.new result }
 {
-    let mut grown = false;
-    for a in 0..marks.len() {
-        if marks[a] {
-            grown |= spread(relation, a, marks);
+    let mut found = 0;
+    for (node, marked) in marks.iter().enumerate() {
+        if *marked {
+            members[found] = node;
+            found += 1;
         }
     }
-    grown
+    found
 }
 
-/// Marks what the node pulls, and says whether a mark is new.
-fn spread<P: Pulls>(relation: &P, a: usize, marks: &mut [bool]) -> bool
-    requires len { length marks.old ≡ P.count relation.now }
-    requires node { a < length marks.old }
-    requires marked { Marked marks.old a }
+/// Marks what the node pulls. The `found` members that are listed stay, and each new one joins them; it tells how many
+/// there are then.
+fn spread<P: Pulls>(
+    relation: &P,
+    node: usize,
+    marks: &mut [bool],
+    members: &mut [usize],
+    found: usize,
+) -> usize
+    requires marks { length marks.old ≡ P.count relation.now }
+    requires members { length members.old ≡ length marks.old }
+    requires marked { Marked marks.old node }
+    requires listed { IsListOf marks.old members.old found }
     ensures spreads { Spreads (P.count relation.now) (P.pull relation.now) marks.old marks.new }
-    ensures all { (b : ℕ) → b < length marks.old → P.pull relation.now a b ≡ true → Marked marks.new b }
-    ensures tells { Tells marks.old marks.new result }
+    ensures all { (b : ℕ) → b < length marks.old → P.pull relation.now node b ≡ true → Marked marks.new b }
+    ensures listed { IsListOf marks.new members.new result }
+    ensures stay { (k : ℕ) → k < found → slice_index members.new k ≡ slice_index members.old k }
+    ensures more { found ≤ result }
 {
-    let mut grown = false;
+    let mut size = found;
     for b in 0..marks.len() {
-        if !marks[b] && relation.pulls(a, b) {
+        if !marks[b] && relation.pulls(node, b) {
             marks[b] = true;
-            grown = true;
+            members[size] = b;
+            size += 1;
         }
     }
-    grown
+    size
 }

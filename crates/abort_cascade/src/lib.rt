@@ -1,13 +1,16 @@
 //! The least set of nodes that holds some of them, and with each node all that it pulls.
 //!
-//! A set is a slice of marks, one for each node. `close` goes over the marked nodes until a round marks nothing new: at most one round
-//! more than there are nodes, each of at most as many calls of `pulls` as there are marked nodes times nodes. No call takes memory.
+//! A set is a slice of marks, one for each node. `close` grows any set in one walk and lists its members: it calls `pulls`
+//! at most once for each member and each node, and wants a slice for the members beside the marks. `mark` finds the set of
+//! one node with the marks alone, in rounds over the marked nodes until one marks nothing new. No call takes memory.
 #![tactic(auto)]
 
 mod closing;
+mod marking;
 mod pulls;
 #[cfg(test)]
 mod tests;
 
-pub use closing::{close, closed_sets, mark};
+pub use closing::{close, closed_sets};
+pub use marking::mark;
 pub use pulls::Pulls;

@@ -28,8 +28,10 @@ fn marks_are_the_least_closed_set(rt: HostRuntime) -> Result<(), Fail> {
     mark(&Four, 0, &mut marks);
     assert_eq!(rt; marks, [true, false, true, true]);
     let mut marks = [false, true, true, false];
-    close(&Four, &mut marks);
+    let mut members = [0; 4];
+    assert_eq!(rt; close(&Four, &mut marks, &mut members), 3);
     assert_eq!(rt; marks, [false, true, true, true]);
+    assert_eq!(rt; members, [1, 2, 3, 0]);
     closed_sets();
     Ok(())
 }

@@ -1,1 +1,4 @@
 pub mod Least
+pub mod Indexed
+pub mod Slots
+pub mod Heap

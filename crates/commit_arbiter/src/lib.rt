@@ -1,10 +1,19 @@
-//! The commit arbiter: which of a list of keys is the least, and so which task commits next (the global virtual time of
-//! Swarm and Fractal). It keeps the place of the best key so far and compares by reference; one `cmp` for each key, and
-//! no call takes memory.
+//! The commit arbiter: which task commits next (the global virtual time of Swarm and Fractal, the least key of all).
+//! `least` finds it in a list of keys, by one `cmp` for each and with no memory. `Index` keeps the tasks of all queues in
+//! the order of their keys: it takes its memory once, `first` costs one look, and `insert` and `remove` cost comparisons
+//! in the logarithm of the length. It stands on fractal_vt; the state of the machine calls it.
 #![tactic(auto)]
 
 mod arbiter;
+mod entry;
+mod heap;
+mod index;
+mod laws;
+mod slots;
 #[cfg(test)]
 mod tests;
 
 pub use arbiter::{least, least_on};
+pub use entry::Entry;
+pub use index::Index;
+pub use laws::order_is_one;

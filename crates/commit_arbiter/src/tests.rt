@@ -1,6 +1,9 @@
-use crate::{least, least_on};
+use crate::{Index, least, least_on};
 use fractal_vt::{Key, Level, Vt, on_path};
 use std::test::Fail;
+
+/// Takes what may go to another thread.
+fn is_sent<T: Send>(_value: &T) {}
 
 #[test]
 fn the_deepest_key_of_a_path_is_least(rt: HostRuntime) -> Result<(), Fail> {
@@ -23,4 +26,27 @@ fn the_deepest_key_of_a_path_is_least(rt: HostRuntime) -> Result<(), Fail> {
 fn the_first_of_equal_keys_is_least(rt: HostRuntime) {
     assert_eq!(rt; least(&[Key::root(7), Key::root(5), Key::root(5)]), Some(1));
     assert_eq!(rt; least(&[]), None);
+}
+
+#[test]
+fn of_two_equal_open_keys_the_lesser_tile_is_first(rt: HostRuntime) -> Result<(), Fail> {
+    let mut index = Index::new(rt.alloc(), 16)?;
+    assert!(rt; index.is_empty() && index.first().is_none());
+    index.insert(&Key::root(5), 1, 0, 7);
+    index.insert(&Key::root(5), 0, 3, 8);
+    assert_eq!(rt; index.first(), Some(8));
+    assert!(rt; index.remove(8) && !index.remove(9));
+    assert_eq!(rt; index.first(), Some(7));
+    assert_eq!(rt; (index.len(), index.capacity()), (1, 16));
+    is_sent(&index);
+    Ok(())
+}
+
+#[test]
+fn an_index_is_renumbered_in_place(rt: HostRuntime) -> Result<(), Fail> {
+    let mut index = Index::new(rt.alloc(), 2)?;
+    index.insert(&Key::root(5), 0, 0, 5_000_000_000);
+    index.renumber(&[3, 8]);
+    assert_eq!(rt; index.first(), Some(5_000_000_000));
+    Ok(())
 }

@@ -1,5 +1,7 @@
 ghost use Rattle.std.specs.Cmp.{IsTotalOrder};
 ghost use Rattle.fractal_vt.specs.Keys.{key_cmp};
+ghost use Rattle.fractal_vt.specs.Renumbered.{RenumberingKeepsOrder, RenumberingKeepsPrefixes, RenumberingKeepsDomains};
+ghost use Rattle.fractal_vt.specs.Renumbered.{NumbersStayApart, PlacesAreWhereNumbersStand};
 ghost use Rattle.fractal_vt.specs.Laws.{OnlyEqualKeysTie, ExtensionsAreGreater, OpenIsAboveNumbers, DeeperIsLess, LastLevelsDecide};
 
 /// Law: the order of keys is a total order.
@@ -30,4 +32,29 @@ pub fn deeper_is_less()
 /// Law: two keys of one depth on one path compare as their last levels do.
 pub fn same_depth_by_last_level()
     ensures { LastLevelsDecide }
+{}
+
+/// Law: keys whose tiebreakers a table holds compare by the tiebreakers' places in it as by the tiebreakers.
+pub fn renumbering_keeps_order()
+    ensures { RenumberingKeepsOrder }
+{}
+
+/// Law: of two domains whose tiebreakers a table holds, one begins the other exactly where it does so renumbered.
+pub fn renumbering_keeps_prefixes()
+    ensures { RenumberingKeepsPrefixes }
+{}
+
+/// Law: a key lies in a domain, both with tiebreakers that a table holds, exactly where it does so renumbered.
+pub fn renumbering_keeps_domains()
+    ensures { RenumberingKeepsDomains }
+{}
+
+/// Law: two numbers of a table differ exactly where their places do.
+pub fn numbers_stay_apart()
+    ensures { NumbersStayApart }
+{}
+
+/// Law: a number of a strictly rising table has the place at which it stands.
+pub fn places_are_where_numbers_stand()
+    ensures { PlacesAreWhereNumbersStand }
 {}

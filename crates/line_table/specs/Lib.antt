@@ -1,3 +1,6 @@
 pub mod Exact
 pub mod Laws
 pub mod Note
+pub mod Row
+pub mod Signature
+pub mod SignatureLaws

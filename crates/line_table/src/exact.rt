@@ -77,6 +77,13 @@ impl Filter for Exact {
         self.lines.get(&line).copied().unwrap_or(false)
     }
 
+    // It looks up each line that it wrote.
+    fn meets(&self, later: &Self) -> bool {
+        self.lines
+            .iter()
+            .any(|(line, wrote)| *wrote && later.lines.contains_key(line))
+    }
+
     fn clear(&mut self)
         ensures lines { self.new ≡ [] }
         ensures notes { IsExact self.new [] }

@@ -1,7 +1,7 @@
 // What the machine asks of a set of lines.
 
-ghost use Rattle.std.specs.Prelude.{◌≡◌, ℕ, Bool, true, false, List, [], ◌∷◌, ◌++◌, OnOk, OnErr};
-ghost use Rattle.line_table.specs.Note.{Note, touched_in, wrote_in};
+ghost use Rattle.std.specs.Prelude.{◌≡◌, ◌↔◌, ℕ, Bool, true, false, List, [], ◌∷◌, ◌++◌, IsTrue, OnOk, OnErr};
+ghost use Rattle.line_table.specs.Note.{Note, touched_in, wrote_in, Meet};
 
 use std::alloc::AllocError;
 
@@ -16,9 +16,10 @@ pub trait Filter {
     /// Whether it answers that a line may have been noted with a write.
     ghost wrote: { Self → ℕ → Bool };
 
-    /// Notes an access to the line, which is a store if `write` is true. It alone takes memory.
+    /// Notes an access to the line, which is a store if `write` is true. It alone may take memory.
     fn note(&mut self, line: u32, write: bool) -> Result<(), AllocError>
-        ensures noted { OnOk result ((notes : List Note) → notes_are self.old notes → notes_are self.new (notes ++ record { line = line; write = write } ∷ [])) }
+        ensures noted { OnOk result ((notes : List Note)
+            → notes_are self.old notes → notes_are self.new (notes ++ record { line = line; write = write } ∷ [])) }
         ensures err { OnErr result (self.new ≡ self.old) };
 
     /// Whether the line may have been noted.
@@ -29,18 +30,25 @@ pub trait Filter {
     fn wrote(&self, line: u32) -> bool
         ensures { result ≡ wrote self.now line };
 
+    /// Whether some line is one that this filter wrote and the later one touched, by their answers.
+    fn meets(&self, later: &Self) -> bool
+        ensures { IsTrue result ↔ Meet (wrote self.now) (touched later.now) };
+
     /// Forgets all notes.
     fn clear(&mut self)
         ensures { notes_are self.new [] };
 
     /// A noted line is touched.
-    ghost noted_touched: { (filter : Self) (notes : List Note) (line : ℕ) → notes_are filter notes → touched_in notes line ≡ true → touched filter line ≡ true };
+    ghost noted_touched: { (filter : Self) (notes : List Note) (line : ℕ)
+        → notes_are filter notes → touched_in notes line ≡ true → touched filter line ≡ true };
 
     /// A line noted with a write is wrote.
-    ghost noted_wrote: { (filter : Self) (notes : List Note) (line : ℕ) → notes_are filter notes → wrote_in notes line ≡ true → wrote filter line ≡ true };
+    ghost noted_wrote: { (filter : Self) (notes : List Note) (line : ℕ)
+        → notes_are filter notes → wrote_in notes line ≡ true → wrote filter line ≡ true };
 
     /// What is wrote is touched.
-    ghost wrote_touched: { (filter : Self) (notes : List Note) (line : ℕ) → notes_are filter notes → wrote filter line ≡ true → touched filter line ≡ true };
+    ghost wrote_touched: { (filter : Self) (notes : List Note) (line : ℕ)
+        → notes_are filter notes → wrote filter line ≡ true → touched filter line ≡ true };
 
     /// A cleared filter answers of no line that it is touched.
     ghost cleared_touched: { (filter : Self) (line : ℕ) → notes_are filter [] → touched filter line ≡ false };

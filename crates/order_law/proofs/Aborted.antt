@@ -69,6 +69,7 @@ module _ (set : ℕ → Bool) (old new : ℕ → Option Keyed) (path : List Open
   abort_keeps_order =
       record {
         path_numbers = ordered.path_numbers;
+        path_short = ordered.path_short;
         path_differs = ordered.path_differs;
         off_path = λ k x n at has on. elim (which k x at) [
           | inl was ↦ ordered.off_path k x n was.1 has on

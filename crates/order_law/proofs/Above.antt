@@ -7,7 +7,7 @@ use Rattle.abort_cascade.specs.Cascade.{Marked, Reached, start, step, IsLeastClo
 use Rattle.fractal_vt.specs.Levels.{Open, level_cmp, levels_cmp}
 use Rattle.order_law.specs.Tasks.{Keyed, levels}
 use Rattle.order_law.specs.Ordered.{IsOrdered}
-use Rattle.order_law.specs.Head.{IsAbove, PullsLater}
+use Rattle.order_law.specs.Heir.{IsAbove, PullsLater}
 
 module _ (tasks : ℕ → Option Keyed) (count : ℕ) (pull : ℕ → ℕ → Bool) (path : List Open) (next : ℕ) (ordered : IsOrdered tasks path next) (later : PullsLater tasks pull) (firsts : ℕ → Type 0) (low : List Open) (first_above : (k : ℕ) → firsts k → IsAbove tasks low k) where
   -- a child is above its creator too

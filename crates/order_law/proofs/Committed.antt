@@ -1,5 +1,6 @@
 -- A commit of the least task keeps the order.
-use Rattle.std.proofs.Common.{◌≡◌, ◌≢◌, ◌⊎◌, ℕ, ◌<◌, List, [], ◌∷◌, ◌++◌, Option, Some, None, refl, sym, ap, subst, ◌∙◌, inl, inr}
+use Rattle.std.proofs.Common.{◌≡◌, ◌≢◌, ◌⊎◌, ℕ, ◌<◌, List, [], ◌∷◌, ◌++◌, Option, Some, None, refl, sym, ap, subst, ◌∙◌, inl, inr, arith}
+use Rattle.std.proofs.lemmas.List.{length-append}
 use Rattle.std.proofs.lemmas.Bool.{cases_eq}
 use Rattle.std.specs.declared.cmp.Ordering.TheVariants.{Less}
 use Rattle.fractal_vt.specs.Levels.{Open, level_cmp, levels_cmp}
@@ -83,6 +84,10 @@ module _ (old new : ℕ → Option Keyed) (path : List Open) (next id n : ℕ) (
   pub commit_keeps_order : IsOrdered new (levels task) next
   commit_keeps_order =
       record {
+        path_short =
+            (let short = (ordered.shaped id task there).0 in
+            let whole = length-append task.domain (task.last ∷ []) in
+            omega (arith, short, whole));
         path_numbers =
             let below : n < next = ordered.number_below id task n there number in
             LevelsBelow-append next task.domain task.last (ordered.domain_numbers id task there) (subst (TieBelow next) (sym number) below);

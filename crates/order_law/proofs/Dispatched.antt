@@ -81,6 +81,7 @@ module _ (old new : ℕ → Option Keyed) (path : List Open) (next id : ℕ) (ta
   dispatch_keeps_order =
       record {
         path_numbers = LevelsBelow-more next path ordered.path_numbers;
+        path_short = ordered.path_short;
         path_differs = ordered.path_differs;
         off_path = λ k x n at has on. elim (which k x at) [
           | inl here ↦

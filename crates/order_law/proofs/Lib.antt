@@ -1,4 +1,5 @@
 pub mod Numbers
+pub mod Held
 pub mod Dispatched
 pub mod Aborted
 pub mod Spawned
@@ -8,5 +9,5 @@ pub mod Innermost
 pub mod Moved
 pub mod Renumbered
 pub mod Opening
-pub mod Head
+pub mod Heir
 pub mod Above

@@ -16,6 +16,7 @@ pub rename_keeps_order : (old new : ℕ → Option Keyed) (path : List Open) (ne
 rename_keeps_order old new path next renames ordered =
     record {
       path_numbers = ordered.path_numbers;
+      path_short = ordered.path_short;
       path_differs = ordered.path_differs;
       off_path = λ k x n at has on. ordered.off_path k x n (renames.was k n x at has) has on;
       shaped = λ k x at. (let f = renames.from k x at in ordered.shaped f.0 x f.1);

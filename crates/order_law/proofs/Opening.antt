@@ -15,6 +15,7 @@ module _ (tasks : ℕ → Option Keyed) (roots : (id : ℕ) (task : Keyed) → t
   pub opening_law : IsOrdered tasks [] 0
   opening_law =
       record {
+        path_short = omega arith;
         path_numbers = tt;
         path_differs = tt;
         domain_numbers = λ id x at. subst (LevelsBelow 0) (sym (roots id x at).domain) tt;

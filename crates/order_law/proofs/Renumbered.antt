@@ -1,7 +1,8 @@
 -- Renumbering keeps every comparison, every path and the order of the tasks.
-use Rattle.std.proofs.Common.{◌≡◌, ℕ, suc, ◌+◌, ◌<◌, Bool, true, false, List, [], ◌∷◌, ◌++◌, length, Option, Some, None, map, option_map, refl, sym, ap, subst, ◌∙◌, inl, inr, arith, cond, ◌==◌}
+use Rattle.std.proofs.Common.{◌≡◌, ℕ, suc, ◌<◌, Bool, List, [], ◌∷◌, ◌++◌, length, Option, Some, None, map, option_map, refl, sym, ap, subst, ◌∙◌, inl, inr, arith}
 use Rattle.std.proofs.lemmas.Bool.Decides.{nat_tests}
-use Rattle.std.specs.List.{AllByRecursion, AllZip}
+use Rattle.std.specs.List.{AllByRecursion, AllZip, Contains}
+use Rattle.std.specs.Option.{IfSome}
 use Rattle.std.specs.Ordering.{nat_cmp, ordering_then}
 use Rattle.std.specs.FinMap.{nat_cmp-IsAntisymmetric}
 use Rattle.std.specs.declared.cmp.Ordering.{Ordering}
@@ -12,7 +13,9 @@ use Rattle.fractal_vt.specs.Paths.{OnPath}
 use Rattle.fractal_vt.specs.declared.vt.TheConstants.{MAX_LEVELS}
 use Rattle.order_law.specs.Tasks.{Keyed, levels, HasNumber, IsTimely, Kin}
 use Rattle.order_law.specs.Ordered.{TieBelow, LevelsBelow, IsNumberOf, NumbersDiffer, HasCreator, IsShaped, IsOrdered}
-use Rattle.order_law.specs.Renumber.{IsIn, IsRising, place_of, new_tie, new_level, new_task, renumbered, TieIn, LevelsIn, IsTableOf}
+use Rattle.fractal_vt.specs.Renumbered.{place_in, with_number}
+use Rattle.fractal_vt.proofs.Renumbered.{place_cmp, place_within}
+use Rattle.order_law.specs.Renumber.{new_task, renumbered, LevelsIn, IsTableOf}
 
 -- for any elements and any order
 module _ {X : Type 0} (R : X → X → Ordering) (g : X → X) (Ok : X → Type 0) (alike : (x y : X) → Ok x → Ok y → R (g x) (g y) ≡ R x y) where
@@ -45,7 +48,7 @@ length_mapped : {X : Type 0} (g : X → X) (xs : List X) → length (map g xs) �
 length_mapped g [] = refl
 length_mapped g (x ∷ xs) = ap suc (length_mapped g xs)
 
-timely_mapped : (f : ℕ → ℕ) (kinds : List Bool) (xs : List Open) → AllZip IsTimely kinds xs → AllZip IsTimely kinds (map (new_level f) xs)
+timely_mapped : (f : ℕ → ℕ) (kinds : List Bool) (xs : List Open) → AllZip IsTimely kinds xs → AllZip IsTimely kinds (map (with_number f) xs)
 timely_mapped f [] [] all = tt
 timely_mapped f [] (x ∷ xs) all = absurd all
 timely_mapped f (k ∷ kinds) [] all = absurd all
@@ -57,20 +60,20 @@ pub record KeepsPlaces (used : ℕ → Type 0) (f : ℕ → ℕ) (next : ℕ) : 
   pub below : (a : ℕ) → used a → f a < next
 
 module _ (used : ℕ → Type 0) (f : ℕ → ℕ) (next next' : ℕ) (keeps : KeepsPlaces used f next') where
-  tie_alike : (s t : Option ℕ) → TieIn used s → TieIn used t → tie_cmp (new_tie f s) (new_tie f t) ≡ tie_cmp s t
+  tie_alike : (s t : Option ℕ) → IfSome s used → IfSome t used → tie_cmp (option_map f s) (option_map f t) ≡ tie_cmp s t
   tie_alike None None a b = refl
   tie_alike None (Some n) a b = refl
   tie_alike (Some m) None a b = refl
   tie_alike (Some m) (Some n) a b = keeps.alike m n a b
 
-  level_alike : (l m : Open) → TieIn used l.tb → TieIn used m.tb → level_cmp (new_level f l) (new_level f m) ≡ level_cmp l m
+  level_alike : (l m : Open) → IfSome l.tb used → IfSome m.tb used → level_cmp (with_number f l) (with_number f m) ≡ level_cmp l m
   level_alike l m a b = ap (ordering_then (nat_cmp l.ts m.ts)) (tie_alike l.tb m.tb a b)
 
-  pub renumber_cmp : (xs ys : List Open) → LevelsIn used xs → LevelsIn used ys → levels_cmp (map (new_level f) xs) (map (new_level f) ys) ≡ levels_cmp xs ys
-  renumber_cmp = cmp_map level_cmp (new_level f) (λ l. TieIn used l.tb) level_alike
+  pub renumber_cmp : (xs ys : List Open) → LevelsIn used xs → LevelsIn used ys → levels_cmp (map (with_number f) xs) (map (with_number f) ys) ≡ levels_cmp xs ys
+  renumber_cmp = cmp_map level_cmp (with_number f) (λ l. IfSome l.tb used) level_alike
 
-  levels_new : (task : Keyed) → levels (new_task f task) ≡ map (new_level f) (levels task)
-  levels_new task = sym (map_append (new_level f) task.domain (task.last ∷ []))
+  levels_new : (task : Keyed) → levels (new_task f task) ≡ map (with_number f) (levels task)
+  levels_new task = sym (map_append (with_number f) task.domain (task.last ∷ []))
 
   same_number : (a b : ℕ) → used a → used b → f a ≡ f b → a ≡ b
   same_number a b in_a in_b same = nat_cmp-IsAntisymmetric a b (sym (keeps.alike a b in_a in_b) ∙ ap (λ n. nat_cmp n (f b)) same ∙ self (f b))
@@ -78,25 +81,25 @@ module _ (used : ℕ → Type 0) (f : ℕ → ℕ) (next next' : ℕ) (keeps : K
       self : (n : ℕ) → nat_cmp n n ≡ Equal
       self n = grind (arith, nat_tests)
 
-  all_below : (xs : List Open) → LevelsBelow next xs → LevelsIn used xs → LevelsBelow next' (map (new_level f) xs)
+  all_below : (xs : List Open) → LevelsBelow next xs → LevelsIn used xs → LevelsBelow next' (map (with_number f) xs)
   all_below [] below each = tt
   all_below (x ∷ xs) below each = (tie x.tb below.0 each.0, all_below xs below.1 each.1)
     where
-      tie : (t : Option ℕ) → TieBelow next t → TieIn used t → TieBelow next' (new_tie f t)
+      tie : (t : Option ℕ) → TieBelow next t → IfSome t used → TieBelow next' (option_map f t)
       tie None no_way ok = absurd no_way
       tie (Some n) low ok = keeps.below n ok
 
   -- a new number is that of a level with the old one
-  tie_before : (t : Option ℕ) (n : ℕ) → TieIn used t → new_tie f t ≡ Some n → (m : ℕ) × (t ≡ Some m) × used m × (n ≡ f m)
+  tie_before : (t : Option ℕ) (n : ℕ) → IfSome t used → option_map f t ≡ Some n → (m : ℕ) × (t ≡ Some m) × used m × (n ≡ f m)
   tie_before None n ok e = absurd (cc (e))
   tie_before (Some m) n ok e = let eq : f m ≡ n = cc in (m, refl, ok, sym eq)
 
-  number_before : (xs : List Open) (n : ℕ) → LevelsIn used xs → IsNumberOf n (map (new_level f) xs) → (m : ℕ) × IsNumberOf m xs × used m × (n ≡ f m)
+  number_before : (xs : List Open) (n : ℕ) → LevelsIn used xs → IsNumberOf n (map (with_number f) xs) → (m : ℕ) × IsNumberOf m xs × used m × (n ≡ f m)
   number_before [] n each no_way = absurd no_way
   number_before (x ∷ xs) n each (inl here) = let was = tie_before x.tb n each.0 here in (was.0, inl was.1, was.2, was.3)
   number_before (x ∷ xs) n each (inr later) = let was = number_before xs n each.1 later in (was.0, inr was.1, was.2, was.3)
 
-  all_differ : (xs : List Open) → LevelsIn used xs → NumbersDiffer xs → NumbersDiffer (map (new_level f) xs)
+  all_differ : (xs : List Open) → LevelsIn used xs → NumbersDiffer xs → NumbersDiffer (map (with_number f) xs)
   all_differ [] each differ = tt
   all_differ (x ∷ xs) each differ = (
     λ n is later.
@@ -108,8 +111,8 @@ module _ (used : ℕ → Type 0) (f : ℕ → ℕ) (next next' : ℕ) (keeps : K
   )
 
   module _ (tasks : ℕ → Option Keyed) (path : List Open) (in_path : LevelsIn used path) (in_tasks : (id : ℕ) (task : Keyed) → tasks id ≡ Some task → LevelsIn used (levels task)) (ordered : IsOrdered tasks path next) where
-    in_domains : (id : ℕ) (task : Keyed) → tasks id ≡ Some task → LevelsIn used task.domain × TieIn used task.last.tb
-    in_domains id task at = each_front (λ l. TieIn used l.tb) task.domain task.last (in_tasks id task at)
+    in_domains : (id : ℕ) (task : Keyed) → tasks id ≡ Some task → LevelsIn used task.domain × IfSome task.last.tb used
+    in_domains id task at = each_front (λ l. IfSome l.tb used) task.domain task.last (in_tasks id task at)
 
     which : (id : ℕ) (x : Keyed) → option_map (new_task f) (tasks id) ≡ Some x → (y : Keyed) × (tasks id ≡ Some y) × (x ≡ new_task f y)
     which id x at = by_slot (tasks id) refl at
@@ -122,9 +125,9 @@ module _ (used : ℕ → Type 0) (f : ℕ → ℕ) (next next' : ℕ) (keeps : K
     number_of id x y n was is has = tie_before y.last.tb n (in_domains id y was).1 (sym (ap (λ z. z.last.tb) is) ∙ has)
 
     new_kin : (c x : Keyed) → Kin c x → Kin (new_task f c) (new_task f x)
-    new_kin c x (inl same) = inl (ap (map (new_level f)) same.0, same.1, same.2)
-    new_kin c x (inr (inl sub)) = inr (inl (ap (map (new_level f)) sub.0 ∙ map_append (new_level f) c.domain (c.last ∷ []), sub.1))
-    new_kin c x (inr (inr super)) = inr (inr (new_level f super.0, (ap (map (new_level f)) super.1.0 ∙ map_append (new_level f) x.domain (super.0 ∷ []), super.1.1)))
+    new_kin c x (inl same) = inl (ap (map (with_number f)) same.0, same.1, same.2)
+    new_kin c x (inr (inl sub)) = inr (inl (ap (map (with_number f)) sub.0 ∙ map_append (with_number f) c.domain (c.last ∷ []), sub.1))
+    new_kin c x (inr (inr super)) = inr (inr (with_number f super.0, (ap (map (with_number f)) super.1.0 ∙ map_append (with_number f) x.domain (super.0 ∷ []), super.1.1)))
 
     new_creator : (c : ℕ) (id : ℕ) (y : Keyed) → tasks id ≡ Some y → HasCreator tasks c y → HasCreator (renumbered f tasks) c (new_task f y)
     new_creator c id y was has =
@@ -132,14 +135,15 @@ module _ (used : ℕ → Type 0) (f : ℕ → ℕ) (next next' : ℕ) (keeps : K
           task = new_task f has.task;
           there = ap (option_map (new_task f)) has.there;
           number = f has.number;
-          dispatched = ap (new_tie f) has.dispatched;
-          below = ap (λ ls. levels_cmp ls (levels (new_task f y))) (levels_new has.task) ∙ ap (levels_cmp (map (new_level f) (levels has.task))) (levels_new y) ∙ renumber_cmp (levels has.task) (levels y) (in_tasks c has.task has.there) (in_tasks id y was) ∙ has.below;
+          dispatched = ap (option_map f) has.dispatched;
+          below = ap (λ ls. levels_cmp ls (levels (new_task f y))) (levels_new has.task) ∙ ap (levels_cmp (map (with_number f) (levels has.task))) (levels_new y) ∙ renumber_cmp (levels has.task) (levels y) (in_tasks c has.task has.there) (in_tasks id y was) ∙ has.below;
           kin = new_kin has.task y has.kin;
         }
 
-    pub renumber_keeps_order : IsOrdered (renumbered f tasks) (map (new_level f) path) next'
+    pub renumber_keeps_order : IsOrdered (renumbered f tasks) (map (with_number f) path) next'
     renumber_keeps_order =
         record {
+          path_short = (let same = length_mapped (with_number f) path in let short = ordered.path_short in omega (arith, same, short));
           path_numbers = all_below path ordered.path_numbers in_path;
           path_differs = all_differ path in_path ordered.path_differs;
           off_path = λ id x n at has on.
@@ -151,7 +155,7 @@ module _ (used : ℕ → Type 0) (f : ℕ → ℕ) (next next' : ℕ) (keeps : K
           shaped = λ id x at.
               (let w = which id x at in
               let was = ordered.shaped id w.0 w.1 in
-              subst IsShaped (sym w.2) (subst (λ n. n < MAX_LEVELS) (sym (length_mapped (new_level f) w.0.domain)) was.0, timely_mapped f w.0.kinds w.0.domain was.1, was.2));
+              subst IsShaped (sym w.2) (subst (λ n. n < MAX_LEVELS) (sym (length_mapped (with_number f) w.0.domain)) was.0, timely_mapped f w.0.kinds w.0.domain was.1, was.2));
           domain_numbers = λ id x at. (let w = which id x at in subst (λ z. LevelsBelow next' z.domain) (sym w.2) (all_below w.0.domain (ordered.domain_numbers id w.0 w.1) (in_domains id w.0 w.1).0));
           number_below = λ id x n at has. (let w = which id x at in let m = number_of id x w.0 n w.1 w.2 has in subst (λ k. k < next') (sym m.3) (keeps.below m.0 m.2));
           numbers_differ = λ a b x y n at at' has has'.
@@ -166,59 +170,14 @@ module _ (used : ℕ → Type 0) (f : ℕ → ℕ) (next next' : ℕ) (keeps : K
               subst (HasCreator (renumbered f tasks) c) (sym w.2) (new_creator c id w.0 w.1 (ordered.creators id w.0 c w.1 (sym (ap (λ z. z.creator) w.2) ∙ parent))));
           on_path = λ id x at parent.
               (let w = which id x at in
-              subst (λ z. OnPath level_cmp (map (new_level f) path) z.domain z.last) (sym w.2)
-              (path_map level_cmp (new_level f) (λ l. TieIn used l.tb) level_alike path w.0.domain w.0.last in_path (in_domains id w.0 w.1).1 (ordered.on_path id w.0 w.1 (sym (ap (λ z. z.creator) w.2) ∙ parent))));
+              subst (λ z. OnPath level_cmp (map (with_number f) path) z.domain z.last) (sym w.2)
+              (path_map level_cmp (with_number f) (λ l. IfSome l.tb used) level_alike path w.0.domain w.0.last in_path (in_domains id w.0 w.1).1 (ordered.on_path id w.0 w.1 (sym (ap (λ z. z.creator) w.2) ∙ parent))));
         }
 
--- the places of a strictly rising list
-place_here : (t n : ℕ) (rest : ℕ) → n ≡ t → cond (t == n) 0 (rest + 1) ≡ 0
-place_here t n rest e = ap (λ b. cond b 0 (rest + 1)) (same t n e)
-  where
-    same : (a b : ℕ) → b ≡ a → (a == b) ≡ true
-    same a b e = grind (arith, nat_tests)
+-- the places of a table
+pub table_keeps_order : (table : List ℕ) → KeepsPlaces (Contains table) (place_in table) (length table)
+table_keeps_order table = record { alike = place_cmp table; below = place_within table }
 
-place_later : (t n : ℕ) (rest : ℕ) → t < n → cond (t == n) 0 (rest + 1) ≡ rest + 1
-place_later t n rest e = ap (λ b. cond b 0 (rest + 1)) (other t n e)
-  where
-    other : (a b : ℕ) → a < b → (a == b) ≡ false
-    other a b e = grind (arith, nat_tests)
-
-zero_zero : (n : ℕ) → nat_cmp 0 0 ≡ nat_cmp n n
-zero_zero n = grind (arith, nat_tests)
-
-zero_suc : (m a b : ℕ) → a < b → nat_cmp 0 (m + 1) ≡ nat_cmp a b
-zero_suc m a b less = grind (arith, nat_tests)
-
-suc_zero : (m a b : ℕ) → b < a → nat_cmp (m + 1) 0 ≡ nat_cmp a b
-suc_zero m a b less = grind (arith, nat_tests)
-
-suc_suc : (m n : ℕ) → nat_cmp (m + 1) (n + 1) ≡ nat_cmp m n
-suc_suc m n = grind (arith, nat_tests)
-
-pub place_alike : (table : List ℕ) (a b : ℕ) → IsRising table → IsIn a table → IsIn b table → nat_cmp (place_of table a) (place_of table b) ≡ nat_cmp a b
-place_alike [] a b rising in_a in_b = absurd in_a
-place_alike (t ∷ table) a b rising (inl here) (inl here') =
-    ap (λ n. nat_cmp n (place_of (t ∷ table) b)) (place_here t a (place_of table a) here) ∙ ap (nat_cmp 0) (place_here t b (place_of table b) here') ∙ zero_zero t ∙ ap (λ n. nat_cmp n t) (sym here) ∙ ap (nat_cmp a) (sym here')
-place_alike (t ∷ table) a b rising (inl here) (inr later) =
-    ap (λ n. nat_cmp n (place_of (t ∷ table) b)) (place_here t a (place_of table a) here) ∙ ap (nat_cmp 0) (place_later t b (place_of table b) (rising.0 b later))
-    ∙ zero_suc (place_of table b) a b (subst (λ n. n < b) (sym here) (rising.0 b later))
-place_alike (t ∷ table) a b rising (inr later) (inl here) =
-    ap (λ n. nat_cmp n (place_of (t ∷ table) b)) (place_later t a (place_of table a) (rising.0 a later)) ∙ ap (nat_cmp (place_of table a + 1)) (place_here t b (place_of table b) here)
-    ∙ suc_zero (place_of table a) a b (subst (λ n. n < a) (sym here) (rising.0 a later))
-place_alike (t ∷ table) a b rising (inr later) (inr later') =
-    ap (λ n. nat_cmp n (place_of (t ∷ table) b)) (place_later t a (place_of table a) (rising.0 a later)) ∙ ap (nat_cmp (place_of table a + 1)) (place_later t b (place_of table b) (rising.0 b later'))
-    ∙ suc_suc (place_of table a) (place_of table b) ∙ place_alike table a b rising.1 later later'
-
-pub place_below : (table : List ℕ) (a : ℕ) → IsRising table → IsIn a table → place_of table a < length table
-place_below [] a rising in_a = absurd in_a
-place_below (t ∷ table) a rising (inl here) = subst (λ n. n < suc (length table)) (sym (place_here t a (place_of table a) here)) (omega arith)
-place_below (t ∷ table) a rising (inr later) =
-    let less = place_below table a rising.1 later in
-    subst (λ n. n < suc (length table)) (sym (place_later t a (place_of table a) (rising.0 a later))) (omega (arith, less))
-
-pub table_keeps_order : (table : List ℕ) → IsRising table → KeepsPlaces (λ n. IsIn n table) (place_of table) (length table)
-table_keeps_order table rising = record { alike = λ a b in_a in_b. place_alike table a b rising in_a in_b; below = λ a in_a. place_below table a rising in_a }
-
-pub renumber_law : (table : List ℕ) (tasks : ℕ → Option Keyed) (path : List Open) (next : ℕ) → IsTableOf table tasks path → IsOrdered tasks path next → IsOrdered (renumbered (place_of table) tasks) (map (new_level (place_of table)) path) (length table)
+pub renumber_law : (table : List ℕ) (tasks : ℕ → Option Keyed) (path : List Open) (next : ℕ) → IsTableOf table tasks path → IsOrdered tasks path next → IsOrdered (renumbered (place_in table) tasks) (map (with_number (place_in table)) path) (length table)
 renumber_law table tasks path next is ordered =
-    renumber_keeps_order (λ n. IsIn n table) (place_of table) next (length table) (table_keeps_order table is.rising) tasks path is.of_path is.of_tasks ordered
+    renumber_keeps_order (Contains table) (place_in table) next (length table) (table_keeps_order table) tasks path is.of_path is.of_tasks ordered

@@ -1,14 +1,15 @@
 -- The laws: each event keeps the order of the tasks.
-use Rattle.std.specs.Prelude.{◌≡◌, ◌≢◌, ℕ, ◌+◌, Bool, false, List, [], length, map, Option, Some}
+use Rattle.std.specs.Prelude.{◌≡◌, ◌≢◌, ◌⊎◌, ◌<◌, ℕ, ◌+◌, Bool, false, List, [], length, map, Option, Some}
 use Rattle.std.specs.declared.cmp.Ordering.TheVariants.{Less}
 use Rattle.fractal_vt.specs.Levels.{Open, levels_cmp}
 use Rattle.order_law.specs.Tasks.{Keyed, levels, HasNumber}
-use Rattle.order_law.specs.Ordered.{IsOrdered}
+use Rattle.order_law.specs.Ordered.{IsNumberOf, IsOrdered}
 use Rattle.order_law.specs.Events.{numbered, Dispatches, Aborts, Spawns, IsLeast, Commits, beside, Moves}
 use Rattle.abort_cascade.specs.Cascade.{Marked, IsLeastClosed}
-use Rattle.order_law.specs.Head.{IsHead, IsAbove, PullsLater}
+use Rattle.order_law.specs.Heir.{IsHeir, IsAbove, PullsLater}
 use Rattle.order_law.specs.Opening.{IsRoot}
-use Rattle.order_law.specs.Renumber.{place_of, new_level, renumbered, IsTableOf}
+use Rattle.fractal_vt.specs.Renumbered.{place_in, with_number}
+use Rattle.order_law.specs.Renumber.{renumbered, IsTableOf}
 use Rattle.order_law.specs.Innermost.{IsInnermost}
 
 -- before the first event, with idle tasks of the outermost domain alone, the order holds
@@ -48,7 +49,15 @@ abbrev pub RenumberingKeepsOrder : Type 0
 RenumberingKeepsOrder =
     (table : List ℕ) (tasks : ℕ → Option Keyed) (path : List Open) (next : ℕ)
     → IsTableOf table tasks path → IsOrdered tasks path next
-    → IsOrdered (renumbered (place_of table) tasks) (map (new_level (place_of table)) path) (length table)
+    → IsOrdered (renumbered (place_in table) tasks) (map (with_number (place_in table)) path) (length table)
+
+-- each number of a domain is one of the path or that of a dispatched task
+abbrev pub DomainNumbersAreHeld : Type 0
+DomainNumbersAreHeld =
+    (bound : ℕ) (tasks : ℕ → Option Keyed) (path : List Open) (next : ℕ)
+    → ((k : ℕ) (x : Keyed) → tasks k ≡ Some x → k < bound) → IsOrdered tasks path next
+    → (id : ℕ) (task : Keyed) (number : ℕ) → tasks id ≡ Some task → IsNumberOf number task.domain
+    → IsNumberOf number path ⊎ ((k : ℕ) × (x : Keyed) × (tasks k ≡ Some x) × HasNumber x number)
 
 -- the least task has a committed creator, the greatest depth among those tasks, and the least timestamp of its depth
 abbrev pub LeastIsInnermost : Type 0
@@ -62,41 +71,41 @@ DispatchedAreAboveLeast =
     → IsOrdered tasks path next → IsLeast tasks id task → k ≢ id → tasks k ≡ Some x → HasNumber x number → levels_cmp (levels task) (levels x) ≡ Less
 
 -- a least task that has been dispatched is below all others
-abbrev pub LeastIsHead : Type 0
-LeastIsHead =
+abbrev pub LeastIsHeir : Type 0
+LeastIsHeir =
     (tasks : ℕ → Option Keyed) (path : List Open) (next id number : ℕ) (task : Keyed)
-    → IsOrdered tasks path next → IsLeast tasks id task → HasNumber task number → IsHead tasks id task
+    → IsOrdered tasks path next → IsLeast tasks id task → HasNumber task number → IsHeir tasks id task
 
 -- a least task is below all others once it is dispatched
-abbrev pub DispatchMakesHead : Type 0
-DispatchMakesHead =
+abbrev pub DispatchMakesHeir : Type 0
+DispatchMakesHeir =
     (old new : ℕ → Option Keyed) (next : ℕ) (dispatch : Dispatches old new next)
-    → IsLeast old dispatch.id dispatch.task → IsHead new dispatch.id (numbered dispatch.task next)
+    → IsLeast old dispatch.id dispatch.task → IsHeir new dispatch.id (numbered dispatch.task next)
 
--- a dispatch of another task leaves the head the head
-abbrev pub DispatchKeepsHead : Type 0
-DispatchKeepsHead =
-    (old new : ℕ → Option Keyed) (path : List Open) (next head : ℕ) (task : Keyed)
-    → Dispatches old new next → IsOrdered old path next → IsHead old head task → IsHead new head task
+-- a dispatch of another task leaves the heir the heir
+abbrev pub DispatchKeepsHeir : Type 0
+DispatchKeepsHeir =
+    (old new : ℕ → Option Keyed) (path : List Open) (next heir : ℕ) (task : Keyed)
+    → Dispatches old new next → IsOrdered old path next → IsHeir old heir task → IsHeir new heir task
 
--- a new child leaves the head the head
-abbrev pub SpawnKeepsHead : Type 0
-SpawnKeepsHead =
-    (old new : ℕ → Option Keyed) (path : List Open) (next head : ℕ) (task : Keyed)
-    → Spawns old new → IsOrdered old path next → IsHead old head task → IsHead new head task
+-- a new child leaves the heir the heir
+abbrev pub SpawnKeepsHeir : Type 0
+SpawnKeepsHeir =
+    (old new : ℕ → Option Keyed) (path : List Open) (next heir : ℕ) (task : Keyed)
+    → Spawns old new → IsOrdered old path next → IsHeir old heir task → IsHeir new heir task
 
--- an abort of a set without the head leaves it the head
-abbrev pub AbortKeepsHead : Type 0
-AbortKeepsHead =
-    (set : ℕ → Bool) (old new : ℕ → Option Keyed) (path : List Open) (next head : ℕ) (task : Keyed)
-    → Aborts set old new → set head ≡ false → IsOrdered old path next → IsHead old head task → IsHead new head task
+-- an abort of a set without the heir leaves it the heir
+abbrev pub AbortKeepsHeir : Type 0
+AbortKeepsHeir =
+    (set : ℕ → Bool) (old new : ℕ → Option Keyed) (path : List Open) (next heir : ℕ) (task : Keyed)
+    → Aborts set old new → set heir ≡ false → IsOrdered old path next → IsHeir old heir task → IsHeir new heir task
 
--- a spill and its return leave the head the head
-abbrev pub SpillKeepsHead : Type 0
-SpillKeepsHead =
-    (bound : ℕ) (old new : ℕ → Option Keyed) (before after : List Keyed) (path : List Open) (next head : ℕ) (task : Keyed)
+-- a spill and its return leave the heir the heir
+abbrev pub SpillKeepsHeir : Type 0
+SpillKeepsHeir =
+    (bound : ℕ) (old new : ℕ → Option Keyed) (before after : List Keyed) (path : List Open) (next heir : ℕ) (task : Keyed)
     → Moves bound old new before after → IsOrdered (beside bound old before) path next
-    → IsHead (beside bound old before) head task → IsHead (beside bound new after) head task
+    → IsHeir (beside bound old before) heir task → IsHeir (beside bound new after) heir task
 
 -- a least task is still the least once it is spilled or has returned
 abbrev pub SpillKeepsLeast : Type 0

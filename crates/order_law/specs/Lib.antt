@@ -3,6 +3,6 @@ pub mod Ordered
 pub mod Events
 pub mod Innermost
 pub mod Renumber
-pub mod Head
+pub mod Heir
 pub mod Opening
 pub mod Laws

@@ -1,6 +1,6 @@
 -- What holds of the order of the tasks of the machine in every state; a dispatch number is the tiebreaker of a virtual time
 -- (Jeffrey et al. 2015).
-use Rattle.std.specs.Prelude.{◌≡◌, ◌<◌, ◌⊎◌, ℕ, List, [], ◌∷◌, length, Option, Some, None}
+use Rattle.std.specs.Prelude.{◌≡◌, ◌<◌, ◌≤◌, ◌⊎◌, ℕ, List, [], ◌∷◌, length, Option, Some, None}
 use Rattle.std.specs.List.{AllByRecursion, AllZip}
 use Rattle.std.specs.declared.cmp.Ordering.TheVariants.{Less}
 use Rattle.fractal_vt.specs.Levels.{Open, level_cmp, levels_cmp}
@@ -40,11 +40,12 @@ pub record HasCreator (tasks : ℕ → Option Keyed) (creator : ℕ) (child : Ke
 abbrev pub IsShaped : Keyed → Type 0
 IsShaped task = (length task.domain < MAX_LEVELS) × AllZip IsTimely task.kinds task.domain × IsTimely task.ordered task.last
 
--- the tasks, queued and spilled, by id, the path of the last commit and the next dispatch number are in order: the numbers of the
--- path, of the domains and of the tasks are below the next one, those of the path differ, those of the tasks differ and are none
--- of the path, each uncommitted creator is dispatched and below its children, each task of a committed creator is on the path,
--- and each key has the shape of one
+-- the tasks, queued and spilled, by id, the path of the last commit and the next dispatch number are in order: the path is no longer than
+-- a key may be; the numbers of the path, of the domains and of the tasks are below the next one, those of the path differ, those of the
+-- tasks differ and are none of the path, each uncommitted creator is dispatched and below its children, each task of a committed
+-- creator is on the path, and each key has the shape of one
 pub record IsOrdered (tasks : ℕ → Option Keyed) (path : List Open) (next : ℕ) : Type 0 where
+  pub path_short : length path ≤ MAX_LEVELS
   pub path_numbers : LevelsBelow next path
   pub path_differs : NumbersDiffer path
   pub domain_numbers : (id : ℕ) (task : Keyed) → tasks id ≡ Some task → LevelsBelow next task.domain

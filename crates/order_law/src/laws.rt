@@ -1,8 +1,8 @@
 //! The laws of the order of tasks.
 
-ghost use Rattle.order_law.specs.Laws.{AbortKeepsHead, AbortKeepsOrder, CascadeLiesAbove, CascadeSparesLower, CommitKeepsOrder, DispatchKeepsHead};
-ghost use Rattle.order_law.specs.Laws.{DispatchKeepsOrder, DispatchMakesHead, DispatchedAreAboveLeast, LeastIsHead, LeastIsInnermost, OpeningIsOrdered};
-ghost use Rattle.order_law.specs.Laws.{RenumberingKeepsOrder, SpawnKeepsHead, SpawnKeepsOrder, SpillKeepsHead, SpillKeepsLeast, SpillKeepsOrder};
+ghost use Rattle.order_law.specs.Laws.{AbortKeepsHeir, AbortKeepsOrder, CascadeLiesAbove, CascadeSparesLower, CommitKeepsOrder, DispatchKeepsHeir};
+ghost use Rattle.order_law.specs.Laws.{DomainNumbersAreHeld, DispatchKeepsOrder, DispatchMakesHeir, DispatchedAreAboveLeast, LeastIsHeir, LeastIsInnermost, OpeningIsOrdered};
+ghost use Rattle.order_law.specs.Laws.{RenumberingKeepsOrder, SpawnKeepsHeir, SpawnKeepsOrder, SpillKeepsHeir, SpillKeepsLeast, SpillKeepsOrder};
 
 /// Law: before the first event the order of the tasks holds.
 pub fn opening_is_ordered()
@@ -34,6 +34,11 @@ pub fn spill_keeps_order()
     ensures { SpillKeepsOrder }
 {}
 
+/// Law: each number of a domain is one of the path or that of a dispatched task.
+pub fn domain_numbers_are_held()
+    ensures { DomainNumbersAreHeld }
+{}
+
 /// Law: each dispatch number replaced by its place in a rising table of the numbers in use keeps the order of the tasks.
 pub fn renumbering_keeps_order()
     ensures { RenumberingKeepsOrder }
@@ -50,33 +55,33 @@ pub fn dispatched_are_above_least()
 {}
 
 /// Law: a least task that has been dispatched is below all others.
-pub fn least_is_head()
-    ensures { LeastIsHead }
+pub fn least_is_heir()
+    ensures { LeastIsHeir }
 {}
 
 /// Law: a least task is below all others once it is dispatched.
-pub fn dispatch_makes_head()
-    ensures { DispatchMakesHead }
+pub fn dispatch_makes_heir()
+    ensures { DispatchMakesHeir }
 {}
 
-/// Law: a dispatch of another task leaves the head below all others.
-pub fn dispatch_keeps_head()
-    ensures { DispatchKeepsHead }
+/// Law: a dispatch of another task leaves the heir below all others.
+pub fn dispatch_keeps_heir()
+    ensures { DispatchKeepsHeir }
 {}
 
-/// Law: a new child leaves the head below all others.
-pub fn spawn_keeps_head()
-    ensures { SpawnKeepsHead }
+/// Law: a new child leaves the heir below all others.
+pub fn spawn_keeps_heir()
+    ensures { SpawnKeepsHeir }
 {}
 
-/// Law: an abort that does not take the head leaves it below all others.
-pub fn abort_keeps_head()
-    ensures { AbortKeepsHead }
+/// Law: an abort that does not take the heir leaves it below all others.
+pub fn abort_keeps_heir()
+    ensures { AbortKeepsHeir }
 {}
 
-/// Law: a spill and its return leave the head below all others.
-pub fn spill_keeps_head()
-    ensures { SpillKeepsHead }
+/// Law: a spill and its return leave the heir below all others.
+pub fn spill_keeps_heir()
+    ensures { SpillKeepsHeir }
 {}
 
 /// Law: a least task is still the least once it is spilled or has returned.
@@ -89,7 +94,7 @@ pub fn cascade_lies_above()
     ensures { CascadeLiesAbove }
 {}
 
-/// Law: a cascade whose first tasks lie above a task, as above the head or the asker, does not take it.
+/// Law: a cascade whose first tasks lie above a task, as above the heir or the asker, does not take it.
 pub fn cascade_spares_lower()
     ensures { CascadeSparesLower }
 {}

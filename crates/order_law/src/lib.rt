@@ -7,9 +7,9 @@
 mod laws;
 
 pub use laws::{
-    abort_keeps_head, abort_keeps_order, cascade_lies_above, cascade_spares_lower,
-    commit_keeps_order, dispatch_keeps_head, dispatch_keeps_order, dispatch_makes_head,
-    dispatched_are_above_least, least_is_head, least_is_innermost, opening_is_ordered,
-    renumbering_keeps_order, spawn_keeps_head, spawn_keeps_order, spill_keeps_head,
-    spill_keeps_least, spill_keeps_order,
+    abort_keeps_heir, abort_keeps_order, cascade_lies_above, cascade_spares_lower,
+    commit_keeps_order, dispatch_keeps_heir, dispatch_keeps_order, dispatch_makes_heir,
+    dispatched_are_above_least, domain_numbers_are_held, least_is_heir, least_is_innermost,
+    opening_is_ordered, renumbering_keeps_order, spawn_keeps_heir, spawn_keeps_order,
+    spill_keeps_heir, spill_keeps_least, spill_keeps_order,
 };

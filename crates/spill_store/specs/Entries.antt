@@ -1,5 +1,9 @@
 -- What a block holds.
-use Rattle.std.specs.Prelude.{◌≡◌, ℕ, ◌+◌, true, List, Some, None, map, remove, length, slice_get}
+use Rattle.std.specs.Prelude.{◌≡◌, ℕ, ◌+◌, true, Option, List, [], ◌∷◌, Some, None, All, map, remove, length, slice_get}
+use Rattle.std.specs.Ordering.{on}
+use Rattle.std.specs.declared.cmp.Ordering.{Ordering}
+use Rattle.fractal_vt.specs.Sorted.{inserted}
+use Rattle.fractal_vt.specs.Renumbered.{renumbered, HoldsKey}
 use Rattle.fractal_vt.specs.declared.level.Level.{Level}
 use Rattle.fractal_vt.specs.declared.key.Key.{Key}
 use Rattle.fractal_vt.specs.Keys.{key_cmp}
@@ -27,6 +31,27 @@ pub record IsKept (bytes : List ℕ) (key : Key) : Type 0 where
 -- a spilled task's key: its domain's levels and its timestamp, with an open tiebreaker
 abbrev pub open_key : Entry → Key
 open_key entry = record { domain = entry.domain; ts = entry.desc.ts; tb = None }
+
+-- entries by their open keys
+abbrev pub by_key : Entry → Entry → Ordering
+by_key = on open_key key_cmp
+
+-- the entries after a push: the new one stands behind all whose keys are not greater
+abbrev pub pushed : List Entry → Entry → List Entry
+pushed entries entry = inserted by_key entry entries
+
+-- the open key of the first entry
+abbrev pub first_key : List Entry → Option Key
+first_key [] = None
+first_key (entry ∷ entries) = Some (open_key entry)
+
+-- the entry with the tiebreakers of its domain replaced by their places in a table
+abbrev pub renumbered_entry : List ℕ → Entry → Entry
+renumbered_entry table entry = record entry { domain = renumbered table entry.domain }
+
+-- the table holds the tiebreakers of each entry's domain
+abbrev pub HoldsEntries : List ℕ → List Entry → Type 0
+HoldsEntries table entries = All (λ entry. HoldsKey table (open_key entry)) entries
 
 -- the first entry of a least open key
 pub record IsLeastEntry (entries : List Entry) (place : ℕ) (entry : Entry) : Type 0 where

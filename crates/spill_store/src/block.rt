@@ -1,28 +1,38 @@
-ghost use Rattle.std.specs.Prelude.{◌≡◌, ◌+◌, ◌<◌, ◌≤◌, ◌↔◌, [], ◌∷◌, ◌++◌, length, map, take, IfSome, IfNone, IsNone, IsOk, IsTrue, OnOk, OnSome};
-ghost use Rattle.fractal_vt.specs.Keys.{key_cmp};
-ghost use Rattle.fractal_vt.specs.Least.{IsFirstLeast, IsLessTest};
+ghost use Rattle.std.specs.Prelude.{◌≡◌, ◌+◌, ◌-◌, ◌<◌, ◌≤◌, ◌↔◌, [], ◌∷◌, length, map, slice_get, Some, IfSome, IfNone};
+ghost use Rattle.std.specs.Prelude.{IsNone, IsOk, IsTrue, OnOk, OnSome};
+ghost use Rattle.std.specs.List.Sorted.{IsStrictlyIncreasing};
+ghost use Rattle.std.specs.VecDeque.{deque_capacity, deque_len};
+ghost use Rattle.fractal_vt.specs.Sorted.{IsInOrder, place_for};
 ghost use Rattle.task_desc.specs.Record.{IsDesc};
-ghost use Rattle.spill_store.specs.Entries.{open_key, TakesLeast, IsLeastKey};
+ghost use Rattle.spill_store.specs.Entries.{by_key, pushed, first_key, TakesLeast, IsLeastKey, renumbered_entry, HoldsEntries};
 
 use crate::kept::Kept;
 use fractal_vt::{Key, Vt, cmp};
 use std::alloc::{AllocError, Global};
+use std::collections::VecDeque;
 use std::marker::Model;
 use task_desc::Desc;
 
-/// The spilled tasks of one tile, in the order in which they were pushed.
+/// The spilled tasks of one tile by their open keys, those of one key in the order in which they were pushed.
+///
+/// They stand in a ring with the least at its front: to take it moves no other, and a push, which finds its place by
+/// comparisons in the logarithm of the length, moves those before it or those behind it, whichever are fewer.
 #[derive(Drop)]
 pub struct Block {
-    kept: Vec<Kept>,
+    kept: VecDeque<Kept>,
 }
 
 impl Model for Block {
-    ghost use Rattle.std.specs.Prelude.{◌-◌, vec_capacity, vec_len};
-    ghost use Rattle.spill_store.specs.Entries.{BlockValue};
+    ghost use Rattle.std.specs.Prelude.{◌-◌};
+    ghost use Rattle.std.specs.VecDeque.{deque_capacity, deque_len};
+    ghost use Rattle.fractal_vt.specs.Sorted.{IsInOrder};
+    ghost use Rattle.spill_store.specs.Entries.{BlockValue, by_key};
 
     ghost Value = { BlockValue };
 
-    ghost view = { λ b. record { entries = b.kept.items; spare = vec_capacity b.kept - vec_len b.kept } };
+    ghost view = { λ b. record { entries = b.kept.items; spare = deque_capacity b.kept - deque_len b.kept } };
+
+    ghost invariant = { λ b. IsInOrder by_key b.kept.items };
 }
 
 impl Block {
@@ -31,7 +41,7 @@ impl Block {
         ensures { result.entries ≡ [] }
     {
         Block {
-            kept: Vec::new(alloc),
+            kept: VecDeque::new(alloc),
         }
     }
 
@@ -45,40 +55,46 @@ impl Block {
         self.kept.reserve(more)
     }
 
-    /// Adds a task with its domain at the end.
+    /// Adds a task with its domain, behind those whose keys are not greater.
     pub fn push(&mut self, desc: &Desc, domain: &Vt)
         requires spare { 1 ≤ self.old.spare }
         requires desc { IsDesc desc.now }
         requires domain { length domain.now + 1 ≡ desc.now.depth }
-        ensures entries { self.new.entries ≡ self.old.entries ++ record { desc = desc.now; domain = domain.now } ∷ [] }
+        ensures entries { self.new.entries ≡ pushed self.old.entries (record { desc = desc.now; domain = domain.now }) }
         ensures spare { self.old.spare ≤ self.new.spare + 1 }
     {
-        match self.kept.push(Kept::new(desc, domain)) {
+        let fresh = Kept::new(desc, domain);
+        let place = place_for(&self.kept, &fresh);
+        match self.kept.insert(place, fresh) {
             Ok(()) => {}
             Err(_) => unreachable!(),
         }
     }
 
-    /// Takes out the task of the least open key, the earliest of those on a tie, with its domain; all others stay in their
-    /// order. None exactly where the block is empty.
+    /// Takes out the first task with its domain: that of the least open key, the earliest of those on a tie. All others
+    /// stay in their order. None exactly where the block is empty.
     pub fn take_least(&mut self) -> Option<(Desc, Vt)>
         ensures none { IsNone result ↔ (self.old.entries ≡ []) }
-        ensures least { IfSome result (λ taken. TakesLeast self.old.entries self.new.entries (record { desc = taken.0; domain = taken.1 })) }
+        ensures first { IfSome result
+            (λ taken. self.old.entries ≡ record { desc = taken.0; domain = taken.1 } ∷ self.new.entries) }
+        ensures least { IfSome result
+            (λ taken. TakesLeast self.old.entries self.new.entries (record { desc = taken.0; domain = taken.1 })) }
         ensures fits { IfSome result (λ taken. IsDesc taken.0 × (length taken.1 + 1 ≡ taken.0.depth)) }
         ensures empty { IfNone result (self.new ≡ self.old) }
         ensures spare { OnSome result (self.new.spare ≡ self.old.spare + 1) }
     {
-        let place = least_place(&self.kept)?;
-        Some(self.kept.remove(place).into_parts())
+        let first = self.kept.pop_front()?;
+        Some(first.into_parts())
     }
 
     /// The open key of the task that `take_least` would take; None exactly where the block is empty.
     pub fn least_key(&self) -> Option<Key>
+        ensures first { result ≡ first_key self.now.entries }
         ensures none { IsNone result ↔ (self.now.entries ≡ []) }
         ensures least { IfSome result (IsLeastKey self.now.entries) }
     {
-        let place = least_place(&self.kept)?;
-        Some(self.kept[place].key().copied())
+        let first = self.kept.front()?;
+        Some(first.key().copied())
     }
 
     /// How many tasks it holds.
@@ -94,45 +110,60 @@ impl Block {
     {
         self.kept.is_empty()
     }
-}
 
-/// The first place of a least key.
-fn least_place(kept: &[Kept]) -> Option<usize>
-    ensures none { IsNone result ↔ (kept.now ≡ []) }
-    ensures least { IfSome result (λ place. IsFirstLeast key_cmp (map open_key kept.now) place) }
-    ensures within { IfSome result (λ place. place < length kept.now) }
-{
-    if kept.is_empty() {
-        return None;
+    /// Replaces each tiebreaker of the domains by its place in a strictly rising table that holds them all. The order stays.
+    /// No memory.
+    pub fn renumber(&mut self, table: &[u64])
+        requires rising { IsStrictlyIncreasing table.now }
+        requires held { HoldsEntries table.now self.old.entries }
+        ensures entries { self.new.entries ≡ map (renumbered_entry table.now) self.old.entries }
+        ensures spare { self.new.spare ≡ self.old.spare }
+    {
+        renumber_all(&mut self.kept, table);
     }
-    let mut best = 0;
-    for place in 1..kept.len() {
-        best = lesser(kept, best, place);
-    }
-    Some(best)
-}
 
-/// The first place of a least key among those up to and with `place`, where `best` is the one among those before it.
-#[tactic(auto, using(fractal_vt::proofs::Step::place_is_next, fractal_vt::proofs::Step::best_stays))]
-fn lesser(kept: &[Kept], best: usize, place: usize) -> usize
-    requires within { place < length kept.now }
-    requires before { best < place }
-    requires best { IsFirstLeast key_cmp (take place (map open_key kept.now)) best }
-    ensures before { result < place + 1 }
-    ensures best { IsFirstLeast key_cmp (take (place + 1) (map open_key kept.now)) result }
-{
-    if is_less(kept, place, best) {
-        place
-    } else {
-        best
+    /// Law: the tasks are in the order of their open keys.
+    pub fn is_in_order(&self)
+        ensures { IsInOrder by_key self.now.entries }
+    {
+        let _ = &self.kept;
     }
 }
 
-/// Whether the key at `a` is less than that at `b`.
-fn is_less(kept: &[Kept], a: usize, b: usize) -> bool
-    requires a { a < length kept.now }
-    requires b { b < length kept.now }
-    ensures { IsLessTest key_cmp (map open_key kept.now) a b result }
+/// The task at a place.
+fn at(kept: &VecDeque<Kept>, place: usize) -> &Kept
+    requires { place < length kept.now.items }
+    ensures { slice_get kept.now.items place ≡ Some result.now }
 {
-    cmp(kept[a].key(), kept[b].key()).is_lt()
+    &kept[place]
+}
+
+/// The place of the first task with a greater key, or their number where there is none.
+#[tactic(auto, using(crate::proofs::Pushed::search_upto, crate::proofs::Pushed::search_beyond, fractal_vt::proofs::Sorted::place_within))]
+fn place_for(kept: &VecDeque<Kept>, fresh: &Kept) -> usize
+    requires { IsInOrder by_key kept.now.items }
+    ensures { result ≡ place_for by_key fresh.now kept.now.items }
+{
+    let mut low = 0;
+    let mut high = kept.len();
+    while low < high {
+        let middle = low + (high - low) / 2;
+        if cmp(fresh.key(), at(kept, middle).key()).is_lt() {
+            high = middle;
+        } else {
+            low = middle + 1;
+        }
+    }
+    low
+}
+
+/// Replaces each tiebreaker of the domains by its place in the table.
+fn renumber_all(kept: &mut VecDeque<Kept>, table: &[u64])
+    requires { IsStrictlyIncreasing table.now }
+    ensures items { kept.new.items ≡ map (renumbered_entry table.now) kept.old.items }
+    ensures room { deque_capacity kept.new - deque_len kept.new ≡ deque_capacity kept.old - deque_len kept.old }
+{
+    for place in 0..kept.len() {
+        kept[place].renumber(table);
+    }
 }

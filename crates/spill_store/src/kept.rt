@@ -1,8 +1,9 @@
 ghost use Rattle.std.specs.Prelude.{◌≡◌, ◌+◌, length};
 ghost use Rattle.task_desc.specs.Record.{IsDesc};
-ghost use Rattle.spill_store.specs.Entries.{open_key};
+ghost use Rattle.spill_store.specs.Entries.{open_key, renumbered_entry};
+ghost use Rattle.std.specs.List.Sorted.{IsStrictlyIncreasing};
 
-use fractal_vt::{Key, Vt};
+use fractal_vt::{Key, Vt, renumber};
 use std::marker::Model;
 use task_desc::{Desc, RECORD_BYTES, get_desc, put_desc};
 
@@ -45,6 +46,14 @@ impl Kept {
         ensures { result.now ≡ open_key self.now }
     {
         &self.key
+    }
+
+    /// Replaces each tiebreaker of its domain by its place in the table.
+    pub(crate) fn renumber(&mut self, table: &[u64])
+        requires { IsStrictlyIncreasing table.now }
+        ensures { self.new ≡ renumbered_entry table.now self.old }
+    {
+        self.key.domain = renumber(&self.key.domain, table);
     }
 
     /// Its descriptor and its domain.

@@ -1,11 +1,11 @@
 -- What taking an id out of distinct ids leaves.
-use Rattle.std.proofs.Common.{◌≡◌, ◌≢◌, ℕ, zero, suc, ◌<◌, true, cond, not, eqb, List, [], ◌∷◌, length, get_or, refl, subst, sym, ap, ◌∙◌, arith}
+use Rattle.std.proofs.Common.{◌≡◌, ◌≢◌, ℕ, zero, suc, ◌<◌, Bool, true, false, cond, not, eqb, List, [], ◌∷◌, length, get_or, refl, subst, sym, ap, ◌∙◌, arith}
 use Rattle.std.specs.Prelude.{Contains}
 use Rattle.std.specs.List.{remove}
 use Rattle.std.proofs.lemmas.Bool.{ne_eqb}
 use Rattle.std.proofs.lemmas.Bool.Decides.{nat_tests}
 use Rattle.std.proofs.lemmas.List.Kept.{AllPairs-filter}
-use Rattle.tile_queues.specs.Queue.{AreDistinct, without}
+use Rattle.tile_queues.specs.Queue.{AreDistinct, without, unmarked_ids}
 
 -- one more id in front
 without-cons_other : (id x : ℕ) (ids : List ℕ) → x ≢ id → without id (x ∷ ids) ≡ x ∷ without id ids
@@ -46,3 +46,6 @@ remove-distinct id (suc place) (x ∷ ids) distinct below is =
 -- what is left is distinct
 pub AreDistinct-without : (id : ℕ) (ids : List ℕ) → AreDistinct ids → AreDistinct (without id ids)
 AreDistinct-without id ids distinct = AllPairs-filter (λ a b. a ≢ b) (λ other. not (eqb other id)) ids distinct
+
+pub AreDistinct-unmarked : (marks : List Bool) (ids : List ℕ) → AreDistinct ids → AreDistinct (unmarked_ids marks ids)
+AreDistinct-unmarked marks ids distinct = AllPairs-filter (λ a b. a ≢ b) (λ id. not (get_or marks id false)) ids distinct

@@ -1,8 +1,8 @@
 // A bounded list of distinct ids.
 
-ghost use Rattle.std.specs.Prelude.{◌≡◌, ◌+◌, ◌<◌, ◌≤◌, ◌↔◌, [], ◌∷◌, ◌++◌, length, Contains, IsTrue, IsErr, IfOk, IfErr, OnOk, OnErr};
+ghost use Rattle.std.specs.Prelude.{◌≡◌, false, slice_index_or, ◌+◌, ◌<◌, ◌≤◌, ◌↔◌, [], ◌∷◌, ◌++◌, length, Contains, IsTrue, IsErr, IfOk, IfErr, OnOk, OnErr};
 ghost use Rattle.std.specs.Bool.{OnFalse};
-ghost use Rattle.tile_queues.specs.Queue.{AreDistinct, without};
+ghost use Rattle.tile_queues.specs.Queue.{AreDistinct, without, unmarked_ids};
 
 use std::alloc::{AllocError, Global};
 use std::marker::{Model, PhantomData};
@@ -85,6 +85,27 @@ impl<Kind> Queue<Kind> {
         }
     }
 
+    /// Takes out each id whose mark is true, in one pass. The others keep their order; an id past the marks has none, and stays.
+    pub fn take_marked(&mut self, marks: &[bool])
+        ensures { self.new ≡ record self.old { ids = unmarked_ids marks.now self.old.ids } }
+    {
+        self.ids.retain(|id| !is_marked(marks, *id));
+    }
+
+    /// Whether the id is there.
+    pub fn contains(&self, id: usize) -> bool
+        ensures { IsTrue result ↔ Contains self.now.ids id }
+    {
+        self.ids.contains(&id)
+    }
+
+    /// How many ids it has room for when it is empty.
+    pub fn capacity(&self) -> u32
+        ensures { result ≡ self.now.capacity }
+    {
+        self.capacity
+    }
+
     /// The ids, in order of arrival.
     pub fn ids(&self) -> &[usize]
         ensures ids { result.now ≡ self.now.ids }
@@ -100,4 +121,11 @@ impl<Kind> Queue<Kind> {
     {
         self.capacity - self.ids.len() as u32
     }
+}
+
+/// Whether the mark of the id is true. Past the marks it has none.
+fn is_marked(marks: &[bool], id: usize) -> bool
+    ensures { result ≡ slice_index_or marks.now id false }
+{
+    marks.get(id).copied().unwrap_or(false)
 }

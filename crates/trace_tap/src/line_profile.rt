@@ -21,7 +21,8 @@ impl LineProfile {
     /// A tap that counts by each of the first `lines` lines, 1 to 65,536, and has counted nothing yet.
     pub fn new(alloc: Global, lines: u32) -> Result<LineProfile, AllocError>
         requires { (0 < lines) × (lines ≤ 65536) }
-        ensures { IfOk result (λ tap. ⟦<LineProfile as Tap>⟧.reading tap ≡ line_counts lines (replicate (lines + 1) 0)) }
+        ensures { IfOk result
+            (λ tap. ⟦<LineProfile as Tap>⟧.reading tap ≡ line_counts lines (replicate (lines + 1) 0)) }
     {
         Ok(LineProfile {
             lines,

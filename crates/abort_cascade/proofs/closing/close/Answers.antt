@@ -1,8 +1,16 @@
-use Rattle.abort_cascade.proofs.Rounds.{Spreads-none, Spreads-more}
+use Rattle.std.proofs.Common.{arith, Bool}
+use Rattle.std.proofs.lemmas.List.Sums.{count_by-le-length}
+use Rattle.abort_cascade.proofs.Members.{IsWalked-none, IsWalked-more, listed_front}
 use Rattle.abort_cascade.proofs.closing.close.Goals as goal
 
-pub loop-grown-init : goal.loop-grown-init
-loop-grown-init g c = (Spreads-none _ _ _, λ no_way. absurd (cc))
+pub loop-next-init : goal.loop-next-init
+loop-next-init g c = IsWalked-none _ _ _ _ _ c.list_marked-found.ensures
 
-pub loop-grown-preserved : goal.loop-grown-preserved
-loop-grown-preserved g c = (Spreads-more _ _ _ _ _ c.loop-grown.invariant.0 c.pass-grown.ensures.spreads, c.pass-grown.ensures.closed)
+pub loop-next-preserved : goal.loop-next-preserved
+loop-next-preserved g c =
+    let spread = c.spread-found.ensures in
+    IsWalked-more _ _ _ _ _ _ _ _ _ _ (omega arith) (omega arith) spread.spreads spread.all spread.listed spread.stay spread.more c.loop-next.invariant
+
+pub returns-clause-listed : goal.returns-clause-listed
+returns-clause-listed g c = λ node.
+    listed_front _ _ _ node (omega (arith, c.loop-next.invariant.listed.size, count_by-le-length (λ (mark : Bool). mark) c.loop-next.marks)) c.loop-next.invariant.listed

@@ -1,12 +1,9 @@
-use Rattle.std.proofs.Common.{◌≡◌, ◌-◌, ◌+◌, false, length, count_by, cond}
-use Rattle.abort_cascade.specs.Cascade.{Marked, IsClosed}
-use Rattle.abort_cascade.specs.Round.{Spreads}
+use Rattle.std.proofs.Common.{◌-◌, length}
+use Rattle.abort_cascade.proofs.Members.{IsWalked}
 use Rattle.abort_cascade.proofs.closing.close.Given as goal
 
-abbrev pub invariant-loop-grown : goal.invariant-loop-grown
-invariant-loop-grown g l =
-    Spreads (g.P.Pulls.count l.relation) (g.P.Pulls.pull l.relation) l.initial.marks l.marks
-    × (l.grown ≡ false → IsClosed (g.P.Pulls.count l.relation) (g.P.Pulls.pull l.relation) (Marked l.marks))
+abbrev pub invariant-loop-next : goal.invariant-loop-next
+invariant-loop-next g l = IsWalked (g.P.Pulls.count l.relation) (g.P.Pulls.pull l.relation) l.initial.marks l.marks l.members l.next l.found
 
-abbrev pub decreases-loop-grown : goal.decreases-loop-grown
-decreases-loop-grown g l = length l.marks - count_by (λ mark. mark) l.marks + cond l.grown 1 0
+abbrev pub decreases-loop-next : goal.decreases-loop-next
+decreases-loop-next g l = length l.marks - l.next

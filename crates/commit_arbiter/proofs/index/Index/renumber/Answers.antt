@@ -1,0 +1,17 @@
+use Rattle.std.proofs.Common.{sym, ap, subst, map, ◌∙◌}
+use Rattle.commit_arbiter.specs.Indexed.{renumbered_entry}
+use Rattle.commit_arbiter.specs.Heap.{IsHeapIndex, ordered}
+use Rattle.commit_arbiter.proofs.Renumber.{ordered_renumbered, heap_renumbered, held_inside}
+use Rattle.commit_arbiter.proofs.index.Index.renumber.Goals as goal
+
+pub invariant_of-self : goal.invariant_of-self
+invariant_of-self c =
+    let old = c.self.inside.slots.entries in
+    let held = held_inside c.args.table.now old c.args.self.now.entries (ap (λ v. v.entries) c.self.view_is) c.requires.held in
+    subst IsHeapIndex (sym c.renumber.ensures.entries) (heap_renumbered c.args.table.now old held c.self.invariant)
+
+pub returns-clause-entries : goal.returns-clause-entries
+returns-clause-entries c =
+    let old = c.self.inside.slots.entries in
+    let held = held_inside c.args.table.now old c.args.self.now.entries (ap (λ v. v.entries) c.self.view_is) c.requires.held in
+    ap ordered c.renumber.ensures.entries ∙ ordered_renumbered c.args.table.now old held ∙ ap (λ v. map (renumbered_entry c.args.table.now) v.entries) c.self.view_is

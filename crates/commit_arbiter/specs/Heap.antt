@@ -1,0 +1,67 @@
+-- Heaps of entries, and lists that want one step to be one.
+use Rattle.std.specs.Prelude.{◌≡◌, ◌≢◌, ℕ, ◌-◌, ◌<◌, ◌/◌, List, [], ◌∷◌, length, Bool, true, false, nat_eq}
+use Rattle.std.specs.List.{IsDistinct}
+use Rattle.std.specs.List.Sorted.{IsPermutation}
+use Rattle.std.specs.declared.cmp.Ordering.TheVariants.{Greater}
+use Rattle.fractal_vt.specs.Sorted.{inserted}
+use Rattle.commit_arbiter.specs.declared.entry.Entry.{Entry}
+use Rattle.commit_arbiter.specs.Indexed.{entry_cmp}
+use Rattle.commit_arbiter.specs.Slots.{entry_at}
+
+-- the place above
+abbrev pub parent : ℕ → ℕ
+parent k = (k - 1) / 2
+
+-- each element is not less than its parent, in any relation
+abbrev pub IsHeapBy : {X : Type 0} → (X → X → Type 0) → (ℕ → X) → ℕ → Type 0
+IsHeapBy le f many = (k : ℕ) → 0 < k → k < many → le (f (parent k)) (f k)
+
+-- a heap but for one place, which may be less than its parent
+pub record IsHeapUp {X : Type 0} (le : X → X → Type 0) (f : ℕ → X) (many i : ℕ) : Type 0 where
+  pub order : (k : ℕ) → 0 < k → k < many → k ≢ i → le (f (parent k)) (f k)
+  pub over : (k : ℕ) → 0 < i → 0 < k → k < many → parent k ≡ i → le (f (parent i)) (f k)
+
+-- a heap but for one place, which may be less than its parent or greater than its children
+pub record IsHeapApart {X : Type 0} (le : X → X → Type 0) (f : ℕ → X) (many i : ℕ) : Type 0 where
+  pub order : (k : ℕ) → 0 < k → k < many → k ≢ i → parent k ≢ i → le (f (parent k)) (f k)
+  pub over : (k : ℕ) → 0 < i → 0 < k → k < many → parent k ≡ i → le (f (parent i)) (f k)
+
+-- the first entry is not greater than the second
+abbrev pub upto : Entry → Entry → Type 0
+upto a b = entry_cmp a b ≢ Greater
+
+-- each entry is not less than its parent
+abbrev pub IsHeap : List Entry → Type 0
+IsHeap entries = IsHeapBy upto (entry_at entries) (length entries)
+
+-- what a step up leaves: where it moved the entry, the parent's place is now the one that may stand wrong
+pub record StepsUp (old new : List Entry) (at : ℕ) (moved : Bool) : Type 0 where
+  pub long : length new ≡ length old
+  pub permuted : IsPermutation old new
+  pub up : moved ≡ true → IsHeapUp upto (entry_at new) (length new) (parent at)
+  pub all : moved ≡ false → IsHeap new
+
+-- the least child of a place
+pub record IsLeastChild (entries : List Entry) (at c : ℕ) : Type 0 where
+  pub pos : 0 < c
+  pub inside : c < length entries
+  pub child : parent c ≡ at
+  pub least : (k : ℕ) → 0 < k → k < length entries → parent k ≡ at → upto (entry_at entries c) (entry_at entries k)
+
+-- what a step down leaves: the place that may stand wrong is now the child's
+pub record StepsDown (old new : List Entry) (at c : ℕ) : Type 0 where
+  pub long : length new ≡ length old
+  pub permuted : IsPermutation old new
+  pub inside : c < length new
+  pub below : at < c
+  pub apart : IsHeapApart upto (entry_at new) (length new) c
+
+-- the entries in their order
+abbrev pub ordered : List Entry → List Entry
+ordered [] = []
+ordered (e ∷ entries) = inserted entry_cmp e (ordered entries)
+
+-- a heap of entries, no two with one id
+pub record IsHeapIndex (entries : List Entry) : Type 0 where
+  pub heap : IsHeap entries
+  pub ids : IsDistinct (λ a b. nat_eq a.id b.id) entries

@@ -1,0 +1,54 @@
+ghost use Rattle.std.specs.Prelude.{◌≡◌};
+ghost use Rattle.std.specs.List.Sorted.{IsStrictlyIncreasing};
+ghost use Rattle.commit_arbiter.specs.Indexed.{entry_cmp, renumbered_entry};
+ghost use Rattle.commit_arbiter.specs.Slots.{blank};
+
+use fractal_vt::{Key, cmp, renumber_key};
+use std::cmp::Ordering;
+
+/// A task in an index.
+#[derive(Drop)]
+pub struct Entry {
+    /// Its key.
+    pub key: Key,
+    /// The tile in whose queue it stands.
+    pub tile: u32,
+    /// The number of its arrival there.
+    pub arrival: u64,
+    /// Its id, by which it is found again.
+    pub id: usize,
+}
+
+/// The order of entries: by key, then by tile, by arrival and by id.
+pub(crate) fn entry_order(a: &Entry, b: &Entry) -> Ordering
+    ensures { result ≡ entry_cmp a.now b.now }
+{
+    match cmp(&a.key, &b.key) {
+        Ordering::Equal => a
+            .tile
+            .cmp(&b.tile)
+            .then(a.arrival.cmp(&b.arrival))
+            .then(a.id.cmp(&b.id)),
+        order => order,
+    }
+}
+
+/// What stands in a slot that was never used.
+pub(crate) fn no_entry() -> Entry
+    ensures { result ≡ blank }
+{
+    Entry {
+        key: Key::root(0),
+        tile: 0,
+        arrival: 0,
+        id: 0,
+    }
+}
+
+/// Replaces each tiebreaker of the key by its place in the table.
+pub(crate) fn renumber_entry(entry: &mut Entry, table: &[u64])
+    requires { IsStrictlyIncreasing table.now }
+    ensures { entry.new ≡ renumbered_entry table.now entry.old }
+{
+    entry.key = renumber_key(&entry.key, table);
+}

@@ -1,0 +1,166 @@
+ghost use Rattle.std.specs.Prelude.{◌≡◌, ◌≢◌, ◌<◌, ◌≤◌, ◌↔◌, AllPairs, map, [], length, IfOk, IfSome, IsNone, IsSome, IsTrue};
+ghost use Rattle.std.specs.List.Sorted.{IsStrictlyIncreasing};
+ghost use Rattle.fractal_vt.specs.Keys.{key_cmp};
+ghost use Rattle.fractal_vt.specs.Least.{IsFirstLeast};
+ghost use Rattle.fractal_vt.specs.Sorted.{IsInOrder, inserted};
+ghost use Rattle.commit_arbiter.specs.Indexed.{entry_cmp, keys, renumbered_entry, HoldsEntries, HasId, without, first_id};
+ghost use Rattle.commit_arbiter.specs.Slots.{IsPlaceOf};
+ghost use Rattle.commit_arbiter.specs.declared.entry.Entry.{Entry};
+
+use crate::entry::Entry;
+use crate::heap::{sift_up, take_out};
+use crate::slots::Slots;
+use fractal_vt::Key;
+use std::alloc::{AllocError, Global};
+use std::marker::Model;
+
+/// The tasks that may commit, in their order: by key, then by tile, by arrival and by id.
+///
+/// It is a binary heap of slot numbers. `first` costs one look, `insert` and `remove` comparisons in the logarithm of the
+/// length, where the ids are below the capacity; the entry with a greater id is found by a look at each.
+#[derive(Drop)]
+pub struct Index {
+    slots: Slots,
+}
+
+impl Model for Index {
+    ghost use Rattle.commit_arbiter.specs.Indexed.{IndexValue};
+    ghost use Rattle.commit_arbiter.specs.Heap.{ordered, IsHeapIndex};
+
+    ghost Value = { IndexValue };
+
+    ghost view = { λ x. record { capacity = x.slots.capacity; entries = ordered x.slots.entries } };
+
+    ghost invariant = { λ x. IsHeapIndex x.slots.entries };
+}
+
+impl Index {
+    /// An empty index, with all memory that it will ever take.
+    pub fn new(alloc: Global, capacity: u32) -> Result<Index, AllocError>
+        requires { 1 ≤ capacity }
+        ensures { IfOk result (λ index. index ≡ record { capacity = capacity; entries = [] }) }
+    {
+        let slots = Slots::new(alloc, capacity)?;
+        Ok(Index { slots })
+    }
+
+    /// Adds a task. No memory.
+    pub fn insert(&mut self, key: &Key, tile: u32, arrival: u64, id: usize)
+        requires room { length self.old.entries < self.old.capacity }
+        requires other { ¬ HasId id self.old.entries }
+        ensures capacity { self.new.capacity ≡ self.old.capacity }
+        ensures entries { let entry : Entry = record { key = key.now; tile = tile; arrival = arrival; id = id } in
+            self.new.entries ≡ inserted entry_cmp entry self.old.entries }
+    {
+        let place = self.slots.len();
+        self.slots.push(Entry {
+            key: key.copied(),
+            tile,
+            arrival,
+            id,
+        });
+        sift_up(&mut self.slots, place);
+    }
+
+    /// Takes the task with an id out; false exactly where there is none. No memory.
+    pub fn remove(&mut self, id: usize) -> bool
+        ensures found { IsTrue result ↔ HasId id self.old.entries }
+        ensures capacity { self.new.capacity ≡ self.old.capacity }
+        ensures entries { self.new.entries ≡ without id self.old.entries }
+    {
+        match place_of(&self.slots, id) {
+            Some(place) => {
+                take_out(&mut self.slots, place);
+                true
+            }
+            None => false,
+        }
+    }
+
+    /// The id of the first task, whose key is the first of the least; None exactly where there is none. No memory.
+    pub fn first(&self) -> Option<usize>
+        ensures first { result ≡ first_id self.now.entries }
+        ensures least { IsSome result → IsFirstLeast key_cmp (keys self.now.entries) 0 }
+    {
+        if self.slots.len() == 0 {
+            return None;
+        }
+        Some(self.slots.get(0).id)
+    }
+
+    /// Replaces each tiebreaker by its place in a strictly rising table that holds them all. The order stays. No memory.
+    pub fn renumber(&mut self, table: &[u64])
+        requires rising { IsStrictlyIncreasing table.now }
+        requires held { HoldsEntries table.now self.old.entries }
+        ensures capacity { self.new.capacity ≡ self.old.capacity }
+        ensures entries { self.new.entries ≡ map (renumbered_entry table.now) self.old.entries }
+    {
+        self.slots.renumber(table);
+    }
+
+    /// How many tasks it holds.
+    pub fn len(&self) -> usize
+        ensures { result ≡ length self.now.entries }
+    {
+        self.slots.len()
+    }
+
+    /// Whether it holds none.
+    pub fn is_empty(&self) -> bool
+        ensures { IsTrue result ↔ (self.now.entries ≡ []) }
+    {
+        self.len() == 0
+    }
+
+    /// How many tasks it has room for in all.
+    pub fn capacity(&self) -> usize
+        ensures { result ≡ self.now.capacity }
+    {
+        self.slots.capacity()
+    }
+
+    /// Law: the tasks are in their order, and no two have one id.
+    pub fn is_in_order(&self)
+        ensures order { IsInOrder entry_cmp self.now.entries }
+        ensures ids { AllPairs (λ a b. a.id ≢ b.id) self.now.entries }
+    {
+        let _ = &self.slots;
+    }
+}
+
+/// The place of the entry with an id.
+fn place_of(slots: &Slots, id: usize) -> Option<usize>
+    ensures some { IfSome result (IsPlaceOf id slots.now.entries) }
+    ensures none { IsNone result → ¬ HasId id slots.now.entries }
+{
+    if let Some(place) = noted_place(slots, id) {
+        return Some(place);
+    }
+    scanned_place(slots, id)
+}
+
+/// The place of the entry with an id, where the note of it tells it.
+#[tactic(auto, using(crate::proofs::Places::place_here))]
+fn noted_place(slots: &Slots, id: usize) -> Option<usize>
+    ensures { IfSome result (IsPlaceOf id slots.now.entries) }
+{
+    let place = slots.place_hint(id)?;
+    if place < slots.len() && slots.get(place).id == id {
+        Some(place)
+    } else {
+        None
+    }
+}
+
+/// The place of the entry with an id, by a look at each entry.
+fn scanned_place(slots: &Slots, id: usize) -> Option<usize>
+    ensures some { IfSome result (IsPlaceOf id slots.now.entries) }
+    ensures none { IsNone result → ¬ HasId id slots.now.entries }
+{
+    for place in 0..slots.len() {
+        if slots.get(place).id == id {
+            return Some(place);
+        }
+    }
+    None
+}

@@ -1,0 +1,10 @@
+use Rattle.std.proofs.Common.{sym, subst}
+use Rattle.fractal_vt.specs.Sorted.{IsInOrder}
+use Rattle.spill_store.specs.Entries.{by_key, HoldsEntries}
+use Rattle.spill_store.proofs.Pushed.{order_renumbered}
+use Rattle.spill_store.proofs.block.Block.renumber.Goals as goal
+
+pub invariant_of-self : goal.invariant_of-self
+invariant_of-self c =
+    subst (IsInOrder by_key) (sym c.renumber_all.ensures.items)
+    (order_renumbered c.args.table.now c.self.inside.kept.items (subst (λ v. HoldsEntries c.args.table.now v.entries) (sym c.self.view_is) c.requires.held) c.self.invariant)
