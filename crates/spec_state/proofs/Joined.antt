@@ -1,81 +1,129 @@
--- A task that joins a queue: the ids in all task queues are still those of tasks.
-use Rattle.std.proofs.Common.{◌≡◌, ◌≢◌, ◌<◌, ◌∷◌, ◌++◌, ℕ, zero, suc, List, [], length, map, replicate, Option, Some, None, refl, sym, ap, subst, ◌∙◌, inl, inr, arith, slice_index_or}
-use Rattle.std.specs.Prelude.{Contains, IsSome, is_some, slice_set}
-use Rattle.std.proofs.lemmas.Bool.{cases_eq}
-use Rattle.std.proofs.lemmas.List.{get_or-map, map-set}
-use Rattle.std.proofs.lemmas.List.Elements.{All-set, Contains-append_cases}
-use Rattle.tile_queues.specs.Queue.{QueueValue}
+-- A task that comes to be, idle, as the last one of its tile's queue: the lists still hold what they should.
+use Rattle.std.proofs.Common.{◌≡◌, ◌≢◌, ◌⊎◌, ◌<◌, ◌≤◌, ◌+◌, ◌∷◌, ◌++◌, ℕ, zero, suc, List, [], length, map, replicate, Option, Some, None, refl, sym, ap, subst, ◌∙◌, inl, inr, arith, slice_get, slice_index_or}
+use Rattle.std.specs.Prelude.{Contains, slice_set}
+use Rattle.std.proofs.lemmas.Bool.{cases_eq, cases_lt}
+use Rattle.std.proofs.lemmas.List.{get_or-map, map-set, get_or-set_same, get_or-set_other, get_or_past, length_push}
+use Rattle.std.proofs.lemmas.List.Elements.{Contains-push, Contains-push_cases, Contains-append_left}
+use Rattle.std.proofs.lemmas.Option.{slice_get_within, get_or_from_slice_get}
+use Rattle.spec_state.specs.declared.task.Status.{Status}
+use Rattle.spec_state.specs.declared.task.Status.TheVariants.{Idle, Finished}
 use Rattle.spec_state.specs.declared.task.Task.{Task}
-use Rattle.spec_state.specs.Fits.{HasTasks}
+use Rattle.tile_queues.specs.Queue.{QueueValue}
+use Rattle.spec_state.specs.View.{View, task_at, queue_at}
+use Rattle.spec_state.specs.Queries.{IsQueued}
+use Rattle.spec_state.specs.Stored.{HasCore, IsThere, IsWellFormed, IsStored}
 use Rattle.spec_state.specs.Opening.{Adds}
-use Rattle.spec_state.specs.View.{View, task_at}
-
--- of empty lists each one is empty
-nothing_at : (n k : ℕ) → slice_index_or (replicate n (let none : List ℕ = [] in none)) k [] ≡ []
-nothing_at zero k = refl
-nothing_at (suc n) zero = refl
-nothing_at (suc n) (suc k) = nothing_at n k
 
 -- what stands at a place of the lists of ids is what the queue there holds
 pub ids_at : (queues : List QueueValue) (k : ℕ) (d : QueueValue) → k < length queues → slice_index_or (map (λ queue. queue.ids) queues) k [] ≡ (slice_index_or queues k d).ids
 ids_at queues k d within = get_or-map (λ queue. queue.ids) queues k d [] within
 
--- in empty queues each id is that of a task
-pub none_queued : (tasks : List (Option Task)) (queues : List QueueValue) (n : ℕ) → map (λ queue. queue.ids) queues ≡ replicate n [] → HasTasks tasks queues
-none_queued tasks queues n empty k d within id has =
-    let same : (slice_index_or queues k d).ids ≡ [] = sym (ids_at queues k d within) ∙ ap (λ lists. slice_index_or lists k []) empty ∙ nothing_at n k in
-    let nothing : Contains [] id = subst (λ ids. Contains ids id) same has in
-    absurd (omega (arith, nothing.1))
+-- nothing is contained past the end of the lists
+pub within_lists : (lists : List (List ℕ)) (tile id : ℕ) → Contains (slice_index_or lists tile []) id → tile < length lists
+within_lists lists tile id has = elim (cases_lt tile (length lists)) [
+  | inl within ↦ within
+  | inr past ↦
+      let nothing : Contains [] id = subst (λ ids. Contains ids id) (get_or_past lists tile [] past) has in
+      absurd (omega (arith, nothing.1))
+]
+
+module _ (old new : View) (id : ℕ) (task : Task) (adds : Adds id task old new) where
+  -- a task that was there is there still, under another id
+  pub other_id : (k : ℕ) (t : Task) → task_at old k ≡ Some t → k ≢ id
+  other_id k t at same = absurd (cc (at, ap (task_at old) same, adds.vacant))
+
+  pub still_there : (k : ℕ) (t : Task) → task_at old k ≡ Some t → task_at new k ≡ Some t
+  still_there k t at = adds.changes.others k (other_id k t at) ∙ at
+
+  -- the new task stands under its own id alone
+  pub is_new : (k : ℕ) (t : Task) → k ≡ id → task_at new k ≡ Some t → t ≡ task
+  is_new k t same at = let both : Some t ≡ Some task = sym at ∙ ap (task_at new) same ∙ adds.changes.changed in cc
+
+  pub was_there : (k : ℕ) (t : Task) → k ≢ id → task_at new k ≡ Some t → task_at old k ≡ Some t
+  was_there k t other at = sym (adds.changes.others k other) ∙ at
+
+  -- it stands last in its tile's queue, and the others stay
+  pub own_queue : task.tile < length old.queues → queue_at new task.tile ≡ queue_at old task.tile ++ id ∷ []
+  own_queue within = ap (λ queues. slice_index_or queues task.tile []) adds.queues ∙ get_or-set_same old.queues task.tile (queue_at old task.tile ++ id ∷ []) [] within
+
+  pub other_queue : (tile : ℕ) → tile ≢ task.tile → queue_at new tile ≡ queue_at old tile
+  other_queue tile other = ap (λ queues. slice_index_or queues tile []) adds.queues ∙ get_or-set_other old.queues task.tile tile (queue_at old task.tile ++ id ∷ []) [] other
+
+  module _ (size : ℕ) (stored : IsStored size old) (in_tiles : task.tile < length old.queues) (idle : task.status ≡ Idle)
+      (formed : IsWellFormed size (length old.history) task) where
+    -- a task whose status is of a kind stays
+    has_forth : (kind : Status → Type 0) (tile k : ℕ) → IsThere old tile k kind → IsThere new tile k kind
+    has_forth kind tile k has = (has.0, still_there k has.0 has.1, has.2, has.3)
+
+    -- and was there, where that is no status of an idle one
+    has_back : (kind : Status → Type 0) → (kind Idle → ⊥) → (tile k : ℕ) → IsThere new tile k kind → IsThere old tile k kind
+    has_back kind none tile k has = elim (cases_eq k id) [
+      | inl same ↦ absurd (none (subst kind (ap (λ t. t.status) (is_new k has.0 same has.1) ∙ idle) has.3))
+      | inr other ↦ (has.0, was_there k has.0 other has.1, has.2, has.3)
+    ]
+
+    queued_forth : (tile k : ℕ) → IsQueued new tile k → IsThere new tile k (λ status. Unit {0})
+    queued_forth tile k has = elim (cases_eq tile task.tile) [
+      | inl own ↦
+          let here : Contains (queue_at old task.tile ++ id ∷ []) k = subst (λ ids. Contains ids k) (own_queue in_tiles) (subst (λ n. Contains (queue_at new n) k) own has) in
+          elim (Contains-push_cases (queue_at old task.tile) id k here) [
+            | inl was ↦ has_forth (λ status. Unit {0}) tile k ((stored.queued_are tile k).0 (subst (λ n. Contains (queue_at old n) k) (sym own) was))
+            | inr last ↦ (task, ap (task_at new) (sym last) ∙ adds.changes.changed, sym own, tt)
+          ]
+      | inr other ↦ has_forth (λ status. Unit {0}) tile k ((stored.queued_are tile k).0 (subst (λ ids. Contains ids k) (other_queue tile other) has))
+    ]
+
+    -- who stood in a queue stands there
+    stays_queued : (tile k : ℕ) → Contains (queue_at old tile) k → Contains (queue_at new tile) k
+    stays_queued tile k has = elim (cases_eq tile task.tile) [
+      | inl own ↦
+          subst (λ n. Contains (queue_at new n) k) (sym own)
+          (subst (λ ids. Contains ids k) (sym (own_queue in_tiles))
+          (Contains-append_left (queue_at old task.tile) (id ∷ []) k (subst (λ n. Contains (queue_at old n) k) own has)))
+      | inr other ↦ subst (λ ids. Contains ids k) (sym (other_queue tile other)) has
+    ]
+
+    queued_back : (tile k : ℕ) → IsThere new tile k (λ status. Unit {0}) → IsQueued new tile k
+    queued_back tile k has = elim (cases_eq k id) [
+      | inl same ↦
+          let own : task.tile ≡ tile = ap (λ t. t.tile) (sym (is_new k has.0 same has.1)) ∙ has.2 in
+          subst (λ n. Contains (queue_at new n) k) own
+          (subst (λ ids. Contains ids k) (sym (own_queue in_tiles)) (subst (Contains (queue_at old task.tile ++ id ∷ [])) (sym same) (Contains-push (queue_at old task.tile) id)))
+      | inr other ↦ stays_queued tile k ((stored.queued_are tile k).1 (has.0, was_there k has.0 other has.1, has.2, tt))
+    ]
+
+    formed_all : (k : ℕ) (t : Task) → task_at new k ≡ Some t → IsWellFormed size (length old.history) t
+    formed_all k t at = elim (cases_eq k id) [
+      | inl same ↦ subst (IsWellFormed size (length old.history)) (sym (is_new k t same at)) formed
+      | inr other ↦ stored.tasks k t (was_there k t other at)
+    ]
+
+    pub stored_added : IsStored size new
+    stored_added = subst (IsStored size) (sym adds.rest)
+        (record {
+          queued_are = λ tile k. (queued_forth tile k, queued_back tile k);
+          finished_are = λ tile k. (
+            λ has. has_forth (λ status. status ≡ Finished) tile k ((stored.finished_are tile k).0 has),
+            λ has. (stored.finished_are tile k).1 (has_back (λ status. status ≡ Finished) (λ is. absurd (cc (is))) tile k has),
+          );
+          held_are = λ tile core k. (
+            λ held. has_forth (λ status. HasCore status core) tile k ((stored.held_are tile core k).0 held),
+            λ has. (stored.held_are tile core k).1 (has_back (λ status. HasCore status core) (λ is. is) tile k has),
+          );
+          tasks = formed_all;
+          memory = stored.memory;
+        })
 
 -- an id that is no task's stands in no queue
-pub not_queued : (tasks : List (Option Task)) (queues : List QueueValue) (tile id : ℕ) (queue : QueueValue) → HasTasks tasks queues → tile < length queues → queue ≡ slice_index_or queues tile queue → slice_index_or tasks id None ≡ None → Contains queue.ids id → ⊥
-not_queued tasks queues tile id queue there within is vacant has =
-    let found : IsSome (slice_index_or tasks id None) = there tile queue within id (subst (λ q. Contains q.ids id) is has) in
-    absurd (cc (vacant, found))
-
-module _ (old new : List (Option Task)) (id : ℕ) (task : Task) (changed : slice_index_or new id None ≡ Some task)
-    (others : (k : ℕ) → k ≢ id → slice_index_or new k None ≡ slice_index_or old k None) where
-  -- who was a task is one still
-  stays_there : (k : ℕ) → IsSome (slice_index_or old k None) → IsSome (slice_index_or new k None)
-  stays_there k was = elim (cases_eq k id) [
-    | inl same ↦ subst (λ n. IsSome (slice_index_or new n None)) (sym same) (ap is_some changed)
-    | inr other ↦ subst IsSome (sym (others k other)) was
-  ]
-
-  -- with the new task's id as the last one of a queue, each id in a queue is that of a task
-  pub joined : (queues : List QueueValue) (tile : ℕ) (queue after : QueueValue) → HasTasks old queues → tile < length queues → queue ≡ slice_index_or queues tile queue
-      → after.ids ≡ queue.ids ++ id ∷ [] → HasTasks new (slice_set queues tile after)
-  joined queues tile queue after there within is ids =
-      All-set (λ q. (k : ℕ) → Contains q.ids k → IsSome (slice_index_or new k None)) queues tile after own
-      (λ k d below j has. stays_there j (there k d below j has))
-    where
-      own : (k : ℕ) → Contains after.ids k → IsSome (slice_index_or new k None)
-      own k has = elim (Contains-append_cases queue.ids (id ∷ []) k (subst (λ xs. Contains xs k) ids has)) [
-        | inl before ↦ stays_there k (there tile queue within k (subst (λ q. Contains q.ids k) is before))
-        | inr (zero, below, at) ↦ subst (λ n. IsSome (slice_index_or new n None)) at (ap is_some changed)
-        | inr (suc place, below, at) ↦ absurd (omega (arith, below))
-      ]
+pub not_queued : (size : ℕ) (view : View) (tile id : ℕ) → IsStored size view → task_at view id ≡ None → Contains (queue_at view tile) id → ⊥
+not_queued size view tile id stored vacant has =
+    let there = (stored.queued_are tile id).0 has in absurd (cc (there.1, vacant))
 
 -- the lists of ids with one more id in the queue of a tile
-queued : (queues : List QueueValue) (tile id : ℕ) (queue after : QueueValue) → tile < length queues → queue ≡ slice_index_or queues tile queue
+pub queued : (queues : List QueueValue) (tile id : ℕ) (queue after : QueueValue) → tile < length queues → queue ≡ slice_index_or queues tile queue
     → after.ids ≡ queue.ids ++ id ∷ []
     → map (λ q. q.ids) (slice_set queues tile after) ≡ slice_set (map (λ q. q.ids) queues) tile (slice_index_or (map (λ q. q.ids) queues) tile [] ++ id ∷ [])
 queued queues tile id queue after within is ids =
     let before : slice_index_or (map (λ q. q.ids) queues) tile [] ≡ queue.ids = ids_at queues tile queue within ∙ ap (λ q. q.ids) (sym is) in
     let now : after.ids ≡ slice_index_or (map (λ q. q.ids) queues) tile [] ++ id ∷ [] = ids ∙ ap (λ xs. xs ++ id ∷ []) (sym before) in
     map-set (λ q. q.ids) queues tile after ∙ ap (slice_set (map (λ q. q.ids) queues) tile) now
-
--- a task under a free id, and the id as the last one of its tile's queue: the task comes to be
-pub added : (old seen : View) (tasks : List (Option Task)) (queues : List QueueValue) (id : ℕ) (task : Task) (queue after : QueueValue)
-    → old ≡ seen → old.queues ≡ map (λ q. q.ids) queues → task.tile < length queues → queue ≡ slice_index_or queues task.tile queue → after.ids ≡ queue.ids ++ id ∷ []
-    → task_at old id ≡ None → slice_index_or tasks id None ≡ Some task → ((k : ℕ) → k ≢ id → slice_index_or tasks k None ≡ task_at old k)
-    → Adds id task seen (record old { tasks = tasks; queues = map (λ q. q.ids) (slice_set queues task.tile after) })
-added old seen tasks queues id task queue after same are within is ids vacant changed others =
-    let new : View = record old { tasks = tasks; queues = map (λ q. q.ids) (slice_set queues task.tile after) } in
-    let adds : Adds id task old new = record {
-      vacant = vacant;
-      changes = record { changed = changed; others = others };
-      queues = queued queues task.tile id queue after within is ids ∙ ap (λ lists. slice_set lists task.tile (slice_index_or lists task.tile [] ++ id ∷ [])) (sym are);
-      rest = refl;
-    } in
-    subst (λ view. Adds id task view new) same adds

@@ -1,84 +1,225 @@
--- When a queued task is the least one.
-use Rattle.std.proofs.Common.{◌≡◌, ◌≢◌, ℕ, Some, refl, sym, ap, subst, ◌∙◌, inl, inr, slice_get}
-use Rattle.std.proofs.lemmas.Bool.{cases_eq}
-use Rattle.std.proofs.lemmas.Cmp.{tied_itself, nat_cmp_total}
-use Rattle.std.specs.Ordering.{ordering_then, ordering_reverse}
+-- The least task is the first of the queued ones or the first of the spilled ones.
+use Rattle.std.proofs.Common.{◌≡◌, ◌≢◌, ◌<◌, ◌≤◌, ◌+◌, ◌∷◌, ◌++◌, ℕ, zero, suc, List, [], length, Option, Some, None, refl, sym, ap, subst, ◌∙◌, inl, inr, arith, slice_get, slice_index_or}
+use Rattle.std.specs.Prelude.{Contains, All}
+use Rattle.std.specs.Ordering.{nat_cmp, ordering_then, ordering_reverse, is_lt}
+use Rattle.std.proofs.Common.{true, false}
 use Rattle.std.specs.declared.cmp.Ordering.{Ordering}
 use Rattle.std.specs.declared.cmp.Ordering.TheVariants.{Less, Equal, Greater}
+use Rattle.std.proofs.lemmas.Bool.{cases_eq, cases_lt}
+use Rattle.std.proofs.lemmas.Bool.Decides.{nat_tests}
+use Rattle.std.proofs.lemmas.Cmp.{tied_itself}
+use Rattle.std.proofs.lemmas.List.{get_or_past, length-map}
+use Rattle.std.proofs.Common.{map}
+use Rattle.std.specs.Prelude.{IfSome}
+use Rattle.spec_state.specs.declared.leading.Front.{Front}
+use Rattle.std.proofs.lemmas.List.Elements.{All-contains}
+use Rattle.std.proofs.lemmas.Option.{slice_get-get_or}
+use Rattle.commit_arbiter.specs.declared.entry.Entry.{Entry}
+use Rattle.commit_arbiter.specs.Indexed.{entry_cmp, first_id}
+use Rattle.commit_arbiter.proofs.Places.{entry_cmp_total}
 use Rattle.fractal_vt.specs.declared.key.Key.{Key}
 use Rattle.fractal_vt.specs.Keys.{key_cmp}
+use Rattle.fractal_vt.specs.Sorted.{IsInOrder}
 use Rattle.fractal_vt.proofs.KeyLaws.{key_cmp_total}
-use Rattle.spill_store.specs.Entries.{Entry as Spilled, open_key}
+use Rattle.fractal_vt.proofs.Sorted.{AllPairs-head}
+use Rattle.spill_store.specs.Entries.{Entry as Spilled, BlockValue, open_key}
 use Rattle.spec_state.specs.declared.task.Task.{Task}
+use Rattle.spec_state.specs.declared.task.TaskId.{TaskId}
+use Rattle.spec_state.specs.declared.task.Where.{Where}
+use Rattle.spec_state.specs.declared.task.Where.TheVariants as where_
 use Rattle.spec_state.specs.View.{View, task_at, queue_at, block_at}
-use Rattle.spec_state.specs.Least.{Spot, Queued, Spilled_at, HasKey, IsQueuedAt, IsLeastTask, ranked_cmp, spot_cmp}
-use Rattle.spec_state.specs.Sound.{SoundSizes}
-use Rattle.spec_state.proofs.Places.{get_contains}
-use Rattle.spec_state.proofs.Distinct.{distinct_at, one_place}
-use Rattle.spec_state.proofs.Spared.{queued_at}
+use Rattle.spec_state.specs.Least.{Spot, Queued, Spilled_at, IsQueuedAt, HasKey, ranked_cmp, IsLeastSpot, IsLeastTask, IsLeastSpilled, IsAllCommitted, IsLeast}
+use Rattle.spec_state.specs.Queries.{IsQueued}
+use Rattle.spec_state.specs.Stored.{IsStored, IsIndexed, entry_of}
+use Rattle.spec_state.specs.Fronts.{IsFirstQueued, IsFirstSpilled, HoldNone, IsStanding}
+use Rattle.spec_state.proofs.Entered.{head_or_tail, has_head, held_at}
+use Rattle.spec_state.proofs.Fronts.{not_above, less_then, less_from, upto_place}
 
--- what is neither greater nor a tie is less
-pub less_of : (o : Ordering) → o ≢ Greater → o ≢ Equal → o ≡ Less
-less_of Less a b = refl
-less_of Equal a b = absurd (b refl)
-less_of Greater a b = absurd (a refl)
+-- the head of a list in order comes before all of it
+head_upto : (e : Entry) (es : List Entry) → IsInOrder entry_cmp (e ∷ es) → (x : Entry) → Contains (e ∷ es) x → entry_cmp e x ≢ Greater
+head_upto e es order x has = elim (head_or_tail e es x has) [
+  | inl same ↦ subst (λ y. entry_cmp e y ≢ Greater) same (subst (λ o. o ≢ Greater) (sym (tied_itself entry_cmp_total e)) (λ is. cc))
+  | inr tail ↦ All-contains (λ y. entry_cmp e y ≢ Greater) es x (AllPairs-head (λ a b. entry_cmp a b ≢ Greater) e es order) tail
+]
 
--- where the first of two answers is not greater, and the second is less, the whole is not greater
-then_less : (o : Ordering) → o ≢ Greater → ordering_then o Less ≢ Greater
-then_less Less a e = absurd (cc)
-then_less Equal a e = absurd (cc)
-then_less Greater a e = a refl
+-- an order by key, tile, arrival and id is one by key, tile and place, where arrivals rise along a tile's places
+by_place : (k t a i p : Ordering) → ordering_then k (ordering_then (ordering_then t a) i) ≢ Greater → (t ≡ Equal → a ≢ Greater → p ≢ Greater) → ordering_then k (ordering_then t p) ≢ Greater
+by_place Less t a i p not fine = λ same. cc
+by_place Equal Less a i p not fine = λ same. cc
+by_place Equal Equal a i p not fine = fine refl (λ same. not (ap (λ o. ordering_then o i) same))
+by_place Equal Greater a i p not fine = absurd (not refl)
+by_place Greater t a i p not fine = absurd (not refl)
 
--- a task at its place ties with itself
-ranked_self : (key : Key) (tile place : ℕ) → ranked_cmp key (Queued tile place) key (Queued tile place) ≡ Equal
-ranked_self key tile place =
-    ap (λ o. ordering_then o (spot_cmp (Queued tile place) (Queued tile place))) (tied_itself key_cmp_total key)
-    ∙ ap (λ o. ordering_then o (Rattle.std.specs.Ordering.nat_cmp place place)) (tied_itself nat_cmp_total tile)
-    ∙ tied_itself nat_cmp_total place
+pub equal_numbers : (a b : ℕ) → nat_cmp a b ≡ Equal → a ≡ b
+equal_numbers a b same = elim (cases_lt a b) [
+  | inl less ↦ absurd (let is : nat_cmp a b ≡ Less = grind (arith, nat_tests) in let both : Less ≡ Equal = sym is ∙ same in cc)
+  | inr upto ↦ elim (cases_eq a b) [
+    | inl equal ↦ equal
+    | inr other ↦ absurd (let is : nat_cmp a b ≡ Greater = grind (arith, nat_tests) in let both : Greater ≡ Equal = sym is ∙ same in cc)
+  ]
+]
 
-module _ (view : View) (sizes : SoundSizes view) where
-  -- a task stands in its own tile alone
-  own_tile : (tile place id : ℕ) (task x : Task) → IsQueuedAt view tile place id task → task_at view id ≡ Some x → x.tile ≡ tile
-  own_tile tile place id task x at there =
-      let has = (sizes.queued_are tile id).0 (get_contains (queue_at view tile) place id at.queued) in
-      let both : Some has.0 ≡ Some x = sym has.1 ∙ there in
-      let same : has.0 ≡ x = cc in
-      sym (ap (λ t. t.tile) same) ∙ has.2
+greater_number : (a b : ℕ) → b < a → nat_cmp a b ≡ Greater
+greater_number a b less = grind (arith, nat_tests)
 
-  -- and at one place
-  own_place : (p q id : ℕ) (x t : Task) (tile : ℕ) → IsQueuedAt view x.tile p id x → IsQueuedAt view tile q id t → x.tile ≡ tile → q ≡ p
-  own_place p q id x t tile at at' same =
-      one_place (queue_at view x.tile) q p id (distinct_at view.settings.task_queue view.queues x.tile sizes.task_queues)
-      (subst (λ k. slice_get (queue_at view k) q ≡ Some id) (sym same) at'.queued) at.queued
+module _ (size : ℕ) (view : View) (arrivals : List ℕ) (next : ℕ) (stored : IsStored size view) where
+  module _ (e : Entry) (es : List Entry) (is : IsIndexed view.tasks view.queues arrivals next (e ∷ es)) (order : IsInOrder entry_cmp (e ∷ es)) (task : Task)
+      (there : task_at view e.id ≡ Some task) (entry : e ≡ entry_of arrivals e.id task) (has : IsQueued view task.tile e.id) where
+    at_place : slice_get (queue_at view task.tile) has.0 ≡ Some e.id
+    at_place = slice_get-get_or (queue_at view task.tile) has.0 e.id has.1 ∙ ap Some has.2
 
-  -- a queued task that is below all other queued ones, and not above a spilled one, is the least
-  pub makes_least : (id : ℕ) (x : Task) → task_at view id ≡ Some x
-      → ((k : ℕ) (t : Task) → k ≢ id → task_at view k ≡ Some t → key_cmp x.key t.key ≡ Less)
-      → ((tile place : ℕ) (s : Spilled) → slice_get (block_at view tile) place ≡ Some s → key_cmp x.key (open_key s) ≢ Greater)
-      → IsLeastTask view id x
-  makes_least id x there others spilled =
-      record { place = spot.0; at = spot.1; least = record { key = x.key; has = (id, x, spot.1, refl); least = by_spot } }
+    first : (tile p k : ℕ) (x : Task) → IsQueuedAt view tile p k x → ranked_cmp task.key (Queued task.tile has.0) x.key (Queued tile p) ≢ Greater
+    first tile p k x at =
+        let held = (stored.queued_are tile k).0 (held_at (queue_at view tile) p k at.queued) in
+        let both : Some x ≡ Some held.0 = sym at.there ∙ held.1 in
+        let same : x ≡ held.0 = cc in
+        let own : x.tile ≡ tile = ap (λ (t : Task). t.tile) same ∙ held.2 in
+        let upto : entry_cmp (entry_of arrivals e.id task) (entry_of arrivals k x) ≢ Greater =
+        subst (λ (y : Entry). entry_cmp y (entry_of arrivals k x) ≢ Greater) entry (head_upto e es order (entry_of arrivals k x) (is.all k x at.there)) in
+        let upto' = subst (λ n. ordering_then (key_cmp task.key x.key) (ordering_then (ordering_then (nat_cmp task.tile n) (nat_cmp (slice_index_or arrivals e.id 0) (slice_index_or arrivals k 0))) (nat_cmp e.id k)) ≢ Greater) own upto in
+        by_place (key_cmp task.key x.key) (nat_cmp task.tile tile) (nat_cmp (slice_index_or arrivals e.id 0) (slice_index_or arrivals k 0)) (nat_cmp e.id k) (nat_cmp has.0 p) upto'
+        (λ tiles numbers. elim (cases_lt p has.0) [
+          | inl before ↦
+              let tile_is = equal_numbers task.tile tile tiles in
+              let here : slice_get (queue_at view tile) has.0 ≡ Some e.id = subst (λ n. slice_get (queue_at view n) has.0 ≡ Some e.id) tile_is at_place in
+              absurd (numbers (greater_number (slice_index_or arrivals e.id 0) (slice_index_or arrivals k 0) (is.rising tile p has.0 k e.id before at.queued here)))
+          | inr behind ↦ upto_place has.0 p behind
+        ])
+
+    first_of : IsFirstQueued view e.id task
+    first_of = record { place = has.0; at = record { queued = at_place; there = there }; first = first }
+
+  -- the first entry of the index is that of the first queued task
+  pub first_queued : (entries : List Entry) → IsIndexed view.tasks view.queues arrivals next entries → IsInOrder entry_cmp entries → (id : ℕ) → first_id entries ≡ Some id
+      → (task : Task) × IsFirstQueued view id task
+  first_queued [] is order id at = absurd (cc)
+  first_queued (e ∷ es) is order id at =
+      let same : e.id ≡ id = cc in
+      let mine = is.each e (has_head e es) in
+      let has = (stored.queued_are mine.0.tile e.id).1 (mine.0, mine.1, refl, tt) in
+      subst (λ k. (task : Task) × IsFirstQueued view k task) same (mine.0, first_of e es is order mine.0 mine.1 mine.2 has)
+
+  -- where the index is empty no task is queued
+  pub none_queued : (entries : List Entry) → IsIndexed view.tasks view.queues arrivals next entries → first_id entries ≡ None → (tile id : ℕ) → IsQueued view tile id → ⊥
+  none_queued [] is none tile id has =
+      let there = (stored.queued_are tile id).0 has in
+      let found = is.all id there.0 there.1 in
+      absurd (omega (arith, found.1))
+  none_queued (e ∷ es) is none tile id has = cc
+
+-- a task of a block is one of the first blocks, as many as there are
+within_blocks : (blocks : List (List Spilled)) (t p : ℕ) (s : Spilled) → slice_get (slice_index_or blocks t []) p ≡ Some s → t < length blocks
+within_blocks blocks t p s at = elim (cases_lt t (length blocks)) [
+  | inl within ↦ within
+  | inr past ↦ absurd (cc (ap (λ (es : List Spilled). slice_get es p) (get_or_past blocks t [] past), at))
+]
+
+behind_queued : (o : Ordering) → o ≢ Greater → ordering_then o Less ≢ Greater
+behind_queued Less not = λ same. cc
+behind_queued Equal not = λ same. cc
+behind_queued Greater not = absurd (not refl)
+
+module _ (view : View) where
+  -- the first queued task is the least where no spilled one has a lesser key
+  pub least_queued : (id : ℕ) (task : Task) → IsFirstQueued view id task → ((t p : ℕ) (s : Spilled) → slice_get (block_at view t) p ≡ Some s → key_cmp task.key (open_key s) ≢ Greater)
+      → IsLeastTask view id task
+  least_queued id task first spilled = record {
+    place = first.place;
+    at = first.at;
+    least = record { key = task.key; has = (id, task, first.at, refl); least = least };
+  }
     where
-      spot : (place : ℕ) × IsQueuedAt view x.tile place id x
-      spot = queued_at view sizes id x there
+      least : (other : Spot) (other_key : Key) → HasKey view other other_key → ranked_cmp task.key (Queued task.tile first.place) other_key other ≢ Greater
+      least (Queued tile p) key (k, x, at, same) = subst (λ y. ranked_cmp task.key (Queued task.tile first.place) y (Queued tile p) ≢ Greater) (sym same) (first.first tile p k x at)
+      least (Spilled_at t p) key (s, at, same) = subst (λ y. ranked_cmp task.key (Queued task.tile first.place) y (Spilled_at t p) ≢ Greater) (sym same)
+          (behind_queued (key_cmp task.key (open_key s)) (spilled t p s at))
 
-      by_spot : (other : Spot) (key : Key) → HasKey view other key → ranked_cmp x.key (Queued x.tile (queued_at view sizes id x there).0) key other ≢ Greater
-      by_spot (Queued tile place) key has = λ greater. elim (cases_eq has.0 id) [
-        | inl same ↦
-            let at : IsQueuedAt view tile place id has.1 = subst (λ k. IsQueuedAt view tile place k has.1) same has.2 in
-            let both : Some has.1 ≡ Some x = sym at.there ∙ there in
-            let task : has.1 ≡ x = cc in
-            let key_is : key ≡ x.key = has.3 ∙ ap (λ t. t.key) task in
-            let tile_is : x.tile ≡ tile = own_tile tile place id has.1 x at there in
-            let place_is : place ≡ (queued_at view sizes id x there).0 = own_place (queued_at view sizes id x there).0 place id x has.1 tile (queued_at view sizes id x there).1 at tile_is in
-            let whole : ranked_cmp x.key (Queued x.tile (queued_at view sizes id x there).0) key (Queued tile place) ≡ Equal =
-            (λ i. ranked_cmp x.key (Queued x.tile (queued_at view sizes id x there).0) (key_is i) (Queued (sym tile_is i) (place_is i)))
-            ∙ ranked_self x.key x.tile (queued_at view sizes id x there).0
-            in
-            absurd (cc (sym whole ∙ greater))
-        | inr other ↦
-            let less : key_cmp x.key key ≡ Less = ap (key_cmp x.key) has.3 ∙ others has.0 has.1 other has.2.there in
-            absurd (cc (sym (ap (λ o. ordering_then o (spot_cmp (Queued x.tile (queued_at view sizes id x there).0) (Queued tile place))) less) ∙ greater))
-      ]
-      by_spot (Spilled_at tile place) key has =
-          then_less (key_cmp x.key key) (subst (λ k. key_cmp x.key k ≢ Greater) (sym has.2) (spilled tile place has.0 has.1))
+  -- the first spilled task is the least where its key is less than that of each queued one
+  pub least_spilled : (tile : ℕ) (key : Key) → IsFirstSpilled view.blocks (length view.blocks) tile key → ((t p k : ℕ) (x : Task) → IsQueuedAt view t p k x → key_cmp key x.key ≡ Less)
+      → IsLeastSpilled view tile
+  least_spilled tile key first queued = record {
+    place = first.place;
+    least = record { key = key; has = (first.s, first.there, first.of_task); least = least };
+  }
+    where
+      least : (other : Spot) (other_key : Key) → HasKey view other other_key → ranked_cmp key (Spilled_at tile first.place) other_key other ≢ Greater
+      least (Queued t p) other (k, x, at, same) = subst (λ y. ranked_cmp key (Spilled_at tile first.place) y (Queued t p) ≢ Greater) (sym same)
+          (subst (λ o. ordering_then o Greater ≢ Greater) (sym (queued t p k x at)) (λ is. cc))
+      least (Spilled_at t p) other (s, at, same) = subst (λ y. ranked_cmp key (Spilled_at tile first.place) y (Spilled_at t p) ≢ Greater) (sym same)
+          (first.first t p s (within_blocks view.blocks t p s at) at)
+
+  -- no key of a spilled task is less than the first one's
+  pub above_front : (tile : ℕ) (key : Key) → IsFirstSpilled view.blocks (length view.blocks) tile key → (t p : ℕ) (s : Spilled) → slice_get (block_at view t) p ≡ Some s → key_cmp key (open_key s) ≢ Greater
+  above_front tile key first t p s at same =
+      first.first t p s (within_blocks view.blocks t p s at) at (ap (λ o. ordering_then o (ordering_then (nat_cmp tile t) (nat_cmp first.place p))) same)
+
+  -- no key of a queued task is less than the first one's
+  pub above_first : (id : ℕ) (task : Task) → IsFirstQueued view id task → (t p k : ℕ) (x : Task) → IsQueuedAt view t p k x → key_cmp task.key x.key ≢ Greater
+  above_first id task first t p k x at same = first.first t p k x at (ap (λ o. ordering_then o (ordering_then (nat_cmp task.tile t) (nat_cmp first.place p))) same)
+
+  pub all_committed : ((tile id : ℕ) → IsQueued view tile id → ⊥) → HoldNone view.blocks (length view.blocks) → IsAllCommitted view
+  all_committed queued spilled (Queued tile p) key has = queued tile has.0 (held_at (queue_at view tile) p has.0 has.2.queued)
+  all_committed queued spilled (Spilled_at t p) key has = spilled t p has.0 (within_blocks view.blocks t p has.0 has.1) has.1
+
+  pub not_all_queued : (id : ℕ) (task : Task) → IsFirstQueued view id task → IsAllCommitted view → ⊥
+  not_all_queued id task first all = all (Queued task.tile first.place) task.key (id, task, first.at, refl)
+
+  pub not_all_spilled : (tile : ℕ) (key : Key) → IsFirstSpilled view.blocks (length view.blocks) tile key → IsAllCommitted view → ⊥
+  not_all_spilled tile key first all = all (Spilled_at tile first.place) key (first.s, first.there, first.of_task)
+
+  -- the least task, as it stands
+  pub stands : (w : Where) (id : TaskId) (task : Task) → IsStanding w id task → IsLeastTask view id.0 task → IsLeast view w
+  stands (where_.Idle k) id task is least = (task, subst (λ (j : TaskId). IsLeastTask view j.0 task) (sym is.0) least, is.1)
+  stands (where_.Running k) id task is least = (task, is.1.0, subst (λ (j : TaskId). IsLeastTask view j.0 task) (sym is.0) least, is.1.1)
+  stands (where_.Trapped k) id task is least = (task, is.1.0, is.1.1, subst (λ (j : TaskId). IsLeastTask view j.0 task) (sym is.0) least, is.1.2)
+  stands (where_.Finished k) id task is least = (task, subst (λ (j : TaskId). IsLeastTask view j.0 task) (sym is.0) least, is.1)
+  stands (where_.Spilled k) id task is least = absurd is
+
+-- the first of the spilled tasks, of the blocks as they are seen
+pub front_seen : (blocks : List BlockValue) (seen : List (List Spilled)) (front : Option Front) → map (λ b. b.entries) blocks ≡ seen
+    → IfSome front (λ f. IsFirstSpilled (map (λ b. b.entries) blocks) (length blocks) f.tile f.key) → IfSome front (λ f. IsFirstSpilled seen (length seen) f.tile f.key)
+front_seen blocks seen front same is =
+    subst (λ (bs : List (List Spilled)). IfSome front (λ f. IsFirstSpilled bs (length bs) f.tile f.key)) same
+    (subst (λ n. IfSome front (λ f. IsFirstSpilled (map (λ b. b.entries) blocks) n f.tile f.key)) (sym (length-map blocks (λ (b : BlockValue). b.entries))) is)
+
+pub none_seen : (blocks : List BlockValue) (seen : List (List Spilled)) → map (λ b. b.entries) blocks ≡ seen → HoldNone (map (λ b. b.entries) blocks) (length blocks) → HoldNone seen (length seen)
+none_seen blocks seen same is =
+    subst (λ (bs : List (List Spilled)). HoldNone bs (length bs)) same
+    (subst (HoldNone (map (λ b. b.entries) blocks)) (sym (length-map blocks (λ (b : BlockValue). b.entries))) is)
+
+no_spilled : (blocks : List (List Spilled)) → HoldNone blocks (length blocks) → (t p : ℕ) (s : Spilled) → slice_get (slice_index_or blocks t []) p ≡ Some s → ⊥
+no_spilled blocks none t p s at = none t p s (within_blocks blocks t p s at) at
+
+-- the first queued task, as it stands, where no spilled one has a lesser key
+stands_first : (view : View) (w : Where) (id : TaskId) (found : (task : Task) × IsFirstQueued view id.0 task) (now : Task) → task_at view id.0 ≡ Some now → IsStanding w id now
+    → ((t p : ℕ) (s : Spilled) → slice_get (block_at view t) p ≡ Some s → key_cmp now.key (open_key s) ≢ Greater) → IsLeast view w
+stands_first view w id found now at standing spilled =
+    let both : Some found.0 ≡ Some now = sym found.1.at.there ∙ at in
+    let same : found.0 ≡ now = cc in
+    stands view w id now standing (least_queued view id.0 now (subst (IsFirstQueued view id.0) same found.1) spilled)
+
+pub stands_alone : (view : View) (w : Where) (id : TaskId) (found : (task : Task) × IsFirstQueued view id.0 task) (now : Task) → task_at view id.0 ≡ Some now → IsStanding w id now
+    → HoldNone view.blocks (length view.blocks) → IsLeast view w
+stands_alone view w id found now at standing none = stands_first view w id found now at standing (λ t p s here. absurd (no_spilled view.blocks none t p s here))
+
+upto_turned : (a b : Key) → is_lt (key_cmp a b) ≡ false → key_cmp b a ≢ Greater
+upto_turned a b off = back (key_cmp b a) (key_cmp_total.antisymm a b)
+  where
+    back : (r : Ordering) → key_cmp a b ≡ ordering_reverse r → r ≢ Greater
+    back Less e = λ same. cc
+    back Equal e = λ same. cc
+    back Greater e = absurd (cc (ap is_lt e, off))
+
+pub stands_before : (view : View) (w : Where) (id : TaskId) (found : (task : Task) × IsFirstQueued view id.0 task) (now : Task) → task_at view id.0 ≡ Some now → IsStanding w id now
+    → (tile : ℕ) (key : Key) → IsFirstSpilled view.blocks (length view.blocks) tile key → is_lt (key_cmp key now.key) ≡ false → IsLeast view w
+stands_before view w id found now at standing tile key front off =
+    stands_first view w id found now at standing (λ t p s here. not_above key_cmp_total now.key key (open_key s) (upto_turned key now.key off) (above_front view tile key front t p s here))
+
+-- the first spilled task, before the first queued one
+pub spilled_before : (view : View) (id : ℕ) (found : (task : Task) × IsFirstQueued view id task) (now : Task) → task_at view id ≡ Some now → (tile : ℕ) (key : Key)
+    → IsFirstSpilled view.blocks (length view.blocks) tile key → is_lt (key_cmp key now.key) ≡ true → IsLeastSpilled view tile
+spilled_before view id found now at tile key front less =
+    let both : Some found.0 ≡ Some now = sym found.1.at.there ∙ at in
+    let same : found.0 ≡ now = cc in
+    let first = subst (IsFirstQueued view id) same found.1 in
+    least_spilled view tile key front (λ t p k x here. less_then key_cmp_total key now.key x.key (less_from (key_cmp key now.key) less) (above_first view id now first t p k x here))

@@ -1,12 +1,14 @@
 -- Which tasks an abort takes, and what it leaves (Jeffrey et al. 2015, section 4.5: selective aborts).
-use Rattle.std.specs.Prelude.{◌≡◌, ◌⊎◌, ◌↔◌, ℕ, ◌≤◌, not, Bool, true, false, List, length, map, filter, count_by, Option, Some, None, slice_index_or, if◌then◌else◌}
+use Rattle.std.specs.Prelude.{◌≡◌, ◌⊎◌, ◌↔◌, ℕ, ◌≤◌, not, Bool, true, false, List, [], length, map, filter, replicate, count_by, Option, Some, None, slice_index_or, if◌then◌else◌}
 use Rattle.abort_cascade.specs.Cascade.{IsLeastClosed}
 pub use Rattle.abort_cascade.specs.Cascade.{Only}
+use Rattle.line_table.specs.Note.{Meet}
 use Rattle.memory_law.specs.Tasks.{IsByKey, undone_set}
 use Rattle.turn_law.specs.Room.{queue_after}
 use Rattle.spec_state.specs.declared.task.Task.{Task}
 use Rattle.spec_state.specs.View.{View, task_at}
-use Rattle.spec_state.specs.Tasks.{is_dispatched, has_touched, has_written, idle_again}
+use Rattle.spec_state.specs.Filters.{has_touched, has_written}
+use Rattle.spec_state.specs.Tasks.{is_dispatched, idle_again}
 use Rattle.spec_state.specs.Groups.{logged, waiting, live_creator}
 use Rattle.spec_state.specs.Queries.{IsLater}
 
@@ -16,16 +18,15 @@ pub record IsChildOf (view : View) (a b : ℕ) : Type 0 where
   pub there : task_at view b ≡ Some child
   pub made_by : live_creator child.creator ≡ Some a
 
--- the first task is dispatched, and the second is a later dispatched one that touched a line which the first wrote, by their filters
+-- the first task is dispatched, and the second is a later dispatched one that touched a line that the first wrote, by
+-- their filters
 pub record ReadsFrom (view : View) (a b : ℕ) : Type 0 where
   pub writer : Task
   pub there : task_at view a ≡ Some writer
   pub dispatched : is_dispatched writer ≡ true
   pub reader : Task
   pub later : IsLater view writer b reader
-  pub line : ℕ
-  pub wrote : has_written writer line ≡ true
-  pub touched : has_touched reader line ≡ true
+  pub meets : Meet (has_written writer) (has_touched reader)
 
 -- what is taken back with a task: its children, and the later tasks that may have seen what it wrote
 abbrev pub Pulls : View → ℕ → ℕ → Type 0
@@ -56,10 +57,12 @@ is_marked_creator marks None = false
 is_marked_creator marks (Some id) = is_marked marks id
 
 -- an unmarked task stays, a marked one leaves with its creator, and any other is idle again, in its own entry
-abbrev pub taken_back : List Bool → ℕ → Option Task → Option Task
-taken_back marks id None = None
-taken_back marks id (Some task) =
-    if is_marked marks id then (if is_marked_creator marks (live_creator task.creator) then None else Some (idle_again task)) else Some task
+abbrev pub taken_back : ℕ → List Bool → ℕ → Option Task → Option Task
+taken_back version marks id None = None
+taken_back version marks id (Some task) =
+    if is_marked marks id
+    then (if is_marked_creator marks (live_creator task.creator) then None else Some (idle_again version task))
+    else Some task
 
 -- the core is free where the task that it holds is marked
 abbrev pub freed_core : List Bool → Option ℕ → Option ℕ
@@ -72,9 +75,23 @@ pub record Aborts (firsts : ℕ → Type 0) (old : View) (aborted : ℕ) (new : 
   pub marks : List Bool
   pub cascade : IsCascade old firsts marks
   pub counted : aborted ≡ count_by (λ mark. mark) marks
-  pub each : (id : ℕ) → task_at new id ≡ taken_back marks id (task_at old id)
+  pub each : (id : ℕ) → task_at new id ≡ taken_back old.version marks id (task_at old id)
   pub memory : IsUndone old (is_marked marks) new.memory
   pub queues : new.queues ≡ map (queue_after (waiting new)) old.queues
   pub finished : new.finished ≡ map (filter (λ id. not (is_marked marks id))) old.finished
   pub cores : new.cores ≡ map (map (freed_core marks)) old.cores
   pub rest : new ≡ record old { tasks = new.tasks; memory = new.memory; queues = new.queues; finished = new.finished; cores = new.cores }
+
+-- all uncommitted tasks are taken back: memory is as they found it, none is left, queued, finished, on a core or
+-- spilled, and all else stays
+pub record UndoesAll (old new : View) : Type 0 where
+  pub none : (id : ℕ) → task_at new id ≡ None
+  pub memory : IsUndone old (λ id. true) new.memory
+  pub rest : new ≡ record old {
+    tasks = new.tasks;
+    memory = new.memory;
+    queues = replicate old.settings.tiles [];
+    finished = replicate old.settings.tiles [];
+    cores = replicate old.settings.tiles (replicate old.settings.cores None);
+    blocks = replicate old.settings.tiles [];
+  }

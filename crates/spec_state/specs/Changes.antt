@@ -1,22 +1,25 @@
 -- The one change of each event, where what it forces is done.
-use Rattle.std.specs.Prelude.{◌≡◌, ◌≢◌, ◌+◌, ◌-◌, ◌∷◌, ◌++◌, ℕ, Bool, List, [], length, map, ◌==◌, Option, Some, None, slice_set, if◌then◌else◌}
+use Rattle.std.specs.Prelude.{◌≡◌, ◌≢◌, ◌+◌, ◌∷◌, ◌++◌, ℕ, List, [], length, map, ◌==◌, Option, Some, None, slice_set, if◌then◌else◌}
+use Rattle.guest_image.specs.declared.image.Kind.{Kind}
 use Rattle.memory_law.specs.Notes.{notes_of}
-use Rattle.rv_core.specs.declared.state.Stop.{Stop}
-use Rattle.rv_core.specs.declared.state.Stop.TheVariants as stop
-use Rattle.rv_core.specs.Memory.{data_start, load_bytes, store_bytes}
+use Rattle.rv_core.specs.declared.state.Core.{Core}
+use Rattle.rv_core.specs.Legs.{after_other_of, after_load_of}
+use Rattle.rv_core.specs.Memory.{load_bytes}
 use Rattle.rv_core.specs.LegValue.{LegValue}
-use Rattle.serial_machine.specs.TaskRun.{Stepped, stopped}
-use Rattle.serial_machine.specs.TaskState.{TaskState}
+use Rattle.rv_table.specs.declared.instr.LoadWidth.{LoadWidth}
 use Rattle.task_desc.specs.declared.desc.Spawn.{Spawn}
+use Rattle.task_step.specs.declared.request.Request.{Request}
+use Rattle.task_step.specs.Requests.{request_at}
 use Rattle.tile_queues.specs.Queue.{without}
-use Rattle.undo_log.specs.declared.access.Access.{Access}
-use Rattle.undo_log.specs.Undo.{Load, Store, access_of}
+use Rattle.undo_log.specs.Number.{number_at}
+use Rattle.undo_log.specs.Undo.{Call, Load, Store, access_of, after_call}
 use Rattle.spec_state.specs.declared.task.Creator.{Creator}
 use Rattle.spec_state.specs.declared.task.Creator.TheVariants.{Committed, Live}
 use Rattle.spec_state.specs.declared.task.Status.TheVariants as status
 use Rattle.spec_state.specs.declared.task.Task.{Task}
 use Rattle.spec_state.specs.View.{View, task_at, finished_at, cores_at, queued_last, ChangesTask}
-use Rattle.spec_state.specs.Tasks.{depth_of, own_level, start_context, progress_at, progressed, start_core, HasNotes, child_descriptor, idle_task}
+use Rattle.spec_state.specs.Tasks.{depth_of, own_level, context_of, start_core, child_descriptor, idle_task}
+use Rattle.spec_state.specs.Filters.{Lines, HasNotes}
 use Rattle.spec_state.specs.Least.{IsLeastTask}
 use Rattle.spec_state.specs.Queries.{IsLeastIdle, IsLowestFree, IsRunning}
 
@@ -31,8 +34,11 @@ pub record Dispatches (tile : ℕ) (old new : View) : Type 0 where
   pub least : IsLeastIdle old tile id task
   pub core : ℕ
   pub free : IsLowestFree old tile core
-  pub changes : ChangesTask old new id
-      (Some (record task { key = record task.key { tb = Some old.next }; status = status.Running core; core = start_core task }))
+  pub changes : ChangesTask old new id (Some (record task {
+    key = record task.key { tb = Some old.next };
+    status = status.Running core;
+    core = start_core old.version task;
+  }))
   pub next : new.next ≡ old.next + 1
   pub cores : new.cores ≡ with_core old tile core (Some id)
   pub rest : new ≡ record old { tasks = new.tasks; next = new.next; cores = new.cores }
@@ -42,49 +48,68 @@ pub record TakesLeg (view : View) (tile core : ℕ) (leg : LegValue) (id : ℕ) 
   pub runs : IsRunning view tile core id task
   pub from : task.core ≡ leg.from
 
--- what the stop of the leg comes to, on the memory that is there
-abbrev pub comes_to : View → Task → LegValue → Stepped
-comes_to view task leg = stopped (start_context task) (progress_at view.memory leg.to task) leg.stop
+-- what the task asks for at the end of the leg
+abbrev pub request_of : View → Task → LegValue → Request
+request_of view task leg = request_at (context_of view.version task) leg.to leg.stop
+
+-- the task at the next instruction behind the leg
+abbrev pub passed : Task → LegValue → Task
+passed task leg = record task { core = after_other_of leg.to }
 
 -- the task of this id is this one now, and nothing else changes
 pub record Keeps (id : ℕ) (now : Task) (old new : View) : Type 0 where
   pub changes : ChangesTask old new id (Some now)
   pub rest : new ≡ record old { tasks = new.tasks }
 
+-- a leg that did its quantum: the task is at its end
+abbrev pub GoesOn : ℕ → Task → LegValue → View → View → Type 0
+GoesOn id task leg = Keeps id (record task { core = leg.to })
+
 -- a trap is kept with the task, at the end of its leg
 abbrev pub KeepsTrap : ℕ → Task → LegValue → ℕ → ℕ → View → View → Type 0
 KeepsTrap id task leg core cause = Keeps id (record task { core = leg.to; status = status.Trapped core cause })
 
--- the access that a load or a store makes, as a log keeps it
-abbrev pub access_at : List ℕ → Stop → Option Access
-access_at memory (stop.Load width rd addr) = Some (access_of memory (Load (addr - data_start) (load_bytes width)))
-access_at memory (stop.Store width addr value) = Some (access_of memory (Store (addr - data_start) (store_bytes width) value))
-access_at memory stop.Call = None
-access_at memory (stop.Trap cause pc) = None
-access_at memory stop.Quantum = None
+-- a subdomain: the task has its kind
+abbrev pub MakesSub : ℕ → Task → LegValue → Kind → View → View → Type 0
+MakesSub id task leg kind = Keeps id (record (passed task leg) { sub = Some kind })
 
--- a load or a store: core and memory are as the task's step makes them, and the access joins its log and its filter's notes
-pub record Accesses (id : ℕ) (task : Task) (access : Access) (after : TaskState) (old new : View) : Type 0 where
-  pub lines : List (ℕ × Bool)
-  pub notes : HasNotes lines (notes_of old.settings.line (task.log ++ access ∷ []))
-  pub changes : ChangesTask old new id (Some (record task { core = after.core; log = task.log ++ access ∷ []; lines = lines }))
-  pub memory : new.memory ≡ after.memory
+-- a byte stands last among those of the task
+abbrev pub Emits : ℕ → Task → LegValue → ℕ → View → View → Type 0
+Emits id task leg byte = Keeps id (record (passed task leg) { bytes = task.bytes ++ byte ∷ [] })
+
+-- this access of memory: the task goes on at this core, and the access joins its log and its filter's notes
+pub record Accesses (id : ℕ) (task : Task) (call : Call) (core : Core) (old new : View) : Type 0 where
+  pub lines : Lines
+  pub notes : HasNotes lines (notes_of old.settings.line (task.log ++ access_of old.memory call ∷ []))
+  pub changes : ChangesTask old new id
+      (Some (record task { core = core; log = task.log ++ access_of old.memory call ∷ []; lines = lines }))
+  pub memory : new.memory ≡ after_call old.memory call
   pub rest : new ≡ record old { tasks = new.tasks; memory = new.memory }
 
+-- a load: the register has what the memory has there
+abbrev pub Loads : ℕ → Task → LegValue → LoadWidth → ℕ → ℕ → View → View → Type 0
+Loads id task leg width rd offset old new =
+    let bytes = load_bytes width in
+    Accesses id task (Load offset bytes) (after_load_of leg.to width rd (number_at old.memory offset bytes)) old new
+
+-- a store
+abbrev pub Stores : ℕ → Task → LegValue → ℕ → ℕ → ℕ → View → View → Type 0
+Stores id task leg offset bytes value = Accesses id task (Store offset bytes value) (after_other_of leg.to)
+
 -- an enqueue: an idle child of a running task stands last in the task queue of this tile
-pub record Enqueues (id : ℕ) (task : Task) (after : TaskState) (spawn : Spawn) (tile : ℕ) (old new : View) : Type 0 where
-  pub spawns : after.spawns ≡ task.spawns ++ spawn ∷ []
+pub record Enqueues (id : ℕ) (task : Task) (leg : LegValue) (spawn : Spawn) (tile : ℕ) (old new : View) : Type 0 where
   pub child : ℕ
   pub vacant : task_at old child ≡ None
-  pub parent : task_at new id ≡ Some (progressed task after)
-  pub made : task_at new child ≡ Some (idle_task (child_descriptor task spawn) (Live (record { 0 = id }) (length task.spawns)) tile)
+  pub parent : task_at new id ≡ Some (record (passed task leg) { spawns = task.spawns ++ spawn ∷ [] })
+  pub made : task_at new child
+      ≡ Some (idle_task old.version (child_descriptor task spawn) (Live (record { 0 = id }) (length task.spawns)) tile)
   pub others : (k : ℕ) → k ≢ id → k ≢ child → task_at new k ≡ task_at old k
   pub queues : new.queues ≡ queued_last old tile child
   pub rest : new ≡ record old { tasks = new.tasks; queues = new.queues }
 
 -- an end call: the task leaves its core for the commit queue of its tile
-pub record Finishes (tile core id : ℕ) (task : Task) (after : TaskState) (old new : View) : Type 0 where
-  pub changes : ChangesTask old new id (Some (record task { core = after.core; status = status.Finished }))
+pub record Finishes (tile core id : ℕ) (task : Task) (leg : LegValue) (old new : View) : Type 0 where
+  pub changes : ChangesTask old new id (Some (record (passed task leg) { status = status.Finished }))
   pub finished : new.finished ≡ slice_set old.finished tile (finished_at old tile ++ id ∷ [])
   pub cores : new.cores ≡ with_core old tile core None
   pub rest : new ≡ record old { tasks = new.tasks; finished = new.finished; cores = new.cores }

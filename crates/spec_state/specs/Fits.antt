@@ -1,15 +1,52 @@
 -- What the type of a state keeps.
-use Rattle.std.specs.Prelude.{◌≡◌, ℕ, List, All, Contains, Option, None, IsSome, length, slice_index_or}
+use Rattle.std.specs.Prelude.{◌≡◌, ◌≤◌, ◌*◌, ℕ, List, All, Option, is_some, count_by, sum_by, map, length}
+use Rattle.fractal_vt.specs.declared.level.Level.{Level}
+use Rattle.run_journal.specs.declared.journal.Entry.{Entry}
+use Rattle.spill_store.specs.Entries.{Entry as Spilled, BlockValue}
 use Rattle.tile_queues.specs.Queue.{QueueValue}
 use Rattle.spec_state.specs.declared.settings.Settings.{Settings}
 use Rattle.spec_state.specs.declared.task.Task.{Task}
+use Rattle.spec_state.specs.declared.numbers.TheConstants.{MAX_NUMBERS_IN_USE}
 use Rattle.spec_state.specs.Settings.{IsValid}
+use Rattle.spec_state.specs.View.{View}
 
--- the settings are valid, with these limits
-pub record HasLimits (budget commits : ℕ) (settings : Settings) : Type 0 where
+-- how many tasks may commit, and those that have
+pub record HistoryValue : Type 0 where
+  pub limit : ℕ
+  pub entries : List Entry
+
+-- the ids that each queue holds
+abbrev pub ids_in : List QueueValue → List (List ℕ)
+ids_in queues = map (λ queue. queue.ids) queues
+
+-- the spilled tasks that each block holds
+abbrev pub entries_in : List BlockValue → List (List Spilled)
+entries_in blocks = map (λ block. block.entries) blocks
+
+-- the view of these parts
+abbrev pub seen : ℕ → Settings → List (Option Task) → List ℕ → List Entry → List ℕ → ℕ → List Level
+    → List QueueValue → List QueueValue → List (List (Option ℕ)) → List (List Spilled) → View
+seen version settings tasks memory history output next path queues finished cores blocks = record {
+  version = version;
+  settings = settings;
+  tasks = tasks;
+  memory = memory;
+  history = history;
+  output = output;
+  next = next;
+  path = path;
+  queues = ids_in queues;
+  finished = ids_in finished;
+  cores = cores;
+  blocks = blocks;
+}
+
+-- the settings are valid, with these limits, and the history has room for all commits
+pub record HasLimits (budget commits : ℕ) (settings : Settings) (limit : ℕ) : Type 0 where
   pub valid : IsValid settings
   pub budget_is : settings.budget ≡ budget
   pub commits_is : settings.commits ≡ commits
+  pub limit_is : limit ≡ commits
 
 -- each tile has its queues, of the capacities of the settings, its cores and its block
 pub record HasTiles (settings : Settings) (queues finished : List QueueValue) (cores blocks : ℕ) : Type 0 where
@@ -20,6 +57,18 @@ pub record HasTiles (settings : Settings) (queues finished : List QueueValue) (c
   pub task_queues : All (λ queue. queue.capacity ≡ settings.task_queue) queues
   pub commit_queues : All (λ queue. queue.capacity ≡ settings.commit_queue) finished
 
--- each id in a queue is that of a task
-abbrev pub HasTasks : List (Option Task) → List QueueValue → Type 0
-HasTasks tasks queues = All (λ queue. (id : ℕ) → Contains queue.ids id → IsSome (slice_index_or tasks id None)) queues
+-- how many ids the queues hold
+abbrev pub queued_count : List QueueValue → ℕ
+queued_count queues = sum_by (λ queue. length queue.ids) queues
+
+-- there is a slot and an index entry for each entry of the task queues, of which no more are in use than ids are queued; each slot has a mark and
+-- an arrival number, and the table of numbers has room for all that may be in use
+pub record HasSlots (settings : Settings) (tasks : List (Option Task)) (slots : ℕ) (queues : List QueueValue) (indexed entries mark_count arrival_count room : ℕ) : Type 0 where
+  pub enough : settings.tiles * settings.task_queue ≤ slots
+  pub used : count_by is_some tasks ≡ queued_count queues
+  pub short : All (λ queue. length queue.ids ≤ settings.task_queue) queues
+  pub index : entries ≡ settings.tiles * settings.task_queue
+  pub indexed_are : indexed ≤ queued_count queues
+  pub marks : mark_count ≡ slots
+  pub arrivals : arrival_count ≡ slots
+  pub numbers : MAX_NUMBERS_IN_USE ≤ room

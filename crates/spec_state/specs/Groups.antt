@@ -14,7 +14,8 @@ use Rattle.spec_state.specs.declared.task.Creator.{Creator}
 use Rattle.spec_state.specs.declared.task.Creator.TheVariants.{Committed, Live}
 use Rattle.spec_state.specs.declared.task.Task.{Task}
 use Rattle.spec_state.specs.View.{View, task_at}
-use Rattle.spec_state.specs.Tasks.{depth_of, is_dispatched, is_ordered_at, ordered_to, kind_at, has_touched, has_written}
+use Rattle.spec_state.specs.Filters.{has_touched, has_written}
+use Rattle.spec_state.specs.Tasks.{depth_of, is_dispatched, is_ordered_at, ordered_to, kind_at}
 
 -- the creator, where it is uncommitted
 abbrev pub live_creator : Creator → Option ℕ

@@ -58,6 +58,10 @@ pub record IsLeastTask (view : View) (id : ℕ) (task : Task) : Type 0 where
   pub at : IsQueuedAt view task.tile place id task
   pub least : IsLeastSpot view (Queued task.tile place)
 
+-- the task of this id is the least one
+abbrev pub IsTheLeast : View → ℕ → Type 0
+IsTheLeast view id = (task : Task) × IsLeastTask view id task
+
 -- the least uncommitted task is spilled in this tile
 pub record IsLeastSpilled (view : View) (tile : ℕ) : Type 0 where
   pub place : ℕ

@@ -1,15 +1,17 @@
 -- A view before the first task, and a task that comes to be.
-use Rattle.std.specs.Prelude.{◌≡◌, ℕ, [], replicate, Some, None}
+use Rattle.std.specs.Prelude.{◌≡◌, ◌<◌, ℕ, [], replicate, Some, None}
 use Rattle.guest_image.specs.ImageValue.{ImageValue}
 use Rattle.serial_machine.specs.Run.{opening_memory}
+use Rattle.task_desc.specs.declared.desc.Desc.{Desc}
 use Rattle.spec_state.specs.declared.settings.Settings.{Settings}
 use Rattle.spec_state.specs.declared.task.Task.{Task}
-use Rattle.spec_state.specs.View.{View, task_at, queued_last, ChangesTask}
+use Rattle.spec_state.specs.View.{View, version_of, task_at, queued_last, ChangesTask}
 
 -- the view without a task: the initial data, and nothing else
 pub record IsEmptyView (image : ImageValue) (settings : Settings) (view : View) : Type 0 where
   pub none : (id : ℕ) → task_at view id ≡ None
   pub rest : view ≡ record {
+    version = version_of image;
     settings = settings;
     tasks = view.tasks;
     memory = opening_memory image;
@@ -22,6 +24,11 @@ pub record IsEmptyView (image : ImageValue) (settings : Settings) (view : View) 
     cores = replicate settings.tiles (replicate settings.cores None);
     blocks = replicate settings.tiles [];
   }
+
+-- the descriptor is that of a task of the image: its creator is the image, and its domain the root, of one kind
+pub record IsOfImage (desc : Desc) : Type 0 where
+  pub by_image : desc.name.creator ≡ 0
+  pub kinds : desc.kinds < 2
 
 -- a task stands under an id that held nothing, as the last one of its tile's task queue
 pub record Adds (id : ℕ) (task : Task) (old new : View) : Type 0 where

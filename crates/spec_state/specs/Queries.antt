@@ -5,7 +5,8 @@ use Rattle.fractal_vt.specs.Keys.{key_cmp}
 use Rattle.spec_state.specs.declared.task.Status.TheVariants.{Idle, Running}
 use Rattle.spec_state.specs.declared.task.Task.{Task}
 use Rattle.spec_state.specs.View.{View, task_at, queue_at, finished_at, cores_at}
-use Rattle.spec_state.specs.Tasks.{is_dispatched, has_touched, has_written}
+use Rattle.spec_state.specs.Filters.{has_touched, has_written}
+use Rattle.spec_state.specs.Tasks.{is_dispatched}
 use Rattle.spec_state.specs.Least.{IsFirm, Precedes}
 
 -- the id stands in the tile's task queue

@@ -1,5 +1,6 @@
 -- The ranges of the settings.
 use Rattle.std.specs.Prelude.{◌≡◌, ◌⊎◌, ◌≤◌, ℕ}
+use Rattle.serial_machine.specs.declared.limits.TheConstants.{MAX_BUDGET, MAX_COMMITS}
 use Rattle.spec_state.specs.declared.settings.Settings.{Settings}
 
 -- the number lies between these two, both included
@@ -19,6 +20,6 @@ pub record IsValid (settings : Settings) : Type 0 where
   pub line : IsLine settings.line
   pub quantum : IsBetween settings.quantum 1 1024
   pub workers : IsBetween settings.workers 0 16
-  pub commits : IsBetween settings.commits 1 1000000
-  pub budget : IsBetween settings.budget 1 65536
-  pub phase : IsBetween settings.phase 1 1000000
+  pub commits : IsBetween settings.commits 1 MAX_COMMITS
+  pub budget : IsBetween settings.budget 1 MAX_BUDGET
+  pub phase : IsBetween settings.phase 1 MAX_COMMITS

@@ -1,13 +1,12 @@
--- Words on one task.
+-- Words on one task. Where it starts, what its calls depend on and what it has before its dispatch may differ by the
+-- version of the image.
 use Rattle.std.specs.Prelude.{◌==◌, ℕ, zero, suc, ◌+◌, ◌*◌, ◌-◌, ◌/◌, ◌%◌, ◌^◌, ◌∷◌, ◌++◌, Bool, true, false, List, [], length, take, Option, Some, None, is_some, unwrap_or}
 use Rattle.fractal_vt.specs.declared.level.Level.{Level}
 use Rattle.guest_image.specs.declared.image.Kind.{Kind}
 use Rattle.guest_image.specs.declared.image.Kind.TheVariants.{Unordered, Ordered}
-use Rattle.line_table.specs.Note.{Note}
-use Rattle.line_table.specs.Exact.{IsExact, touched_of, wrote_of}
 use Rattle.rv_core.specs.declared.state.Core.{Core}
 use Rattle.rv_core.specs.Legs.{start_of}
-use Rattle.serial_machine.specs.TaskState.{TaskState}
+use Rattle.task_step.specs.TaskState.{TaskState}
 use Rattle.spill_store.specs.Entries.{Entry as Spilled}
 use Rattle.task_desc.specs.declared.desc.Ctx.{Ctx}
 use Rattle.task_desc.specs.declared.desc.Desc.{Desc}
@@ -19,6 +18,7 @@ use Rattle.spec_state.specs.declared.task.Creator.{Creator}
 use Rattle.spec_state.specs.declared.task.Status.{Status}
 use Rattle.spec_state.specs.declared.task.Status.TheVariants.{Idle, Running, Trapped, Finished}
 use Rattle.spec_state.specs.declared.task.Task.{Task}
+use Rattle.spec_state.specs.Filters.{no_lines}
 
 -- the depth of the task's domain
 abbrev pub depth_of : Task → ℕ
@@ -58,8 +58,8 @@ floor_in floor [] = floor
 floor_in floor (level ∷ levels) = floor_in level.ts levels
 
 -- what the calls of the task depend on as it starts
-abbrev pub start_context : Task → Ctx
-start_context task = record {
+abbrev pub start_context : ℕ → Task → Ctx
+start_context version task = record {
   depth = depth_of task;
   own = kind_at (length task.key.domain) task.kinds;
   outer = outer_kind (length task.key.domain) task.kinds;
@@ -71,8 +71,9 @@ start_context task = record {
 }
 
 -- what its next call depends on
-abbrev pub context_of : Task → Ctx
-context_of task = record (start_context task) { sub = task.sub; children = length task.spawns; bytes = length task.bytes }
+abbrev pub context_of : ℕ → Task → Ctx
+context_of version task =
+    record (start_context version task) { sub = task.sub; children = length task.spawns; bytes = length task.bytes }
 
 -- the core that a dispatched task keeps: none while it is idle
 abbrev pub kept_core : Status → Core → Option Core
@@ -89,28 +90,12 @@ trap_in (Trapped tile_core cause) = Some cause
 trap_in Finished = None
 
 -- the core at which it starts
-abbrev pub start_core : Task → Core
-start_core task = start_of task.entry task.key.ts task.args
+abbrev pub start_core : ℕ → Task → Core
+start_core version task = start_of task.entry task.key.ts task.args
 
 -- the task in progress at this core, on a memory
 abbrev pub progress_at : List ℕ → Core → Task → TaskState
 progress_at memory core task = record { core = core; memory = memory; spawns = task.spawns; bytes = task.bytes; sub = task.sub }
-
--- the task at a later point of its run, its loads and stores aside
-abbrev pub progressed : Task → TaskState → Task
-progressed task after = record task { core = after.core; spawns = after.spawns; bytes = after.bytes; sub = after.sub }
-
--- the filter's notes since its last clearing are these
-abbrev pub HasNotes : List (ℕ × Bool) → List Note → Type 0
-HasNotes = IsExact
-
--- the task touched the line, by its filter
-abbrev pub has_touched : Task → ℕ → Bool
-has_touched task = touched_of task.lines
-
--- the task wrote the line, by its filter
-abbrev pub has_written : Task → ℕ → Bool
-has_written task = wrote_of task.lines
 
 -- what is fixed of a task when it is made, but for its creator: its entry, arguments, hint and timestamp, the levels of its domain, and
 -- the kinds of the domains on its path
@@ -142,8 +127,8 @@ spilled_as name d = record {
 }
 
 -- an idle task of this descriptor and creator, in a tile
-abbrev pub idle_task : Descriptor → Creator → ℕ → Task
-idle_task d creator tile = record {
+abbrev pub idle_task : ℕ → Descriptor → Creator → ℕ → Task
+idle_task version d creator tile = record {
   entry = d.entry;
   args = d.args;
   hint = d.hint;
@@ -154,15 +139,15 @@ idle_task d creator tile = record {
   status = Idle;
   core = start_of d.entry d.ts d.args;
   log = [];
-  lines = [];
+  lines = no_lines;
   spawns = [];
   bytes = [];
   sub = None;
 }
 
 -- the task as it is before its dispatch: idle, with an open tiebreaker, and nothing done
-abbrev pub idle_again : Task → Task
-idle_again task = idle_task (descriptor_of task) task.creator task.tile
+abbrev pub idle_again : ℕ → Task → Task
+idle_again version task = idle_task version (descriptor_of task) task.creator task.tile
 
 -- the last level of a dispatched task's key
 abbrev pub own_level : Task → Level

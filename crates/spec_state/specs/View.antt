@@ -1,17 +1,19 @@
 -- What contracts see of a state.
 use Rattle.std.specs.Prelude.{◌≡◌, ◌≢◌, ℕ, ◌∷◌, ◌++◌, List, [], map, length, Option, None, option_map, slice_index_or, slice_set}
 use Rattle.fractal_vt.specs.declared.level.Level.{Level}
-use Rattle.serial_machine.specs.declared.journal.Entry.{Entry}
+use Rattle.guest_image.specs.ImageValue.{ImageValue}
+use Rattle.run_journal.specs.declared.journal.Entry.{Entry}
 use Rattle.spill_store.specs.Entries.{Entry as Spilled}
 use Rattle.spec_state.specs.declared.settings.Settings.{Settings}
 use Rattle.spec_state.specs.declared.task.Task.{Task}
 use Rattle.spec_state.specs.declared.task.TaskId.{TaskId}
 
--- the settings; the uncommitted tasks that aren't spilled, by id; the data memory with the stores of all dispatched tasks; the
--- committed tasks and their bytes; the next dispatch number; the levels of the key of the task that committed last; and, by tile, the
--- ids in its task queue and in its commit queue in order of arrival, the id that each core holds, and the spilled tasks in the order
--- of their pushes
+-- the version of the image; the settings; the uncommitted tasks that aren't spilled, by id; the data memory with the
+-- stores of all dispatched tasks; the committed tasks and their bytes; the next dispatch number; the levels of the key of
+-- the task that committed last; and, by tile, the ids in its task queue and in its commit queue in order of arrival, the
+-- id that each core holds, and the spilled tasks, as their pushes left them
 pub record View : Type 0 where
+  pub version : ℕ
   pub settings : Settings
   pub tasks : List (Option Task)
   pub memory : List ℕ
@@ -23,6 +25,10 @@ pub record View : Type 0 where
   pub finished : List (List ℕ)
   pub cores : List (List (Option ℕ))
   pub blocks : List (List Spilled)
+
+-- the version of an image, on which the starts and the contexts of its tasks depend: there is one so far
+abbrev pub version_of : ImageValue → ℕ
+version_of image = 1
 
 -- the ids that the cores of a tile hold
 abbrev pub core_ids : List (Option TaskId) → List (Option ℕ)

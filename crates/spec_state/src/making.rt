@@ -1,29 +1,27 @@
-//! A state without a task, and a task that comes to be.
+//! A state without a task.
 
-ghost use Rattle.std.specs.Prelude.{◌≡◌, ◌<◌, [], ◌∷◌, ◌++◌, length, replicate, map, None, All, Contains, vec_len, IfOk, OnErr};
+ghost use Rattle.std.specs.Prelude.{◌≡◌, ◌<◌, ◌≤◌, ◌*◌, [], replicate, map, None, All, vec_len, IfOk};
 ghost use Rattle.spec_state.specs.Settings.{IsValid};
-ghost use Rattle.spec_state.specs.declared.task.Creator.TheVariants.{Committed};
 ghost use Rattle.spec_state.specs.View.{core_ids};
-ghost use Rattle.spec_state.specs.Tasks.{idle_task, root_descriptor};
-ghost use Rattle.spec_state.specs.Opening.{IsEmptyView, Adds};
-ghost use Rattle.spec_state.specs.Room.{HasFreeEntry};
+ghost use Rattle.spec_state.specs.Opening.{IsEmptyView};
 
-use crate::emitted::Emitted;
+use crate::history::History;
+use crate::numbers::MAX_NUMBERS_IN_USE;
+use crate::room::Buffers;
 use crate::settings::Settings;
 use crate::state::State;
-use crate::task::{Creator, Spawns, Status, Task, TaskId};
-use fractal_vt::{Key, Vt};
+use crate::task::TaskId;
+use commit_arbiter::Index;
+use fractal_vt::Vt;
 use guest_image::Image;
-use line_table::Exact;
-use rv_core::{Core, Naming};
-use serial_machine::{Bytes, Journal};
+use rv_core::Naming;
+use serial_machine::Bytes;
 use slab::Slab;
 use spill_store::Block;
 use std::alloc::{AllocError, Global};
 use std::marker::PhantomData;
-use task_desc::Desc;
-use tile_queues::{Queue, TaskQueue};
-use undo_log::{Log, Memory};
+use tile_queues::Queue;
+use undo_log::Memory;
 
 /// An empty queue for each tile.
 fn empty_queues<Kind>(
@@ -63,7 +61,8 @@ fn all_free_cores(
 ) -> Result<Vec<Vec<Option<TaskId>>>, AllocError>
     ensures count { IfOk result (λ held. vec_len held ≡ tiles) }
     ensures counts { IfOk result (λ held. All (λ tile. vec_len tile ≡ cores) held.items) }
-    ensures free { IfOk result (λ held. map (λ tile. core_ids tile.items) held.items ≡ replicate tiles (replicate cores None)) }
+    ensures free { let none = replicate tiles (replicate cores None) in
+        IfOk result (λ held. map (λ tile. core_ids tile.items) held.items ≡ none) }
 {
     let mut held = Vec::with_capacity(alloc, tiles as usize)?;
     for _ in 0..tiles {
@@ -84,56 +83,33 @@ fn empty_blocks(alloc: Global, tiles: u32) -> Result<Vec<Block>, AllocError>
     Ok(blocks)
 }
 
-/// Puts an id that is not there into a queue with a free entry, as the last one.
-fn put_last(queue: &mut TaskQueue, id: usize)
-    requires absent { ¬ Contains queue.old.ids id }
-    requires free { length queue.old.ids < queue.old.capacity }
-    ensures { queue.new ≡ record queue.old { ids = queue.old.ids ++ id ∷ [] } }
+/// How many tasks all task queues may hold: 4 to 4,096.
+fn entries_of(settings: &Settings) -> u32
+    requires { IsValid settings.now }
+    ensures entries { result ≡ settings.now.tiles * settings.now.task_queue }
+    ensures some { 1 ≤ result }
 {
-    let _ = queue.put(id);
-}
-
-/// An idle task of the root domain with a committed creator, in a tile. It takes no memory.
-fn root_task(alloc: Global, desc: &Desc, tile: u32) -> Task
-    ensures { result ≡ idle_task (root_descriptor desc.now) (Committed desc.now.name.creator desc.now.name.index) tile }
-{
-    Task {
-        entry: desc.entry,
-        args: desc.args,
-        hint: desc.hint,
-        kinds: desc.kinds,
-        key: Key::root(desc.ts),
-        creator: Creator::Committed {
-            turn: desc.name.creator,
-            index: desc.name.index,
-        },
-        tile,
-        status: Status::Idle,
-        core: Core::start(desc.entry, desc.ts, desc.args),
-        log: Log::new(alloc),
-        lines: Exact::new(alloc),
-        spawns: Spawns::new(alloc),
-        bytes: Emitted::new(),
-        sub: None,
-    }
+    settings.tiles * settings.task_queue
 }
 
 impl<N: Naming> State<N> {
-    /// A state without a task, of a machine of valid settings, with the image's data. It has room for all tasks of its queues and
-    /// for the whole history; `AllocError` where memory is wanting.
+    /// A state without a task, of a machine of valid settings, with the image's data. It has room for all tasks of its queues, for
+    /// the whole history, for the marks of a cascade and for a renumbering; `AllocError` where memory is wanting.
     pub fn new(alloc: Global, image: &Image, settings: Settings) -> Result<State<N>, AllocError>
         requires valid { IsValid settings }
         requires image { image.now ≡ N.image }
         requires budget { settings.budget ≡ N.budget }
         requires commits { settings.commits ≡ N.commits }
-        ensures { IfOk result (IsEmptyView N.image settings) }
+        ensures { IfOk result (λ state. IsEmptyView N.image settings state.view) }
     {
-        let entries = settings.tiles * settings.task_queue;
+        let entries = entries_of(&settings);
+        let tasks = Slab::with_capacity(alloc, entries as usize)?;
+        let slots = tasks.capacity();
         Ok(State {
             settings,
-            tasks: Slab::with_capacity(alloc, entries as usize)?,
+            tasks,
             memory: Memory::new(alloc, image.initial(), image.data_size())?,
-            history: Journal::from_vec(Vec::with_capacity(alloc, settings.commits as usize)?),
+            history: History::new(alloc, settings.commits)?,
             output: Bytes::new(alloc),
             next: 0,
             path: Vt::empty(),
@@ -141,21 +117,14 @@ impl<N: Naming> State<N> {
             finished: empty_queues(alloc, settings.tiles, settings.commit_queue)?,
             cores: all_free_cores(alloc, settings.tiles, settings.cores)?,
             blocks: empty_blocks(alloc, settings.tiles)?,
+            index: Index::new(alloc, entries)?,
+            arrivals: vec![in alloc; 0; slots]?,
+            next_arrival: 0,
+            marks: vec![in alloc; false; slots]?,
+            numbers: Vec::with_capacity(alloc, MAX_NUMBERS_IN_USE)?,
+            buffers: Buffers::new(alloc),
             alloc,
             naming: PhantomData,
         })
-    }
-
-    /// Adds an idle task of the image, under the descriptor's name, as the last one of the task queue of the tile, which has a free
-    /// entry. `AllocError` where memory is wanting; then nothing has changed.
-    pub fn add(&mut self, desc: &Desc, tile: u32) -> Result<TaskId, AllocError>
-        requires tile { tile < self.old.settings.tiles }
-        requires free { HasFreeEntry self.old tile }
-        ensures ok { IfOk result (λ id. Adds id.0 (idle_task (root_descriptor desc.now) (Committed desc.now.name.creator desc.now.name.index) tile) self.old self.new) }
-        ensures err { OnErr result (self.new ≡ self.old) }
-    {
-        let id = self.tasks.insert(root_task(self.alloc, desc, tile))?;
-        put_last(&mut self.queues[tile as usize], id);
-        Ok(TaskId(id))
     }
 }

@@ -1,6 +1,8 @@
 ghost use Rattle.std.specs.Prelude.{◌≡◌, ◌↔◌, IsTrue};
 ghost use Rattle.spec_state.specs.Settings.{IsValid, IsLine, IsBetween};
 
+use serial_machine::{MAX_BUDGET, MAX_COMMITS};
+
 /// How large a machine is and how far it runs. Each number has a range, which [`valid`](Settings::valid) tests.
 #[derive(Clone, Copy, Debug, PartialEq, Eq)]
 pub struct Settings {
@@ -38,9 +40,9 @@ impl Settings {
             && is_line(self.line)
             && is_in(self.quantum, 1, 1024)
             && is_in(self.workers, 0, 16)
-            && is_in(self.commits, 1, 1_000_000)
-            && is_in(self.budget, 1, 65_536)
-            && is_in(self.phase, 1, 1_000_000)
+            && is_in(self.commits, 1, MAX_COMMITS)
+            && is_in(self.budget, 1, MAX_BUDGET)
+            && is_in(self.phase, 1, MAX_COMMITS)
     }
 }
 

@@ -1,8 +1,11 @@
+use crate::history::History;
+use crate::room::Buffers;
 use crate::settings::Settings;
 use crate::task::{Task, TaskId};
+use commit_arbiter::Index;
 use fractal_vt::Vt;
 use rv_core::Naming;
-use serial_machine::{Bytes, Journal};
+use serial_machine::Bytes;
 use slab::Slab;
 use spill_store::Block;
 use std::alloc::Global;
@@ -12,9 +15,11 @@ use undo_log::Memory;
 
 /// The machine between two events. Its fields are public for the crates that change a state; all others use its calls.
 ///
-/// Contracts see it as a `View`; its type keeps that its settings are valid, with the limits that `N`
-/// names, that each tile has its queues, of the capacities of the settings, its cores and its block, and that each id in a task
-/// queue is that of a task.
+/// Contracts see it as a `View` beside the room that it keeps for the next event. Its type keeps (`IsStored`) that the settings are
+/// valid, with the limits that `N` names, that each tile has its queues, of the capacities of the settings, its cores and its block, that
+/// queues, commit queues and cores hold the tasks of their tile and nothing else, each as its status says, that each task is well formed,
+/// that the data has the image's size, that the history has room for all commits, and (`IsIndexed`) that the index holds the queued tasks in
+/// their order. So a free entry of a queue is a free slot and a free entry of the index too.
 #[derive(Drop)]
 pub struct State<N: Naming> {
     /// How large it is and how far it runs.
@@ -24,7 +29,7 @@ pub struct State<N: Naming> {
     /// The data memory, with the stores of all dispatched tasks.
     pub memory: Memory,
     /// The committed tasks, in the order of their commits.
-    pub history: Journal,
+    pub history: History,
     /// The bytes of the committed tasks.
     pub output: Bytes,
     /// The next dispatch number.
@@ -39,6 +44,18 @@ pub struct State<N: Naming> {
     pub cores: Vec<Vec<Option<TaskId>>>,
     /// The spilled tasks of each tile.
     pub blocks: Vec<Block>,
+    /// The queued tasks of all tiles, in the order in which they commit.
+    pub index: Index,
+    /// The number of its arrival in its queue, for each id; that of an id that is no task's says nothing.
+    pub arrivals: Vec<u64>,
+    /// The next arrival number.
+    pub next_arrival: u64,
+    /// Room for the marks of a cascade: one for each id that a task may have.
+    pub marks: Vec<bool>,
+    /// Room for the table of the dispatch numbers in use, which is made where they are renumbered.
+    pub numbers: Vec<u64>,
+    /// Room that a full list moves into.
+    pub buffers: Buffers,
     /// What new tasks take their memory from.
     pub alloc: Global,
     /// What the state is about: the limits are those that `N` names.
@@ -46,25 +63,35 @@ pub struct State<N: Naming> {
 }
 
 impl<N: Naming> Model for State<N> {
-    ghost use Rattle.std.specs.Prelude.{◌≡◌, map, vec_len, All};
-    ghost use Rattle.spec_state.specs.View.{View, core_ids};
-    ghost use Rattle.spec_state.specs.Fits.{HasLimits, HasTiles, HasTasks};
+    ghost use Rattle.std.specs.Prelude.{◌≡◌, map, length, vec_len, vec_capacity, All};
+    ghost use Rattle.spec_state.specs.View.{core_ids, version_of};
+    ghost use Rattle.spec_state.specs.StateValue.{StateValue};
+    ghost use Rattle.spec_state.specs.Fits.{seen, HasLimits, HasTiles, HasSlots};
+    ghost use Rattle.spec_state.specs.Stored.{IsStored, IsIndexed};
 
-    ghost Value = { View };
+    ghost Value = { StateValue };
 
     ghost view = { λ s. record {
-      settings = s.settings;
-      tasks = s.tasks.slots;
-      memory = s.memory;
-      history = s.history;
-      output = s.output;
-      next = s.next;
-      path = s.path;
-      queues = map (λ queue. queue.ids) s.queues.items;
-      finished = map (λ queue. queue.ids) s.finished.items;
-      cores = map (λ cores. core_ids cores.items) s.cores.items;
-      blocks = map (λ block. block.entries) s.blocks.items;
+      view = seen (version_of N.image) s.settings s.tasks.slots s.memory s.history.entries s.output s.next s.path
+          s.queues.items s.finished.items
+          (map (λ cores. core_ids cores.items) s.cores.items) (map (λ block. block.entries) s.blocks.items);
+      room = record {
+        log = s.buffers.log;
+        spawns = s.buffers.spawns;
+        output = s.buffers.output;
+        blocks = map (λ block. block.spare) s.blocks.items;
+      };
     } };
 
-    ghost invariant = { λ s. HasLimits N.budget N.commits s.settings × HasTiles s.settings s.queues.items s.finished.items (vec_len s.cores) (vec_len s.blocks) × All (λ held. vec_len held ≡ s.settings.cores) s.cores.items × HasTasks s.tasks.slots s.queues.items };
+    ghost invariant = { λ s.
+        let view = seen (version_of N.image) s.settings s.tasks.slots s.memory s.history.entries s.output s.next s.path
+        s.queues.items s.finished.items
+        (map (λ cores. core_ids cores.items) s.cores.items) (map (λ block. block.entries) s.blocks.items) in
+        HasLimits N.budget N.commits s.settings s.history.limit
+        × HasTiles s.settings s.queues.items s.finished.items (vec_len s.cores) (vec_len s.blocks)
+        × All (λ held. vec_len held ≡ s.settings.cores) s.cores.items
+        × HasSlots s.settings s.tasks.slots s.tasks.capacity s.queues.items (length s.index.entries) s.index.capacity
+        (vec_len s.marks) (length s.arrivals.items) (vec_capacity s.numbers)
+        × IsStored N.image.data_size view
+        × IsIndexed s.tasks.slots view.queues s.arrivals.items s.next_arrival s.index.entries };
 }

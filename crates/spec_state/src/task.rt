@@ -1,7 +1,7 @@
 use crate::emitted::Emitted;
 use fractal_vt::Key;
 use guest_image::Kind;
-use line_table::Exact;
+use line_table::Signature;
 use rv_core::Core;
 use serial_machine::Items;
 use task_desc::Spawn;
@@ -94,7 +94,7 @@ pub struct Task {
     /// Its loads and stores since its dispatch, with the values that stood there before.
     pub log: Log,
     /// The lines of its log.
-    pub lines: Exact,
+    pub lines: Signature,
     /// The children that it has made since its dispatch.
     pub spawns: Spawns,
     /// The bytes that it has emitted since its dispatch.

@@ -1,7 +1,8 @@
-ghost use Rattle.std.specs.Prelude.{◌≡◌};
+ghost use Rattle.std.specs.Prelude.{◌≡◌, IsSome};
+ghost use Rattle.spec_state.specs.View.{task_at};
 ghost use Rattle.spec_state.specs.Settings.{IsValid};
 
-use crate::{Emitted, Settings, State};
+use crate::{Emitted, Settings, State, Task, TaskId, Where};
 use guest_image::{Image, ImageTask, Kind};
 use rv_core::Naming;
 use std::alloc::{Alloc, Global};
@@ -65,6 +66,11 @@ fn bytes_stand_in_the_order_of_their_calls(rt: HostRuntime) -> Result<(), Fail> 
 /// Takes what may go to another thread.
 fn is_sent<T: Send>(_value: &T) {}
 
+/// That a task may go to another thread.
+fn task_is_sent(task: &Task) {
+    is_sent(task);
+}
+
 /// What the parts of a state without a task tell.
 fn empty_state<N: Naming + Send>(
     rt: &(impl Abort + Alloc<A = Global>),
@@ -81,7 +87,7 @@ fn empty_state<N: Naming + Send>(
     assert_eq!(rt; *state.settings(), settings);
     assert_eq!(rt; state.loads().as_slice(), [0, 0, 0, 0].as_slice());
     assert!(rt; state.history().is_empty() && state.output().is_empty());
-    assert!(rt; state.path().levels().is_empty() && state.next_number() == 0);
+    assert!(rt; state.path().levels().is_empty() && state.next == 0);
     let tile = settings.tiles - 1;
     assert_eq!(rt; state.on_core(tile, settings.cores - 1), None);
     assert_eq!(rt; state.commit_free(tile), settings.commit_queue);
@@ -130,6 +136,32 @@ const FIRST: Desc = Desc {
     kinds: 1,
 };
 
+/// What a state tells of the place of its one task among all.
+fn order_of_one<N: Naming>(rt: &impl Abort, state: &State<N>, task: TaskId)
+    requires live { IsSome (task_at state.now.view task.0) }
+{
+    assert_eq!(rt; state.least(), Some(Where::Idle(task)));
+    assert!(rt; state.heir().is_none() && state.firm(task));
+    assert_eq!(rt; state.name_of(task), Some(FIRST.name));
+}
+
+/// What it tells of the task's next call.
+fn context_of_one<N: Naming>(rt: &impl Abort, state: &State<N>, task: TaskId)
+    requires live { IsSome (task_at state.now.view task.0) }
+{
+    let context = state.ctx_of(task);
+    assert!(rt; context.depth == 1 && context.own == Kind::Ordered && context.outer.is_none());
+    assert!(rt; context.ts == 5 && context.floor == 0);
+    assert!(rt; context.children == 0 && context.bytes == 0);
+}
+
+/// What it leaves.
+fn parts_of_one<N: Naming>(rt: &impl Abort, state: State<N>) {
+    let parts = state.into_parts();
+    assert!(rt; parts.journal.as_slice().is_empty() && parts.output.as_slice().is_empty());
+    assert_eq!(rt; parts.memory.as_slice(), [0; 8].as_slice());
+}
+
 /// What a state tells of the one task that was added to it.
 fn state_of_one<N: Naming>(
     rt: &(impl Abort + Alloc<A = Global>),
@@ -144,11 +176,15 @@ fn state_of_one<N: Naming>(
     let mut state = State::<N>::new(rt.alloc(), image, settings)?;
     let tile = settings.tiles - 1;
     let task = state.add(&FIRST, tile)?;
+    order_of_one(rt, &state, task);
+    context_of_one(rt, &state, task);
+    state.reserve(Some(task), tile)?;
     assert_eq!(rt; state.loads().as_slice(), [0, 0, 0, 1].as_slice());
     assert_eq!(rt; state.tile_of(task), tile);
     let key = state.key_of(task);
     assert!(rt; key.domain.levels().is_empty() && key.ts == 5 && key.tb.is_none());
     assert!(rt; state.core_of(task).is_none() && state.trap_of(task).is_none());
+    parts_of_one(rt, state);
     Ok(())
 }
 

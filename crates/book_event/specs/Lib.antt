@@ -1,0 +1,9 @@
+pub mod Book
+pub mod Causes
+pub mod Events
+pub mod Trace
+pub mod Happens
+pub mod Opening
+pub mod Advancing
+pub mod Closing
+pub mod End

@@ -1,0 +1,9 @@
+//! The events of the speculative machine: their types, which reply each gets and what it changes.
+//!
+//! Here stand, as definitions, what contracts see of a book of events (`BookView`), why an event is refused (`Cause`), what it does where it
+//! is granted (`Happens`), the opening, the events of the least task, how a run ends and what a closed book leaves. Nothing here is a call.
+#![tactic(auto)]
+
+mod event;
+
+pub use event::{Advance, Applied, Closed, Event, Halt, Reply};

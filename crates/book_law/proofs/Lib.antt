@@ -1,0 +1,13 @@
+pub mod Replies
+pub mod Rests
+pub mod Ends
+pub mod Lists
+pub mod Openings
+pub mod Keeps
+pub mod Histories
+pub mod Serials
+pub mod Granted
+pub mod Falls
+pub mod Search
+pub mod Given
+pub mod Few

@@ -1,5 +1,0 @@
-use Rattle.conflict_book.proofs.Replies.{refusals_change_nothing}
-use Rattle.conflict_book.proofs.laws.refusals_change_nothing.Goals as goal
-
-pub returns : goal.returns
-returns g c = refusals_change_nothing g.row.N.Denot

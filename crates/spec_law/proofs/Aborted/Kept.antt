@@ -1,0 +1,50 @@
+-- An abort keeps the groups of a sound view.
+use Rattle.std.proofs.Common.{◌≡◌, ℕ, Bool, true, false, List, Some, refl, sym, ap, subst, ◌∙◌, inl, inr, arith}
+use Rattle.memory_law.specs.Chain.{IsChained}
+use Rattle.memory_law.specs.Notes.{notes_of}
+use Rattle.memory_law.specs.Tasks.{IsLineSize}
+use Rattle.memory_law.proofs.Proved.{abort_keeps_chain}
+use Rattle.spec_state.specs.declared.task.Task.{Task}
+use Rattle.spec_state.specs.Settings.{IsLine}
+use Rattle.spec_state.specs.View.{View, task_at}
+use Rattle.spec_state.specs.Filters.{HasNotes}
+use Rattle.spec_state.specs.Groups.{logged}
+use Rattle.spec_state.specs.Aborts.{is_marked}
+use Rattle.spec_law.specs.AbortLaws.{TakesMarked, AbortKeepsMemory}
+use Rattle.spec_law.proofs.Accesses.Noted.{none_noted}
+use Rattle.spec_law.proofs.Aborted.Taken.{unmarked_stays, marked_is_back, holds_later, logs_taken_back}
+
+-- a line of the settings has as many bytes as a line may have
+pub line_sized : (line : ℕ) → IsLine line → IsLineSize line
+line_sized line (inl is) = subst IsLineSize (sym is) (record { some = omega arith; fours = refl })
+line_sized line (inr (inl is)) = subst IsLineSize (sym is) (record { some = omega arith; fours = refl })
+line_sized line (inr (inr (inl is))) = subst IsLineSize (sym is) (record { some = omega arith; fours = refl })
+line_sized line (inr (inr (inr (inl is)))) = subst IsLineSize (sym is) (record { some = omega arith; fours = refl })
+line_sized line (inr (inr (inr (inr is)))) = subst IsLineSize (sym is) (record { some = omega arith; fours = refl })
+
+-- an abort keeps what filters say of logs
+noted_by : (marks : List Bool) (old new : View) → TakesMarked marks old new
+    → ((id : ℕ) (task : Task) → task_at old id ≡ Some task → HasNotes task.lines (notes_of old.settings.line task.log))
+    → (id : ℕ) (task : Task) → task_at new id ≡ Some task → HasNotes task.lines (notes_of old.settings.line task.log)
+noted_by marks old new takes noted id task at = by_mark (is_marked marks id) refl
+  where
+    by_mark : (b : Bool) → is_marked marks id ≡ b → HasNotes task.lines (notes_of old.settings.line task.log)
+    by_mark false out = noted id task (sym (unmarked_stays marks old new takes id out) ∙ at)
+    by_mark true taken =
+        let back = marked_is_back marks old new takes id task taken at in
+        subst (λ t. HasNotes t.lines (notes_of old.settings.line t.log)) (sym back.is) none_noted
+
+pub abort_keeps_memory : AbortKeepsMemory
+abort_keeps_memory image marks old new sound takes =
+    let sized = line_sized old.settings.line sound.sizes.settings.line in
+    let back = takes.memory in
+    let chained =
+    abort_keeps_chain old.settings.line (is_marked marks) (logged old) (logged new) back.ids sound.serial.memory old.memory
+    sized (holds_later marks old new takes) (logs_taken_back marks old new takes) back.by_key sound.memory.chained
+    in
+    let same : new.settings ≡ old.settings = ap (λ v. v.settings) takes.rest in
+    record {
+      chained = subst (λ s. IsChained s.line (logged new) sound.serial.memory new.memory) (sym same)
+          (subst (IsChained old.settings.line (logged new) sound.serial.memory) (sym back.is) chained);
+      noted = λ id task at. subst (λ s. HasNotes task.lines (notes_of s.line task.log)) (sym same) (noted_by marks old new takes sound.memory.noted id task at);
+    }

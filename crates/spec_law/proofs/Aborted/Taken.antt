@@ -1,0 +1,187 @@
+-- What an abort leaves under each id, and what the laws of order, tasks and memory see of it.
+use Rattle.std.proofs.Common.{◌≡◌, ◌≤◌, ◌<◌, ◌∷◌, ℕ, zero, suc, Bool, true, false, List, [], length, Option, Some, None, refl, sym, ap, subst, ◌∙◌, inl, inr, arith, option_map, if◌then◌else◌}
+use Rattle.memory_law.specs.Events as memory
+use Rattle.memory_law.specs.Tasks.{Logged, Earlier}
+use Rattle.order_law.specs.Events as order
+use Rattle.order_law.specs.Tasks.{Keyed}
+use Rattle.turn_law.specs.Moves as moves
+use Rattle.turn_law.specs.Tasks as bags
+use Rattle.spec_state.specs.declared.task.Creator.{Creator}
+use Rattle.spec_state.specs.declared.task.Creator.TheVariants.{Committed, Live}
+use Rattle.spec_state.specs.declared.task.Task.{Task}
+use Rattle.spec_state.specs.View.{View, task_at}
+use Rattle.spec_state.specs.Tasks.{idle_again}
+use Rattle.spec_state.specs.Groups.{keyed, keyed_task, logged, logged_task, bag_tasks, bag_task, bag_creator, live_creator}
+use Rattle.spec_state.specs.Aborts.{Pulls, IsCascade, is_marked, is_marked_creator, taken_back, Aborts, Only}
+use Rattle.spec_law.specs.AbortLaws.{HoldsPulled, TakesMarked, AbortTakesMarked, ConflictsTakeMarked}
+use Rattle.spec_law.proofs.Tasks.Beside.{mapped_some, id_below}
+
+-- a marked id lies within the marks
+pub marked_below : (marks : List Bool) (id : ℕ) → is_marked marks id ≡ true → id < length marks
+marked_below [] id marked = absurd (cc)
+marked_below (mark ∷ marks) zero marked = omega arith
+marked_below (mark ∷ marks) (suc id) marked = let rest = marked_below marks id marked in omega arith
+
+-- what is read of nothing is nothing
+pub none_of : {X Y : Type 0} (f : X → Y) (o : Option X) → option_map f o ≡ None → o ≡ None
+none_of f None is = refl
+none_of f (Some x) is = absurd (cc)
+
+-- what is taken back with a task is there
+pulled_there : (view : View) (a b : ℕ) → Pulls view a b → (x : Task) × (task_at view b ≡ Some x)
+pulled_there view a b (inl child) = (child.child, child.there)
+pulled_there view a b (inr reads) = (reads.reader, reads.later.there)
+
+-- the marks of a cascade hold all that is taken back with what they hold
+pub cascade_holds : (view : View) (firsts : ℕ → Type 0) (marks : List Bool) → IsCascade view firsts marks → HoldsPulled view marks
+cascade_holds view firsts marks cascade a b pulled marked =
+    let there = pulled_there view a b pulled in
+    let in_tasks = id_below view b there.0 there.1 in
+    let size : length view.tasks ≤ length marks = cascade.size in
+    cascade.least.closed a b (marked_below marks a marked) (omega (arith, in_tasks, size)) ((cascade.pulls a b).1 pulled) marked
+
+pub abort_takes : (firsts : ℕ → Type 0) (old : View) (aborted : ℕ) (new : View) (abort : Aborts firsts old aborted new) → TakesMarked abort.marks old new
+abort_takes firsts old aborted new abort =
+    record { holds = cascade_holds old firsts abort.marks abort.cascade; each = abort.each; memory = abort.memory; queues = abort.queues; finished = abort.finished; cores = abort.cores; rest = abort.rest }
+
+pub abort_takes_marked : AbortTakesMarked
+abort_takes_marked first = abort_takes (Only first)
+
+pub conflicts_take_marked : ConflictsTakeMarked
+conflicts_take_marked task line write old = abort_takes (Rattle.spec_state.specs.Queries.Conflicts old task line write) old
+
+-- what stands under an unmarked id stays
+taken_unmarked : (version : ℕ) (marks : List Bool) (id : ℕ) (was : Option Task) → is_marked marks id ≡ false → taken_back version marks id was ≡ was
+taken_unmarked version marks id None out = refl
+taken_unmarked version marks id (Some t) out =
+    ap (λ b. if b then (if is_marked_creator marks (live_creator t.creator) then None else Some (idle_again version t)) else Some t) out
+
+-- a marked task of a marked creator leaves, and any other is idle again
+taken_marked : (version : ℕ) (marks : List Bool) (id : ℕ) (t : Task) → is_marked marks id ≡ true
+    → taken_back version marks id (Some t) ≡ (if is_marked_creator marks (live_creator t.creator) then None else Some (idle_again version t))
+taken_marked version marks id t taken =
+    ap (λ b. if b then (if is_marked_creator marks (live_creator t.creator) then None else Some (idle_again version t)) else Some t) taken
+
+-- a task that was there, is marked, and is idle again under its id
+pub record IsBack (marks : List Bool) (old : View) (id : ℕ) (now : Task) : Type 0 where
+  pub was : Task
+  pub there : task_at old id ≡ Some was
+  pub is : now ≡ idle_again old.version was
+  pub spared : is_marked_creator marks (live_creator was.creator) ≡ false
+
+module _ (marks : List Bool) (old new : View) (takes : TakesMarked marks old new) where
+  pub unmarked_stays : (id : ℕ) → is_marked marks id ≡ false → task_at new id ≡ task_at old id
+  unmarked_stays id out = takes.each id ∙ taken_unmarked old.version marks id (task_at old id) out
+
+  pub gone_stays : (id : ℕ) → task_at old id ≡ None → task_at new id ≡ None
+  gone_stays id none = takes.each id ∙ ap (taken_back old.version marks id) none
+
+  -- what becomes of a marked task
+  marked_now : (id : ℕ) (t : Task) → is_marked marks id ≡ true → task_at old id ≡ Some t
+      → task_at new id ≡ (if is_marked_creator marks (live_creator t.creator) then None else Some (idle_again old.version t))
+  marked_now id t taken there = takes.each id ∙ ap (taken_back old.version marks id) there ∙ taken_marked old.version marks id t taken
+
+  pub marked_leaves : (id : ℕ) (t : Task) → is_marked marks id ≡ true → task_at old id ≡ Some t → is_marked_creator marks (live_creator t.creator) ≡ true
+      → task_at new id ≡ None
+  marked_leaves id t taken there creator = marked_now id t taken there ∙ ap (λ b. if b then None else Some (idle_again old.version t)) creator
+
+  pub marked_idles : (id : ℕ) (t : Task) → is_marked marks id ≡ true → task_at old id ≡ Some t → is_marked_creator marks (live_creator t.creator) ≡ false
+      → task_at new id ≡ Some (idle_again old.version t)
+  marked_idles id t taken there creator = marked_now id t taken there ∙ ap (λ b. if b then None else Some (idle_again old.version t)) creator
+
+  -- a marked task that is there afterwards is idle again
+  pub marked_is_back : (id : ℕ) (now : Task) → is_marked marks id ≡ true → task_at new id ≡ Some now → IsBack marks old id now
+  marked_is_back id now taken at = by_was (task_at old id) refl
+    where
+      by_creator : (t : Task) → task_at old id ≡ Some t → (b : Bool) → is_marked_creator marks (live_creator t.creator) ≡ b → IsBack marks old id now
+      by_creator t there true creator = absurd (cc (marked_leaves id t taken there creator, at))
+      by_creator t there false creator =
+          let both : Some now ≡ Some (idle_again old.version t) = sym at ∙ marked_idles id t taken there creator in
+          let same : now ≡ idle_again old.version t = cc in
+          record { was = t; there = there; is = same; spared = creator }
+
+      by_was : (was : Option Task) → task_at old id ≡ was → IsBack marks old id now
+      by_was None none = absurd (cc (gone_stays id none, at))
+      by_was (Some t) there = by_creator t there (is_marked_creator marks (live_creator t.creator)) refl
+
+  -- the order of tasks
+  holds_children : (k c : ℕ) (x : Keyed) → keyed old k ≡ Some x → x.creator ≡ Some c → is_marked marks c ≡ true → is_marked marks k ≡ true
+  holds_children k c x at creator marked =
+      let read = mapped_some keyed_task (task_at old k) x at in
+      takes.holds c k (inl (record { child = read.0; there = read.1; made_by = sym (ap (λ y. y.creator) read.2) ∙ creator })) marked
+
+  members : (k : ℕ) (x : Keyed) → is_marked marks k ≡ true → keyed new k ≡ Some x
+      → (y : Keyed) × (keyed old k ≡ Some y) × (x ≡ order.reopened y) × ((c : ℕ) → y.creator ≡ Some c → is_marked marks c ≡ false)
+  members k x taken at =
+      let read = mapped_some keyed_task (task_at new k) x at in
+      let back = marked_is_back k read.0 taken read.1 in (
+        keyed_task back.was,
+        ap (option_map keyed_task) back.there,
+        read.2 ∙ ap keyed_task back.is,
+        λ c creator. subst (λ o. is_marked_creator marks o ≡ false) creator back.spared,
+      )
+
+  pub order_aborts : order.Aborts (is_marked marks) (keyed old) (keyed new)
+  order_aborts = record { holds_children = holds_children; others = λ k out. ap (option_map keyed_task) (unmarked_stays k out); members = members }
+
+  -- memory
+  logs_back : (id : ℕ) (task : Logged) → is_marked marks id ≡ true → logged new id ≡ Some task → (task.dispatched ≡ false) × (task.log ≡ [])
+  logs_back id task taken at =
+      let read = mapped_some logged_task (task_at new id) task at in
+      let back = marked_is_back id read.0 taken read.1 in
+      let is : task ≡ logged_task (idle_again old.version back.was) = read.2 ∙ ap logged_task back.is in
+      (ap (λ t. t.dispatched) is, ap (λ t. t.log) is)
+
+  pub logs_taken_back : memory.TakesBack (is_marked marks) (logged old) (logged new)
+  logs_taken_back = record { members = logs_back; others = λ k out. ap (option_map logged_task) (unmarked_stays k out) }
+
+  pub holds_later : memory.HoldsLater (is_marked marks) (logged old)
+  holds_later a b x y at there there' runs runs' marked earlier wrote touched =
+      let writer = mapped_some logged_task (task_at old a) x there in
+      let reader = mapped_some logged_task (task_at old b) y there' in
+      let above = subst (λ t. Earlier t (logged_task reader.0)) writer.2 (subst (λ t. Earlier x t) reader.2 earlier) in
+      takes.holds a b
+      (inr (record {
+        writer = writer.0;
+        there = writer.1;
+        dispatched = sym (ap (λ t. t.dispatched) writer.2) ∙ runs;
+        reader = reader.0;
+        later = record { there = reader.1; dispatched = sym (ap (λ t. t.dispatched) reader.2) ∙ runs'; later = above };
+        meets = (at, sym (ap (λ t. t.wrote at) writer.2) ∙ wrote, sym (ap (λ t. t.touched at) reader.2) ∙ touched);
+      }))
+      marked
+
+  -- the bags
+  -- an uncommitted creator for the bags is one
+  live_is : (c : Creator) (k index : ℕ) → bag_creator c ≡ bags.Live k index → live_creator c ≡ Some k
+  live_is (Committed turn i) k index is = absurd (cc)
+  live_is (Live task i) k index is = let same : task.0 ≡ k = cc in ap Some same
+
+  -- a creator that is unmarked wherever it is uncommitted
+  spared_is : (c : Creator) → ((k index : ℕ) → bag_creator c ≡ bags.Live k index → is_marked marks k ≡ false) → is_marked_creator marks (live_creator c) ≡ false
+  spared_is (Committed turn i) spared = refl
+  spared_is (Live task i) spared = spared task.0 i refl
+
+  bag_gone : (k : ℕ) (x : bags.Task) (creator index : ℕ) → is_marked marks k ≡ true → bag_tasks old k ≡ Some x → x.creator ≡ bags.Live creator index
+      → is_marked marks creator ≡ true → bag_tasks new k ≡ None
+  bag_gone k x creator index taken at made marked =
+      let read = mapped_some bag_task (task_at old k) x at in
+      let live = live_is read.0.creator creator index (sym (ap (λ t. t.creator) read.2) ∙ made) in
+      ap (option_map bag_task) (marked_leaves k read.0 taken read.1 (ap (is_marked_creator marks) live ∙ marked))
+
+  bag_stays : (k : ℕ) (x : bags.Task) → is_marked marks k ≡ true → bag_tasks old k ≡ Some x
+      → ((creator index : ℕ) → x.creator ≡ bags.Live creator index → is_marked marks creator ≡ false)
+      → bag_tasks new k ≡ Some (moves.idle_again x)
+  bag_stays k x taken at spared =
+      let read = mapped_some bag_task (task_at old k) x at in
+      let creator = spared_is read.0.creator (λ c index made. spared c index (ap (λ t. t.creator) read.2 ∙ made)) in
+      ap (option_map bag_task) (marked_idles k read.0 taken read.1 creator) ∙ ap (λ t. Some (moves.idle_again t)) (sym read.2)
+
+  pub bags_taken_back : moves.TakesBack (is_marked marks) (bag_tasks old) (bag_tasks new)
+  bags_taken_back =
+      record {
+        others = λ k out. ap (option_map bag_task) (unmarked_stays k out);
+        gone = bag_gone;
+        stays = bag_stays;
+        none = λ k none. ap (option_map bag_task) (gone_stays k (none_of bag_task (task_at old k) none));
+      }

@@ -1,0 +1,4 @@
+-- Loads and stores.
+pub mod Runs
+pub mod Noted
+pub mod Kept

@@ -1,0 +1,4 @@
+-- Enqueues.
+pub mod Calls
+pub mod Steps
+pub mod Kept

@@ -1,0 +1,12 @@
+pub mod Tasks
+pub mod Aborted
+pub mod Rooms
+pub mod Accesses
+pub mod Steps
+pub mod Adds
+pub mod Enqueues
+pub mod Moves
+pub mod Renumbers
+pub mod Dispatches
+pub mod Commits
+pub mod Proved

@@ -1,0 +1,5 @@
+use Rattle.spec_law.proofs.Aborted.KeptSound.{abort_of_one_is_sound}
+use Rattle.spec_law.proofs.aborting.abort_of_one_is_sound.Goals as goal
+
+pub returns : goal.returns
+returns c = abort_of_one_is_sound

@@ -1,0 +1,5 @@
+use Rattle.spec_law.proofs.Aborted.Taken.{order_aborts}
+use Rattle.spec_law.proofs.aborting.marked_are_aborted.Goals as goal
+
+pub returns : goal.returns
+returns c = order_aborts

@@ -1,0 +1,5 @@
+use Rattle.spec_law.proofs.Tasks.Next.{least_is_next}
+use Rattle.spec_law.proofs.laws.least_is_next.Goals as goal
+
+pub returns : goal.returns
+returns c = least_is_next

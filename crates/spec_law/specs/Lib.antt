@@ -1,0 +1,6 @@
+pub mod Sound
+pub mod Laws
+pub mod AbortLaws
+pub mod Keeping
+pub mod Renumbering
+pub mod RoomLaws

@@ -1,0 +1,89 @@
+//! What an abort is to the laws of order, of tasks and of memory. Each is the contract of a function that does nothing.
+
+ghost use Rattle.spec_law.specs.AbortLaws.{AbortKeepsHeir, AbortKeepsMemory, AbortKeepsOrder, AbortKeepsSizes, AbortKeepsSound, AbortKeepsTasks, AbortForRoomIsSound, AbortOfConflictsIsSound, AbortOfLaterIsSound, AbortOfOneIsSound, AbortTakesMarked, CascadeSparesHeir, ConflictsSpareHeir, ConflictsTakeMarked, MarkedAreAborted, MarkedAreIdle, MarkedLeaveMemory};
+
+/// An abort of one task takes its marked tasks back.
+pub fn abort_takes_marked()
+    ensures { AbortTakesMarked }
+{}
+
+/// An abort of all tasks that conflict with an access takes its marked tasks back.
+pub fn conflicts_take_marked()
+    ensures { ConflictsTakeMarked }
+{}
+
+/// To take marked tasks back is an abort to the order of the queued tasks.
+pub fn marked_are_aborted()
+    ensures { MarkedAreAborted }
+{}
+
+/// To take marked tasks back is that to the bags of pending tasks.
+pub fn marked_are_idle()
+    ensures { MarkedAreIdle }
+{}
+
+/// To take marked tasks back is, for memory, to take back a set that holds, with each member, the later tasks that may have seen what
+/// it wrote.
+pub fn marked_leave_memory()
+    ensures { MarkedLeaveMemory }
+{}
+
+/// The group of memory holds after an abort in a sound view, against the same state of the serial machine.
+pub fn abort_keeps_memory()
+    ensures { AbortKeepsMemory }
+{}
+
+/// An abort of a task other than the heir spares the heir.
+pub fn cascade_spares_heir()
+    ensures { CascadeSparesHeir }
+{}
+
+/// An abort of all tasks that conflict with an access spares the heir.
+pub fn conflicts_spare_heir()
+    ensures { ConflictsSpareHeir }
+{}
+
+/// An abort that spares the heir keeps the order of all uncommitted tasks.
+pub fn abort_keeps_order()
+    ensures { AbortKeepsOrder }
+{}
+
+/// An abort that spares the heir keeps the group of tasks, against the same state of the serial machine.
+pub fn abort_keeps_tasks()
+    ensures { AbortKeepsTasks }
+{}
+
+/// An abort keeps the group of sizes.
+pub fn abort_keeps_sizes()
+    ensures { AbortKeepsSizes }
+{}
+
+/// An abort that spares the heir leaves it the heir, and makes none where there was none.
+pub fn abort_keeps_heir()
+    ensures { AbortKeepsHeir }
+{}
+
+/// An abort that spares the heir keeps a view sound, against the same state of the serial machine.
+pub fn abort_keeps_sound()
+    ensures { AbortKeepsSound }
+{}
+
+/// An abort of one task other than the heir keeps a view sound.
+pub fn abort_of_one_is_sound()
+    ensures { AbortOfOneIsSound }
+{}
+
+/// An abort of all tasks that conflict with an access keeps a view sound.
+pub fn abort_of_conflicts_is_sound()
+    ensures { AbortOfConflictsIsSound }
+{}
+
+/// An abort of a task that is later than another queued one keeps a view sound.
+pub fn abort_of_later_is_sound()
+    ensures { AbortOfLaterIsSound }
+{}
+
+/// An abort that makes room for the least task keeps a view sound.
+pub fn abort_for_room_is_sound()
+    ensures { AbortForRoomIsSound }
+{}

@@ -1,5 +1,0 @@
-use Rattle.spec_state.proofs.Spared.{cascade_spares_heir}
-use Rattle.spec_state.proofs.aborting.cascade_spares_heir.Goals as goal
-
-pub returns : goal.returns
-returns c = cascade_spares_heir

@@ -1,5 +1,0 @@
-use Rattle.spec_state.proofs.Spared.{conflicts_spare_heir}
-use Rattle.spec_state.proofs.aborting.conflicts_spare_heir.Goals as goal
-
-pub returns : goal.returns
-returns c = conflicts_spare_heir

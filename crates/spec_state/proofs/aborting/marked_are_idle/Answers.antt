@@ -1,5 +1,0 @@
-use Rattle.spec_state.proofs.Taken.{bags_taken_back}
-use Rattle.spec_state.proofs.aborting.marked_are_idle.Goals as goal
-
-pub returns : goal.returns
-returns c = bags_taken_back

@@ -1,5 +1,0 @@
-use Rattle.spec_state.proofs.Taken.{holds_later, logs_taken_back}
-use Rattle.spec_state.proofs.aborting.marked_leave_memory.Goals as goal
-
-pub returns : goal.returns
-returns c = λ marks old new takes. (holds_later marks old new takes, logs_taken_back marks old new takes)

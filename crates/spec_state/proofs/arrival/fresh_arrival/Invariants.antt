@@ -1,0 +1,12 @@
+use Rattle.std.proofs.Common.{◌≡◌, ◌≤◌, [], length, map, slice_index_or}
+use Rattle.spec_state.specs.Stored.{IsIndexed}
+use Rattle.spec_state.proofs.Fresh.{AllBelow}
+use Rattle.spec_state.proofs.arrival.fresh_arrival.Given as goal
+
+abbrev pub invariant-loop-tile : goal.invariant-loop-tile
+invariant-loop-tile l =
+    IsIndexed l.tasks.slots (map (λ queue. queue.ids) l.queues) l.arrivals.items l.next l.index.entries
+    × AllBelow (map (λ queue. queue.ids) l.queues) l.arrivals.items l.longest l.tile
+    × (length l.arrivals.items ≡ length l.fn.arrivals.items)
+    × (length l.index.entries ≤ length l.fn.index.entries)
+    × (l.index.capacity ≡ l.fn.index.capacity)

@@ -1,5 +1,0 @@
-use Rattle.spec_state.proofs.Cascades.{cascade_is_later}
-use Rattle.spec_state.proofs.laws.cascade_is_later.Goals as goal
-
-pub returns : goal.returns
-returns c = cascade_is_later

@@ -1,0 +1,43 @@
+-- What contracts see of a state: the machine, and the room that it keeps for what the next event adds.
+use Rattle.std.specs.Prelude.{◌<◌, ◌≤◌, ℕ, List, Option, length, IfSome, slice_index_or}
+use Rattle.spec_state.specs.declared.task.TaskId.{TaskId}
+use Rattle.spec_state.specs.View.{View, task_at}
+
+-- how many accesses, children and bytes of output have room in the buffers that a full list moves into, and how many pushes are spare in
+-- each tile's block
+pub record Spare : Type 0 where
+  pub log : ℕ
+  pub spawns : ℕ
+  pub output : ℕ
+  pub blocks : List ℕ
+
+-- the view, and the room
+pub record StateValue : Type 0 where
+  pub view : View
+  pub room : Spare
+
+-- an access more of the task has room in its log
+abbrev pub CoversLog : StateValue → ℕ → Type 0
+CoversLog state id = IfSome (task_at state.view id) (λ task. length task.log < state.room.log)
+
+-- a child more of the task has room among its children
+abbrev pub CoversChild : StateValue → ℕ → Type 0
+CoversChild state id = IfSome (task_at state.view id) (λ task. length task.spawns < state.room.spawns)
+
+-- so many pushes are spare in the tile's block
+abbrev pub CoversPushes : StateValue → ℕ → ℕ → Type 0
+CoversPushes state tile more = more ≤ slice_index_or state.room.blocks tile 0
+
+-- what one event adds has room: an access and a child of the task that is given, and so many tasks in the block of the tile as move at
+-- once
+pub record Covers (state : StateValue) (task : Option TaskId) (tile : ℕ) : Type 0 where
+  pub log : IfSome task (λ id. CoversLog state id.0)
+  pub child : IfSome task (λ id. CoversChild state id.0)
+  pub pushes : CoversPushes state tile 8
+
+-- no room is less than it was
+pub record HasNoLessRoom (old new : Spare) : Type 0 where
+  pub log : old.log ≤ new.log
+  pub spawns : old.spawns ≤ new.spawns
+  pub output : old.output ≤ new.output
+  pub blocks : (tile : ℕ) → slice_index_or old.blocks tile 0 ≤ slice_index_or new.blocks tile 0

@@ -1,0 +1,101 @@
+//! A task that comes to be.
+
+ghost use Rattle.std.specs.Prelude.{◌≡◌, ◌<◌, [], ◌∷◌, ◌++◌, length, Contains, IsOk, IfOk};
+ghost use Rattle.spec_state.specs.declared.task.Creator.TheVariants.{Committed};
+ghost use Rattle.spec_state.specs.declared.task.Status.TheVariants.{Idle};
+ghost use Rattle.spec_state.specs.View.{version_of};
+ghost use Rattle.spec_state.specs.Tasks.{idle_task, root_descriptor};
+ghost use Rattle.spec_state.specs.Stored.{IsWellFormed};
+ghost use Rattle.spec_state.specs.Opening.{Adds, IsOfImage};
+ghost use Rattle.spec_state.specs.Room.{HasFreeEntry};
+
+use crate::arrival::fresh_arrival;
+use crate::emitted::Emitted;
+use crate::state::State;
+use crate::task::{Creator, Spawns, Status, Task, TaskId};
+use fractal_vt::Key;
+use line_table::Signature;
+use rv_core::{Core, Naming};
+use std::alloc::{AllocError, Global};
+use task_desc::Desc;
+use tile_queues::TaskQueue;
+use undo_log::Log;
+
+/// Puts an id that is not there into a queue with a free entry, as the last one.
+fn put_last(queue: &mut TaskQueue, id: usize)
+    requires absent { ¬ Contains queue.old.ids id }
+    requires free { length queue.old.ids < queue.old.capacity }
+    ensures { queue.new ≡ record queue.old { ids = queue.old.ids ++ id ∷ [] } }
+{
+    let _ = queue.put(id);
+}
+
+/// An idle task of the root domain with a committed creator, in a tile. It takes no memory.
+fn root_task<N: Naming>(alloc: Global, desc: &Desc, tile: u32) -> Task
+    ensures { let name = desc.now.name in
+        result ≡ idle_task (version_of N.image) (root_descriptor desc.now) (Committed name.creator name.index) tile }
+{
+    Task {
+        entry: desc.entry,
+        args: desc.args,
+        hint: desc.hint,
+        kinds: desc.kinds,
+        key: Key::root(desc.ts),
+        creator: Creator::Committed {
+            turn: desc.name.creator,
+            index: desc.name.index,
+        },
+        tile,
+        status: Status::Idle,
+        core: Core::start(desc.entry, desc.ts, desc.args),
+        log: Log::new(alloc),
+        lines: Signature::new(),
+        spawns: Spawns::new(alloc),
+        bytes: Emitted::new(),
+        sub: None,
+    }
+}
+
+impl<N: Naming> State<N> {
+    /// Puts an idle task under a free id, as the last one of the task queue of its tile, which has a free entry. It takes no memory.
+    pub fn put(&mut self, task: Task) -> TaskId
+        requires tile { task.tile < self.old.view.settings.tiles }
+        requires free { HasFreeEntry self.old.view task.tile }
+        requires idle { task.status ≡ Idle }
+        requires formed { IsWellFormed N.image.data_size (length self.old.view.history) task }
+        ensures adds { Adds result.0 task self.old.view self.new.view }
+        ensures room { self.new.room ≡ self.old.room }
+    {
+        let tile = task.tile;
+        let arrival = fresh_arrival(
+            &mut self.index,
+            &mut self.arrivals,
+            &self.tasks,
+            self.queues.as_slice(),
+            self.settings.task_queue,
+            self.next_arrival,
+        );
+        let id = self.tasks.insert_reserved(task);
+        put_last(&mut self.queues[tile as usize], id);
+        self.arrivals[id] = arrival;
+        self.index.insert(&self.tasks[id].key, tile, arrival, id);
+        self.next_arrival = arrival + 1;
+        TaskId(id)
+    }
+
+    /// Adds an idle task of the image, under the descriptor's name, as the last one of the task queue of the tile, which has a free
+    /// entry. It takes no memory, and never answers `AllocError`.
+    pub fn add(&mut self, desc: &Desc, tile: u32) -> Result<TaskId, AllocError>
+        requires image { IsOfImage desc.now }
+        requires tile { tile < self.old.view.settings.tiles }
+        requires free { HasFreeEntry self.old.view tile }
+        ensures ok { let name = desc.now.name in
+            let creator = Committed name.creator name.index in
+            let task = idle_task self.old.view.version (root_descriptor desc.now) creator tile in
+            IfOk result (λ id. Adds id.0 task self.old.view self.new.view) }
+        ensures covered { IsOk result }
+        ensures room { self.new.room ≡ self.old.room }
+    {
+        Ok(self.put(root_task::<N>(self.alloc, desc, tile)))
+    }
+}

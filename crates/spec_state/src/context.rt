@@ -1,0 +1,132 @@
+//! What the next call of a task depends on. No call takes memory.
+
+ghost use Rattle.std.specs.Prelude.{◌≡◌, ◌≤◌, ◌<◌, length, IsSome, IfSome};
+ghost use Rattle.task_desc.specs.declared.calls.TheConstants.{MAX_CHILDREN};
+ghost use Rattle.spec_state.specs.View.{task_at, version_of};
+ghost use Rattle.spec_state.specs.Tasks.{context_of, kind_at, outer_kind, floor_in};
+ghost use Rattle.spec_state.specs.Stored.{IsStored};
+
+use crate::state::State;
+use crate::task::{Task, TaskId};
+use fractal_vt::Vt;
+use guest_image::Kind;
+use rv_core::Naming;
+use serial_machine::{Bytes, Journal};
+use task_desc::Ctx;
+
+/// What a run leaves of a state.
+#[derive(Drop)]
+pub struct Parts {
+    /// The committed tasks, in the order of their commits.
+    pub journal: Journal,
+    /// The data memory as it stands, with the stores of all dispatched tasks.
+    pub memory: Bytes,
+    /// The bytes of the committed tasks.
+    pub output: Bytes,
+}
+
+/// The kind of the domain behind so many others, from the outermost on.
+#[tactic(auto, using(crate::proofs::Depths::kind_ordered, crate::proofs::Depths::kind_unordered))]
+fn kind_behind(kinds: u16, outer: usize) -> Kind
+    requires { outer < 16 }
+    ensures { result ≡ kind_at outer kinds }
+{
+    if (kinds >> outer) % 2 == 1 {
+        Kind::Ordered
+    } else {
+        Kind::Unordered
+    }
+}
+
+/// The kind of the domain outside it, where there is one.
+fn kind_outside(kinds: u16, outer: usize) -> Option<Kind>
+    requires { outer < 16 }
+    ensures { result ≡ outer_kind outer kinds }
+{
+    if outer == 0 {
+        None
+    } else {
+        Some(kind_behind(kinds, outer - 1))
+    }
+}
+
+/// The floor of a domain: the timestamp of its last level, or 0 where it has none.
+#[tactic(auto, using(crate::proofs::Depths::floor_found))]
+fn floor_of(domain: &Vt) -> u32
+    ensures { result ≡ floor_in 0 domain.now }
+{
+    match domain.levels().split_last() {
+        None => 0,
+        Some((last, _)) => last.ts,
+    }
+}
+
+/// What the next call of a task depends on.
+fn context<N: Naming>(task: &Task) -> Ctx
+    requires { length task.now.spawns ≤ MAX_CHILDREN }
+    ensures { result ≡ context_of (version_of N.image) task.now }
+{
+    let outer = task.key.domain.levels().len();
+    Ctx {
+        depth: outer as u8 + 1,
+        own: kind_behind(task.kinds, outer),
+        outer: kind_outside(task.kinds, outer),
+        ts: task.key.ts,
+        floor: floor_of(&task.key.domain),
+        sub: task.sub,
+        children: task.spawns.as_slice().len() as u32,
+        bytes: task.bytes.count(),
+    }
+}
+
+impl<N: Naming> State<N> {
+    /// Law: what the type of a state keeps of its view.
+    pub fn is_stored(&self)
+        ensures { IsStored N.image.data_size self.now.view }
+    {
+        let _ = &self.settings;
+    }
+
+    /// What the next call of the task depends on.
+    pub fn ctx_of(&self, task: TaskId) -> Ctx
+        requires live { IsSome (task_at self.now.view task.0) }
+        ensures { IfSome (task_at self.now.view task.0) (λ t. result ≡ context_of self.now.view.version t) }
+    {
+        self.is_stored();
+        context::<N>(self.task(task))
+    }
+
+    /// Its history, its memory and its output, as they stand. It takes no memory.
+    pub fn into_parts(self) -> Parts
+        ensures journal { result.journal ≡ self.view.history }
+        ensures memory { result.memory ≡ self.view.memory }
+        ensures output { result.output ≡ self.view.output }
+    {
+        let State {
+            settings: _,
+            tasks: _,
+            memory,
+            history,
+            output,
+            next: _,
+            path: _,
+            queues: _,
+            finished: _,
+            cores: _,
+            blocks: _,
+            index: _,
+            arrivals: _,
+            next_arrival: _,
+            marks: _,
+            numbers: _,
+            buffers: _,
+            alloc: _,
+            naming: _,
+        } = self;
+        Parts {
+            journal: history.into_journal(),
+            memory: Bytes::from_vec(memory.into_vec()),
+            output,
+        }
+    }
+}

@@ -1,0 +1,112 @@
+//! Which task is the least: the first of the index, or the first of a block. No call takes memory.
+
+ghost use Rattle.std.specs.Prelude.{◌≡◌, ◌<◌, ◌≤◌, ◌+◌, ◌↔◌, ℕ, length, Some, IsSome, IfSome, IsNone};
+ghost use Rattle.spec_state.specs.declared.task.Task.{Task};
+ghost use Rattle.spec_state.specs.Least.{IsLeast, IsAllCommitted};
+ghost use Rattle.spec_state.specs.Queries.{IsQueued};
+ghost use Rattle.spec_state.specs.Fits.{entries_in};
+ghost use Rattle.spec_state.specs.Fronts.{IsFirstQueued, IsFirstSpilled, HoldNone, IsStanding};
+
+use crate::state::State;
+use crate::task::{Status, Task, TaskId, Where};
+use fractal_vt::{Key, cmp};
+use rv_core::Naming;
+use spill_store::Block;
+
+/// The key of a spilled task, and the tile in whose block it stands.
+#[derive(Drop)]
+struct Front {
+    tile: u32,
+    key: Key,
+}
+
+/// The lesser of the first task of the earlier blocks and the first one of the next block.
+fn lesser(best: Option<Front>, blocks: &[Block], tile: u32) -> Option<Front>
+    requires tile { tile < length blocks.now }
+    requires some { IfSome best (λ f. IsFirstSpilled (entries_in blocks.now) tile f.tile f.key) }
+    requires none { IsNone best → HoldNone (entries_in blocks.now) tile }
+    ensures some { IfSome result (λ f. IsFirstSpilled (entries_in blocks.now) (tile + 1) f.tile f.key) }
+    ensures none { IsNone result → HoldNone (entries_in blocks.now) (tile + 1) }
+{
+    match (best, blocks[tile as usize].least_key()) {
+        (None, None) => None,
+        (Some(front), None) => Some(front),
+        (None, Some(key)) => Some(Front { tile, key }),
+        (Some(front), Some(key)) => {
+            if cmp(&key, &front.key).is_lt() {
+                Some(Front { tile, key })
+            } else {
+                Some(front)
+            }
+        }
+    }
+}
+
+/// The first of the spilled tasks: that of the least key, and on a tie that of the lowest tile.
+fn first_spilled(blocks: &[Block]) -> Option<Front>
+    requires few { length blocks.now ≤ 16 }
+    ensures some { IfSome result (λ f. IsFirstSpilled (entries_in blocks.now) (length blocks.now) f.tile f.key) }
+    ensures none { IsNone result → HoldNone (entries_in blocks.now) (length blocks.now) }
+{
+    let mut best = None;
+    for tile in 0..blocks.len() as u32 {
+        best = lesser(best, blocks, tile);
+    }
+    best
+}
+
+/// How a queued task stands.
+fn standing(id: TaskId, task: &Task) -> Where
+    ensures { IsStanding result id task.now }
+{
+    match task.status {
+        Status::Idle => Where::Idle(id),
+        Status::Running { .. } => Where::Running(id),
+        Status::Trapped { .. } => Where::Trapped(id),
+        Status::Finished => Where::Finished(id),
+    }
+}
+
+impl<N: Naming> State<N> {
+    /// The first of the queued tasks.
+    fn first_queued(&self) -> Option<TaskId>
+        ensures some { IfSome result (λ id. (task : Task) × IsFirstQueued self.now.view id.0 task) }
+        ensures none { IsNone result → (tile id : ℕ) → IsQueued self.now.view tile id → ⊥ }
+    {
+        self.index.is_in_order();
+        match self.index.first() {
+            Some(id) => Some(TaskId(id)),
+            None => None,
+        }
+    }
+
+    /// The first of the spilled tasks.
+    fn first_front(&self) -> Option<Front>
+        ensures some { let blocks = self.now.view.blocks in
+            IfSome result (λ f. IsFirstSpilled blocks (length blocks) f.tile f.key) }
+        ensures none { IsNone result → HoldNone self.now.view.blocks (length self.now.view.blocks) }
+    {
+        first_spilled(self.blocks.as_slice())
+    }
+
+    /// The least uncommitted task, and how it stands; None exactly where no task is uncommitted. It costs a look at the index and one
+    /// at each tile's block.
+    pub fn least(&self) -> Option<Where>
+        ensures some { IfSome result (IsLeast self.now.view) }
+        ensures none { IsNone result ↔ IsAllCommitted self.now.view }
+    {
+        match (self.first_queued(), self.first_front()) {
+            (None, None) => None,
+            (Some(id), None) => Some(standing(id, self.task(id))),
+            (None, Some(front)) => Some(Where::Spilled(front.tile)),
+            (Some(id), Some(front)) => {
+                let task = self.task(id);
+                if cmp(&front.key, &task.key).is_lt() {
+                    Some(Where::Spilled(front.tile))
+                } else {
+                    Some(standing(id, task))
+                }
+            }
+        }
+    }
+}
