@@ -1,83 +1,100 @@
 -- What was found and is told is an answer.
 use Rattle.std.proofs.Common.{◌≡◌, ◌≢◌, ◌⊎◌, inl, inr, refl, sym, ap, ◌∙◌, subst, ℕ, ◌<◌, ◌≤◌, List, [], ◌++◌, length, append-nil, length-append, arith, drop, ◌==◌, Bool, true, false, Some, None}
 use Rattle.std.specs.declared.option.Option.{Option}
+use Rattle.std.specs.Prelude.{IsSomeAnd, option_map, unwrap_or}
 use Rattle.std.proofs.lemmas.Bool.Decides.{nat_tests}
 use Rattle.std.proofs.lemmas.Grind.{common_steps}
-use Rattle.std.specs.Io.KnownBytes.{Appends}
+use Rattle.std.specs.Io.KnownBytes.{Consumes, IsAtEnd}
 use Rattle.sim_io.specs.Causes.{Rose}
-use Rattle.sim_io.specs.Parts.{ReadsAll, ReadsPast}
+use Rattle.sim_io.specs.Parts.{ReadsAll, ReadsPast, ReadsSome, TakesFront}
+use Rattle.sim_io.specs.Streams.{SinkState, SourceState}
 use Rattle.guest_image.specs.ImageValue.{ImageValue}
-use Rattle.serial_machine.specs.declared.fault.End.{End}
+use Rattle.run_journal.specs.declared.end.End.{End}
 use Rattle.guest_image.specs.Reading.{image_of}
+use Rattle.run_law.proofs.Lawful.{lawful}
 use Rattle.report_text.specs.Report.{report}
 use Rattle.report_text.specs.Grammar.{report_of}
 use Rattle.fractal_sim.specs.declared.words.Request.{Request}
-use Rattle.fractal_sim.specs.declared.finding.Closed.{Closed}
+use Rattle.serial_machine.specs.declared.whole_run.SerialRun.{SerialRun}
 use Rattle.fractal_sim.specs.declared.finding.Finding.{Finding}
 use Rattle.fractal_sim.specs.declared.finding.Finding.TheVariants as finding
 use Rattle.fractal_sim.specs.declared.outcome.Outcome.{Outcome}
 use Rattle.fractal_sim.specs.Words.{request_of}
+use Rattle.fractal_sim.specs.Call.{Call, Input}
 use Rattle.fractal_sim.specs.Top as top
-use Rattle.fractal_sim.specs.Top.{IsAsked, IsGiven, IsEmpty, HoldsRun, HoldsRunOfInput, HoldsRunOrNothing, IsRunEnd, IsAccepted, IsRefused, IsNoImage, IsAnswer, TookAnswer, TookFront, IsShortRun, IsTold, IsDue, IsComplete, IsWrongLine, end_status, accepted_line, input_limit}
-use Rattle.fractal_sim.specs.Finding.{IsRan, IsFound, KeepsClosed, Keeps, HasRunText, HasText, run_status, run_text, status_of, text_of, Tells}
+use Rattle.serial_machine.specs.WholeRun.{IsRunOf}
+use Rattle.fractal_sim.specs.Top.{ReadsInput, ReadsImage, HoldsRunOfInput, HoldsRunOrNothing, HoldsLawfulRun, RunsToEnd, IsAccepted, IsAnswer, HoldsRunSoFar, TellsWant, TellsOutcome, BeginsWithImage, IsDue, IsComplete, IsWrongLine, closed_of, end_status, accepted_line, input_limit}
+use Rattle.fractal_sim.specs.Finding.{IsRan, IsFound, Keeps, run_status, status_of, text_of, TakesText, TellsFinding}
+
+same-some : {A : Type 0} (a b : A) → Some a ≡ Some b → a ≡ b
+same-some a b h = ap (λ o. unwrap_or o a) h
+
+-- bytes that were read to the end are some bytes
+pub read-some : (old new : SourceState) (limit : ℕ) (found : List ℕ) → ReadsAll old new limit found → ReadsSome old new limit
+read-some old new limit found h = record { found = found; taken = h.taken; within = h.within }
 
 -- an outcome keeps the run of what was closed
-holds-kept : (image : ImageValue) (commits budget : ℕ) (closed : Closed) (o : Outcome) → KeepsClosed closed o → HoldsRun image commits budget closed.journal closed.memory closed.output closed.end
-    → HoldsRun image commits budget o.journal o.memory o.output o.end
-holds-kept image commits budget closed o k h = rw (k.journal, k.memory, k.output, k.end) h
+holds-kept : (image : ImageValue) (commits budget : ℕ) (closed : SerialRun) (o : Outcome) → closed_of o ≡ closed → IsRunOf image commits budget closed → IsRunOf image commits budget (closed_of o)
+holds-kept image commits budget closed o kept h = subst (IsRunOf image commits budget) (sym kept) h
 
-pub holds : (words : List (List ℕ)) (left left' : Option (List ℕ)) (read read' : ℕ) (f : Finding) (o : Outcome) → IsFound words left left' read read' f → Keeps f o → HoldsRunOrNothing words left left' o
-holds words left left' read read' finding.Usage o found kept = inl kept
-holds words left left' read read' finding.Memory o found kept = inl kept
-holds words left left' read read' finding.Unread o found kept = inl kept
-holds words left left' read read' finding.Long o found kept = inl kept
-holds words left left' read read' (finding.NoImage fault) o found kept = inl kept
-holds words left left' read read' (finding.Refused line) o found kept = inl kept
-holds words left left' read read' (finding.Accepted closed) o found kept =
-    inr record { request = found.request; image = found.image; rest = found.rest; given = found.given; run = holds-kept found.image found.request.commits found.request.budget closed o kept found.run }
-holds words left left' read read' (finding.Ran image closed) o found kept =
-    inr record { request = found.request; image = image; rest = found.rest; given = found.given; run = holds-kept image found.request.commits found.request.budget closed o kept found.run }
+abbrev ran-held : (input : Input) (image : ImageValue) (closed : SerialRun) (o : Outcome) → IsRan input image closed → closed_of o ≡ closed → HoldsRunOfInput input o
+ran-held input image closed o found kept = record {
+  request = found.request;
+  image = image;
+  rest = found.rest;
+  given = found.given;
+  run = holds-kept image found.request.commits found.request.budget closed o kept found.run;
+}
 
--- the run of a report that is accepted, as an outcome keeps it
-accepted : (words : List (List ℕ)) (left left' : Option (List ℕ)) (closed : Closed) (o : Outcome) → IsAccepted words left left' closed.journal closed.memory closed.output closed.end
-    → KeepsClosed closed o → IsAccepted words left left' o.journal o.memory o.output o.end
-accepted words left left' closed o found kept = rw (kept.journal, kept.memory, kept.output, kept.end) found
+pub holds : (input : Input) (f : Finding) (o : Outcome) → IsFound input f → Keeps f o → HoldsRunOrNothing input o
+holds input finding.Usage o found kept = inl kept
+holds input finding.Memory o found kept = inl kept
+holds input finding.Unread o found kept = inl kept
+holds input finding.Long o found kept = inl kept
+holds input (finding.NoImage fault) o found kept = inl kept
+holds input (finding.Refused line) o found kept = inl kept
+holds input (finding.Accepted closed) o found kept = inr record {
+  request = found.request;
+  image = found.image;
+  rest = found.rest;
+  given = found.given;
+  run = holds-kept found.image found.request.commits found.request.budget closed o kept found.run;
+}
+holds input (finding.Ran image closed) o found kept = inr (ran-held input image closed o found kept)
 
-abbrev end_in : End → Option End → End
-end_in d None = d
-end_in d (Some end) = end
+pub holds-lawful : (input : Input) (o : Outcome) → HoldsLawfulRun input o
+holds-lawful input o = λ h. lawful h.image h.request.budget o.journal h.run.state h.run.is_run
 
 -- a run, as an outcome keeps it
-ended : (words : List (List ℕ)) (left left' : Option (List ℕ)) (image : ImageValue) (closed : Closed) (o : Outcome) (end : End) → closed.end ≡ Some end → IsRan words left left' image closed
-    → KeepsClosed closed o → IsRunEnd words left left' o image end
-ended words left left' image closed o end is found kept = record {
+ended : (input : Input) (image : ImageValue) (closed : SerialRun) (o : Outcome) (end : End) → closed.end ≡ Some end → IsRan input image closed → closed_of o ≡ closed
+    → RunsToEnd input image end (closed_of o)
+ended input image closed o end is found kept = record {
   request = found.request;
   rest = found.rest;
   given = found.given;
   command = found.command;
   run = holds-kept image found.request.commits found.request.budget closed o kept found.run;
-  end_is = kept.end ∙ is;
+  end_is = ap (λ c. c.end) kept ∙ is;
   over = λ unfinished. found.over (is ∙ ap Some unfinished);
 }
 
 -- what was found, with its status and its text, is an answer
-pub answers : (words : List (List ℕ)) (left left' : Option (List ℕ)) (read read' : ℕ) (f : Finding) (o : Outcome) → IsFound words left left' read read' f → Keeps f o → HasText f
-    → IsAnswer words left left' o (status_of f) (text_of f)
-answers words left left' read read' finding.Usage o found kept text = top.Usage found kept
-answers words left left' read read' finding.Memory o found kept text = absurd text
-answers words left left' read read' finding.Unread o found kept text = absurd text
-answers words left left' read read' finding.Long o found kept text = top.Long found.request found.asked found.past kept
-answers words left left' read read' (finding.NoImage fault) o found kept text = top.NoImage fault found kept
-answers words left left' read read' (finding.Refused line) o found kept text = top.Refused line found kept
-answers words left left' read read' (finding.Accepted closed) o found kept text =
-    let line : accepted_line (length o.journal) ≡ accepted_line (length closed.journal) = ap (λ j. accepted_line (length j)) kept.journal in
-    subst (IsAnswer words left left' o 0) line (top.Accepted (accepted words left left' closed o found kept))
-answers words left left' read read' (finding.Ran image closed) o found kept text = go closed.end refl text where
-  go : (e : Option End) → closed.end ≡ e → HasRunText e → IsAnswer words left left' o (run_status e) (run_text image closed e)
-  go None is t = absurd t
-  go (Some end) is t =
-      let same : report image o.journal o.memory o.output end ≡ report image closed.journal closed.memory closed.output end = rw (kept.journal, kept.memory, kept.output) refl in
-      subst (IsAnswer words left left' o (end_status end)) same (top.Ended image end (ended words left left' image closed o end is found kept))
+pub answers : (input : Input) (f : Finding) (o : Outcome) (text : List ℕ) → IsFound input f → Keeps f o → text_of f ≡ Some text → IsAnswer input o (status_of f) text
+answers input finding.Usage o text found kept is = subst (IsAnswer input o 1) (same-some _ text is) (top.Usage found kept)
+answers input finding.Memory o text found kept is = let z : ⊥ = cc in absurd z
+answers input finding.Unread o text found kept is = let z : ⊥ = cc in absurd z
+answers input finding.Long o text found kept is = subst (IsAnswer input o 10) (same-some _ text is) (top.Long found kept)
+answers input (finding.NoImage fault) o text found kept is = subst (IsAnswer input o 2) (same-some _ text is) (top.NoImage fault found kept)
+answers input (finding.Refused line) o text found kept is = subst (IsAnswer input o 8) (same-some _ text is) (top.Refused line found kept)
+answers input (finding.Accepted closed) o text found kept is =
+    let line : accepted_line (length o.journal) ≡ text = ap (λ c. accepted_line (length c.journal)) kept ∙ same-some _ text is in
+    subst (IsAnswer input o 0) line (top.Accepted (subst (IsAccepted input) (sym kept) found))
+answers input (finding.Ran image closed) o text found kept is = go closed.end refl is where
+  go : (e : Option End) → closed.end ≡ e → option_map (report image closed.journal closed.memory closed.output) e ≡ Some text → IsAnswer input o (run_status e) text
+  go None at t = let z : ⊥ = cc in absurd z
+  go (Some end) at t =
+      let told : report image o.journal o.memory o.output end ≡ text = ap (λ c. report image c.journal c.memory c.output end) kept ∙ same-some _ text t in
+      subst (IsAnswer input o (end_status end)) told (top.Ended image end (ended input image closed o end at found kept))
 
 is_seven : (n : ℕ) → (n ≡ 7) ⊎ (n ≢ 7)
 is_seven n = go (n == 7) refl where
@@ -86,56 +103,84 @@ is_seven n = go (n == 7) refl where
   go false e = inr (λ h. grind (arith, nat_tests, common_steps))
 
 -- a finding with a text that was written
-took : (words : List (List ℕ)) (left left' taken taken' : Option (List ℕ)) (read read' : ℕ) (f : Finding) (o : Outcome) → IsFound words left left' read read' f → Keeps f o → HasText f
-    → o.status ≡ status_of f → Appends taken taken' (text_of f) → TookAnswer words left left' taken taken' o
-took words left left' taken taken' read read' f o found kept text status written = record {
-  text = text_of f;
-  answer = subst (λ n. IsAnswer words left left' o n (text_of f)) (sym status) (answers words left left' read read' f o found kept text);
-  took = written;
-}
+took : (call : Call) (f : Finding) (o : Outcome) (text : List ℕ) → IsFound call.input f → Keeps f o → text_of f ≡ Some text
+    → o.status ≡ status_of f → TakesText call.sink_before call.sink_after (text_of f) → TellsOutcome call o
+took call f o text found kept is status written = inr (inr (inr record {
+  text = text;
+  answer = subst (λ n. IsAnswer call.input o n text) (sym status) (answers call.input f o text found kept is);
+  took = subst (TakesText call.sink_before call.sink_after) is written;
+}))
+
+-- want of memory, where nothing was run
+wanting : (call : Call) (o : Outcome) → top.IsEmpty o → o.status ≡ 5 → ReadsSome call.input.source_before call.input.source_after input_limit
+    → call.sink_after ≡ call.sink_before → TellsOutcome call o
+wanting call o kept status read untouched = inl record { status_is = status; end = kept.end; held = inl kept; read = read; untouched = untouched }
 
 -- where the sink didn't fail
-well_told : (words : List (List ℕ)) (left left' taken taken' : Option (List ℕ)) (read read' wrote wrote' : ℕ) (f : Finding) (o : Outcome) → IsFound words left left' read read' f → Keeps f o
-    → o.status ≡ status_of f → Appends taken taken' (text_of f) → IsTold words left left' read read' taken taken' wrote wrote' o
-well_told words left left' taken taken' read read' wrote wrote' finding.Usage o found kept s w = inr (inr (inr (took words left left' taken taken' read read' finding.Usage o found kept tt s w)))
-well_told words left left' taken taken' read read' wrote wrote' finding.Memory o found kept s w = inl (s, (kept.end, inl kept), w)
-well_told words left left' taken taken' read read' wrote wrote' finding.Unread o found kept s w = inr (inl (s, kept, found, w))
-well_told words left left' taken taken' read read' wrote wrote' finding.Long o found kept s w = inr (inr (inr (took words left left' taken taken' read read' finding.Long o found kept tt s w)))
-well_told words left left' taken taken' read read' wrote wrote' (finding.NoImage fault) o found kept s w = inr (inr (inr (took words left left' taken taken' read read' (finding.NoImage fault) o found kept tt s w)))
-well_told words left left' taken taken' read read' wrote wrote' (finding.Refused line) o found kept s w = inr (inr (inr (took words left left' taken taken' read read' (finding.Refused line) o found kept tt s w)))
-well_told words left left' taken taken' read read' wrote wrote' (finding.Accepted closed) o found kept s w = inr (inr (inr (took words left left' taken taken' read read' (finding.Accepted closed) o found kept tt s w)))
-well_told words left left' taken taken' read read' wrote wrote' (finding.Ran image closed) o found kept s w = go closed.end refl where
-  go : (e : Option End) → closed.end ≡ e → IsTold words left left' read read' taken taken' wrote wrote' o
+well_told : (call : Call) (f : Finding) (o : Outcome) → IsFound call.input f → Keeps f o → o.status ≡ status_of f → TakesText call.sink_before call.sink_after (text_of f) → TellsOutcome call o
+well_told call finding.Usage o found kept s w = took call finding.Usage o _ found kept refl s w
+well_told call finding.Memory o found kept s w = wanting call o kept s found w
+well_told call finding.Unread o found kept s w = inr (inl record { status_is = s; empty = kept; unread = found; untouched = w })
+well_told call finding.Long o found kept s w = took call finding.Long o _ found kept refl s w
+well_told call (finding.NoImage fault) o found kept s w = took call (finding.NoImage fault) o _ found kept refl s w
+well_told call (finding.Refused line) o found kept s w = took call (finding.Refused line) o _ found kept refl s w
+well_told call (finding.Accepted closed) o found kept s w = took call (finding.Accepted closed) o _ found kept refl s w
+well_told call (finding.Ran image closed) o found kept s w = go closed.end refl where
+  go : (e : Option End) → closed.end ≡ e → TellsOutcome call o
   go None is =
-      let held : HoldsRunOfInput words left left' o =
-      record { request = found.request; image = image; rest = found.rest; given = found.given; run = holds-kept image found.request.commits found.request.budget closed o kept found.run } in
-      let short : IsShortRun words left left' o = record { held = held; command = found.command } in
-      inl (s ∙ ap run_status is, (kept.end ∙ is, inr short), subst (Appends taken taken') (ap (run_text image closed) is) w)
+      let held : HoldsRunOfInput call.input o = ran-held call.input image closed o found kept in
+      let short : HoldsRunSoFar call.input o = record { held = held; command = found.command } in
+      let read = found.given.read.read in
+      inl record {
+        status_is = s ∙ ap run_status is;
+        end = ap (λ c. c.end) kept ∙ is;
+        held = inr short;
+        read = read-some call.input.source_before call.input.source_after input_limit found.given.bytes read;
+        untouched = subst (λ e. TakesText call.sink_before call.sink_after (option_map (report image closed.journal closed.memory closed.output) e)) is w;
+      }
   go (Some end) is =
-      let text : HasRunText closed.end = subst HasRunText (sym is) tt in
-      inr (inr (inr (took words left left' taken taken' read read' (finding.Ran image closed) o found kept text s w)))
+      took call (finding.Ran image closed) o (report image closed.journal closed.memory closed.output end) found kept (ap (option_map (report image closed.journal closed.memory closed.output)) is) s w
+
+-- the text of a finding whose text the sink failed on
+record HasFront (old new : SinkState) (text : Option (List ℕ)) : Type 0 where
+  whole : List ℕ
+  is : text ≡ Some whole
+  front : TakesFront old new whole
+
+front-of : (old new : SinkState) (text : Option (List ℕ)) → IsSomeAnd text (TakesFront old new) → HasFront old new text
+front-of old new None h = absurd h
+front-of old new (Some whole) h = record { whole = whole; is = refl; front = h }
 
 -- what was found is told
-pub told : (words : List (List ℕ)) (left left' taken taken' : Option (List ℕ)) (read read' wrote wrote' : ℕ) (f : Finding) (o : Outcome) → IsFound words left left' read read' f
-    → Tells f taken taken' wrote wrote' o → IsTold words left left' read read' taken taken' wrote wrote' o
-told words left left' taken taken' read read' wrote wrote' f o found tells = go (is_seven o.status) where
-  go : (o.status ≡ 7) ⊎ (o.status ≢ 7) → IsTold words left left' read read' taken taken' wrote wrote' o
+pub told : (call : Call) (f : Finding) (o : Outcome) → IsFound call.input f → TellsFinding f call.sink_before call.sink_after o → TellsOutcome call o
+told call f o found tells = go (is_seven o.status) where
+  go : (o.status ≡ 7) ⊎ (o.status ≢ 7) → TellsOutcome call o
   go (inl seven) =
       let failed = tells.failed seven in
-      inr (inr (inl (seven, record { status = status_of f; text = text_of f; answer = answers words left left' read read' f o found tells.kept failed.0; took = failed.2; failed = failed.1 })))
-  go (inr other) =
-      let well = tells.told other in
-      well_told words left left' taken taken' read read' wrote wrote' f o found tells.kept well.0 well.1
+      let text = front-of call.sink_before call.sink_after (text_of f) failed.1 in
+      inr (inr (inl record {
+        status_is = seven;
+        status = status_of f;
+        text = text.whole;
+        answer = answers call.input f o text.whole found tells.kept text.is;
+        took = text.front;
+        failed = failed.0;
+      }))
+  go (inr other) = let well = tells.told other in well_told call f o found tells.kept well.0 well.1
 
 -- ---- nothing failed
 
-all_read : (bytes found : List ℕ) (new : Option (List ℕ)) (limit : ℕ) → ReadsAll (Some bytes) new limit found → found ≡ bytes
-all_read bytes found (Some ys) limit h = let e : ys ≡ [] = h.ended in let k : bytes ≡ found ++ ys = h.taken in sym (k ∙ ap (λ z. found ++ z) e ∙ append-nil found)
-all_read bytes found None limit h = absurd h.taken
+all_read : (bytes found : List ℕ) (old new : SourceState) (limit : ℕ) → old.left ≡ Some bytes → ReadsAll old new limit found → found ≡ bytes
+all_read bytes found old new limit is h = go new.left old.left is h.taken h.ended where
+  go : (after before : Option (List ℕ)) → before ≡ Some bytes → Consumes before after found → IsAtEnd after → found ≡ bytes
+  go (Some ys) before at taken ended = let k : bytes ≡ found ++ ys = subst (λ l. Consumes l (Some ys) found) at taken in sym (k ∙ ap (λ z. found ++ z) ended ∙ append-nil found)
+  go None before at taken ended = absurd (subst (λ l. Consumes l None found) at taken)
 
-past_all : (bytes : List ℕ) (new : Option (List ℕ)) (limit : ℕ) → ReadsPast (Some bytes) new limit → limit < length bytes
-past_all bytes (Some ys) limit h = let k : length bytes ≡ length (h.found ++ ys) = ap length h.taken in omega (arith, length-append h.found ys, h.past)
-past_all bytes None limit h = absurd h.taken
+past_all : (bytes : List ℕ) (old new : SourceState) (limit : ℕ) → old.left ≡ Some bytes → ReadsPast old new limit → limit < length bytes
+past_all bytes old new limit is h = go new.left (subst (λ l. Consumes l new.left h.found) is h.taken) where
+  go : (after : Option (List ℕ)) → Consumes (Some bytes) after h.found → limit < length bytes
+  go (Some ys) taken = let k : length bytes ≡ length (h.found ++ ys) = ap length taken in omega (arith, length-append h.found ys, h.past)
+  go None taken = absurd taken
 
 -- the words ask for this, and these are all the bytes that there are
 record IsAll (words : List (List ℕ)) (bytes found : List ℕ) (request : Request) : Type 0 where
@@ -143,42 +188,45 @@ record IsAll (words : List (List ℕ)) (bytes found : List ℕ) (request : Reque
   same : found ≡ bytes
   within : length bytes ≤ input_limit
 
-asks_all : (words : List (List ℕ)) (left left' : Option (List ℕ)) (bytes found : List ℕ) (request : Request) → left ≡ Some bytes → IsAsked words left left' request found → IsAll words bytes found request
-asks_all words left left' bytes found request is h =
-    let reads : ReadsAll (Some bytes) left' input_limit found = subst (λ l. ReadsAll l left' input_limit found) is h.read in
-    let same = all_read bytes found left' input_limit reads in
-    record { asked = h.asked; same = same; within = subst (λ b. length b ≤ input_limit) same reads.within }
+asks_all : (input : Input) (bytes found : List ℕ) (request : Request) → input.source_before.left ≡ Some bytes → ReadsInput input request found → IsAll input.words bytes found request
+asks_all input bytes found request is h =
+    let same = all_read bytes found input.source_before input.source_after input_limit is h.read in
+    record { asked = h.asked; same = same; within = subst (λ b. length b ≤ input_limit) same h.read.within }
 
--- where nothing failed, what was found is due
-due : (words : List (List ℕ)) (left left' : Option (List ℕ)) (read read' : ℕ) (bytes : List ℕ) (f : Finding) → left ≡ Some bytes → (Rose read read' → ⊥) → IsFound words left left' read read' f
-    → (status_of f ≡ 5) ⊎ IsDue words bytes (status_of f)
-due words left left' read read' bytes finding.Usage is nr found = inr (top.Usage found)
-due words left left' read read' bytes finding.Memory is nr found = inl refl
-due words left left' read read' bytes finding.Unread is nr found = absurd (nr found.rose)
-due words left left' read read' bytes finding.Long is nr found = inr (top.Long found.request found.asked (past_all bytes left' input_limit (subst (λ l. ReadsPast l left' input_limit) is found.past)))
-due words left left' read read' bytes (finding.NoImage fault) is nr found =
-    let all = asks_all words left left' bytes found.bytes found.request is found.asked in
+-- the image that was read stands at the front of all the bytes that there are
+begins : (input : Input) (bytes : List ℕ) (request : Request) (image : ImageValue) (rest : List ℕ) → input.source_before.left ≡ Some bytes
+    → ReadsImage input request image rest → BeginsWithImage input.words bytes request image rest
+begins input bytes request image rest is given =
+    let all = asks_all input bytes given.bytes request is given.read in
+    record {
+      asked = all.asked;
+      within = all.within;
+      size = given.size;
+      image_is = ap image_of (sym all.same) ∙ given.image_is;
+      rest_is = given.rest_is ∙ ap (drop given.size) all.same;
+    }
+
+-- where the source didn't fail, the status of what was found is due
+due : (input : Input) (bytes : List ℕ) (f : Finding) → input.source_before.left ≡ Some bytes → (Rose input.source_before.faults input.source_after.faults → ⊥) → IsFound input f
+    → (status_of f ≡ 5) ⊎ IsDue input.words bytes (status_of f)
+due input bytes finding.Usage is well found = inr (top.Usage found.refused)
+due input bytes finding.Memory is well found = inl refl
+due input bytes finding.Unread is well found = absurd (well found.rose)
+due input bytes finding.Long is well found = inr (top.Long found.request found.asked (past_all bytes input.source_before input.source_after input_limit is found.past))
+due input bytes (finding.NoImage fault) is well found =
+    let all = asks_all input bytes found.bytes found.request is found.read in
     inr (top.NoImage found.request fault all.asked all.within (ap image_of (sym all.same) ∙ found.fault_is))
-due words left left' read read' bytes (finding.Refused line) is nr found =
-    let given = found.given in
-    let all = asks_all words left left' bytes given.bytes found.request is given.asked in
-    inr (top.Refused found.request found.image given.size line all.asked all.within (ap image_of (sym all.same) ∙ given.image_is) found.command
-    (subst (λ r. IsWrongLine found.image found.request r line) (given.rest_is ∙ ap (drop given.size) all.same) found.wrong))
-due words left left' read read' bytes (finding.Accepted closed) is nr found =
-    let given = found.given in
-    let all = asks_all words left left' bytes given.bytes found.request is given.asked in
-    inr (top.Checked found.request found.image given.size found.report all.asked all.within (ap image_of (sym all.same) ∙ given.image_is) found.command
-    (ap report_of (sym (given.rest_is ∙ ap (drop given.size) all.same)) ∙ found.report_is) found.accepted)
-due words left left' read read' bytes (finding.Ran image closed) is nr found = go closed.end refl where
-  go : (e : Option End) → closed.end ≡ e → (run_status e ≡ 5) ⊎ IsDue words bytes (run_status e)
+due input bytes (finding.Refused line) is well found =
+    inr (top.Refused found.request found.image found.rest line (begins input bytes found.request found.image found.rest is found.given) found.command found.wrong)
+due input bytes (finding.Accepted closed) is well found =
+    inr (top.Checked found.request found.image found.rest found.report (begins input bytes found.request found.image found.rest is found.given) found.command found.report_is found.accepted)
+due input bytes (finding.Ran image closed) is well found = go closed.end refl where
+  go : (e : Option End) → closed.end ≡ e → (run_status e ≡ 5) ⊎ IsDue input.words bytes (run_status e)
   go None at = inl refl
   go (Some end) at =
-      let given = found.given in
-      let all = asks_all words left left' bytes given.bytes found.request is given.asked in
-      inr (top.Ended found.request image given.size end all.asked all.within (ap image_of (sym all.same) ∙ given.image_is) found.command (λ unfinished. found.over (at ∙ ap Some unfinished)))
+      inr (top.Ended found.request image found.rest end (begins input bytes found.request image found.rest is found.given) found.command (λ unfinished. found.over (at ∙ ap Some unfinished)))
 
-pub complete : (words : List (List ℕ)) (left left' taken taken' : Option (List ℕ)) (read read' wrote wrote' : ℕ) (f : Finding) (o : Outcome) → IsFound words left left' read read' f
-    → Tells f taken taken' wrote wrote' o → IsComplete words left read read' wrote wrote' o
-complete words left left' taken taken' read read' wrote wrote' f o found tells = λ bytes is nr nw.
-    let status : o.status ≡ status_of f = (tells.told (λ seven. nw (tells.failed seven).1)).0 in
-    subst (λ n. (n ≡ 5) ⊎ IsDue words bytes n) (sym status) (due words left left' read read' bytes f is nr found)
+pub complete : (call : Call) (f : Finding) (o : Outcome) → IsFound call.input f → TellsFinding f call.sink_before call.sink_after o → IsComplete call o
+complete call f o found tells = λ bytes is well.
+    let status : o.status ≡ status_of f = (tells.told (λ seven. well.sink (tells.failed seven).0)).0 in
+    subst (λ n. (n ≡ 5) ⊎ IsDue call.input.words bytes n) (sym status) (due call.input bytes f is well.source found)

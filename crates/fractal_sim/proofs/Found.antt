@@ -7,26 +7,40 @@ use Rattle.guest_image.specs.ImageValue.{ImageValue, IsImage}
 use Rattle.guest_image.specs.Reading.{image_of, after_header, header_fault, whole_length, value_of}
 use Rattle.guest_image.specs.declared.fault.ImageFault.{ImageFault}
 use Rattle.guest_image.specs.declared.fault.ImageFault.TheVariants as faults
+use Rattle.serial_machine.specs.Run.{IsRun}
 use Rattle.run_law.proofs.Sized.{run_sized}
 use Rattle.report_text.specs.declared.report.Report.{Report}
 use Rattle.report_text.specs.Check.{IsReportOf}
 use Rattle.fractal_sim.specs.declared.words.Request.{Request}
-use Rattle.fractal_sim.specs.declared.finding.Closed.{Closed}
+use Rattle.serial_machine.specs.declared.whole_run.SerialRun.{SerialRun}
 use Rattle.fractal_sim.specs.declared.finding.Finding.{Finding}
 use Rattle.fractal_sim.specs.declared.finding.Finding.TheVariants as finding
-use Rattle.fractal_sim.specs.Top.{HoldsRun, IsGiven}
+use Rattle.fractal_sim.specs.Call.{Input}
+use Rattle.serial_machine.specs.WholeRun.{IsRunOf}
+use Rattle.fractal_sim.specs.Top.{ReadsImage, input_limit}
 use Rattle.fractal_sim.specs.Finding.{IsFound, IsRan}
 use Rattle.fractal_sim.specs.Deciding.{IsFoundBehind, IsClosedReport}
+use Rattle.fractal_sim.proofs.Answering.{read-some}
 
-pub found-given : (words : List (List ℕ)) (left left' : Option (List ℕ)) (read read' : ℕ) (request : Request) (image : ImageValue) (rest : List ℕ) (f : Finding)
-    → IsGiven words left left' request image rest → IsFoundBehind request image rest f → IsFound words left left' read read' f
-found-given words left left' read read' request image rest finding.Usage g h = absurd h
-found-given words left left' read read' request image rest finding.Memory g h = tt
-found-given words left left' read read' request image rest finding.Unread g h = absurd h
-found-given words left left' read read' request image rest finding.Long g h = absurd h
-found-given words left left' read read' request image rest (finding.NoImage fault) g h = absurd h
-found-given words left left' read read' request image rest (finding.Refused line) g h = record { request = request; image = image; rest = rest; given = g; command = h.0; wrong = h.1 }
-found-given words left left' read read' request image rest (finding.Accepted closed) g h = record {
+holds-report : (image : ImageValue) (commits budget : ℕ) (report : Report) (closed : SerialRun) (accepted : IsReportOf image commits budget report) → IsClosedReport accepted.state report closed
+    → IsRunOf image commits budget closed
+holds-report image commits budget report closed a k = record {
+  state = a.state;
+  is_run = subst (λ j. IsRun image budget j a.state) (sym k.journal_is) a.run.run;
+  within = subst (λ j. length j ≤ commits) (sym k.journal_is) a.run.within;
+  memory_is = k.memory_is;
+  output_is = k.output_is;
+  end_is = rw (k.journal_is, k.end_is) a.end;
+}
+
+pub found-given : (input : Input) (request : Request) (image : ImageValue) (rest : List ℕ) (f : Finding) → ReadsImage input request image rest → IsFoundBehind request image rest f → IsFound input f
+found-given input request image rest finding.Usage g h = absurd h
+found-given input request image rest finding.Memory g h = read-some input.source_before input.source_after input_limit g.bytes g.read.read
+found-given input request image rest finding.Unread g h = absurd h
+found-given input request image rest finding.Long g h = absurd h
+found-given input request image rest (finding.NoImage fault) g h = absurd h
+found-given input request image rest (finding.Refused line) g h = record { request = request; image = image; rest = rest; given = g; command = h.0; wrong = h.1 }
+found-given input request image rest (finding.Accepted closed) g h = record {
   request = request;
   image = image;
   rest = rest;
@@ -38,18 +52,14 @@ found-given words left left' read read' request image rest (finding.Accepted clo
   run = holds-report image request.commits request.budget h.report closed h.accepted h.kept;
   journal_is = h.kept.journal_is;
   end_is = h.kept.end_is;
-} where
-  holds-report : (image : ImageValue) (commits budget : ℕ) (report : Report) (closed : Closed) → (a : IsReportOf image commits budget report) → IsClosedReport a.state report closed
-      → HoldsRun image commits budget closed.journal closed.memory closed.output closed.end
-  holds-report image commits budget report closed a k = rw (k.journal_is, k.memory_is, k.output_is, k.end_is) record { state = a.state; run = a.run.run; within = a.run.within; memory_is = refl; output_is = refl; end_is = a.end }
-found-given words left left' read read' request image rest (finding.Ran image' closed) g h =
-    let same : IsRan words left left' image closed = record { request = request; rest = rest; given = g; command = h.command; run = h.run; over = h.over } in
-    subst (λ i. IsRan words left left' i closed) (sym h.same) same
+}
+found-given input request image rest (finding.Ran image' closed) g h =
+    let same : IsRan input image closed = record { request = request; rest = rest; given = g; command = h.command; run = h.run; over = h.over } in
+    subst (λ i. IsRan input i closed) (sym h.same) same
 
 -- the memory is as long as the image's data
-pub holds-writable : (image : ImageValue) (commits budget : ℕ) (closed : Closed) → IsImage image → HoldsRun image commits budget closed.journal closed.memory closed.output closed.end
-    → length closed.memory ≡ image.data_size
-holds-writable image commits budget closed fits h = ap length h.memory_is ∙ run_sized image budget closed.journal h.state fits h.run
+pub holds-writable : (image : ImageValue) (commits budget : ℕ) (closed : SerialRun) → IsImage image → IsRunOf image commits budget closed → length closed.memory ≡ image.data_size
+holds-writable image commits budget closed fits h = ap length h.memory_is ∙ run_sized image budget closed.journal h.state fits h.is_run
 
 abbrev size_in : Result (ImageValue × ℕ) ImageFault → ℕ
 size_in (Ok x) = x.1

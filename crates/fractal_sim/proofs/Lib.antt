@@ -1,4 +1,4 @@
 pub mod Options
 pub mod Limits
-pub mod Found
 pub mod Answering
+pub mod Found

@@ -1,7 +1,7 @@
 -- Options that are read word by word, and values digit by digit.
 use Rattle.std.proofs.Common.{◌≡◌, ◌∙◌, refl, ap, ℕ, suc, ◌+◌, ◌-◌, ◌*◌, ◌^◌, ◌<◌, ◌≤◌, Bool, true, false, List, ◌∷◌, length, take, get_or, arith, add-one, Some, None}
 use Rattle.std.specs.declared.option.Option.{Option}
-use Rattle.std.specs.Prelude.{option_map, option_and_then, MatchOption}
+use Rattle.std.specs.Prelude.{option_map, option_and_then}
 use Rattle.std.specs.List.{list_all}
 use Rattle.std.specs.Char.{is_ascii_digit, digit_value}
 use Rattle.std.specs.Str.Parse.{digits_value}
@@ -13,7 +13,8 @@ use Rattle.std.proofs.lemmas.Grind.{common_steps}
 use Rattle.std.proofs.lemmas.Bool.Decides.{nat_tests}
 use Rattle.fractal_sim.specs.declared.words.Chosen.{Chosen}
 use Rattle.fractal_sim.specs.declared.words.Reading.{Reading}
-use Rattle.fractal_sim.specs.Words.{Given, Whole, word_of, chosen_with, chosen_by, options_in, read_on}
+use Rattle.fractal_sim.specs.Words.{Given, Whole, word_of, chosen_with, chosen_by, options_in}
+use Rattle.fractal_sim.specs.WordKinds.{Chooses, ReadsOn}
 
 -- an option in front is chosen first
 pub onto_read : (c : Chosen) (g : Given) (o : Option (List Given))
@@ -23,14 +24,6 @@ onto_read c g None = none (chosen_with c g) where
   none : (o : Option Chosen) → None ≡ option_and_then (λ next. option_and_then (chosen_by next) None) o
   none None = refl
   none (Some next) = refl
-
--- what is read behind one more word, which gave this reading or none
-abbrev pub ReadsOn : Chosen → Option (List ℕ) → List ℕ → Option Reading → Type 0
-ReadsOn c waiting word r = MatchOption r ((words : List (List ℕ)) → read_on c waiting (word ∷ words) ≡ None) (λ next. (words : List (List ℕ)) → read_on c waiting (word ∷ words) ≡ read_on next.chosen (option_map (λ w. w.now) next.waiting) words)
-
--- an option's value was chosen, or not
-abbrev pub Chooses : Chosen → Given → Option Reading → Type 0
-Chooses c g r = MatchOption r (chosen_with c g ≡ None) (λ next. (chosen_with c g ≡ Some next.chosen) × (next.waiting ≡ None))
 
 -- the value of the name that waits
 pub value_read : (c : Chosen) (name value : List ℕ) (r : Option Reading) → Chooses c (record { name = name; value = value }) r → ReadsOn c (Some name) value r

@@ -1,6 +1,6 @@
 pub mod Words
 pub mod WordKinds
+pub mod Call
 pub mod Top
 pub mod Finding
-pub mod Running
 pub mod Deciding

@@ -38,13 +38,15 @@ pub record Given : Type 0 where
 abbrev pub onto : Given → Option (List Given) → Option (List Given)
 onto given rest = option_map (λ gs. given ∷ gs) rest
 
--- what a word is, with the options behind it: those where no value is missing, and those where the next word is a value
+-- what a word is, with the options behind it: those where no value is missing, and those where the next word is a
+-- value
 abbrev pub after_word : Word → Option (List Given) → (List ℕ → Option (List Given)) → Option (List Given)
 after_word (Whole name value) rest next = onto (record { name = name; value = value }) rest
 after_word (Named name) rest next = next name
 after_word Further rest next = None
 
--- the options that words are, where the first may be the value of a name; none where they are not all options with values
+-- the options that words are, where the first may be the value of a name; none where they are not all options with
+-- values
 abbrev pub options_in : Option (List ℕ) → List (List ℕ) → Option (List Given)
 options_in None [] = Some []
 options_in (Some name) [] = None
@@ -58,7 +60,8 @@ is_value digits = list_all is_ascii_digit digits && (nat_le 1 (length digits) &&
 -- the number that a value is, from `low` to `high`
 unfoldable pub value_in : ℕ → ℕ → List ℕ → Option ℕ
 value_in low high digits =
-    if is_value digits && (nat_le low (digits_value 10 digits) && nat_le (digits_value 10 digits) high) then Some (digits_value 10 digits) else None
+    if is_value digits && (nat_le low (digits_value 10 digits) && nat_le (digits_value 10 digits) high)
+    then Some (digits_value 10 digits) else None
 
 -- a value that was not given before
 abbrev pub once : Option ℕ → Option ℕ → Option ℕ
@@ -68,8 +71,10 @@ once (Some before) value = None
 -- an option is known, given once, and has a value in its range: `commits` 1 to 1,000,000, `budget` 1 to 65,536
 unfoldable pub chosen_with : Chosen → Given → Option Chosen
 chosen_with chosen given =
-    if bytes_eq given.name (codes "commits") then option_map (λ v. record chosen { commits = Some v }) (once chosen.commits (value_in 1 1000000 given.value))
-    else if bytes_eq given.name (codes "budget") then option_map (λ v. record chosen { budget = Some v }) (once chosen.budget (value_in 1 65536 given.value))
+    if bytes_eq given.name (codes "commits")
+    then option_map (λ v. record chosen { commits = Some v }) (once chosen.commits (value_in 1 1000000 given.value))
+    else if bytes_eq given.name (codes "budget")
+    then option_map (λ v. record chosen { budget = Some v }) (once chosen.budget (value_in 1 65536 given.value))
     else None
 
 -- what options choose, one after another
@@ -85,16 +90,24 @@ abbrev pub read_on : Chosen → Option (List ℕ) → List (List ℕ) → Option
 read_on chosen waiting words = option_and_then (chosen_by chosen) (options_in waiting words)
 
 abbrev pub command_of : List ℕ → Option Command
-command_of word = if bytes_eq word (codes "run") then Some Run else if bytes_eq word (codes "check") then Some Check else None
+command_of word =
+    if bytes_eq word (codes "run") then Some Run
+    else if bytes_eq word (codes "check") then Some Check
+    else None
 
 -- a command with its limits, each with its default where it is not given
 abbrev pub with_limits : Command → Chosen → Request
-with_limits command chosen = record { command = command; commits = unwrap_or chosen.commits 1000000; budget = unwrap_or chosen.budget 65536 }
+with_limits command chosen = record {
+  command = command;
+  commits = unwrap_or chosen.commits 1000000;
+  budget = unwrap_or chosen.budget 65536;
+}
 
 -- what the words ask for; none where they are refused
 abbrev pub request_of : List (List ℕ) → Option Request
 request_of [] = None
-request_of (word ∷ words) = option_and_then (λ command. option_map (with_limits command) (read_on nothing None words)) (command_of word)
+request_of (word ∷ words) =
+    option_and_then (λ command. option_map (with_limits command) (read_on nothing None words)) (command_of word)
 
 -- the limits of a request are in their ranges
 pub record IsLimited (request : Request) : Type 0 where

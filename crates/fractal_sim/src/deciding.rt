@@ -1,18 +1,18 @@
 //! What the words and the input lead to, before anything is written.
 
-ghost use Rattle.std.specs.Prelude.{◌≡◌, ◌≤◌, ◌<◌, ◌-◌, ◌^◌, length, map};
+ghost use Rattle.std.specs.Prelude.{◌≡◌, ◌≤◌, ◌<◌, ◌-◌, ◌^◌, length};
 ghost use Rattle.guest_image.specs.Reading.{image_of};
 ghost use Rattle.report_text.specs.Check.{IsReportOf};
+ghost use Rattle.fractal_sim.specs.Call.{input_of};
 ghost use Rattle.fractal_sim.specs.Deciding.{IsFoundBehind, IsClosedReport};
 ghost use Rattle.fractal_sim.specs.Finding.{IsFound, IsWritable};
 ghost use Rattle.fractal_sim.specs.Words.{IsLimited};
 
-use crate::finding::{Closed, Finding};
-use crate::running::run_image;
+use crate::finding::Finding;
 use crate::words::{Command, Request, read_words};
 use guest_image::{Image, ImageFault, read_image};
 use report_text::{Examined, JournalFault, Report, examine, read_journal};
-use serial_machine::Serial;
+use serial_machine::{Serial, SerialRun, run_image};
 use sim_io::{ReadEnd, Source, read_all};
 use std::alloc::Global;
 
@@ -21,8 +21,8 @@ const INPUT_LIMIT: usize = 67_108_864;
 
 /// Reads the words and the input, and does what they ask for.
 pub(crate) fn find<S: Source>(alloc: Global, words: &[&str], source: &mut S) -> Finding
-    ensures found { IsFound (map (λ w. w.now) words.now) (S.left source.old) (S.left source.new) (S.faults source.old) (S.faults source.new) result }
-    ensures later { S.faults source.old ≤ S.faults source.new }
+    ensures found { IsFound (input_of words.now (S.state source.old) (S.state source.new)) result }
+    ensures later { (S.state source.old).faults ≤ (S.state source.new).faults }
     ensures writable { IsWritable result }
 {
     let Some(request) = read_words(words) else {
@@ -80,11 +80,11 @@ fn check_report(alloc: Global, request: Request, image: &Image, rest: &[u8]) -> 
 }
 
 /// The run of a report, which led to this machine.
-fn close(serial: Serial, report: Report) -> Closed
+fn close(serial: Serial, report: Report) -> SerialRun
     ensures { IsClosedReport serial.state report result }
 {
     let (memory, output) = serial.into_parts();
-    Closed {
+    SerialRun {
         journal: report.journal,
         memory,
         output,

@@ -1,17 +1,7 @@
 //! What is found before anything is written.
 
 use guest_image::{Image, ImageFault};
-use serial_machine::{Bytes, End, Journal};
-
-/// A run that is over, or that stopped for want of memory.
-#[derive(Drop)]
-pub(crate) struct Closed {
-    pub journal: Journal,
-    pub memory: Bytes,
-    pub output: Bytes,
-    /// The run's end; None where memory was wanting.
-    pub end: Option<End>,
-}
+use serial_machine::SerialRun;
 
 /// What is found before anything is written. No memory is taken from then on.
 #[derive(Drop)]
@@ -29,7 +19,7 @@ pub(crate) enum Finding {
     /// The report is refused at this line.
     Refused(u32),
     /// The report is accepted; this is its run.
-    Accepted(Closed),
+    Accepted(SerialRun),
     /// The image was run.
-    Ran(Image, Closed),
+    Ran(Image, SerialRun),
 }

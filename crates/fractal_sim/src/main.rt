@@ -7,7 +7,6 @@ mod deciding;
 mod finding;
 mod outcome;
 mod program;
-mod running;
 mod telling;
 #[cfg(test)]
 mod tests;

@@ -13,6 +13,7 @@ pub struct Outcome {
     pub memory: Bytes,
     /// The bytes that the run emitted; empty where there is none.
     pub output: Bytes,
-    /// The end of the run, or of the report that was accepted; None where there is neither, and where memory was wanting.
+    /// The end of the run, or of the report that was accepted; None where there is neither, and where memory was
+    /// wanting.
     pub end: Option<End>,
 }

@@ -1,25 +1,23 @@
 //! What was found is written, and told by a status. Nothing here takes memory.
 
 ghost use Rattle.std.specs.Prelude.{◌≡◌, ◌≢◌, ◌<◌, ◌++◌, ◌-◌, ◌^◌, codes, decimal, length, OnOk};
-ghost use Rattle.std.specs.Io.KnownBytes.{Appends};
-ghost use Rattle.sim_io.specs.Causes.{Rose};
-ghost use Rattle.sim_io.specs.Parts.{AppendsFront};
-ghost use Rattle.fractal_sim.specs.Finding.{IsWritable, KeepsClosed, Tells, run_status};
-ghost use Rattle.fractal_sim.specs.Top.{IsEmpty, accepted_line, end_status, image_fault_line, journal_fault_line};
+ghost use Rattle.fractal_sim.specs.Finding.{IsWritable, TellsFinding, TellsLine, run_status};
+ghost use Rattle.fractal_sim.specs.Top.{IsEmpty, accepted_line, closed_of, end_status, image_fault_line};
+ghost use Rattle.fractal_sim.specs.Top.{journal_fault_line};
 
-use crate::finding::{Closed, Finding};
+use crate::finding::Finding;
 use crate::outcome::Outcome;
 use guest_image::{Image, ImageFault};
 use itoa::Buffer;
 use report_text::{Line, put, write_report};
-use serial_machine::{Bytes, End, Journal};
+use serial_machine::{Bytes, End, Journal, SerialRun};
 use sim_io::{Sink, write_all};
 use std::alloc::Global;
 
 /// Writes what was found. The status is 7 where the sink fails.
 pub(crate) fn tell<K: Sink>(alloc: Global, sink: &mut K, found: Finding) -> Outcome
     requires { IsWritable found }
-    ensures { Tells found (K.taken sink.old) (K.taken sink.new) (K.faults sink.old) (K.faults sink.new) result }
+    ensures { TellsFinding found (K.state sink.old) (K.state sink.new) result }
 {
     match found {
         Finding::Usage => tell_line(alloc, sink, 1, b"fault usage\n"),
@@ -49,9 +47,7 @@ fn empty(alloc: Global, status: u8) -> Outcome
 /// Writes a line that tells why there is no run.
 fn tell_line<K: Sink>(alloc: Global, sink: &mut K, status: u8, line: &[u8]) -> Outcome
     requires { status ≢ 7 }
-    ensures empty { IsEmpty result }
-    ensures told { result.status ≢ 7 → (result.status ≡ status) × Appends (K.taken sink.old) (K.taken sink.new) line.now }
-    ensures failed { result.status ≡ 7 → Rose (K.faults sink.old) (K.faults sink.new) × AppendsFront (K.taken sink.old) (K.taken sink.new) line.now }
+    ensures { TellsLine status line.now (K.state sink.old) (K.state sink.new) result }
 {
     match write_all(sink, line) {
         Ok(()) => empty(alloc, status),
@@ -60,14 +56,14 @@ fn tell_line<K: Sink>(alloc: Global, sink: &mut K, status: u8, line: &[u8]) -> O
 }
 
 fn tell_image_fault<K: Sink>(alloc: Global, sink: &mut K, fault: ImageFault) -> Outcome
-    ensures { Tells (Finding.NoImage fault) (K.taken sink.old) (K.taken sink.new) (K.faults sink.old) (K.faults sink.new) result }
+    ensures { TellsFinding (Finding.NoImage fault) (K.state sink.old) (K.state sink.new) result }
 {
     let line = image_line(fault);
     tell_line(alloc, sink, 2, line.as_slice())
 }
 
 fn tell_journal_fault<K: Sink>(alloc: Global, sink: &mut K, wrong: u32) -> Outcome
-    ensures { Tells (Finding.Refused wrong) (K.taken sink.old) (K.taken sink.new) (K.faults sink.old) (K.faults sink.new) result }
+    ensures { TellsFinding (Finding.Refused wrong) (K.state sink.old) (K.state sink.new) result }
 {
     let line = journal_line(wrong);
     tell_line(alloc, sink, 8, line.as_slice())
@@ -110,9 +106,9 @@ fn accept_line(entries: u64) -> Line
 }
 
 /// What is answered with a run.
-fn outcome(status: u8, run: Closed) -> Outcome
+fn outcome(status: u8, run: SerialRun) -> Outcome
     ensures status { result.status ≡ status }
-    ensures kept { KeepsClosed run result }
+    ensures kept { closed_of result ≡ run }
 {
     Outcome {
         status,
@@ -124,8 +120,8 @@ fn outcome(status: u8, run: Closed) -> Outcome
 }
 
 /// Writes that a report is accepted, with the number of its entries.
-fn accept<K: Sink>(sink: &mut K, run: Closed) -> Outcome
-    ensures { Tells (Finding.Accepted run) (K.taken sink.old) (K.taken sink.new) (K.faults sink.old) (K.faults sink.new) result }
+fn accept<K: Sink>(sink: &mut K, run: SerialRun) -> Outcome
+    ensures { TellsFinding (Finding.Accepted run) (K.state sink.old) (K.state sink.new) result }
 {
     let line = accept_line(run.journal.as_slice().len() as u64);
     match write_all(sink, line.as_slice()) {
@@ -135,9 +131,9 @@ fn accept<K: Sink>(sink: &mut K, run: Closed) -> Outcome
 }
 
 /// Writes the report of a run; none where memory was wanting.
-fn publish<K: Sink>(sink: &mut K, image: &Image, run: Closed) -> Outcome
+fn publish<K: Sink>(sink: &mut K, image: &Image, run: SerialRun) -> Outcome
     requires { length run.memory ≡ image.now.data_size }
-    ensures { Tells (Finding.Ran image.now run) (K.taken sink.old) (K.taken sink.new) (K.faults sink.old) (K.faults sink.new) result }
+    ensures { TellsFinding (Finding.Ran image.now run) (K.state sink.old) (K.state sink.new) result }
 {
     let Some(end) = run.end else {
         return outcome(5, run);

@@ -1,11 +1,12 @@
 //! The command line.
 
-ghost use Rattle.std.specs.Prelude.{◌≡◌, ◌∷◌, ℕ, List, map, option_map, option_and_then, None, Some, true, IfSome, MatchOption};
+ghost use Rattle.std.specs.Prelude.{◌≡◌, map, option_map, None, true, IfSome};
 ghost use Rattle.std.specs.List.{list_all};
 ghost use Rattle.std.specs.Char.{is_ascii_digit};
 ghost use Rattle.std.specs.Str.Parse.{digits_value};
-ghost use Rattle.fractal_sim.specs.Words.{word_of, value_in, is_value, once, chosen_with, read_on, nothing, command_of, with_limits, request_of, IsLimited};
-ghost use Rattle.fractal_sim.specs.WordKinds.{kind_of};
+ghost use Rattle.fractal_sim.specs.Words.{word_of, value_in, is_value, once, chosen_with, read_on, nothing};
+ghost use Rattle.fractal_sim.specs.Words.{command_of, request_of, IsLimited};
+ghost use Rattle.fractal_sim.specs.WordKinds.{Chooses, ReadsOn, kind_of};
 
 use report_text::{behind, cut};
 
@@ -112,7 +113,8 @@ fn options(words: &[&str]) -> Option<Chosen>
 
 /// One more word.
 fn read_word<'a>(reading: Reading<'a>, word: &'a [u8]) -> Option<Reading<'a>>
-    ensures { MatchOption result ((words : List (List ℕ)) → read_on reading.entry.chosen (option_map (λ w. w.now) reading.entry.waiting) (word.entry.now ∷ words) ≡ None) (λ next. (words : List (List ℕ)) → read_on reading.entry.chosen (option_map (λ w. w.now) reading.entry.waiting) (word.entry.now ∷ words) ≡ read_on next.chosen (option_map (λ w. w.now) next.waiting) words) }
+    ensures { let waiting = option_map (λ w. w.now) reading.entry.waiting in
+        ReadsOn reading.entry.chosen waiting word.entry.now result }
 {
     match reading.waiting {
         Some(name) => read_value(reading.chosen, name, word),
@@ -129,7 +131,7 @@ fn read_word<'a>(reading: Reading<'a>, word: &'a [u8]) -> Option<Reading<'a>>
 
 /// The value of an option.
 fn read_value<'a>(chosen: Chosen, name: &[u8], value: &[u8]) -> Option<Reading<'a>>
-    ensures { MatchOption result (chosen_with chosen (record { name = name.now; value = value.now }) ≡ None) (λ next. (chosen_with chosen (record { name = name.now; value = value.now }) ≡ Some next.chosen) × (next.waiting ≡ None)) }
+    ensures { Chooses chosen (record { name = name.now; value = value.now }) result }
 {
     match choose(chosen, name, value) {
         Some(chosen) => Some(Reading {

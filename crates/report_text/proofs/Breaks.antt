@@ -39,3 +39,6 @@ no_lines (x ∷ xs) e = absurd (omega (arith, e))
 -- a text with no newline is one line
 pub lines_last : (bs front back : List ℕ) → 0 < length bs → cut 10 bs ≡ None → front ≡ take (length bs) bs → back ≡ drop (length bs) bs → lines_of bs ≡ front ∷ lines_of back
 lines_last bs front back some h f b = lines_whole bs some h ∙ (rw (f, b, take-length bs, drop-length bs) refl)
+
+-- what the lines of a text are, by whether it has a newline
+pub ruleset line_breaks = (lines_cut, lines_last, rest_shorter, no_lines)

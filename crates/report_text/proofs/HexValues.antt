@@ -46,3 +46,6 @@ bounded acc (suc (suc (suc (suc (suc zero))))) x h l s = omega (arith, h, s)
 bounded acc (suc (suc (suc (suc (suc (suc zero)))))) x h l s = omega (arith, h, s)
 bounded acc (suc (suc (suc (suc (suc (suc (suc zero))))))) x h l s = omega (arith, h, s)
 bounded acc (suc (suc (suc (suc (suc (suc (suc (suc i)))))))) x h l s = absurd (omega (arith, l))
+
+-- what pairs of digits are, by whether the next two are digits
+pub ruleset hex_pairs = (hex_step, hex_odd, hex_wrong_first, hex_wrong_second, hex_end, hex_start)

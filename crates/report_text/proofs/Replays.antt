@@ -9,7 +9,7 @@ use Rattle.std.proofs.Math.Seq.{take-length}
 use Rattle.guest_image.specs.ImageValue.{ImageValue}
 use Rattle.task_desc.specs.declared.desc.Name.{Name}
 use Rattle.serial_machine.specs.declared.bag.PendingTask.{PendingTask}
-use Rattle.serial_machine.specs.declared.journal.Entry.{Entry}
+use Rattle.run_journal.specs.declared.journal.Entry.{Entry}
 use Rattle.serial_machine.specs.declared.fault.TurnFault.{TurnFault}
 use Rattle.serial_machine.specs.declared.fault.TurnFault.TheVariants as faults
 use Rattle.serial_machine.specs.BagValue.{BagValue}
@@ -17,6 +17,7 @@ use Rattle.serial_machine.specs.State.{State}
 use Rattle.serial_machine.specs.TaskRun.{TaskEnd, Done, Trapped}
 use Rattle.serial_machine.specs.Turn.{turn, MayTurn, TrapsSo, run_of, Refuses, find_named, is_named, is_least, is_pending}
 use Rattle.serial_machine.proofs.Turns.{is_pending-inner}
+use Rattle.serial_machine.proofs.Refused.{may-why}
 
 pub found_at : (es : List Entry) (i : ℕ) (d e : Entry) → i < length es → e ≡ get_or es i d → slice_get es i ≡ Some e
 found_at es i d e lt is = slice_get-get_or es i d lt ∙ ap Some (sym is)
@@ -83,31 +84,6 @@ least-none ts u (t ∷ tasks) h lt (zero, l, e) = first (both _ _ h).0 e where
   first : nat_le ts t.ts ≡ true → t.ts ≡ u → ⊥
   first le e = grind (arith, nat_tests, common_steps)
 least-none ts u (t ∷ tasks) h lt (suc k, l, e) = least-none ts u tasks (both _ _ h).1 lt (k, omega (arith, l), e)
-
--- a trap, or want of memory
-abbrev pub IsTrapOrMemory : TurnFault → Type 0
-IsTrapOrMemory faults.NotPending = ⊥
-IsTrapOrMemory (faults.NotTop depth) = ⊥
-IsTrapOrMemory (faults.NotLeast ts) = ⊥
-IsTrapOrMemory (faults.Trap cause pc) = Unit {0}
-IsTrapOrMemory faults.Memory = Unit {0}
-
--- the task that may take the next turn is refused for its trap, or for want of memory
-pub may-why : (image : ImageValue) (budget : ℕ) (s : State) (name : Name) (fault : TurnFault) (bag : BagValue) (outer : List BagValue) (task : PendingTask)
-    → MayTurn s.stack name bag outer task → Refuses image budget s name fault → IsTrapOrMemory fault
-may-why image budget s name faults.NotPending bag outer task may h =
-    let a : is_pending name s.stack ≡ true = sym (is_pending-inner name s.stack) ∙ ap (is_pending name) may.top ∙ rw (found-any name bag.tasks task may.found) refl in
-    let bad : true ≡ false = sym a ∙ h in
-    cc
-may-why image budget s name (faults.NotTop depth) bag outer task may h =
-    let bags : h.bag ≡ bag = ap (first-of bag) (sym h.top ∙ may.top) in
-    absurd (none-other task (sym h.elsewhere ∙ ap (λ b. find_named name b.tasks) bags ∙ may.found))
-may-why image budget s name (faults.NotLeast ts) bag outer task may h =
-    let bags : h.bag ≡ bag = ap (first-of bag) (sym h.top ∙ may.top) in
-    let tasks : h.task ≡ task = some-same h.task task (sym h.found ∙ ap (λ b. find_named name b.tasks) bags ∙ may.found) in
-    absurd (least-none task.ts ts bag.tasks may.least (subst (λ k. ts < k.ts) tasks h.smaller) (subst (λ b. Contains (map (λ k. k.ts) b.tasks) ts) bags h.stands))
-may-why image budget s name (faults.Trap c p) bag outer task may h = tt
-may-why image budget s name faults.Memory bag outer task may h = tt
 
 abbrev to_fault : TaskEnd → TurnFault
 to_fault (Trapped c p) = faults.Trap c p

@@ -4,7 +4,7 @@ use Rattle.guest_image.specs.ImageValue.{ImageValue}
 use Rattle.run_law.proofs.Sized.{turned-keeps}
 use Rattle.run_law.proofs.Turned.{turn-did}
 use Rattle.task_desc.specs.declared.desc.Name.{Name}
-use Rattle.serial_machine.specs.declared.journal.Entry.{Entry}
+use Rattle.run_journal.specs.declared.journal.Entry.{Entry}
 use Rattle.serial_machine.specs.State.{State}
 use Rattle.serial_machine.specs.Turn.{turn}
 

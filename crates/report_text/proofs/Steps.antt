@@ -1,7 +1,7 @@
 -- What the grammar gives of one line and the lines behind it.
 use Rattle.std.proofs.Common.{◌≡◌, ℕ, ◌+◌, List, [], ◌∷◌, ◌++◌, length, Some, None, refl, ap, arith, true, false, Bool, Result, Ok, Err, append_assoc, if◌then◌else◌, ◌==◌, ◌<◌}
-use Rattle.serial_machine.specs.declared.journal.Entry.{Entry}
-use Rattle.serial_machine.specs.declared.fault.End.{End}
+use Rattle.run_journal.specs.declared.journal.Entry.{Entry}
+use Rattle.run_journal.specs.declared.end.End.{End}
 use Rattle.report_text.specs.declared.report.WindowWord.{WindowWord}
 use Rattle.report_text.specs.declared.report.Report.{Report}
 use Rattle.report_text.specs.Lines.{lines_of, onto}
@@ -50,3 +50,9 @@ something x xs (l ∷ ls) false = refl
 pub ends_badly : (k : ℕ) (line rest : List ℕ) (e : End) → end_in line ≡ Some e → 0 < length rest → window_at k (line ∷ lines_of rest) ≡ Err (k + 1)
 ends_badly k line [] e is some = absurd (omega (arith, some))
 ends_badly k line (x ∷ xs) e is some = rw (is, something x xs (lines_of xs) (x == 10)) refl
+
+-- what the entries of a report are, by what the next line is
+pub ruleset entry_steps = (onto_journal_both, onto_journal_none, entry_step, entry_wrong, output_step)
+
+-- what its window and end are, by what the next line is
+pub ruleset window_steps = (onto_window_both, onto_window_none, word_step, word_wrong, ends_well, ends_badly)

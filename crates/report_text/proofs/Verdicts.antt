@@ -7,7 +7,7 @@ use Rattle.std.proofs.lemmas.Option.{slice_get_within}
 use Rattle.guest_image.specs.ImageValue.{ImageValue}
 use Rattle.task_desc.specs.declared.desc.Name.{Name}
 use Rattle.serial_machine.specs.declared.bag.PendingTask.{PendingTask}
-use Rattle.serial_machine.specs.declared.journal.Entry.{Entry}
+use Rattle.run_journal.specs.declared.journal.Entry.{Entry}
 use Rattle.serial_machine.specs.declared.fault.TurnFault.{TurnFault}
 use Rattle.serial_machine.specs.declared.fault.TurnFault.TheVariants as faults
 use Rattle.serial_machine.specs.BagValue.{BagValue}

@@ -1,6 +1,5 @@
 -- The lines of a list that are written one after another, and a text that is written in chunks.
 use Rattle.std.proofs.Common.{◌≡◌, ℕ, ◌+◌, ◌-◌, ◌<◌, ◌≤◌, List, ◌++◌, length, take, drop, get_or, Some, Ok, Err, refl, ap, sym, ◌∙◌, arith, append_assoc}
-use Rattle.std.specs.declared.option.Option.{Option}
 use Rattle.std.specs.List.{flat_map, enumerate_from, slice_get}
 use Rattle.std.proofs.lemmas.Option.{slice_get-get_or}
 use Rattle.std.proofs.lemmas.List.{take-append-drop}
@@ -8,8 +7,9 @@ use Rattle.std.proofs.lemmas.List.FromFn.{get_or-enumerate_from, length-enumerat
 use Rattle.std.proofs.lemmas.Grind.{flat_map-append}
 use Rattle.std.proofs.Math.Seq.{take-add}
 use Rattle.guest_image.specs.ImageValue.{ImageValue}
-use Rattle.serial_machine.specs.declared.journal.Entry.{Entry}
+use Rattle.run_journal.specs.declared.journal.Entry.{Entry}
 use Rattle.sim_io.specs.Parts.{Writes}
+use Rattle.sim_io.specs.Streams.{SinkState}
 use Rattle.sim_io.proofs.Lists.{Wrote, wrote_item, wrote_item_front, wrote_items, wrote_more, wrote_front}
 use Rattle.report_text.specs.declared.report.WindowWord.{WindowWord}
 use Rattle.report_text.specs.Hex.{byte_hex}
@@ -18,21 +18,21 @@ use Rattle.report_text.specs.Report.{entry_line, window_line, window_of, window_
 entry_at : (es : List Entry) (i : ℕ) (d : Entry) → i < length es → get_or (enumerate_from 1 es) i (0, d) ≡ (i + 1, get_or es i d)
 entry_at es i d lt = let k : 1 + i ≡ i + 1 = omega arith in rw (get_or-enumerate_from 1 es i (0, d) lt, k) refl
 
-pub entry_written : {E : Type 0} (es : List Entry) (i : ℕ) (d : Entry) (a b c : Option (List ℕ)) (l m n : ℕ) → i < length es
-    → Wrote a b l m (flat_map entry_line (take i (enumerate_from 1 es))) → Writes {E = E} b c m n (Ok tt) (entry_line (i + 1, get_or es i d))
-    → Wrote a c l n (flat_map entry_line (take (i + 1) (enumerate_from 1 es)))
-entry_written {E} es i d a b c l m n lt w h =
-    wrote_item {E = E} entry_line (enumerate_from 1 es) i (0, d) a b c l m n (rw length-enumerate_from lt) w (rw (entry_at es i d lt) h)
+pub entry_written : {E : Type 0} (es : List Entry) (i : ℕ) (d : Entry) (a b c : SinkState) → i < length es
+    → Wrote a b (flat_map entry_line (take i (enumerate_from 1 es))) → Writes {E = E} b c (Ok tt) (entry_line (i + 1, get_or es i d))
+    → Wrote a c (flat_map entry_line (take (i + 1) (enumerate_from 1 es)))
+entry_written {E} es i d a b c lt w h =
+    wrote_item {E = E} entry_line (enumerate_from 1 es) i (0, d) a b c (rw length-enumerate_from lt) w (rw (entry_at es i d lt) h)
 
-pub entry_failed : {E : Type 0} (es : List Entry) (i : ℕ) (d : Entry) (a b c : Option (List ℕ)) (l m n : ℕ) (e : E) → i < length es
-    → Wrote a b l m (flat_map entry_line (take i (enumerate_from 1 es))) → Writes b c m n (Err e) (entry_line (i + 1, get_or es i d))
-    → Writes a c l n (Err e) (flat_map entry_line (enumerate_from 1 es))
-entry_failed es i d a b c l m n e lt w h =
-    wrote_item_front entry_line (enumerate_from 1 es) i (0, d) a b c l m n e (rw length-enumerate_from lt) w (rw (entry_at es i d lt) h)
+pub entry_failed : {E : Type 0} (es : List Entry) (i : ℕ) (d : Entry) (a b c : SinkState) (e : E) → i < length es
+    → Wrote a b (flat_map entry_line (take i (enumerate_from 1 es))) → Writes b c (Err e) (entry_line (i + 1, get_or es i d))
+    → Writes a c (Err e) (flat_map entry_line (enumerate_from 1 es))
+entry_failed es i d a b c e lt w h =
+    wrote_item_front entry_line (enumerate_from 1 es) i (0, d) a b c e (rw length-enumerate_from lt) w (rw (entry_at es i d lt) h)
 
-pub entries_written : {E : Type 0} (es : List Entry) (i : ℕ) (a b : Option (List ℕ)) (l m : ℕ) → i ≡ length es
-    → Wrote a b l m (flat_map entry_line (take i (enumerate_from 1 es))) → Writes {E = E} a b l m (Ok tt) (flat_map entry_line (enumerate_from 1 es))
-entries_written {E} es i a b l m e w = wrote_items {E = E} entry_line (enumerate_from 1 es) i a b l m (rw length-enumerate_from e) w
+pub entries_written : {E : Type 0} (es : List Entry) (i : ℕ) (a b : SinkState) → i ≡ length es
+    → Wrote a b (flat_map entry_line (take i (enumerate_from 1 es))) → Writes {E = E} a b (Ok tt) (flat_map entry_line (enumerate_from 1 es))
+entries_written {E} es i a b e w = wrote_items {E = E} entry_line (enumerate_from 1 es) i a b (rw length-enumerate_from e) w
 
 pub length-window_of : (image : ImageValue) (memory : List ℕ) → length (window_of image memory) ≡ image.window_words
 unfolding window_of
@@ -50,23 +50,23 @@ slice_get-window_of image memory i lt =
     let d = window_word image memory i in
     slice_get-get_or (window_of image memory) i d (rw length-window_of lt) ∙ ap Some (get_or-window_of image memory i d lt)
 
-pub word_written : {E : Type 0} (image : ImageValue) (memory : List ℕ) (i : ℕ) (a b c : Option (List ℕ)) (l m n : ℕ) → i < image.window_words
-    → Wrote a b l m (flat_map window_line (take i (window_of image memory))) → Writes {E = E} b c m n (Ok tt) (window_line (window_word image memory i))
-    → Wrote a c l n (flat_map window_line (take (i + 1) (window_of image memory)))
-word_written {E} image memory i a b c l m n lt w h =
+pub word_written : {E : Type 0} (image : ImageValue) (memory : List ℕ) (i : ℕ) (a b c : SinkState) → i < image.window_words
+    → Wrote a b (flat_map window_line (take i (window_of image memory))) → Writes {E = E} b c (Ok tt) (window_line (window_word image memory i))
+    → Wrote a c (flat_map window_line (take (i + 1) (window_of image memory)))
+word_written {E} image memory i a b c lt w h =
     let d = window_word image memory i in
-    wrote_item {E = E} window_line (window_of image memory) i d a b c l m n (rw length-window_of lt) w (rw (get_or-window_of image memory i d lt) h)
+    wrote_item {E = E} window_line (window_of image memory) i d a b c (rw length-window_of lt) w (rw (get_or-window_of image memory i d lt) h)
 
-pub word_failed : {E : Type 0} (image : ImageValue) (memory : List ℕ) (i : ℕ) (a b c : Option (List ℕ)) (l m n : ℕ) (e : E) → i < image.window_words
-    → Wrote a b l m (flat_map window_line (take i (window_of image memory))) → Writes b c m n (Err e) (window_line (window_word image memory i))
-    → Writes a c l n (Err e) (flat_map window_line (window_of image memory))
-word_failed image memory i a b c l m n e lt w h =
+pub word_failed : {E : Type 0} (image : ImageValue) (memory : List ℕ) (i : ℕ) (a b c : SinkState) (e : E) → i < image.window_words
+    → Wrote a b (flat_map window_line (take i (window_of image memory))) → Writes b c (Err e) (window_line (window_word image memory i))
+    → Writes a c (Err e) (flat_map window_line (window_of image memory))
+word_failed image memory i a b c e lt w h =
     let d = window_word image memory i in
-    wrote_item_front window_line (window_of image memory) i d a b c l m n e (rw length-window_of lt) w (rw (get_or-window_of image memory i d lt) h)
+    wrote_item_front window_line (window_of image memory) i d a b c e (rw length-window_of lt) w (rw (get_or-window_of image memory i d lt) h)
 
-pub words_written : {E : Type 0} (image : ImageValue) (memory : List ℕ) (i : ℕ) (a b : Option (List ℕ)) (l m : ℕ) → i ≡ image.window_words
-    → Wrote a b l m (flat_map window_line (take i (window_of image memory))) → Writes {E = E} a b l m (Ok tt) (flat_map window_line (window_of image memory))
-words_written {E} image memory i a b l m e w = wrote_items {E = E} window_line (window_of image memory) i a b l m (rw length-window_of e) w
+pub words_written : {E : Type 0} (image : ImageValue) (memory : List ℕ) (i : ℕ) (a b : SinkState) → i ≡ image.window_words
+    → Wrote a b (flat_map window_line (take i (window_of image memory))) → Writes {E = E} a b (Ok tt) (flat_map window_line (window_of image memory))
+words_written {E} image memory i a b e w = wrote_items {E = E} window_line (window_of image memory) i a b (rw length-window_of e) w
 
 -- the text of a list up to a place, and of the chunk behind it
 flat_map-cut : {X : Type 0} (f : X → List ℕ) (xs : List X) (i j : ℕ) → i ≤ j → flat_map f (take j xs) ≡ flat_map f (take i xs) ++ flat_map f (take (j - i) (drop i xs))
@@ -83,12 +83,12 @@ flat_map-whole f xs i j le =
     ∙ ap (λ front. front ++ flat_map f (drop j xs)) (flat_map-cut f xs i j le)
     ∙ append_assoc (flat_map f (take i xs)) (flat_map f (take (j - i) (drop i xs))) (flat_map f (drop j xs))
 
-pub chunk_written : {E : Type 0} (bytes : List ℕ) (i j : ℕ) (a b c : Option (List ℕ)) (l m n : ℕ) → i ≤ j
-    → Wrote a b l m (flat_map byte_hex (take i bytes)) → Writes {E = E} b c m n (Ok tt) (flat_map byte_hex (take (j - i) (drop i bytes)))
-    → Wrote a c l n (flat_map byte_hex (take j bytes))
-chunk_written {E} bytes i j a b c l m n le w h = rw (flat_map-cut byte_hex bytes i j le) (wrote_more {E = E} a b c l m n _ _ w h)
+pub chunk_written : {E : Type 0} (bytes : List ℕ) (i j : ℕ) (a b c : SinkState) → i ≤ j
+    → Wrote a b (flat_map byte_hex (take i bytes)) → Writes {E = E} b c (Ok tt) (flat_map byte_hex (take (j - i) (drop i bytes)))
+    → Wrote a c (flat_map byte_hex (take j bytes))
+chunk_written {E} bytes i j a b c le w h = rw (flat_map-cut byte_hex bytes i j le) (wrote_more {E = E} a b c _ _ w h)
 
-pub chunk_failed : {E : Type 0} (bytes : List ℕ) (i j : ℕ) (a b c : Option (List ℕ)) (l m n : ℕ) (e : E) → i ≤ j
-    → Wrote a b l m (flat_map byte_hex (take i bytes)) → Writes b c m n (Err e) (flat_map byte_hex (take (j - i) (drop i bytes)))
-    → Writes a c l n (Err e) (flat_map byte_hex bytes)
-chunk_failed bytes i j a b c l m n e le w h = rw (flat_map-whole byte_hex bytes i j le) (wrote_front a b c l m n e _ _ _ w h)
+pub chunk_failed : {E : Type 0} (bytes : List ℕ) (i j : ℕ) (a b c : SinkState) (e : E) → i ≤ j
+    → Wrote a b (flat_map byte_hex (take i bytes)) → Writes b c (Err e) (flat_map byte_hex (take (j - i) (drop i bytes)))
+    → Writes a c (Err e) (flat_map byte_hex bytes)
+chunk_failed bytes i j a b c e le w h = rw (flat_map-whole byte_hex bytes i j le) (wrote_front a b c e _ _ _ w h)

@@ -2,12 +2,13 @@
 use Rattle.std.specs.Prelude.{ℕ, ◌≡◌, ◌≢◌, ◌<◌, ◌≤◌, ◌+◌, ◌⊎◌, List, length, take, Some, None, slice_get}
 use Rattle.std.specs.declared.option.Option.{Option}
 use Rattle.guest_image.specs.ImageValue.{ImageValue}
-use Rattle.serial_machine.specs.declared.journal.Entry.{Entry}
+use Rattle.run_journal.specs.declared.journal.Entry.{Entry}
 use Rattle.serial_machine.specs.declared.fault.TurnFault.{TurnFault}
 use Rattle.serial_machine.specs.declared.fault.TurnFault.TheVariants as faults
 use Rattle.serial_machine.specs.State.{State}
 use Rattle.serial_machine.specs.Turn.{turn, Refuses}
 use Rattle.serial_machine.specs.Run.{IsRun, IsEnd}
+use Rattle.run_law.specs.Laws.{AreLawful}
 use Rattle.report_text.specs.declared.report.Report.{Report}
 use Rattle.report_text.specs.declared.verdict.Examined.{Examined}
 use Rattle.report_text.specs.declared.verdict.Examined.TheVariants as examined
@@ -30,11 +31,14 @@ pub record IsToldOtherwise (image : ImageValue) (budget : ℕ) (s : State) (entr
 -- why the entry at a place of the journal doesn't go on with the run that led to this state: the limit is reached, the
 -- entry tells its turn otherwise, or the serial machine refuses the turn so
 abbrev pub IsNoTurn : ImageValue → ℕ → ℕ → ℕ → State → Entry → Option TurnFault → Type 0
-IsNoTurn image commits budget place s entry None = (place ≡ commits) ⊎ ((place < commits) × IsToldOtherwise image budget s entry)
-IsNoTurn image commits budget place s entry (Some fault) = (place < commits) × Refuses image budget s entry.name fault × (fault ≢ faults.Memory)
+IsNoTurn image commits budget place s entry None =
+    (place ≡ commits) ⊎ ((place < commits) × IsToldOtherwise image budget s entry)
+IsNoTurn image commits budget place s entry (Some fault) =
+    (place < commits) × Refuses image budget s entry.name fault × (fault ≢ faults.Memory)
 
 -- the line has the first entry that isn't the run's
-pub record IsWrongEntry (image : ImageValue) (commits budget : ℕ) (journal : List Entry) (line : ℕ) (why : Option TurnFault) : Type 0 where
+pub record IsWrongEntry (image : ImageValue) (commits budget : ℕ) (journal : List Entry)
+    (line : ℕ) (why : Option TurnFault) : Type 0 where
   pub place : ℕ
   pub told : line ≡ place + 2
   pub state : State
@@ -44,7 +48,8 @@ pub record IsWrongEntry (image : ImageValue) (commits budget : ℕ) (journal : L
   pub cause : IsNoTurn image commits budget place state entry why
 
 -- the entries are the run's, and the output isn't
-pub record IsWrongOutput (image : ImageValue) (commits budget : ℕ) (report : Report) (line : ℕ) (why : Option TurnFault) : Type 0 where
+pub record IsWrongOutput (image : ImageValue) (commits budget : ℕ) (report : Report)
+    (line : ℕ) (why : Option TurnFault) : Type 0 where
   pub told : line ≡ length report.journal + 2
   pub no_refusal : why ≡ None
   pub state : State
@@ -56,8 +61,10 @@ pub record DifferFirst {X : Type 0} (xs ys : List X) (place : ℕ) : Type 0 wher
   pub same : take place xs ≡ take place ys
   pub other : slice_get xs place ≢ slice_get ys place
 
--- the entries and the output are the run's, and the line has the first window word that isn't, or should have one or none
-pub record IsWrongWord (image : ImageValue) (commits budget : ℕ) (report : Report) (line : ℕ) (why : Option TurnFault) : Type 0 where
+-- the entries and the output are the run's, and the line has the first window word that isn't, or should have one or
+-- none
+pub record IsWrongWord (image : ImageValue) (commits budget : ℕ) (report : Report)
+    (line : ℕ) (why : Option TurnFault) : Type 0 where
   pub place : ℕ
   pub told : line ≡ length report.journal + 3 + place
   pub no_refusal : why ≡ None
@@ -67,7 +74,8 @@ pub record IsWrongWord (image : ImageValue) (commits budget : ℕ) (report : Rep
   pub other : DifferFirst report.window (window_of image state.memory) place
 
 -- all lines but the last are the run's, and it doesn't end so
-pub record IsWrongEnd (image : ImageValue) (commits budget : ℕ) (report : Report) (line : ℕ) (why : Option TurnFault) : Type 0 where
+pub record IsWrongEnd (image : ImageValue) (commits budget : ℕ) (report : Report)
+    (line : ℕ) (why : Option TurnFault) : Type 0 where
   pub told : line ≡ length report.journal + 3 + length report.window
   pub no_refusal : why ≡ None
   pub state : State
@@ -83,6 +91,11 @@ pub record IsReportOf (image : ImageValue) (commits budget : ℕ) (report : Repo
   pub output : report.output ≡ state.output
   pub window : report.window ≡ window_of image state.memory
   pub end : IsEnd image budget commits report.journal state report.end
+
+-- whatever run the report is of meets the laws of runs
+abbrev pub HasLawfulRun : ImageValue → (commits budget : ℕ) → Report → Type 0
+HasLawfulRun image commits budget report =
+    (accepted : IsReportOf image commits budget report) → AreLawful image budget report.journal accepted.state
 
 -- what a verdict says of a report; the cases exclude each other, as `AgreeOnTheLine` says
 abbrev pub IsVerdict : ImageValue → ℕ → ℕ → Report → Verdict → Type 0
@@ -102,11 +115,15 @@ told_line verdicts.Memory = None
 
 -- two verdicts on one report, want of memory aside, tell the same line, or both none
 abbrev pub AgreeOnTheLine : Type 0
-AgreeOnTheLine = (image : ImageValue) (commits budget : ℕ) (report : Report) (v w : Verdict) → v ≢ verdicts.Memory → w ≢ verdicts.Memory
-    → IsVerdict image commits budget report v → IsVerdict image commits budget report w → told_line v ≡ told_line w
+AgreeOnTheLine = (image : ImageValue) (commits budget : ℕ) (report : Report) (v w : Verdict)
+    → v ≢ verdicts.Memory → w ≢ verdicts.Memory
+    → IsVerdict image commits budget report v → IsVerdict image commits budget report w
+    → told_line v ≡ told_line w
 
 -- what an examination says of a report: a verdict, with the machine at the end of the run
 abbrev pub IsExamined : ImageValue → ℕ → ℕ → Report → Examined → Type 0
-IsExamined image commits budget report (examined.Yes serial) = (accepted : IsReportOf image commits budget report) × (serial.state ≡ accepted.state)
-IsExamined image commits budget report (examined.Illegal line why) = IsVerdict image commits budget report (verdicts.Illegal line why)
+IsExamined image commits budget report (examined.Yes serial) =
+    (accepted : IsReportOf image commits budget report) × (serial.state ≡ accepted.state)
+IsExamined image commits budget report (examined.Illegal line why) =
+    IsVerdict image commits budget report (verdicts.Illegal line why)
 IsExamined image commits budget report examined.Memory = Unit {0}

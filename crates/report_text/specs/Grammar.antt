@@ -2,9 +2,9 @@
 use Rattle.std.specs.Prelude.{ℕ, ◌+◌, ◌==◌, ◌&&◌, Bool, true, false, nat_le, List, [], ◌∷◌, ◌++◌, length, codes, Some, None, Result, Ok, Err, if◌then◌else◌, ◌≡◌}
 use Rattle.std.specs.declared.option.Option.{Option}
 use Rattle.std.specs.Str.{bytes_eq}
-use Rattle.serial_machine.specs.declared.journal.Entry.{Entry}
-use Rattle.serial_machine.specs.declared.fault.End.{End}
-use Rattle.serial_machine.specs.declared.fault.End.TheVariants as ends
+use Rattle.run_journal.specs.declared.journal.Entry.{Entry}
+use Rattle.run_journal.specs.declared.end.End.{End}
+use Rattle.run_journal.specs.declared.end.End.TheVariants as ends
 use Rattle.report_text.specs.declared.limits.TheConstants.{MAX_ENTRIES, MAX_DEPTH, MAX_CAUSE}
 use Rattle.report_text.specs.declared.report.WindowWord.{WindowWord}
 use Rattle.report_text.specs.declared.report.Report.{Report}
@@ -18,11 +18,15 @@ use Rattle.report_text.specs.Hex.{hex_word, hex_bytes}
 unfoldable pub entry_in : ℕ → List ℕ → Option Entry
 entry_in n line =
     field 32 line >>= λ a. field 46 a.1 >>= λ b. field 32 b.1 >>= λ c. field 32 c.1 >>= λ d. number d.1 >>= λ ts.
-    guarded ((a.0 == n) && (nat_le n MAX_ENTRIES && (nat_le 1 d.0 && nat_le d.0 MAX_DEPTH))) (record { name = record { creator = b.0; index = c.0 }; depth = d.0; ts = ts })
+    guarded ((a.0 == n) && (nat_le n MAX_ENTRIES && (nat_le 1 d.0 && nat_le d.0 MAX_DEPTH)))
+    (record { name = record { creator = b.0; index = c.0 }; depth = d.0; ts = ts })
 
 -- the bytes of two digits each, of which there are some, or a dash for none
 abbrev pub output_bytes : List ℕ → Option (List ℕ)
-output_bytes digits = if bytes_eq digits (codes "-") then Some [] else if length digits == 0 then None else hex_bytes digits
+output_bytes digits =
+    if bytes_eq digits (codes "-") then Some []
+    else if length digits == 0 then None
+    else hex_bytes digits
 
 -- the emitted bytes: `output <hex>`
 unfoldable pub output_in : List ℕ → Option (List ℕ)
@@ -31,7 +35,8 @@ output_in line = behind (codes "output ") line >>= output_bytes
 -- a word of the window: `window <address> <value>`
 unfoldable pub window_in : List ℕ → Option WindowWord
 window_in line =
-    behind (codes "window ") line >>= λ words. cut 32 words >>= λ p. hex_word p.0 >>= λ addr. hex_word p.1 >>= λ value.
+    behind (codes "window ") line >>= λ words. cut 32 words >>= λ p.
+    hex_word p.0 >>= λ addr. hex_word p.1 >>= λ value.
     Some (record { addr = addr; value = value })
 
 -- what stands behind `end trap `: `<cause> <pc> <creator>.<index>`
@@ -54,17 +59,20 @@ is_nothing [] = true
 is_nothing (l ∷ ls) = false
 
 -- words at the front of a window that was read
-abbrev pub onto_window : List WindowWord → Result (List WindowWord × End) ℕ → Result (List WindowWord × End) ℕ
+abbrev pub onto_window : List WindowWord → Result (List WindowWord × End) ℕ
+    → Result (List WindowWord × End) ℕ
 onto_window front (Ok r) = Ok (front ++ r.0, r.1)
 onto_window front (Err line) = Err line
 
 -- line k is a word of the window, with what the lines behind it say, or it is outside
-abbrev pub after_word : ℕ → Option WindowWord → Result (List WindowWord × End) ℕ → Result (List WindowWord × End) ℕ
+abbrev pub after_word : ℕ → Option WindowWord → Result (List WindowWord × End) ℕ
+    → Result (List WindowWord × End) ℕ
 after_word k None rest = Err k
 after_word k (Some w) rest = onto_window (w ∷ []) rest
 
 -- line k is the end, behind which nothing stands, or else what the rest says
-abbrev pub after_end : ℕ → List (List ℕ) → Option End → Result (List WindowWord × End) ℕ → Result (List WindowWord × End) ℕ
+abbrev pub after_end : ℕ → List (List ℕ) → Option End → Result (List WindowWord × End) ℕ
+    → Result (List WindowWord × End) ℕ
 after_end k ls None rest = rest
 after_end k ls (Some e) rest = if is_nothing ls then Ok ([], e) else Err (k + 1)
 
@@ -89,14 +97,16 @@ after_entry n None rest = Err (n + 1)
 after_entry n (Some e) rest = onto_journal (e ∷ []) rest
 
 -- the line has the output, with what the lines behind it say, or else what the rest says
-abbrev pub after_output : Option (List ℕ) → Result (List WindowWord × End) ℕ → Result Report ℕ → Result Report ℕ
+abbrev pub after_output : Option (List ℕ) → Result (List WindowWord × End) ℕ → Result Report ℕ
+    → Result Report ℕ
 after_output None window rest = rest
 after_output (Some output) window rest = with_output output window
 
 -- the entries from the n-th on, which stands in line n + 1, and all behind them, or the first line outside
 abbrev pub entries_at : ℕ → List (List ℕ) → Result Report ℕ
 entries_at n [] = Err (n + 1)
-entries_at n (l ∷ ls) = after_output (output_in l) (window_at (n + 2) ls) (after_entry n (entry_in n l) (entries_at (n + 1) ls))
+entries_at n (l ∷ ls) =
+    after_output (output_in l) (window_at (n + 2) ls) (after_entry n (entry_in n l) (entries_at (n + 1) ls))
 
 -- the lines of a whole report, or the first line outside
 abbrev pub report_at : List (List ℕ) → Result Report ℕ

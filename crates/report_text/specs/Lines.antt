@@ -30,4 +30,6 @@ cut mark (x ∷ xs) = if x == mark then Some ([], xs) else option_map (λ p. (x 
 
 -- what stands behind a front
 unfoldable pub behind : List ℕ → List ℕ → Option (List ℕ)
-behind front line = if nat_le (length front) (length line) && bytes_eq (take (length front) line) front then Some (drop (length front) line) else None
+behind front line =
+    if nat_le (length front) (length line) && bytes_eq (take (length front) line) front
+    then Some (drop (length front) line) else None

@@ -4,9 +4,9 @@ use Rattle.std.specs.List.{AllByRecursion}
 use Rattle.guest_image.specs.ImageValue.{ImageValue, IsImage}
 use Rattle.task_desc.specs.declared.desc.Name.{Name}
 use Rattle.undo_log.specs.Number.{AreBytes}
-use Rattle.serial_machine.specs.declared.journal.Entry.{Entry}
-use Rattle.serial_machine.specs.declared.fault.End.{End}
-use Rattle.serial_machine.specs.declared.fault.End.TheVariants as ends
+use Rattle.run_journal.specs.declared.journal.Entry.{Entry}
+use Rattle.run_journal.specs.declared.end.End.{End}
+use Rattle.run_journal.specs.declared.end.End.TheVariants as ends
 use Rattle.report_text.specs.declared.limits.TheConstants.{MAX_ENTRIES, MAX_DEPTH, MAX_CAUSE}
 use Rattle.report_text.specs.Report.{report, window_of}
 use Rattle.report_text.specs.Grammar.{report_of}
@@ -41,5 +41,7 @@ EndFits (ends.Trap name cause pc) = TrapFits name cause pc
 -- of its end are in the grammar's ranges
 abbrev pub ReadsBack : Type 0
 ReadsBack = (image : ImageValue) (journal : List Entry) (memory output : List ℕ) (end : End)
-    → IsImage image → length journal ≤ MAX_ENTRIES → AllByRecursion EntryFits journal → AreBytes memory → AreBytes output → EndFits end
-    → report_of (report image journal memory output end) ≡ Ok (record { journal = journal; output = output; window = window_of image memory; end = end })
+    → IsImage image → length journal ≤ MAX_ENTRIES → AllByRecursion EntryFits journal
+    → AreBytes memory → AreBytes output → EndFits end
+    → report_of (report image journal memory output end)
+    ≡ Ok (record { journal = journal; output = output; window = window_of image memory; end = end })

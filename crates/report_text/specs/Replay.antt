@@ -1,7 +1,10 @@
--- What the replay of a journal finds.
-use Rattle.std.specs.Prelude.{ℕ, List}
+-- What the replay of a journal finds, and how the run behind it may end.
+use Rattle.std.specs.Prelude.{ℕ, ◌≡◌, Bool, List, length, MatchBool}
 use Rattle.guest_image.specs.ImageValue.{ImageValue}
-use Rattle.serial_machine.specs.declared.journal.Entry.{Entry}
+use Rattle.run_journal.specs.declared.journal.Entry.{Entry}
+use Rattle.run_journal.specs.declared.end.End.{End}
+use Rattle.serial_machine.specs.Run.{IsEnd}
+use Rattle.serial_machine.specs.State.{SerialValue}
 use Rattle.report_text.specs.declared.verdict.NoRun.{NoRun}
 use Rattle.report_text.specs.declared.verdict.NoRun.TheVariants as noruns
 use Rattle.report_text.specs.Check.{IsWrongEntry}
@@ -10,3 +13,9 @@ use Rattle.report_text.specs.Check.{IsWrongEntry}
 abbrev pub IsNoRun : ImageValue → ℕ → ℕ → List Entry → NoRun → Type 0
 IsNoRun image commits budget journal (noruns.Line line why) = IsWrongEntry image commits budget journal line why
 IsNoRun image commits budget journal noruns.Memory = Unit {0}
+
+-- whether any run of `count` turns that led to this machine ends so
+abbrev pub TellsWhetherItEnds : ImageValue → (commits count : ℕ) → SerialValue → End → Bool → Type 0
+TellsWhetherItEnds image commits count serial end told = (journal : List Entry) → length journal ≡ count
+    → MatchBool told (IsEnd image serial.budget commits journal serial.state end)
+    (IsEnd image serial.budget commits journal serial.state end → ⊥)

@@ -4,9 +4,9 @@ use Rattle.std.specs.List.{flat_map, enumerate_from, range_with_len}
 use Rattle.guest_image.specs.ImageValue.{ImageValue}
 use Rattle.guest_image.specs.Numbers.{word_at}
 use Rattle.task_desc.specs.declared.desc.Name.{Name}
-use Rattle.serial_machine.specs.declared.journal.Entry.{Entry}
-use Rattle.serial_machine.specs.declared.fault.End.{End}
-use Rattle.serial_machine.specs.declared.fault.End.TheVariants as ends
+use Rattle.run_journal.specs.declared.journal.Entry.{Entry}
+use Rattle.run_journal.specs.declared.end.End.{End}
+use Rattle.run_journal.specs.declared.end.End.TheVariants as ends
 use Rattle.report_text.specs.declared.report.WindowWord.{WindowWord}
 use Rattle.report_text.specs.Hex.{byte_hex, word_hex}
 
@@ -16,7 +16,9 @@ name_text name = decimal name.creator ++ codes "." ++ decimal name.index
 
 -- the line of a committed task, beside its number: `<n> <creator>.<index> <depth> <ts>`
 unfoldable pub entry_line : ℕ × Entry → List ℕ
-entry_line e = decimal e.0 ++ codes " " ++ name_text e.1.name ++ codes " " ++ decimal e.1.depth ++ codes " " ++ decimal e.1.ts ++ codes "\n"
+entry_line e =
+    decimal e.0 ++ codes " " ++ name_text e.1.name ++ codes " " ++ decimal e.1.depth ++ codes " "
+    ++ decimal e.1.ts ++ codes "\n"
 
 -- the first line, and one for each committed task, which are numbered from 1
 unfoldable pub entry_lines : List Entry → List ℕ
@@ -33,7 +35,8 @@ output_line output = codes "output " ++ output_digits output ++ codes "\n"
 
 -- the k-th word of an image's window in a memory, read little-endian; the data begins at 0x10000000
 abbrev pub window_word : ImageValue → List ℕ → ℕ → WindowWord
-window_word image memory k = record { addr = 0x10000000 + (image.window_offset + 4 * k); value = word_at memory (image.window_offset + 4 * k) }
+window_word image memory k =
+    let offset = image.window_offset + 4 * k in record { addr = 0x10000000 + offset; value = word_at memory offset }
 
 -- the words of an image's window in a memory, by rising address
 unfoldable pub window_of : ImageValue → List ℕ → List WindowWord
@@ -52,7 +55,8 @@ unfoldable pub end_line : End → List ℕ
 end_line ends.Normal = codes "end normal\n"
 end_line ends.Limit = codes "end limit\n"
 end_line ends.Unfinished = codes "end open\n"
-end_line (ends.Trap name cause pc) = codes "end trap " ++ decimal cause ++ codes " " ++ word_hex pc ++ codes " " ++ name_text name ++ codes "\n"
+end_line (ends.Trap name cause pc) =
+    codes "end trap " ++ decimal cause ++ codes " " ++ word_hex pc ++ codes " " ++ name_text name ++ codes "\n"
 
 -- the report of a run: its journal, the memory and the output at its end, and how it ended
 unfoldable pub report : ImageValue → List Entry → List ℕ → List ℕ → End → List ℕ

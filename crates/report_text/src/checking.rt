@@ -1,11 +1,11 @@
 //! A report that is checked against the serial machine, by its turns one after another.
 
-ghost use Rattle.std.specs.Prelude.{◌≡◌, ◌≢◌, ◌+◌, ◌<◌, ◌≤◌, ℕ, List, length, take, Some, slice_get, true, IfErr, IfOk, IfSome, MatchBool, MatchOption};
-ghost use Rattle.run_law.specs.Laws.{AreLawful};
-ghost use Rattle.serial_machine.specs.declared.journal.Entry.{Entry};
-ghost use Rattle.serial_machine.specs.Run.{IsEnd, IsRun};
-ghost use Rattle.report_text.specs.Check.{AgreeOnTheLine, DifferFirst, IsExamined, IsReplayed, IsVerdict, IsReportOf};
-ghost use Rattle.report_text.specs.Replay.{IsNoRun};
+ghost use Rattle.std.specs.Prelude.{◌≡◌, ◌≢◌, ◌+◌, ◌<◌, ◌≤◌, length, take, Some, slice_get, true};
+ghost use Rattle.std.specs.Prelude.{IfErr, IfOk, IfSome, MatchBool, MatchOption};
+ghost use Rattle.serial_machine.specs.declared.limits.TheConstants.{MAX_BUDGET, MAX_COMMITS};
+ghost use Rattle.serial_machine.specs.Run.{IsRun};
+ghost use Rattle.report_text.specs.Check.{AgreeOnTheLine, DifferFirst, HasLawfulRun, IsExamined, IsReplayed, IsVerdict};
+ghost use Rattle.report_text.specs.Replay.{IsNoRun, TellsWhetherItEnds};
 ghost use Rattle.report_text.specs.Report.{window_of};
 
 use crate::report::{Report, WindowWord};
@@ -19,10 +19,10 @@ use std::alloc::Global;
 /// `budget` 1 to 65,536. Illegal tells the first line that isn't the run's. A report that is accepted meets the laws
 /// of runs.
 pub fn check(alloc: Global, image: &Image, commits: u32, budget: u32, report: &Report) -> Verdict
-    requires commits { (1 ≤ commits) × (commits ≤ 1000000) }
-    requires budget { (1 ≤ budget) × (budget ≤ 65536) }
+    requires commits { (1 ≤ commits) × (commits ≤ MAX_COMMITS) }
+    requires budget { (1 ≤ budget) × (budget ≤ MAX_BUDGET) }
     ensures verdict { IsVerdict image.now commits budget report.now result }
-    ensures laws { result ≡ Verdict.Yes → (accepted : IsReportOf image.now commits budget report.now) → AreLawful image.now budget report.now.journal accepted.state }
+    ensures laws { result ≡ Verdict.Yes → HasLawfulRun image.now commits budget report.now }
 {
     match examine(alloc, image, commits, budget, report) {
         Examined::Yes(_) => Verdict::Yes,
@@ -34,8 +34,8 @@ pub fn check(alloc: Global, image: &Image, commits: u32, budget: u32, report: &R
 /// As `check`, with the machine at the end of the report's run where it is that of a run.
 #[tactic(auto, using(crate::proofs::Written::length_window))]
 pub fn examine(alloc: Global, image: &Image, commits: u32, budget: u32, report: &Report) -> Examined
-    requires commits { (1 ≤ commits) × (commits ≤ 1000000) }
-    requires budget { (1 ≤ budget) × (budget ≤ 65536) }
+    requires commits { (1 ≤ commits) × (commits ≤ MAX_COMMITS) }
+    requires budget { (1 ≤ budget) × (budget ≤ MAX_BUDGET) }
     ensures { IsExamined image.now commits budget report.now result }
 {
     let journal = report.journal.as_slice();
@@ -73,8 +73,8 @@ fn replay(
     budget: u32,
     journal: &[Entry],
 ) -> Result<Serial, NoRun>
-    requires commits { commits ≤ 1000000 }
-    requires budget { budget ≤ 65536 }
+    requires commits { commits ≤ MAX_COMMITS }
+    requires budget { budget ≤ MAX_BUDGET }
     ensures ok { IfOk result (λ s. IsReplayed image.now commits budget journal.now s.state) }
     ensures budget { IfOk result (λ s. s.budget ≡ budget) }
     ensures count { IfOk result (λ s. s.state.count ≡ length journal.now) }
@@ -141,7 +141,8 @@ fn is_memory(fault: TurnFault) -> bool
 // The place of the first window word that isn't the memory's, or where one is missing or too many.
 fn wrong_word(image: &Image, memory: &[u8], window: &[WindowWord]) -> Option<u32>
     requires { length memory.now ≡ image.now.data_size }
-    ensures place { MatchOption result (window.now ≡ window_of image.now memory.now) (DifferFirst window.now (window_of image.now memory.now)) }
+    ensures place { let words = window_of image.now memory.now in
+        MatchOption result (window.now ≡ words) (DifferFirst window.now words) }
     ensures within { IfSome result (λ place. place ≤ 4096) }
 {
     let words = window_len(image);
@@ -171,8 +172,8 @@ fn is_word_at(window: &[WindowWord], place: u32, word: WindowWord) -> bool
 // machine is as it was where it does.
 fn ends(image: &Image, commits: u32, count: u32, serial: &mut Serial, end: End) -> Option<bool>
     requires count { serial.old.state.count ≡ count }
-    requires limit { (count ≤ commits) × (commits ≤ 1000000) }
-    ensures verdict { IfSome result (λ b. (journal : List Entry) → length journal ≡ count → MatchBool b (IsEnd image.now serial.old.budget commits journal serial.old.state end) (IsEnd image.now serial.old.budget commits journal serial.old.state end → ⊥)) }
+    requires limit { (count ≤ commits) × (commits ≤ MAX_COMMITS) }
+    ensures verdict { IfSome result (TellsWhetherItEnds image.now commits count serial.old end) }
     ensures same { IfSome result (λ b. b ≡ true → serial.new ≡ serial.old) }
 {
     match end {

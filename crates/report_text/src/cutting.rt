@@ -7,9 +7,10 @@ ghost use Rattle.report_text.specs.Lines.{behind, cut, lines_of};
 ghost use Rattle.report_text.specs.Numerals.{field, is_plain, number};
 
 /// The next line of a text without its newline, and what follows it; None where nothing is left.
-#[tactic(auto, using(crate::proofs::Breaks::lines_cut, crate::proofs::Breaks::lines_last, crate::proofs::Breaks::rest_shorter, crate::proofs::Breaks::no_lines))]
+#[tactic(auto, using(crate::proofs::Breaks::line_breaks))]
 pub(crate) fn next_line(text: &[u8]) -> Option<(&[u8], &[u8])>
-    ensures lines { MatchOption result (lines_of text.now ≡ []) (λ p. lines_of text.now ≡ p.0.now ∷ lines_of p.1.now) }
+    ensures lines { MatchOption result (lines_of text.now ≡ [])
+        (λ p. lines_of text.now ≡ p.0.now ∷ lines_of p.1.now) }
     ensures shorter { IfSome result (λ p. length p.1.now < length text.now) }
 {
     if text.is_empty() {

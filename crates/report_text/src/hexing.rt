@@ -57,7 +57,7 @@ fn hex_number(digits: &[u8]) -> Option<u32>
 }
 
 /// The bytes of pairs of digits.
-#[tactic(auto, using(crate::proofs::HexValues::hex_step, crate::proofs::HexValues::hex_odd, crate::proofs::HexValues::hex_wrong_first, crate::proofs::HexValues::hex_wrong_second, crate::proofs::HexValues::hex_end, crate::proofs::HexValues::hex_start))]
+#[tactic(auto, using(crate::proofs::HexValues::hex_pairs))]
 pub(crate) fn hex_bytes(alloc: Global, digits: &[u8]) -> Result<Option<Vec<u8>>, AllocError>
     ensures { IfOk result (λ o. option_map (λ v. v.items) o ≡ hex_bytes digits.now) }
 {

@@ -28,7 +28,7 @@ pub fn read_journal(alloc: Global, text: &[u8]) -> Result<Report, JournalFault>
 }
 
 // The entries and all that follows them.
-#[tactic(auto, using(crate::proofs::Steps::onto_journal_both, crate::proofs::Steps::onto_journal_none, crate::proofs::Steps::entry_step, crate::proofs::Steps::entry_wrong, crate::proofs::Steps::output_step))]
+#[tactic(auto, using(crate::proofs::Steps::entry_steps))]
 fn read_entries(alloc: Global, text: &[u8]) -> Result<Report, JournalFault>
     requires { length text.now < 4294967294 }
     ensures { Gives result (entries_at 1 (lines_of text.now)) }
@@ -65,7 +65,7 @@ fn read_entries(alloc: Global, text: &[u8]) -> Result<Report, JournalFault>
 }
 
 // The window and the end, in the lines from this one on.
-#[tactic(auto, using(crate::proofs::Steps::onto_window_both, crate::proofs::Steps::onto_window_none, crate::proofs::Steps::word_step, crate::proofs::Steps::word_wrong, crate::proofs::Steps::ends_well, crate::proofs::Steps::ends_badly))]
+#[tactic(auto, using(crate::proofs::Steps::window_steps))]
 fn read_window(alloc: Global, text: &[u8], from: u32) -> Result<(Window, End), JournalFault>
     requires { from + length text.now < 4294967296 }
     ensures { Gives result (window_at from (lines_of text.now)) }

@@ -29,7 +29,8 @@ pub fn write_report<K: Sink>(
     end: &End,
 ) -> Result<(), Failed>
     requires { length memory.now ≡ image.now.data_size }
-    ensures { Writes (K.taken sink.old) (K.taken sink.new) (K.faults sink.old) (K.faults sink.new) result (report image.now journal.now memory.now output.now end.now) }
+    ensures { Writes (K.state sink.old) (K.state sink.new) result
+        (report image.now journal.now memory.now output.now end.now) }
 {
     match write_front(sink, image, journal, memory, output) {
         Ok(()) => write_end(sink, end),
@@ -46,7 +47,8 @@ fn write_front<K: Sink>(
     output: &[u8],
 ) -> Result<(), Failed>
     requires { length memory.now ≡ image.now.data_size }
-    ensures { Writes (K.taken sink.old) (K.taken sink.new) (K.faults sink.old) (K.faults sink.new) result (entry_lines journal.now ++ body_lines image.now memory.now output.now) }
+    ensures { Writes (K.state sink.old) (K.state sink.new) result
+        (entry_lines journal.now ++ body_lines image.now memory.now output.now) }
 {
     match write_entries(sink, journal) {
         Ok(()) => write_body(sink, image, memory, output),
@@ -57,7 +59,7 @@ fn write_front<K: Sink>(
 /// Writes the first line and those of the entries, which are numbered from 1. After `Failed` a
 /// front of the text was taken.
 pub fn write_entries<K: Sink>(sink: &mut K, journal: &Journal) -> Result<(), Failed>
-    ensures { Writes (K.taken sink.old) (K.taken sink.new) (K.faults sink.old) (K.faults sink.new) result (entry_lines journal.now) }
+    ensures { Writes (K.state sink.old) (K.state sink.new) result (entry_lines journal.now) }
 {
     match write_all(sink, b"fractal 1\n") {
         Ok(()) => write_list(sink, journal.as_slice()),
@@ -66,7 +68,8 @@ pub fn write_entries<K: Sink>(sink: &mut K, journal: &Journal) -> Result<(), Fai
 }
 
 fn write_list<K: Sink>(sink: &mut K, entries: &[Entry]) -> Result<(), Failed>
-    ensures { Writes (K.taken sink.old) (K.taken sink.new) (K.faults sink.old) (K.faults sink.new) result (flat_map entry_line (enumerate_from 1 entries.now)) }
+    ensures { Writes (K.state sink.old) (K.state sink.new) result
+        (flat_map entry_line (enumerate_from 1 entries.now)) }
 {
     for (index, entry) in entries.iter().enumerate() {
         match write_entry(sink, index as u64 + 1, entry) {
@@ -78,7 +81,7 @@ fn write_list<K: Sink>(sink: &mut K, entries: &[Entry]) -> Result<(), Failed>
 }
 
 fn write_entry<K: Sink>(sink: &mut K, number: u64, entry: &Entry) -> Result<(), Failed>
-    ensures { Writes (K.taken sink.old) (K.taken sink.new) (K.faults sink.old) (K.faults sink.new) result (entry_line (number, entry.now)) }
+    ensures { Writes (K.state sink.old) (K.state sink.new) result (entry_line (number, entry.now)) }
 {
     let line = entry_text(number, entry);
     write_all(sink, line.as_slice())
@@ -119,7 +122,8 @@ pub fn write_body<K: Sink>(
     output: &[u8],
 ) -> Result<(), Failed>
     requires { length memory.now ≡ image.now.data_size }
-    ensures { Writes (K.taken sink.old) (K.taken sink.new) (K.faults sink.old) (K.faults sink.new) result (body_lines image.now memory.now output.now) }
+    ensures { Writes (K.state sink.old) (K.state sink.new) result
+        (body_lines image.now memory.now output.now) }
 {
     match write_output(sink, output) {
         Ok(()) => write_window(sink, image, memory),
@@ -128,7 +132,7 @@ pub fn write_body<K: Sink>(
 }
 
 fn write_output<K: Sink>(sink: &mut K, output: &[u8]) -> Result<(), Failed>
-    ensures { Writes (K.taken sink.old) (K.taken sink.new) (K.faults sink.old) (K.faults sink.new) result (output_line output.now) }
+    ensures { Writes (K.state sink.old) (K.state sink.new) result (output_line output.now) }
 {
     match write_value(sink, output) {
         Ok(()) => write_all(sink, b"\n"),
@@ -137,7 +141,8 @@ fn write_output<K: Sink>(sink: &mut K, output: &[u8]) -> Result<(), Failed>
 }
 
 fn write_value<K: Sink>(sink: &mut K, output: &[u8]) -> Result<(), Failed>
-    ensures { Writes (K.taken sink.old) (K.taken sink.new) (K.faults sink.old) (K.faults sink.new) result (codes "output " ++ output_digits output.now) }
+    ensures { Writes (K.state sink.old) (K.state sink.new) result
+        (codes "output " ++ output_digits output.now) }
 {
     match write_all(sink, b"output ") {
         Ok(()) => write_digits(sink, output),
@@ -146,7 +151,7 @@ fn write_value<K: Sink>(sink: &mut K, output: &[u8]) -> Result<(), Failed>
 }
 
 fn write_digits<K: Sink>(sink: &mut K, output: &[u8]) -> Result<(), Failed>
-    ensures { Writes (K.taken sink.old) (K.taken sink.new) (K.faults sink.old) (K.faults sink.new) result (output_digits output.now) }
+    ensures { Writes (K.state sink.old) (K.state sink.new) result (output_digits output.now) }
 {
     if output.is_empty() {
         return write_all(sink, b"-");
@@ -155,7 +160,7 @@ fn write_digits<K: Sink>(sink: &mut K, output: &[u8]) -> Result<(), Failed>
 }
 
 fn write_hex<K: Sink>(sink: &mut K, bytes: &[u8]) -> Result<(), Failed>
-    ensures { Writes (K.taken sink.old) (K.taken sink.new) (K.faults sink.old) (K.faults sink.new) result (flat_map byte_hex bytes.now) }
+    ensures { Writes (K.state sink.old) (K.state sink.new) result (flat_map byte_hex bytes.now) }
 {
     let mut at = 0;
     while at < bytes.len() {
@@ -170,7 +175,7 @@ fn write_hex<K: Sink>(sink: &mut K, bytes: &[u8]) -> Result<(), Failed>
 
 fn write_chunk<K: Sink>(sink: &mut K, bytes: &[u8]) -> Result<(), Failed>
     requires { length bytes.now ≤ 256 }
-    ensures { Writes (K.taken sink.old) (K.taken sink.new) (K.faults sink.old) (K.faults sink.new) result (flat_map byte_hex bytes.now) }
+    ensures { Writes (K.state sink.old) (K.state sink.new) result (flat_map byte_hex bytes.now) }
 {
     let digits = digits_of(bytes);
     write_all(sink, digits.as_slice())
@@ -178,7 +183,8 @@ fn write_chunk<K: Sink>(sink: &mut K, bytes: &[u8]) -> Result<(), Failed>
 
 fn write_window<K: Sink>(sink: &mut K, image: &Image, memory: &[u8]) -> Result<(), Failed>
     requires { length memory.now ≡ image.now.data_size }
-    ensures { Writes (K.taken sink.old) (K.taken sink.new) (K.faults sink.old) (K.faults sink.new) result (flat_map window_line (window_of image.now memory.now)) }
+    ensures { Writes (K.state sink.old) (K.state sink.new) result
+        (flat_map window_line (window_of image.now memory.now)) }
 {
     for place in 0..window_len(image) {
         match write_word(sink, word_of(image, memory, place)) {
@@ -190,7 +196,7 @@ fn write_window<K: Sink>(sink: &mut K, image: &Image, memory: &[u8]) -> Result<(
 }
 
 fn write_word<K: Sink>(sink: &mut K, word: WindowWord) -> Result<(), Failed>
-    ensures { Writes (K.taken sink.old) (K.taken sink.new) (K.faults sink.old) (K.faults sink.new) result (window_line word) }
+    ensures { Writes (K.state sink.old) (K.state sink.new) result (window_line word) }
 {
     let line = window_text(word);
     write_all(sink, line.as_slice())
@@ -211,7 +217,7 @@ fn window_text(word: WindowWord) -> Line
 
 /// Writes the last line, which says how the run ended. After `Failed` a front of it was taken.
 pub fn write_end<K: Sink>(sink: &mut K, end: &End) -> Result<(), Failed>
-    ensures { Writes (K.taken sink.old) (K.taken sink.new) (K.faults sink.old) (K.faults sink.new) result (end_line end.now) }
+    ensures { Writes (K.state sink.old) (K.state sink.new) result (end_line end.now) }
 {
     let line = end_text(end);
     write_all(sink, line.as_slice())

@@ -1,8 +1,9 @@
 -- What contracts see of a source and a sink in memory.
-use Rattle.std.specs.Prelude.{ℕ, ◌+◌, ◌-◌, ◌^◌, ◌==◌, ◌||◌, Bool, List, length, min, nat_le}
+use Rattle.std.specs.Prelude.{ℕ, ◌+◌, ◌-◌, ◌^◌, ◌==◌, ◌||◌, Bool, List, [], length, min, nat_le}
 use Rattle.std.specs.List.{list_any}
 
--- the bytes left, how many a call gives at most, the numbers of the calls that fail, how many calls and how many faults there were
+-- a source in memory: the bytes left, how many a call gives at most, the numbers of the calls that fail, and how many
+-- calls and how many faults there were
 pub record MemSourceValue : Type 0 where
   pub left : List ℕ
   pub piece : ℕ
@@ -10,7 +11,8 @@ pub record MemSourceValue : Type 0 where
   pub calls : ℕ
   pub faults : ℕ
 
--- the bytes taken, how many are taken at all and by a call at most, the numbers of the calls that fail, how many calls and how many faults there were
+-- a sink in memory: the bytes taken, how many are taken at all and by a call at most, the numbers of the calls that
+-- fail, and how many calls and how many faults there were
 pub record MemSinkValue : Type 0 where
   pub bytes : List ℕ
   pub room : ℕ
@@ -18,6 +20,14 @@ pub record MemSinkValue : Type 0 where
   pub fail_at : List ℕ
   pub calls : ℕ
   pub faults : ℕ
+
+-- a source in memory that was not read yet
+abbrev pub new_source : (bytes : List ℕ) (piece : ℕ) (fail_at : List ℕ) → MemSourceValue
+new_source bytes piece fail_at = record { left = bytes; piece = piece; fail_at = fail_at; calls = 0; faults = 0 }
+
+-- a sink in memory that took nothing yet
+abbrev pub new_sink : (room piece : ℕ) (fail_at : List ℕ) → MemSinkValue
+new_sink room piece fail_at = record { bytes = []; room = room; piece = piece; fail_at = fail_at; calls = 0; faults = 0 }
 
 -- one more, up to the end of a counter of 64 bits
 abbrev pub one_more : ℕ → ℕ

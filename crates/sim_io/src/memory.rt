@@ -5,7 +5,7 @@ ghost use Rattle.std.specs.List.{list_any};
 ghost use Rattle.std.specs.Io.{ReadsAtMost, WritesAtMost};
 ghost use Rattle.std.specs.Io.KnownBytes.{ReadConsumes, WriteAppends};
 ghost use Rattle.sim_io.specs.Causes.{HasCause};
-ghost use Rattle.sim_io.specs.Memory.{is_listed, is_refused, one_more};
+ghost use Rattle.sim_io.specs.Memory.{is_listed, is_refused, new_sink, new_source, one_more};
 
 use crate::streams::{Failed, Sink, Source};
 use std::alloc::{AllocError, Global};
@@ -28,7 +28,13 @@ impl Model for MemSource {
 
     ghost Value = { MemSourceValue };
 
-    ghost view = { λ s. record { left = drop s.at s.bytes.items; piece = s.piece; fail_at = s.fail_at.items; calls = s.calls; faults = s.faults } };
+    ghost view = { λ s. record {
+      left = drop s.at s.bytes.items;
+      piece = s.piece;
+      fail_at = s.fail_at.items;
+      calls = s.calls;
+      faults = s.faults;
+    } };
 
     ghost invariant = { λ s. (s.at ≤ vec_len s.bytes) × (1 ≤ s.piece) };
 }
@@ -38,7 +44,7 @@ impl MemSource {
     /// `fail_at`, counted from 1, fail.
     pub fn new(bytes: Vec<u8>, piece: usize, fail_at: Vec<u32>) -> MemSource
         requires { 1 ≤ piece }
-        ensures { result ≡ record { left = bytes.items; piece = piece; fail_at = fail_at.items; calls = 0; faults = 0 } }
+        ensures { result ≡ new_source bytes.items piece fail_at.items }
     {
         MemSource {
             bytes,
@@ -52,9 +58,7 @@ impl MemSource {
 }
 
 impl Source for MemSource {
-    ghost left = { λ s. Some s.left };
-
-    ghost faults = { λ s. s.faults };
+    ghost state = { λ s. record { left = Some s.left; faults = s.faults } };
 
     fn read(&mut self, buf: &mut [u8]) -> Result<usize, Failed>
         ensures bound { ReadsAtMost result buf.new }
@@ -103,9 +107,7 @@ impl CleanSource {
 }
 
 impl Source for CleanSource {
-    ghost left = { λ s. Some s };
-
-    ghost faults = { λ _. 0 };
+    ghost state = { λ s. record { left = Some s; faults = 0 } };
 
     fn read(&mut self, buf: &mut [u8]) -> Result<usize, Failed> {
         let count = copy_from(&self.bytes, self.at, usize::MAX, buf);
@@ -131,7 +133,14 @@ impl Model for MemSink {
 
     ghost Value = { MemSinkValue };
 
-    ghost view = { λ s. record { bytes = s.bytes.items; room = s.room; piece = s.piece; fail_at = s.fail_at.items; calls = s.calls; faults = s.faults } };
+    ghost view = { λ s. record {
+      bytes = s.bytes.items;
+      room = s.room;
+      piece = s.piece;
+      fail_at = s.fail_at.items;
+      calls = s.calls;
+      faults = s.faults;
+    } };
 
     ghost invariant = { λ s. (vec_len s.bytes ≤ s.room) × (s.room ≤ vec_capacity s.bytes) × (1 ≤ s.piece) };
 }
@@ -146,7 +155,7 @@ impl MemSink {
         fail_at: Vec<u32>,
     ) -> Result<MemSink, AllocError>
         requires { 1 ≤ piece }
-        ensures { IfOk result (λ s. s ≡ record { bytes = []; room = room; piece = piece; fail_at = fail_at.items; calls = 0; faults = 0 }) }
+        ensures { IfOk result (λ s. s ≡ new_sink room piece fail_at.items) }
     {
         Ok(MemSink {
             bytes: Vec::with_capacity(alloc, room)?,
@@ -167,9 +176,7 @@ impl MemSink {
 }
 
 impl Sink for MemSink {
-    ghost taken = { λ s. Some s.bytes };
-
-    ghost faults = { λ s. s.faults };
+    ghost state = { λ s. record { taken = Some s.bytes; faults = s.faults } };
 
     fn write(&mut self, piece: &[u8]) -> Result<usize, Failed>
         ensures bound { WritesAtMost result piece.now }
@@ -177,9 +184,11 @@ impl Sink for MemSink {
         ensures bytes { WriteAppends (Some self.old.bytes) (Some self.new.bytes) result piece.now }
         ensures cause { HasCause self.old.faults self.new.faults result }
         ensures fails { is_err result ≡ is_refused self.old }
-        ensures most { IfOk result (λ n. n ≡ min (min (length piece.now) self.old.piece) (self.old.room - length self.old.bytes)) }
+        ensures most { let free = self.old.room - length self.old.bytes in
+            IfOk result (λ n. n ≡ min (min (length piece.now) self.old.piece) free) }
         ensures calls { self.new.calls ≡ one_more self.old.calls }
-        ensures settings { (self.new.room ≡ self.old.room) × (self.new.piece ≡ self.old.piece) × (self.new.fail_at ≡ self.old.fail_at) }
+        ensures settings { (self.new.room ≡ self.old.room) × (self.new.piece ≡ self.old.piece)
+            × (self.new.fail_at ≡ self.old.fail_at) }
     {
         self.calls = self.calls.saturating_add(1);
         let free = self.room - self.bytes.len();

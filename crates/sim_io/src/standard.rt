@@ -38,9 +38,7 @@ impl<I: Read + Drop> StdSource<I> {
 }
 
 impl<I: Read + Drop> Source for StdSource<I> {
-    ghost left = { λ _. None };
-
-    ghost faults = { λ s. s };
+    ghost state = { λ s. record { left = None; faults = s } };
 
     fn read(&mut self, buf: &mut [u8]) -> Result<usize, Failed>
         ensures bound { ReadsAtMost result buf.new }
@@ -83,9 +81,7 @@ impl<'a, R: Print> StdSink<'a, R> {
 }
 
 impl<'a, R: Print> Sink for StdSink<'a, R> {
-    ghost taken = { λ _. None };
-
-    ghost faults = { λ s. s };
+    ghost state = { λ s. record { taken = None; faults = s } };
 
     fn write(&mut self, piece: &[u8]) -> Result<usize, Failed>
         ensures bound { WritesAtMost result piece.now }

@@ -24,12 +24,12 @@ const CHUNK: usize = 4096;
 /// All bytes that are left, of which there may be at most `limit`. What was taken is gone after
 /// each answer, also after an error; a source with more bytes is left after `limit + 1` of them.
 pub fn read_all<S: Source>(alloc: Global, source: &mut S, limit: usize) -> Result<Vec<u8>, ReadEnd>
-    ensures all { IfOk result (λ v. ReadsAll (S.left source.old) (S.left source.new) limit v.items) }
-    ensures long { result ≡ Err ReadEnd.Long → ReadsPast (S.left source.old) (S.left source.new) limit }
-    ensures failed { result ≡ Err ReadEnd.Failed → ReadsSome (S.left source.old) (S.left source.new) limit }
-    ensures memory { result ≡ Err ReadEnd.Memory → ReadsSome (S.left source.old) (S.left source.new) limit }
-    ensures cause { result ≡ Err ReadEnd.Failed → Rose (S.faults source.old) (S.faults source.new) }
-    ensures later { S.faults source.old ≤ S.faults source.new }
+    ensures all { IfOk result (λ v. ReadsAll (S.state source.old) (S.state source.new) limit v.items) }
+    ensures long { result ≡ Err ReadEnd.Long → ReadsPast (S.state source.old) (S.state source.new) limit }
+    ensures failed { result ≡ Err ReadEnd.Failed → ReadsSome (S.state source.old) (S.state source.new) limit }
+    ensures memory { result ≡ Err ReadEnd.Memory → ReadsSome (S.state source.old) (S.state source.new) limit }
+    ensures cause { result ≡ Err ReadEnd.Failed → Rose (S.state source.old).faults (S.state source.new).faults }
+    ensures later { (S.state source.old).faults ≤ (S.state source.new).faults }
 {
     let mut bytes = Vec::new(alloc);
     let mut chunk = [0u8; CHUNK];
@@ -62,7 +62,7 @@ fn chunk_len(free: usize) -> usize
 
 /// Writes the piece whole. After `Failed` its first bytes were taken.
 pub fn write_all<K: Sink>(sink: &mut K, piece: &[u8]) -> Result<(), Failed>
-    ensures { Writes (K.taken sink.old) (K.taken sink.new) (K.faults sink.old) (K.faults sink.new) result piece.now }
+    ensures { Writes (K.state sink.old) (K.state sink.new) result piece.now }
 {
     let mut at = 0;
     while at < piece.len() {

@@ -1,8 +1,10 @@
-use Rattle.std.proofs.Common.{◌≡◌, ◌≤◌, map, drop, length, Ok, Some, rules}
+use Rattle.std.proofs.Common.{◌≡◌, ◌≤◌, drop, length, Ok, Some, rules}
 use Rattle.guest_image.specs.Reading.{image_of}
 use Rattle.sim_io.specs.Parts.{ReadsAll}
+use Rattle.fractal_sim.specs.Call.{input_of}
 use Rattle.fractal_sim.specs.Words.{request_of}
-use Rattle.fractal_sim.specs.Top.{IsGiven}
+use Rattle.fractal_sim.specs.Top.{ReadsImage, input_limit}
+use Rattle.fractal_sim.proofs.Answering.{read-some}
 use Rattle.fractal_sim.proofs.Found.{found-given, size-within}
 use Rattle.fractal_sim.proofs.deciding.find.Goals as goal
 
@@ -14,15 +16,13 @@ split_at-requires g c =
 
 pub returns-clause-found : goal.returns-clause-found
 returns-clause-found g c =
-    let words = map (λ w. w.now) c.args.words.now in
-    let left = g.S.Source.left c.args.source.now in
-    let left' = g.S.Source.left c.read_all.new.source in
+    let input = input_of c.args.words.now (g.S.Source.state c.args.source.now) (g.S.Source.state c.read_all.new.source) in
     let request = c.in-Some.request in
-    let asked : request_of words ≡ Some request = search rules in
+    let asked : request_of input.words ≡ Some request = search rules in
     let bytes = c.in-Ok.bytes.items in
-    let all : ReadsAll left left' 67108864 bytes = search rules in
+    let all : ReadsAll input.source_before input.source_after input_limit bytes = search rules in
     let read : image_of bytes ≡ Ok (c.in-Ok-read_image.read.0, c.in-Ok-read_image.read.1) = search rules in
     let rest : c.split_at.result.1.now ≡ drop c.in-Ok-read_image.read.1 bytes = search rules in
-    let given : IsGiven words left left' request c.in-Ok-read_image.read.0 c.split_at.result.1.now =
-    record { bytes = bytes; size = c.in-Ok-read_image.read.1; asked = record { asked = asked; read = all }; image_is = read; rest_is = rest } in
-    found-given words left left' (g.S.Source.faults c.args.source.now) (g.S.Source.faults c.read_all.new.source) request c.in-Ok-read_image.read.0 c.split_at.result.1.now c.act.result given c.act.ensures.found
+    let given : ReadsImage input request c.in-Ok-read_image.read.0 c.split_at.result.1.now =
+    record { bytes = bytes; size = c.in-Ok-read_image.read.1; read = record { asked = asked; read = all }; image_is = read; rest_is = rest } in
+    found-given input request c.in-Ok-read_image.read.0 c.split_at.result.1.now c.act.result given c.act.ensures.found

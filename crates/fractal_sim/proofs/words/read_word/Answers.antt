@@ -1,8 +1,8 @@
 use Rattle.std.proofs.Common.{◌∙◌, sym, ap, subst, ℕ, List}
 use Rattle.std.specs.declared.option.Option.{Option}
 use Rattle.std.specs.Prelude.{option_map}
-use Rattle.fractal_sim.specs.WordKinds.{kind_of}
-use Rattle.fractal_sim.proofs.Options.{ReadsOn, value_read, whole_read}
+use Rattle.fractal_sim.specs.WordKinds.{ReadsOn, kind_of}
+use Rattle.fractal_sim.proofs.Options.{value_read, whole_read}
 use Rattle.fractal_sim.proofs.words.read_word.Goals as goal
 
 pub returns-in-Some : goal.returns-in-Some

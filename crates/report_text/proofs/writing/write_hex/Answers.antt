@@ -4,15 +4,15 @@ use Rattle.report_text.proofs.writing.write_hex.Goals as goal
 
 pub loop-at-preserved : goal.loop-at-preserved
 loop-at-preserved g c =
-    let taken = g.K.Sink.taken in
+    let state = g.K.Sink.state in
     let le : c.loop-at.at ≤ c.min-end.result = search rules in
     record {
       inside = search rules;
-      wrote = chunk_written c.args.bytes.now c.loop-at.at c.min-end.result (taken c.args.sink.now) (taken c.loop-at.sink) (taken c.write_chunk.new.sink) _ _ _ le c.loop-at.invariant.wrote c.in-Ok.ensures;
+      wrote = chunk_written c.args.bytes.now c.loop-at.at c.min-end.result (state c.args.sink.now) (state c.loop-at.sink) (state c.write_chunk.new.sink) le c.loop-at.invariant.wrote c.in-Ok.ensures;
     }
 
 pub returns-in-Err : goal.returns-in-Err
 returns-in-Err g c =
-    let taken = g.K.Sink.taken in
+    let state = g.K.Sink.state in
     let le : c.loop-at.at ≤ c.min-end.result = search rules in
-    chunk_failed c.args.bytes.now c.loop-at.at c.min-end.result (taken c.args.sink.now) (taken c.loop-at.sink) (taken c.write_chunk.new.sink) _ _ _ c.in-Err.failed le c.loop-at.invariant.wrote c.in-Err.ensures
+    chunk_failed c.args.bytes.now c.loop-at.at c.min-end.result (state c.args.sink.now) (state c.loop-at.sink) (state c.write_chunk.new.sink) c.in-Err.failed le c.loop-at.invariant.wrote c.in-Err.ensures

@@ -7,7 +7,7 @@ use Rattle.report_text.proofs.writing.write_hex.Given as goal
 abbrev pub invariant-loop-at : goal.invariant-loop-at
 invariant-loop-at g l = record {
   inside : l.at ≤ length l.bytes;
-  wrote : Wrote (g.K.Sink.taken l.fn.sink) (g.K.Sink.taken l.sink) (g.K.Sink.faults l.fn.sink) (g.K.Sink.faults l.sink) (flat_map byte_hex (take l.at l.bytes));
+  wrote : Wrote (g.K.Sink.state l.fn.sink) (g.K.Sink.state l.sink) (flat_map byte_hex (take l.at l.bytes));
 }
 
 abbrev pub decreases-loop-at : goal.decreases-loop-at

@@ -6,4 +6,4 @@ use Rattle.report_text.proofs.writing.write_list.Given as goal
 
 abbrev pub invariant-loop-index : goal.invariant-loop-index
 invariant-loop-index g l =
-    Wrote (g.K.Sink.taken l.fn.sink) (g.K.Sink.taken l.sink) (g.K.Sink.faults l.fn.sink) (g.K.Sink.faults l.sink) (flat_map entry_line (take l.index (enumerate_from 1 l.entries)))
+    Wrote (g.K.Sink.state l.fn.sink) (g.K.Sink.state l.sink) (flat_map entry_line (take l.index (enumerate_from 1 l.entries)))

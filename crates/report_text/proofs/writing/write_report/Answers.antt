@@ -5,8 +5,8 @@ use Rattle.report_text.proofs.writing.write_report.Goals as goal
 
 pub returns-in-Ok : goal.returns-in-Ok
 unfolding report
-returns-in-Ok g c = writes_then _ _ _ _ _ _ (Ok tt) _ (entry_lines c.args.journal.now ++ body_lines c.args.image.now c.args.memory.now c.args.output.now) (end_line c.args.end.now) refl c.in-Ok.ensures c.write_end.ensures
+returns-in-Ok g c = writes_then _ _ _ (Ok tt) _ (entry_lines c.args.journal.now ++ body_lines c.args.image.now c.args.memory.now c.args.output.now) (end_line c.args.end.now) refl c.in-Ok.ensures c.write_end.ensures
 
 pub returns-in-Err : goal.returns-in-Err
 unfolding report
-returns-in-Err g c = writes_front _ _ _ _ _ _ (entry_lines c.args.journal.now ++ body_lines c.args.image.now c.args.memory.now c.args.output.now) (end_line c.args.end.now) refl c.in-Err.ensures
+returns-in-Err g c = writes_front _ _ _ _ (entry_lines c.args.journal.now ++ body_lines c.args.image.now c.args.memory.now c.args.output.now) (end_line c.args.end.now) refl c.in-Err.ensures

@@ -6,4 +6,4 @@ use Rattle.report_text.proofs.writing.write_window.Given as goal
 
 abbrev pub invariant-loop-place : goal.invariant-loop-place
 invariant-loop-place g l =
-    Wrote (g.K.Sink.taken l.fn.sink) (g.K.Sink.taken l.sink) (g.K.Sink.faults l.fn.sink) (g.K.Sink.faults l.sink) (flat_map window_line (take l.place (window_of l.image l.memory)))
+    Wrote (g.K.Sink.state l.fn.sink) (g.K.Sink.state l.sink) (flat_map window_line (take l.place (window_of l.image l.memory)))

@@ -1,0 +1,4 @@
+pub mod Settings
+pub mod Reading
+pub mod Requests
+pub mod App

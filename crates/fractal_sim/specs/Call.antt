@@ -1,0 +1,25 @@
+-- A call of the program, as its contract sees it.
+use denote.Ref.{Bor}
+use Rattle.std.specs.Prelude.{ℕ, List, map}
+use Rattle.sim_io.specs.Streams.{SinkState, SourceState}
+
+-- what a call was given: its words, and the source before and after it
+pub record Input : Type 0 where
+  pub words : List (List ℕ)
+  pub source_before : SourceState
+  pub source_after : SourceState
+
+-- a call: what it was given, and the sink before and after it
+pub record Call : Type 0 where
+  pub input : Input
+  pub sink_before : SinkState
+  pub sink_after : SinkState
+
+-- an input with these words behind their references
+abbrev pub input_of : List (Bor (List ℕ)) → (source_before source_after : SourceState) → Input
+input_of words source_before source_after =
+    record { words = map (λ w. w.now) words; source_before = source_before; source_after = source_after }
+
+-- a call on this input
+abbrev pub call_on : Input → (sink_before sink_after : SinkState) → Call
+call_on input sink_before sink_after = record { input = input; sink_before = sink_before; sink_after = sink_after }

@@ -1,0 +1,5 @@
+pub mod Grammar
+pub mod Lines
+pub mod Numerals
+pub mod Ranges
+pub mod Written

@@ -1,0 +1,24 @@
+-- The lines of a text and the parts of a line.
+use Rattle.std.specs.Prelude.{ℕ, ◌==◌, List, [], ◌∷◌, Some, None, option_map, if◌then◌else◌}
+use Rattle.std.specs.declared.option.Option.{Option}
+
+infixl 10 ◌>>=◌
+-- what a second step makes of the first one's value
+abbrev pub ◌>>=◌ : {A B : Type 0} → Option A → (A → Option B) → Option B
+None >>= f = None
+(Some x) >>= f = f x
+
+-- a byte at the front of the first line
+abbrev pub onto : ℕ → List (List ℕ) → List (List ℕ)
+onto x [] = (x ∷ []) ∷ []
+onto x (l ∷ ls) = (x ∷ l) ∷ ls
+
+-- the lines of a text, each ended by a newline (10), which the last one may lack
+abbrev pub lines_of : List ℕ → List (List ℕ)
+lines_of [] = []
+lines_of (x ∷ xs) = if x == 10 then [] ∷ lines_of xs else onto x (lines_of xs)
+
+-- the bytes before the first `mark`, and those behind it
+abbrev pub cut : ℕ → List ℕ → Option (List ℕ × List ℕ)
+cut mark [] = None
+cut mark (x ∷ xs) = if x == mark then Some ([], xs) else option_map (λ p. (x ∷ p.0, p.1)) (cut mark xs)
