@@ -1,0 +1,51 @@
+"""The program: what it knows, as the launcher tells it, and how it is run."""
+import dataclasses
+import subprocess
+
+from tools.command import Refused
+from tools.examples import HERE
+
+LAUNCHER = HERE.parent / "fractal"
+PROGRAM = HERE.parent / "crates" / "fractal_sim" / "out" / "fractal_sim"
+
+
+@dataclasses.dataclass
+class Option:
+    """An option: its name without the dashes, the values that it may have, and the one that it has unless given."""
+    name: str
+    values: range
+    default: int
+
+    def told(self):
+        if isinstance(self.values, range):
+            return f"{self.values[0]} to {self.values[-1]}"
+        return f"one of {', '.join(map(str, self.values))}"
+
+
+class Table:
+    """The commands, options and statuses of the program, from the launcher's table."""
+
+    def __init__(self):
+        self.commands, self.options, self.statuses = {}, {}, {}
+        for line in table_lines():
+            kind, name, *rest = line.split("|")
+            if kind == "command":
+                self.commands[name] = rest[0]
+            elif kind == "option":
+                self.options[name] = Option(name, values_in(rest[0]), int(rest[1]))
+            elif kind == "status":
+                self.statuses[int(name)] = rest[0]
+
+
+def table_lines():
+    try:
+        done = subprocess.run([LAUNCHER, "table"], capture_output=True, text=True, check=True, stdin=subprocess.DEVNULL)
+    except subprocess.CalledProcessError as error:
+        raise Refused(f"{LAUNCHER} tells no table: it ended with status {error.returncode}.") from None
+    return done.stdout.splitlines()
+
+
+def values_in(text):
+    """The values that a row of the table allows: `1..64`, or `4,8,16`."""
+    least, dots, most = text.partition("..")
+    return range(int(least), int(most) + 1) if dots else tuple(map(int, text.split(",")))

@@ -1,0 +1,1 @@
+"""What examples/tries tries, by script."""

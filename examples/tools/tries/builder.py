@@ -1,0 +1,232 @@
+"""Tries of examples/build."""
+import signal
+
+from tools.examples import EXAMPLES
+from tools.tries.place import expect, one_sentence_each
+
+# A task that ends, and the line that describes it.
+END = "main:\n    li a7, 0\n    ecall\n"
+GOOD = "# image: task main\n" + END
+DATA = "    .data\n    .balign 4\nfirst:\n    .word 1, 2\n"
+# Lines that describe nothing, and a part of the sentence that refuses each.
+MISSHAPEN = (
+    ("# image: root order", "root ordered"),
+    ("# image: root", "root ordered"),
+    ("# image: root ordered now", "root ordered"),
+    ("# image: window foo", "window LABEL WORDS"),
+    ("# image: window foo 1", "no label `foo`"),
+    ("# image: window first -1", "0 to 4096"),
+    ("# image: window first 3", "ends behind the data"),
+    ("# image: window main 1", "doesn't stand in the data"),
+    ("# image: data", "data BYTES"),
+    ("# image: data 7", "8 bytes, which is more than 7"),
+    ("# image: data much", "0 to 16777216"),
+    ("# image: task", "label is missing"),
+    ("# image: task ts 1", "label is missing"),
+    ("# image: task nowhere", "no label `nowhere`"),
+    ("# image: task first", "doesn't stand in the text"),
+    ("# image: task main ts", "number is missing"),
+    ("# image: task main ts -1", "0 to 4294967295, in decimal or behind 0x, and not `-1`"),
+    ("# image: task main ts 4294967296", "0 to 4294967295"),
+    ("# image: task main args", "one to three"),
+    ("# image: task main args 1 2 3 4", "and not 4"),
+    ("# image: task main args one", "not `one`"),
+    ("# image: task main arg 5", "`arg` isn't known"),
+    ("# image: task main args 5 ts 1", "not `ts`"),
+    ("# image: task main 5", "`5` isn't known"),
+    ("# image: tasks main", "`tasks` describes nothing"),
+    ("# image:", "describes nothing"),
+    ("#image: rooot ordered", "`rooot` describes nothing"),
+    ("# image task main", "a colon is missing"),
+)
+
+
+def folder_with(place, name, **sources):
+    """A folder of sources, in a folder with a blank in its name."""
+    folder = place.root / "my tasks" / name
+    folder.mkdir(parents=True)
+    for source, text in sources.items():
+        (folder / f"{source}.s").write_text(text)
+    return folder
+
+
+def nothing_is_written(folder):
+    left = sorted(path.name for path in folder.iterdir() if path.suffix != ".s")
+    expect(not left, "nothing written", left)
+
+
+def examples_are_rebuilt(place):
+    """the project's examples come out byte for byte, by name or all, with their listings"""
+    answer = place.call("examples/build")
+    expect(answer.status == 0 and answer.output.count(b"image.bin\n") == len(EXAMPLES), "all examples", answer)
+    place.is_clean()
+    expect(place.call("examples/build", "hello").status == 0, "an example by its name")
+    place.is_clean()
+
+
+def folders_are_anywhere(place):
+    """a folder is taken by its relative or absolute path, with blanks in it, through a link, and from anywhere"""
+    folder = folder_with(place, "one", task=GOOD)
+    (place.root / "link").symlink_to(folder)
+    (place.root / "builder").symlink_to(place.clone / "examples" / "build")
+    for script, word, here in (("examples/build", "my tasks/one", place.root), ("examples/build", ".", folder),
+                               ("examples/build", folder, "/"), ("examples/build", "link", place.root),
+                               (str(place.root / "builder"), "../one", folder)):
+        answer = place.call(script, str(word), cwd=here)
+        expect(answer.status == 0, f"an image in {word} from {here}", answer)
+        (folder / "image.bin").unlink()
+        (folder / "listing").unlink()
+
+
+def sources_are_linked(place):
+    """several sources become one image, in the order of their names, and the listing tells each address"""
+    first = "# image: task main\n    .globl main\nmain:\n    call other\n    li a7, 0\n    ecall\n"
+    first += "    .data\n    .byte 7\n"
+    second = "    .globl other\nother:\n    ret\n    .data\nword:\n    .word 5\n"
+    folder = folder_with(place, "two", a=first, b=second)
+    answer = place.call("examples/build", str(folder))
+    expect(answer.status == 0, "an image", answer)
+    data = (folder / "image.bin").read_bytes()[32 + 4 * 5:][:8]
+    expect(data == bytes([7, 0, 0, 0, 5, 0, 0, 0]), "data at multiples of 4", data)
+    listing = (folder / "listing").read_text()
+    for part in ("00010000 <main>:", "00010010 <other>:", "00010010  00008067  jalr zero,0(ra)", "| b.s:3 | ret",
+                 "10000004 <word>:"):
+        expect(part in listing, f"`{part}` in the listing", listing)
+
+
+def sections_are_placed(place):
+    """.rodata, .sdata and .bss are placed, and a program that adds them up has the right sum"""
+    place.needs_program()
+    folder = folder_with(place, "sections", task="# image: task main\n# image: window sum 1\n" + """
+main:
+    la t0, constant
+    lw a0, 0(t0)
+    la t0, small
+    lw a1, 0(t0)
+    add a0, a0, a1
+    la t0, plain
+    lw a1, 0(t0)
+    add a0, a0, a1
+    la t0, sum
+    lw a1, 0(t0)
+    add a0, a0, a1
+    sw a0, 0(t0)
+    li a7, 0
+    ecall
+    .section .rodata.tables, "a"
+constant: .word 1000
+    .section .sdata, "aw"
+small: .word 200
+    .data
+plain: .word 30
+    .bss
+    .balign 4
+sum: .zero 4
+""")
+    expect(place.call("examples/build", str(folder)).status == 0, "an image")
+    answer = place.call("fractal", "run", stdin=(folder / "image.bin").read_bytes())
+    expect(answer.output.endswith(b"window 10000008 000004ce\nend normal\n"), "the sum 1230", answer)
+
+
+def other_sections_are_refused(place):
+    """a section without a place in the image is refused, and nothing is written"""
+    folder = folder_with(place, "section", task=GOOD + '    .section .mine, "aw"\n    .word 1\n')
+    place.call("examples/build", str(folder)).sentence("task.s", ".mine", ".bss")
+    nothing_is_written(folder)
+
+
+def misshapen_lines_are_refused(place):
+    """each unknown or misshapen line is refused with its file and line, and nothing is written"""
+    for number, (line, part) in enumerate(MISSHAPEN):
+        folder = folder_with(place, f"line {number}", task=f"# image: task main\n{line}\n{END}{DATA}")
+        place.call("examples/build", str(folder)).sentence("task.s:2:", part)
+        nothing_is_written(folder)
+
+
+def second_lines_are_refused(place):
+    """a second line on the root, the data or the window is refused, as is a task's label that two sources have"""
+    folder = folder_with(place, "twice", a="# image: root ordered\n" + GOOD, b="# image: root unordered\n")
+    place.call("examples/build", str(folder)).sentence("b.s:1:", "a.s:1")
+    folder = folder_with(place, "same label", a=GOOD, b=END)
+    place.call("examples/build", str(folder)).sentence("a.s:1:", "more than one source has a label `main`")
+
+
+def odd_windows_are_refused(place):
+    """a window at no multiple of 4 is refused with its file and line"""
+    data = "    .data\n    .byte 1\nodd:\n    .word 1, 2\n"
+    folder = folder_with(place, "odd", task=f"# image: window odd 1\n{GOOD}{data}")
+    place.call("examples/build", str(folder)).sentence("task.s:1:", "multiple of 4")
+
+
+def missing_tasks_are_told(place):
+    """where no line tells a task it says where"""
+    folder = folder_with(place, "none", task=END)
+    place.call("examples/build", str(folder)).sentence("none/task.s", "no line tells an initial task")
+    nothing_is_written(folder)
+
+
+def faults_of_the_source_are_told(place):
+    """what the assembler or the linker refuses is told with the source's path and line"""
+    folder = folder_with(place, "fault", task=GOOD + "    mul a0, a0, a0\n")
+    answer = place.call("examples/build", str(folder))
+    answer.tells("fault/task.s:5:", "mul")
+    expect(answer.status == 1, "status 1", answer)
+    nothing_is_written(folder)
+    folder = folder_with(place, "unknown", task=GOOD + "    j nowhere\n")
+    answer = place.call("examples/build", str(folder))
+    answer.tells("unknown/task.s", "nowhere")
+    expect(answer.status == 1, "status 1", answer)
+    nothing_is_written(folder)
+
+
+def bad_words_are_refused(place):
+    """words that are no folder, folders without a source, and options are told in a sentence"""
+    empty = folder_with(place, "empty")
+    one_sentence_each([
+        (place.call("examples/build", "nowhere"), ["nowhere", "no such folder"]),
+        (place.call("examples/build", "--fast"), ["--fast"]),
+        (place.call("examples/build", str(empty)), ["empty", "no source"]),
+        (place.call("examples/build", ""), ["no such folder"]),
+    ])
+    expect(b"usage:" in place.call("examples/build", "--help").output, "a help page")
+
+
+def missing_assembler_is_told(place):
+    """without an assembler for RISC-V it says which is wanted"""
+    folder = folder_with(place, "alone", task=GOOD)
+    place.without(*(prefix + "as" for prefix in ("riscv64-linux-gnu-", "riscv64-unknown-elf-", "riscv32-unknown-elf-")))
+    place.call("examples/build", str(folder)).sentence("binutils-riscv64-linux-gnu")
+
+
+def unwritable_folders_are_told(place):
+    """a folder that can't be read or written is told in a sentence, and nothing is left"""
+    place.make_unwritable()
+    place.call("examples/build", "hello").sentence("permission denied")
+    hidden = folder_with(place, "hidden", task=GOOD)
+    hidden.chmod(0)
+    place.call("examples/build", str(hidden)).sentence("hidden", "permission denied")
+    hidden.chmod(0o755)
+    expect(not any(place.temporary.iterdir()), "no temporary file")
+
+
+def interrupts_leave_nothing(place):
+    """an interrupt is told in a sentence, and leaves neither an image nor a temporary file"""
+    folder = folder_with(place, "slow", task=GOOD)
+    mark = place.root / "started"
+    place.stub_tool("riscv64-linux-gnu-as", f"touch '{mark}'; exec sleep 100\n")
+    place.stub_tool("riscv64-linux-gnu-ld", "")
+    place.stub_tool("riscv64-linux-gnu-objdump", "")
+    for number in (signal.SIGINT, signal.SIGTERM):
+        mark.unlink(missing_ok=True)
+        answer = place.interrupted("examples/build", str(folder), ready=mark.exists, number=number)
+        answer.sentence("interrupted", status=128 + number)
+        nothing_is_written(folder)
+        place.is_clean()
+
+
+TRIES = (
+    examples_are_rebuilt, folders_are_anywhere, sources_are_linked, sections_are_placed, other_sections_are_refused,
+    misshapen_lines_are_refused, second_lines_are_refused, odd_windows_are_refused, missing_tasks_are_told,
+    faults_of_the_source_are_told, bad_words_are_refused, missing_assembler_is_told, unwritable_folders_are_told,
+    interrupts_leave_nothing,
+)

@@ -1,0 +1,303 @@
+"""Tries of examples/explain, examples/check, examples/sweep and the gate."""
+import csv
+import io
+import pathlib
+import shutil
+import xml.etree.ElementTree
+
+from tools.examples import EXAMPLES
+from tools.program import Table
+from tools.tries.launcher import TRAP, image_of
+from tools.tries.place import Answer, expect, one_sentence_each
+
+# A program that answers `run` and `load`, with the status that its number of tasks leads to.
+LOAD = """cat >/dev/null
+case $1 in
+    load) printf 'load %s %s %s\\ncommits 200\\noutput 41\\nwindow 10000000 00000007\\nend normal\\n' "$2" "$3" "$4" ;;
+    *) echo 'fault usage'; exit 1 ;;
+esac
+"""
+
+
+def files_of(place, name):
+    folder = place.clone / "examples" / name
+    return str(folder / "image.bin"), str(folder / "report")
+
+
+def picture_in(data):
+    """The texts of an SVG, which has to be well-formed XML."""
+    root = xml.etree.ElementTree.fromstring(data)
+    expect(root.tag.endswith("svg"), "an SVG", root.tag)
+    return [element.text for element in root.iter() if element.text and element.text.strip()]
+
+
+# ---- explain
+
+
+def reports_are_explained(place):
+    """tasks have their labels in a tree by depth, the output is text, the window decimal with labels"""
+    nested = ("2  1.0                  1    debit 5", "      note", "first                10000000           88")
+    for name, parts in (("nested", nested), ("hello", ("Output, 13 bytes", "Hello, world\\n", "main")),
+                        ("fork_join", ("sum                  10000010           30", "work 3", "join"))):
+        answer = place.call("examples/explain", *files_of(place, name))
+        expect((answer.status, answer.errors) == (0, ""), "an explanation", answer)
+        for part in parts:
+            expect(part in answer.output.decode(), f"`{part}`", answer.output.decode())
+
+
+def traps_are_explained(place):
+    """a trap's cause is told in words, with the source line of its pc, from the listing or from a source"""
+    image, report = files_of(place, "trap")
+    folder = place.clone / "examples" / "trap"
+    for source in ([], [str(folder)], [str(folder / "task.s")], [str(folder / "listing")]):
+        answer = place.call("examples/explain", image, report, *source)
+        for part in ("cause 10: a timestamp in the past", "0.1 (bad; timestamp 7", "task.s:18: ecall", "bad+16"):
+            expect(part in answer.output.decode(), f"`{part}`", answer)
+
+
+def pictures_are_drawn(place):
+    """with --picture the tree is SVG with a box for each task"""
+    for name, parts in (("nested", ("1: 0.0", "transfer 5", "8: 7.0", "depth 3")), ("trap", ("trap 10: 0.1", "bad"))):
+        answer = place.call("examples/explain", *files_of(place, name), "--picture")
+        texts = picture_in(answer.output)
+        for part in parts:
+            expect(part in texts, f"`{part}` in the picture", texts)
+
+
+def faults_are_explained(place):
+    """what the program writes in a report's place is told in words"""
+    image = files_of(place, "hello")[0]
+    for line, part in (("check ok 8", "8 tasks took their turns"), ("fault image 5 8", "above its limit"),
+                       ("fault journal 3", "line 3"), ("fault usage", "words are refused"), ("fault long", "67108864")):
+        answer = place.call("examples/explain", image, "-", stdin=line.encode() + b"\n")
+        expect(answer.status == 0 and part in answer.output.decode(), f"`{part}`", answer)
+
+
+def other_runs_are_told(place):
+    """a report that isn't the image's is explained as far as it goes, and says so"""
+    image, report = files_of(place, "nested")
+    text = pathlib.Path(report).read_bytes().replace(b"2 1.0 2 1", b"2 0.1 1 0")
+    answer = place.call("examples/explain", image, "-", stdin=text)
+    expect(answer.status == 0 and b"./fractal check" in answer.output, "a hint at check", answer)
+
+
+def explain_refuses_bad_files(place):
+    """bad words, missing files, other files and another image's source are told in a sentence"""
+    image, report = files_of(place, "hello")
+    other = place.clone / "examples" / "trap"
+    explain = "examples/explain"
+    one_sentence_each([
+        (place.call(explain), ["IMAGE REPORT"]),
+        (place.call(explain, image), ["IMAGE REPORT"]),
+        (place.call(explain, image, report, "--pictures"), ["IMAGE REPORT"]),
+        (place.call(explain, "nowhere", report), ["nowhere", "no such file"]),
+        (place.call(explain, image, "nowhere"), ["nowhere", "no such file"]),
+        (place.call(explain, str(other), report), ["is a directory"]),
+        (place.call(explain, report, image), ["this is no image"]),
+        (place.call(explain, image, image), ["this is no report", "fractal 1"]),
+        (place.call(explain, image, "-", stdin=b"fractal 1\n2 0.0 1 0\n"), ["-:2:", "turn 1"]),
+        (place.call(explain, image, "-", stdin=b"fractal 1\n"), ["-:2:", "output"]),
+        (place.call(explain, image, report, str(other)), ["isn't the image's"]),
+        (place.call(explain, image, report, report), ["no listing"]),
+        (place.call(explain, image, report, "nowhere.s"), ["nowhere.s", "no such file"]),
+    ])
+
+
+def closed_pipes_are_borne(place):
+    """a reader that goes away, a full disk and a closed standard output are told in a sentence"""
+    image, report = files_of(place, "nested")
+    explain = str(place.clone / "examples" / "explain")
+    for target, part in (("| exec sh -c :", "nobody reads"), (">/dev/full", "no space"), (">&-", "closed")):
+        script = f'"$0" "$1" "$2" {target}'
+        # The reader has gone before the script, which takes longer to begin, writes.
+        answer = place.call("/bin/sh", "-c", f"{script}; exit 1", explain, image, report)
+        answer.sentence(part)
+
+
+# ---- check
+
+
+def accepted_examples_are_named(place):
+    """each accepted example is named, in an unwritable clone, from another folder, and with a folder beside them"""
+    place.needs_program()
+    (place.clone / "examples" / "mine").mkdir()
+    wanted = "".join(f"{name}: accepted\n" for name in EXAMPLES).encode()
+    expect(place.call("examples/check", cwd="/") == Answer(0, wanted, ""), "all examples")
+    place.make_unwritable()
+    expect(place.call("examples/check") == Answer(0, wanted, ""), "all examples where nothing can be written")
+
+
+def other_reports_fail(place):
+    """an example with another report fails the check, which names it, and the others are checked all the same"""
+    place.needs_program()
+    report = place.clone / "examples" / "hello" / "report"
+    report.write_bytes(report.read_bytes().replace(b"output 48", b"output 49"))
+    answer = place.call("examples/check")
+    expect(answer.status == 1 and b"hello: its run writes another report" in answer.output, "a failure", answer)
+    expect(b"trap: accepted" in answer.output, "the others", answer)
+    report.unlink()
+    place.call("examples/check", "hello").sentence("report", "no such file")
+    place.call("examples/check", "mine").sentence("none of the project's examples")
+
+
+def lying_programs_fail(place):
+    """a program that writes the right report with another status fails the check"""
+    (place.root / "report").write_bytes(TRAP)
+    place.stub(place.program, f"cat >/dev/null; cat '{place.root}/report'; exit 0\n")
+    answer = place.call("examples/check", "trap")
+    expect(answer == Answer(1, b"trap: its run has the status 0\n", ""), "a failure", answer)
+
+
+def either_fails_the_gate(place):
+    """the gate runs plain `rt ci` first, then the examples where the program was built, and fails where either does"""
+    place.stub_tool("rt", f'echo "$@" >>"{place.root}/words"; exit $(cat "{place.root}/proved")\n')
+    names = {False: "hello", True: "trap"}
+    reports = {is_spoiled: pathlib.Path(files_of(place, name)[1]).read_bytes() for is_spoiled, name in names.items()}
+    for proved, is_built, is_spoiled, wanted in ((0, False, True, 0), (0, True, False, 0), (0, True, True, 1),
+                                                 (2, True, False, 2), (2, True, True, 2), (2, False, False, 2)):
+        (place.root / "proved").write_text(str(proved))
+        shutil.rmtree(place.program.parent, ignore_errors=True)
+        if is_built:
+            place.needs_program()
+        (place.clone / "examples" / "hello" / "report").write_bytes(reports[is_spoiled])
+        answer = place.call(".ci/run", cwd="/")
+        expect(answer.status == wanted, f"status {wanted}", answer)
+    expect(set((place.root / "words").read_text().split("\n")) == {"ci", ""}, "plain rt ci")
+
+
+# ---- sweep
+
+
+def rows_in(data):
+    return list(csv.DictReader(io.StringIO(data.decode())))
+
+
+def grids_are_swept(place):
+    """each choice of options is a row, a run that fails is one too, and the plot is drawn"""
+    place.needs_program()
+    image = files_of(place, "fork_join")[0]
+    answer = place.call("examples/sweep", image, "--commits", "3,1000", "--budget=5,100..300..100", "--jobs", "4",
+                        "--check", "--plot", "commits,budget,a plot.svg")
+    rows = rows_in(answer.output)
+    expect((answer.status, answer.errors, len(rows)) == (0, "", 8), "eight rows", answer)
+    expect([row["status"] for row in rows] == ["3", "4", "4", "4", "3", "0", "0", "0"], "the statuses", rows)
+    expect([row["commits"] for row in rows] == ["0", "3", "3", "3", "0", "6", "6", "6"], "the commits", rows)
+    expect(all(row["check"] == "0" for row in rows), "accepted reports", rows)
+    expect(rows[5]["window"] == rows[6]["window"] != rows[0]["window"], "digests of the window", rows)
+    expect("--budget" in " ".join(picture_in((place.root / "a plot.svg").read_bytes())), "the option's name")
+
+
+def broken_programs_are_rows(place):
+    """a program that can't be started, or is killed, is a row, and the sweep goes on"""
+    image = files_of(place, "hello")[0]
+    for text, status in (("exit 5\n", "5"), ("kill -9 $$\n", "137"), (None, "126")):
+        place.stub(place.program, text or "")
+        if text is None:
+            place.program.chmod(0o644)
+        answer = place.call("examples/sweep", image, "--budget", "1,2")
+        rows = rows_in(answer.output)
+        expect(answer.status == 0 and [row["status"] for row in rows] == [status] * 2, f"the status {status}", answer)
+
+
+def shards_are_joined(place):
+    """the files of the shards are the whole sweep, joined by cat, and are plotted from the joined file"""
+    place.needs_program()
+    image = files_of(place, "hello")[0]
+    words = ["examples/sweep", image, "--commits", "1..7"]
+    whole = place.call(*words).output
+    parts = [place.call(*words, "--shard", f"{place_of}/3", "--csv", f"part {place_of}.csv") for place_of in (1, 2, 3)]
+    expect(all(part == Answer(0, b"", "") for part in parts), "three files", parts)
+    joined = b"".join((place.root / f"part {place_of}.csv").read_bytes() for place_of in (1, 2, 3))
+    names = ("--commits", "status", "output")
+    cells = [sorted(tuple(row[name] for name in names) for row in rows_in(data)) for data in (whole, joined)]
+    expect(cells[0] == cells[1] and len(cells[0]) == 7, "the same rows", cells)
+    (place.root / "joined.csv").write_bytes(joined)
+    answer = place.call("examples/sweep", "--rows", "joined.csv", "--plot", "seconds,commits,joined.svg")
+    expect(answer.status == 0, "a plot", answer)
+    picture_in((place.root / "joined.svg").read_bytes())
+
+
+def loads_are_swept(place):
+    """a generated load is swept where the program has the command, and refused where it hasn't"""
+    if "load" not in Table().commands:
+        place.call("examples/sweep", "--load", "walk,7,100").sentence("no command `load`")
+        launcher = place.clone / "fractal"
+        grown = "command|load|KIND SEED SIZE||runs a load\ncommand|run|"
+        launcher.write_text(launcher.read_text().replace("command|run|", grown))
+    place.stub(place.program, LOAD)
+    answer = place.call("examples/sweep", "--load", "walk,7,100", "--budget", "1..3")
+    place.call("examples/sweep", "--load", "walk,7").sentence("KIND,SEED,SIZE")
+    cells = [(row["input"], row["status"], row["commits"]) for row in rows_in(answer.output)]
+    expect(cells == [("load walk 7 100", "0", "200")] * 3, "three rows", answer)
+
+
+def progress_is_shown(place):
+    """on a terminal one line tells how many runs are done"""
+    place.needs_program()
+    answer = place.on_terminal("examples/sweep", files_of(place, "trap")[0], "--commits", "1..5")
+    answer.tells("1 of 5 runs, 1 with", "5 of 5 runs, 5 with")
+    expect(answer.errors.count("\n") == 1, "one line", answer)
+
+
+def sweep_refuses_bad_words(place):
+    """bad words, values outside an option's range and missing files are told in a sentence"""
+    image, report = files_of(place, "hello")
+    sweep = "examples/sweep"
+    one_sentence_each([
+        (place.call(sweep, image), ["isn't built", "./fractal build"]),
+        (place.call(sweep), ["IMAGE"]),
+        (place.call(sweep, image, report), ["one image"]),
+        (place.call(sweep, image, "--towers", "1"), ["--towers"]),
+        (place.call(sweep, image, "--budget"), ["value is missing"]),
+        (place.call(sweep, image, "--budget", "0"), ["1 to 65536", "`0`"]),
+        (place.call(sweep, image, "--budget", "1,,2"), ["``"]),
+        (place.call(sweep, image, "--budget", "5..1"), ["1 to 65536"]),
+        (place.call(sweep, image, "--budget", "1..9..0"), ["1..9..0"]),
+        (place.call(sweep, image, "--budget", "1", "--budget", "2"), ["twice"]),
+        (place.call(sweep, image, "--jobs", "0"), ["1 to 1024"]),
+        (place.call(sweep, image, "--shard", "3/2"), ["K/N"]),
+        (place.call(sweep, image, "--shard", "2"), ["K/N"]),
+        (place.call(sweep, image, "--plot", "output,budget,x"), ["COLUMN,OPTION,FILE"]),
+        (place.call(sweep, image, "--program", "nowhere"), ["nowhere", "isn't built"]),
+        (place.call(sweep, "--rows", "nowhere"), ["nowhere", "no such file"]),
+        (place.call(sweep, "--rows", report, "--plot", "seconds,budget,x"), ["report"]),
+    ])
+    place.needs_program()
+    one_sentence_each([
+        (place.call(sweep, "nowhere"), ["nowhere", "no such file"]),
+        (place.call(sweep, image, "--commits", "1..1000", "--budget", "1..1000"), ["1,000,000 runs"]),
+        (place.call(sweep, image, "--csv", "nowhere/x.csv"), ["nowhere/x.csv", "no such folder"]),
+        (place.call(sweep, image, "--plot", f"seconds,budget,{place.clone}"), ["this is a folder"]),
+    ])
+    place.is_clean()
+
+
+def interrupted_sweeps_leave_nothing(place):
+    """a sweep that is interrupted says so, ends its runs and leaves no file"""
+    mark = place.root / "started"
+    place.stub(place.program, f"touch '{mark}'; exec sleep 100\n")
+    image = files_of(place, "hello")[0]
+    words = ["examples/sweep", image, "--jobs", "2", "--budget", "1..9", "--csv", "x.csv"]
+    answer = place.interrupted(*words, ready=mark.exists)
+    answer.sentence("interrupted", status=130)
+    expect(not (place.root / "x.csv").exists(), "no rows")
+    place.is_clean()
+
+
+def programs_are_handed_on(place):
+    """the built program runs alone, from another folder and with an empty environment"""
+    place.needs_program()
+    alone = place.root / "alone"
+    shutil.copy(place.program, alone)
+    shutil.rmtree(place.clone / "crates")
+    answer = place.call("/usr/bin/env", "-i", str(alone), "run", stdin=image_of(place, "trap"), cwd="/")
+    expect(answer == Answer(3, TRAP, ""), "the report", answer)
+
+
+TRIES = (
+    reports_are_explained, traps_are_explained, pictures_are_drawn, faults_are_explained, other_runs_are_told,
+    explain_refuses_bad_files, closed_pipes_are_borne, accepted_examples_are_named, other_reports_fail,
+    lying_programs_fail, either_fails_the_gate, grids_are_swept, broken_programs_are_rows, shards_are_joined,
+    loads_are_swept, progress_is_shown, sweep_refuses_bad_words, interrupted_sweeps_leave_nothing,
+    programs_are_handed_on,
+)
