@@ -1,15 +1,10 @@
 -- What each step of a task keeps holds of a task that is done.
-use Rattle.std.proofs.Common.{◌≡◌, ◌≢◌, ℕ, zero, suc, ◌==◌, nat_lt, Bool, true, false, List, length, Option, Some, None, refl, ◌∙◌, arith, if◌then◌else◌}
-use Rattle.std.specs.Prelude.{Result, Ok, Err}
-use Rattle.std.proofs.lemmas.Bool.Decides.{nat_tests}
-use Rattle.guest_image.specs.declared.image.Kind.{Kind}
+use Rattle.std.proofs.Common.{◌≡◌, ℕ, zero, suc, List, length, refl, ◌∙◌}
 use Rattle.guest_image.specs.ImageValue.{ImageValue}
 use Rattle.rv_core.specs.declared.state.Core.{Core}
 use Rattle.rv_core.specs.Next.{Next, Goes, Stops}
 use Rattle.rv_core.specs.Legs.{next_at}
-use Rattle.task_desc.specs.declared.calls.TheConstants.{MAX_DEPTH}
 use Rattle.task_desc.specs.declared.desc.Ctx.{Ctx}
-use Rattle.task_desc.specs.Calls.{kind_of, sub_of, sub_allowed}
 use Rattle.task_step.specs.declared.request.Request.{Request}
 use Rattle.task_step.specs.declared.request.Request.TheVariants as request
 use Rattle.task_step.specs.Requests.{request_at}

@@ -1,5 +1,5 @@
 -- Names stand at most once.
-use Rattle.std.proofs.Common.{◌≡◌, refl, sym, ap, ◌∙◌, ◌≢◌, ◌≤◌, ◌<◌, ◌+◌, ◌==◌, ◌&&◌, not, ℕ, Bool, true, false, List, [], ◌∷◌, ◌++◌, length, subst, map, filter, Option, Some, None, if◌then◌else◌, nat_le, nat_lt, arith}
+use Rattle.std.proofs.Common.{◌≡◌, refl, sym, ap, ◌∙◌, ◌≢◌, ◌≤◌, ◌<◌, ◌+◌, ◌==◌, ◌&&◌, not, ℕ, zero, suc, Bool, true, false, List, [], ◌∷◌, ◌++◌, length, get_or, subst, map, filter, Option, Some, None, if◌then◌else◌, nat_le, nat_lt, arith}
 use Rattle.std.specs.List.{enumerate_from}
 use Rattle.std.proofs.lemmas.Grind.{common_steps}
 use Rattle.std.proofs.lemmas.List.{nil_from_length}
@@ -9,13 +9,15 @@ use Rattle.task_desc.specs.declared.desc.Name.{Name}
 use Rattle.task_desc.specs.declared.desc.Spawn.{Spawn}
 use Rattle.task_desc.specs.declared.desc.Place.{Place}
 use Rattle.task_desc.specs.declared.desc.Place.TheVariants.{Same, Sub, Super}
-use Rattle.serial_machine.specs.declared.bag.PendingTask.{PendingTask}
+use Rattle.pending_list.specs.declared.task.PendingTask.{PendingTask}
 use Rattle.serial_machine.specs.BagValue.{BagValue}
 use Rattle.serial_machine.specs.Names.{one, times, times_in, AreNamed, first_least, earlier, IsNext, next_in, name_of}
+use Rattle.serial_machine.specs.Stack.{AreAllOlder}
 use Rattle.serial_machine.specs.Turn.{is_named, without, inner, child, children, sub_bags, with_super, stack_after, is_least, find_named, is_for}
 use Rattle.serial_machine.specs.Run.{image_task}
 use Rattle.guest_image.specs.declared.image.ImageTask.{ImageTask}
-use Rattle.std.specs.Prelude.{MatchOption}
+use Rattle.std.specs.Prelude.{MatchOption, Contains}
+use Rattle.std.proofs.lemmas.Option.{none-some, same_Some}
 
 pub times-append : (x : Name) (xs ys : List PendingTask) → times x (xs ++ ys) ≡ times x xs + times x ys
 times-append x [] ys = omega arith
@@ -115,7 +117,7 @@ pub record IsFirst (tasks : List PendingTask) (t : PendingTask) : Type 0 where
 is_named-own : (t : PendingTask) → is_named t.name t ≡ true
 is_named-own t = grind (arith, nat_tests, common_steps)
 
-is_least-below : (a b : ℕ) (ts : List PendingTask) → a ≤ b → is_least b ts ≡ true → is_least a ts ≡ true
+pub is_least-below : (a b : ℕ) (ts : List PendingTask) → a ≤ b → is_least b ts ≡ true → is_least a ts ≡ true
 is_least-below a b [] le h = refl
 is_least-below a b (t ∷ ts) le h = go (is_least-below a b ts le) h where
   go : (is_least b ts ≡ true → is_least a ts ≡ true) → (nat_le b t.ts && is_least b ts) ≡ true → (nat_le a t.ts && is_least a ts) ≡ true
@@ -149,18 +151,35 @@ first (h ∷ ts) = go (first_least ts) (first ts) where
   go None z = rw z (first-here h [] refl)
   go (Some b) f = two b f (nat_lt b.ts h.ts) refl
 
-pub earlier-assoc : (a : Option PendingTask) (t : PendingTask) (o : Option PendingTask) → earlier a (earlier (Some t) o) ≡ earlier (earlier a (Some t)) o
-earlier-assoc None t o = refl
-earlier-assoc (Some a) t None = go (nat_lt t.ts a.ts) where
-  go : (c : Bool) → (if c then Some t else Some a) ≡ earlier (if c then Some t else Some a) None
-  go true = refl
-  go false = refl
-earlier-assoc (Some a) t (Some b) = go (nat_lt t.ts a.ts) refl (nat_lt b.ts t.ts) refl where
-  go : (c : Bool) → nat_lt t.ts a.ts ≡ c → (d : Bool) → nat_lt b.ts t.ts ≡ d → earlier (Some a) (if d then Some b else Some t) ≡ earlier (if c then Some t else Some a) (Some b)
-  go true e true f = let g : nat_lt b.ts a.ts ≡ true = grind (arith, nat_tests, common_steps) in rw (f, g) refl
-  go true e false f = rw (e, f) refl
-  go false e true f = refl
-  go false e false f = let g : nat_lt b.ts a.ts ≡ false = grind (arith, nat_tests, common_steps) in rw (e, g) refl
+-- no task has a smaller timestamp than the first of the least, whose own one is pending
+pub first-none : (ts : ℕ) (tasks : List PendingTask) → first_least tasks ≡ None → is_least ts tasks ≡ true
+first-none ts tasks none =
+    let is : tasks ≡ [] = subst (λ o. MatchOption o (tasks ≡ []) (IsFirst tasks)) none (first tasks) in
+    ap (is_least ts) is
+
+pub first-above : (ts : ℕ) (tasks : List PendingTask) (t : PendingTask) → first_least tasks ≡ Some t → ts ≤ t.ts → is_least ts tasks ≡ true
+first-above ts tasks t found above =
+    let is : IsFirst tasks t = subst (λ o. MatchOption o (tasks ≡ []) (IsFirst tasks)) found (first tasks) in
+    is_least-below ts t.ts tasks above is.least
+
+pub first-stands : (tasks : List PendingTask) (t : PendingTask) → first_least tasks ≡ Some t → Contains (map (λ x. x.ts) tasks) t.ts
+first-stands [] t found = absurd (none-some t found)
+first-stands (h ∷ ts) t found = go (first_least ts) found (first-stands ts) where
+  here : h ≡ t → Contains (map (λ x. x.ts) (h ∷ ts)) t.ts
+  here same = (0, omega arith, ap (λ x. x.ts) same)
+
+  there : Contains (map (λ x. x.ts) ts) t.ts → Contains (map (λ x. x.ts) (h ∷ ts)) t.ts
+  there (k, inside, is) = (suc k, omega (arith, inside), is)
+
+  two : (b : PendingTask) (c : Bool) → (if c then Some b else Some h) ≡ Some t → (b ≡ t → Contains (map (λ x. x.ts) ts) t.ts)
+      → Contains (map (λ x. x.ts) (h ∷ ts)) t.ts
+  two b true is on = there (on (same_Some b t is))
+  two b false is on = here (same_Some h t is)
+
+  go : (o : Option PendingTask) → earlier (Some h) o ≡ Some t → ((u : PendingTask) → o ≡ Some u → Contains (map (λ x. x.ts) ts) u.ts)
+      → Contains (map (λ x. x.ts) (h ∷ ts)) t.ts
+  go None is on = here (same_Some h t is)
+  go (Some b) is on = two b (nat_lt b.ts h.ts) is (λ same. subst (λ u. Contains (map (λ x. x.ts) ts) u.ts) same (on b refl))
 
 abbrev IsOpen : List BagValue → Type 0
 IsOpen [] = Unit {0}
@@ -191,3 +210,21 @@ once-in-first count name full named bag outer e =
     let top : times_in name full ≡ times name bag.tasks + times_in name outer = sym (times_in-inner name full) ∙ ap (times_in name) e in
     let most : one (nat_le name.creator count) ≤ 1 = grind (arith, nat_tests, common_steps) in
     omega (arith, named name, top, most)
+
+times-there : (tasks : List PendingTask) (k : ℕ) (d : PendingTask) → k < length tasks → 1 ≤ times (get_or tasks k d).name tasks
+times-there [] k d inside = absurd (omega arith)
+times-there (t ∷ ts) zero d inside = rw (is_named-own t) (omega arith)
+times-there (t ∷ ts) (suc k) d inside = omega (arith, times-there ts k d (omega arith))
+
+-- no pending task's creator is still to commit
+pub all-older : (count : ℕ) (stack : List BagValue) → AreNamed count stack → AreAllOlder (count + 1) stack
+all-older count [] named = tt
+all-older count (bag ∷ outer) named = (
+  (λ k d inside. older (get_or bag.tasks k d).name (times-there bag.tasks k d inside)),
+  all-older count outer (λ name. omega (arith, named name)),
+)
+  where
+    older : (name : Name) → 1 ≤ times name bag.tasks → name.creator < count + 1
+    older name there =
+        let some : 1 ≤ one (nat_le name.creator count) = omega (arith, named name) in
+        grind (arith, nat_tests, common_steps)

@@ -1,9 +1,9 @@
--- Names that leave a bag, bags that leave a stack, and room.
-use Rattle.std.proofs.Common.{◌≡◌, refl, sym, ap, ◌∙◌, ◌≤◌, ◌<◌, ◌+◌, ℕ, zero, suc, Bool, true, false, not, ◌||◌, List, [], ◌∷◌, ◌++◌, length, take, drop, map, vec_len, vec_capacity, get_or, set, Some, None, arith, if◌then◌else◌, cond, add-one}
+-- Names that a bag has not, bags that leave a stack, and room.
+use Rattle.std.proofs.Common.{◌≡◌, refl, sym, ap, ◌∙◌, ◌≤◌, ◌<◌, ◌+◌, ℕ, zero, suc, Bool, true, false, not, ◌||◌, List, [], ◌∷◌, length, take, drop, map, get_or, set, arith, if◌then◌else◌}
 use Rattle.std.proofs.lemmas.List.{drop-drop}
-use Rattle.std.specs.List.{list_any, position_from}
+use Rattle.std.specs.List.{list_any}
 use Rattle.task_desc.specs.declared.desc.Name.{Name}
-use Rattle.serial_machine.specs.declared.bag.PendingTask.{PendingTask}
+use Rattle.pending_list.specs.declared.task.PendingTask.{PendingTask}
 use Rattle.serial_machine.specs.declared.bag.Bag.{Bag}
 use Rattle.serial_machine.specs.Turn.{is_named, without, is_pending}
 use Rattle.serial_machine.specs.Names.{times, one}
@@ -14,9 +14,9 @@ list_any_map p f [] = refl
 list_any_map p f (x ∷ xs) = ap (λ b. p (f x) || b) (list_any_map p f xs)
 
 -- the first bag's task of a name, found in what the code keeps
-pub any_bag : (name : Name) (stack : List Bag) → list_any (λ b. list_any (is_named name) b.tasks.items) stack ≡ is_pending name (bags stack)
+pub any_bag : (name : Name) (stack : List Bag) → list_any (λ b. list_any (is_named name) b.tasks.tasks) stack ≡ is_pending name (bags stack)
 any_bag name [] = refl
-any_bag name (bag ∷ stack) = ap (λ b. list_any (is_named name) bag.tasks.items || b) (any_bag name stack)
+any_bag name (bag ∷ stack) = ap (λ b. list_any (is_named name) bag.tasks.tasks || b) (any_bag name stack)
 
 -- where a name doesn't stand nothing leaves
 pub without-none : (name : Name) (tasks : List PendingTask) → times name tasks ≡ 0 → without name tasks ≡ tasks
@@ -25,54 +25,6 @@ without-none name (t ∷ ts) h = go (without-none name ts) (is_named name t) h w
   go : (times name ts ≡ 0 → without name ts ≡ ts) → (b : Bool) → one b + times name ts ≡ 0 → (if not b then t ∷ without name ts else without name ts) ≡ t ∷ ts
   go ih true h = absurd (omega (arith, h))
   go ih false h = ap (λ r. t ∷ r) (ih (omega (arith, h)))
-
-pub without-absent : (name : Name) (i : ℕ) (tasks : List PendingTask) → position_from (is_named name) i tasks ≡ None → tasks ≡ without name tasks
-without-absent name i [] h = refl
-without-absent name i (t ∷ ts) h = go (without-absent name (i + 1) ts) (is_named name t) h where
-  go : (position_from (is_named name) (i + 1) ts ≡ None → ts ≡ without name ts) → (b : Bool) → cond b (Some i) (position_from (is_named name) (i + 1) ts) ≡ None → t ∷ ts ≡ (if not b then t ∷ without name ts else without name ts)
-  go ih true h = let z : ⊥ = cc in absurd z
-  go ih false h = ap (λ r. t ∷ r) (ih h)
-
--- where the first task of a name stands, found while counting from i, and what is left without it
-pub record LeavesAt (name : Name) (i at : ℕ) (tasks : List PendingTask) : Type 0 where
-  pub place : ℕ
-  pub counted : at ≡ i + place
-  pub below : place < length tasks
-  pub left : times name tasks ≤ 1 → take place tasks ++ drop (suc place) tasks ≡ without name tasks
-
-pub leaves_at : (name : Name) (i at : ℕ) (tasks : List PendingTask) → position_from (is_named name) i tasks ≡ Some at → LeavesAt name i at tasks
-leaves_at name i at [] h = let z : ⊥ = cc in absurd z
-leaves_at name i at (t ∷ ts) h = go (leaves_at name (i + 1) at ts) (is_named name t) h refl where
-  here : i ≡ at → is_named name t ≡ true → LeavesAt name i at (t ∷ ts)
-  here e b = record {
-    place = 0;
-    counted = omega arith;
-    below = omega arith;
-    left = λ once. rw b (sym (without-none name ts (let k = rw b at once in omega (arith, k))));
-  }
-
-  there : LeavesAt name (i + 1) at ts → is_named name t ≡ false → LeavesAt name i at (t ∷ ts)
-  there r b = record {
-    place = suc r.place;
-    counted = omega (arith, r.counted);
-    below = omega (arith, r.below);
-    left = λ once. rw b (ap (λ r. t ∷ r) (r.left (let k = rw b at once in omega (arith, k))));
-  }
-
-  go : (position_from (is_named name) (i + 1) ts ≡ Some at → LeavesAt name (i + 1) at ts) → (b : Bool) → cond b (Some i) (position_from (is_named name) (i + 1) ts) ≡ Some at → is_named name t ≡ b → LeavesAt name i at (t ∷ ts)
-  go ih true h e = here (cc) e
-  go ih false h e = there (ih h) e
-
--- a task of a name leaves the tasks that are seen so
-pub left_at : (name : Name) (at : ℕ) (tasks left : List PendingTask) → position_from (is_named name) 0 tasks ≡ Some at → times name tasks ≤ 1
-    → left ≡ take at tasks ++ drop (at + 1) tasks → left ≡ without name tasks
-left_at name at tasks left h once e =
-    let leaves = leaves_at name 0 at tasks h in
-    let same : at ≡ leaves.place = omega (arith, leaves.counted) in
-    e ∙ (rw (same, add-one) (leaves.left once))
-
-pub below_length : (name : Name) (at : ℕ) (tasks : List PendingTask) → position_from (is_named name) 0 tasks ≡ Some at → at < length tasks
-below_length name at tasks h = let leaves = leaves_at name 0 at tasks h in omega (arith, leaves.counted, leaves.below)
 
 -- one more bag left
 pub drop_next : {A : Type 0} (xs rest : List A) (x : A) (i : ℕ) → drop i xs ≡ x ∷ rest → rest ≡ drop (i + 1) xs
@@ -90,7 +42,7 @@ bags-set (b ∷ stack) zero bag other below same = ap (λ v. v ∷ bags stack) s
 bags-set (b ∷ stack) (suc i) bag other below same = ap (λ r. bag_value b ∷ r) (bags-set stack i bag other (omega arith) same)
 
 -- one more bag has room
-pub HaveRoom-set : (more : ℕ) (stack : List Bag) (i : ℕ) (bag : Bag) → i < length stack → vec_len bag.tasks + more ≤ vec_capacity bag.tasks
+pub HaveRoom-set : (more : ℕ) (stack : List Bag) (i : ℕ) (bag : Bag) → i < length stack → more ≤ bag.tasks.room
     → HaveRoom more (take i stack) → HaveRoom more (take (suc i) (set stack i bag))
 HaveRoom-set more [] i bag below room h = absurd (omega arith)
 HaveRoom-set more (b ∷ stack) zero bag below room h = (room, tt)

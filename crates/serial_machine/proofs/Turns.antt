@@ -1,5 +1,5 @@
 -- A turn of a task that is selected and done, and the stack after it.
-use Rattle.std.proofs.Common.{◌≡◌, refl, sym, ap, ◌≤◌, ◌+◌, ◌-◌, ◌∙◌, ◌==◌, ℕ, Bool, true, false, List, [], ◌∷◌, ◌++◌, length, Option, Some, None, if◌then◌else◌, arith, subst, drop}
+use Rattle.std.proofs.Common.{◌≡◌, refl, sym, ap, ◌≤◌, ◌+◌, ◌-◌, ◌∙◌, ◌==◌, ℕ, zero, suc, Bool, true, false, List, [], ◌∷◌, ◌++◌, length, Option, Some, None, if◌then◌else◌, arith, subst, drop}
 use Rattle.std.proofs.lemmas.Grind.{common_steps}
 use Rattle.std.proofs.lemmas.List.{nil_from_length}
 use Rattle.std.proofs.lemmas.Bool.Decides.{nat_tests}
@@ -7,7 +7,7 @@ use Rattle.task_desc.specs.declared.desc.Place.TheVariants.{Sub, Super}
 use Rattle.guest_image.specs.declared.image.Kind.{Kind}
 use Rattle.task_desc.specs.declared.desc.Name.{Name}
 use Rattle.task_desc.specs.declared.desc.Spawn.{Spawn}
-use Rattle.serial_machine.specs.declared.bag.PendingTask.{PendingTask}
+use Rattle.pending_list.specs.declared.task.PendingTask.{PendingTask}
 use Rattle.serial_machine.specs.BagValue.{BagValue}
 use Rattle.guest_image.specs.ImageValue.{ImageValue}
 use Rattle.serial_machine.specs.TaskState.{TaskState}
@@ -17,9 +17,9 @@ use Rattle.task_desc.specs.declared.desc.Ctx.{Ctx}
 use Rattle.serial_machine.specs.Legs.{SubFits, Finishes}
 use Rattle.serial_machine.specs.declared.running.RunEnd.TheVariants as run_ends
 use Rattle.serial_machine.specs.declared.bag.Bag.{Bag}
-use Rattle.serial_machine.specs.Stack.{bag_value, bags, settled, IsSelected, IsSelectedFrom, IsOnceInFirst}
+use Rattle.serial_machine.specs.Stack.{bag_value, bags, settled, IsSelected, IsSelectedFrom, AreAllOlder}
 use Rattle.serial_machine.specs.Names.{AreNamed}
-use Rattle.serial_machine.proofs.Naming.{once-in-first}
+use Rattle.serial_machine.proofs.Naming.{all-older}
 use Rattle.serial_machine.proofs.Stacks.{bags-drop}
 use Rattle.serial_machine.specs.Turn.{context_of, with_super, sub_bags, stack_after, children, inner, is_pending, MayTurn, run_of, turn}
 
@@ -104,12 +104,13 @@ may_turn stack one two outer bag name place task e f selected stands =
     let From : List Bag → Type 0 = IsSelectedFrom (bags stack) name task in
     subst From (ap (drop place) (sym f) ∙ stands) here.may
 
--- and it stands there once
-pub once-at : (stack two outer : List Bag) (bag : Bag) (name : Name) (place count : ℕ) (task : PendingTask) → two ≡ stack → drop place two ≡ bag ∷ outer
-    → MayTurn (bags stack) name (bag_value bag) (bags outer) task → AreNamed count (bags stack) → IsOnceInFirst name (drop place (bags stack))
-once-at stack two outer bag name place count task f stands may named =
-    let Once : List BagValue → Type 0 = IsOnceInFirst name in
-    subst Once (ap bags (sym stands) ∙ bags-drop place two ∙ ap (λ s. drop place (bags s)) f) (once-in-first count name (bags stack) named (bag_value bag) (bags outer) may.top)
+-- the tasks from there on were made before
+pub older-at : (place count : ℕ) (stack : List BagValue) → AreNamed count stack → AreAllOlder (count + 1) (drop place stack)
+older-at place count stack named = go place stack (all-older count stack named) where
+  go : (k : ℕ) (rest : List BagValue) → AreAllOlder (count + 1) rest → AreAllOlder (count + 1) (drop k rest)
+  go zero rest older = older
+  go (suc k) [] older = tt
+  go (suc k) (bag ∷ rest) older = go k rest older.1
 
 -- the stack after a turn, as the code makes it
 pub stack-after : (stack two outer : List Bag) (bag : Bag) (new : List BagValue) (name : Name) (place n ts depth : ℕ) (spawns : List Spawn) (sub : Option Kind) → two ≡ stack → drop place two ≡ bag ∷ outer → depth ≡ bag.depth

@@ -1,7 +1,8 @@
 -- How often a name is pending, and which task comes next.
-use Rattle.std.specs.Prelude.{ℕ, ◌≤◌, ◌+◌, nat_le, nat_lt, Bool, true, false, List, [], ◌∷◌, Option, Some, None, if◌then◌else◌}
+use Rattle.std.specs.Prelude.{ℕ, ◌≤◌, ◌+◌, nat_le, Bool, true, false, List, [], ◌∷◌, Option, Some, None}
 use Rattle.task_desc.specs.declared.desc.Name.{Name}
-use Rattle.serial_machine.specs.declared.bag.PendingTask.{PendingTask}
+use Rattle.pending_list.specs.declared.task.PendingTask.{PendingTask}
+pub use Rattle.pending_list.specs.Pending.{earlier, first_least}
 use Rattle.serial_machine.specs.BagValue.{BagValue}
 use Rattle.serial_machine.specs.Turn.{is_named, MayTurn}
 
@@ -22,17 +23,6 @@ times_in name (b ∷ bs) = times name b.tasks + times_in name bs
 -- each name is pending at most once, and none whose creator is still to commit
 abbrev pub AreNamed : ℕ → List BagValue → Type 0
 AreNamed count stack = (name : Name) → times_in name stack ≤ one (nat_le name.creator count)
-
--- the second task where its timestamp is smaller
-abbrev pub earlier : Option PendingTask → Option PendingTask → Option PendingTask
-earlier None found = found
-earlier (Some a) None = Some a
-earlier (Some a) (Some b) = if nat_lt b.ts a.ts then Some b else Some a
-
--- the first of the tasks with the least timestamp
-abbrev pub first_least : List PendingTask → Option PendingTask
-first_least [] = None
-first_least (t ∷ ts) = earlier (Some t) (first_least ts)
 
 abbrev pub name_of : Option PendingTask → Option Name
 name_of None = None

@@ -1,21 +1,20 @@
 -- The stack of bags as the code keeps it.
-use Rattle.std.specs.Prelude.{◌≡◌, ◌≤◌, ◌<◌, ◌+◌, ℕ, List, [], ◌∷◌, ◌++◌, map, vec_len, vec_capacity, length, drop, false, Option, Some, None}
+use Rattle.std.specs.Prelude.{◌≡◌, ◌≤◌, ◌<◌, ℕ, List, [], ◌∷◌, ◌++◌, map, length, drop, false, Option, Some, None, All}
 use Rattle.task_desc.specs.declared.desc.Name.{Name}
 use Rattle.task_desc.specs.declared.desc.Spawn.{Spawn}
 use Rattle.task_desc.specs.declared.desc.Place.TheVariants.{Same, Super}
 use Rattle.serial_machine.specs.declared.bag.Bag.{Bag}
 use Rattle.serial_machine.specs.BagValue.{BagValue}
-use Rattle.serial_machine.specs.declared.bag.PendingTask.{PendingTask}
+use Rattle.pending_list.specs.declared.task.PendingTask.{PendingTask}
 use Rattle.serial_machine.specs.declared.fault.TurnFault.{TurnFault}
 use Rattle.serial_machine.specs.declared.fault.TurnFault.TheVariants as faults
 use Rattle.serial_machine.specs.State.{State}
 use Rattle.serial_machine.specs.Turn.{inner, without, children, with_super, is_pending, MayTurn, IsNotTop, IsNotLeast}
-use Rattle.serial_machine.specs.Names.{times}
 
 -- what a bag says, whatever room it has
 abbrev pub bag_value : Bag → BagValue
 bag_value bag =
-    record { depth = bag.depth; kind = bag.kind; floor = bag.floor; owner = bag.owner; tasks = bag.tasks.items }
+    record { depth = bag.depth; kind = bag.kind; floor = bag.floor; owner = bag.owner; tasks = bag.tasks.tasks }
 
 abbrev pub bags : List Bag → List BagValue
 bags stack = map bag_value stack
@@ -36,12 +35,16 @@ new_bags (Some bag) = bag_value bag ∷ []
 -- each bag has room for so many more tasks
 abbrev pub HaveRoom : ℕ → List Bag → Type 0
 HaveRoom more [] = Unit {0}
-HaveRoom more (bag ∷ stack) = (vec_len bag.tasks + more ≤ vec_capacity bag.tasks) × HaveRoom more stack
+HaveRoom more (bag ∷ stack) = (more ≤ bag.tasks.room) × HaveRoom more stack
 
--- the first bag holds at most one task of a name
-abbrev pub IsOnceInFirst : Name → List BagValue → Type 0
-IsOnceInFirst name [] = Unit {0}
-IsOnceInFirst name (bag ∷ outer) = times name bag.tasks ≤ 1
+-- the tasks were made by turns before this one
+abbrev pub AreOlder : ℕ → List PendingTask → Type 0
+AreOlder turn tasks = All (λ t. t.name.creator < turn) tasks
+
+-- the pending tasks were made by turns before this one
+abbrev pub AreAllOlder : ℕ → List BagValue → Type 0
+AreAllOlder turn [] = Unit {0}
+AreAllOlder turn (bag ∷ outer) = AreOlder turn bag.tasks × AreAllOlder turn outer
 
 -- the stack after a name left the first bag and the children joined their domains, of which the new ones come first
 abbrev pub settled : Name → ℕ → List Spawn → List BagValue → List BagValue → List BagValue

@@ -1,5 +1,5 @@
 -- One turn of the serial machine.
-use Rattle.std.specs.Prelude.{◌≡◌, ◌<◌, ℕ, ◌+◌, ◌==◌, ◌&&◌, not, nat_le, Bool, true, false, List, [], ◌∷◌, ◌++◌, length, map, filter, Option, Some, None, if◌then◌else◌, Contains}
+use Rattle.std.specs.Prelude.{◌≡◌, ◌<◌, ℕ, ◌+◌, ◌==◌, nat_le, Bool, true, false, List, [], ◌∷◌, ◌++◌, length, map, filter, Option, Some, None, if◌then◌else◌, Contains}
 use Rattle.std.specs.List.{enumerate_from, list_all, list_any}
 use Rattle.guest_image.specs.declared.image.Kind.{Kind}
 use Rattle.guest_image.specs.ImageValue.{ImageValue}
@@ -8,26 +8,14 @@ use Rattle.task_desc.specs.declared.desc.Spawn.{Spawn}
 use Rattle.task_desc.specs.declared.desc.Ctx.{Ctx}
 use Rattle.task_desc.specs.declared.desc.Place.{Place}
 use Rattle.task_desc.specs.declared.desc.Place.TheVariants.{Same, Sub, Super}
-use Rattle.serial_machine.specs.declared.bag.PendingTask.{PendingTask}
+use Rattle.pending_list.specs.declared.task.PendingTask.{PendingTask}
+pub use Rattle.pending_list.specs.Pending.{is_named, find_named, without}
 use Rattle.run_journal.specs.declared.journal.Entry.{Entry}
 use Rattle.serial_machine.specs.declared.fault.TurnFault.{TurnFault}
 use Rattle.serial_machine.specs.declared.fault.TurnFault.TheVariants as faults
 use Rattle.serial_machine.specs.BagValue.{BagValue}
 use Rattle.serial_machine.specs.State.{State}
 use Rattle.serial_machine.specs.TaskRun.{task_run, TaskEnd, Done, Trapped}
-
--- whether a task has a name
-abbrev pub is_named : Name → PendingTask → Bool
-is_named name task = (task.name.creator == name.creator) && (task.name.index == name.index)
-
--- the first task with a name
-abbrev pub find_named : Name → List PendingTask → Option PendingTask
-find_named name [] = None
-find_named name (t ∷ ts) = if is_named name t then Some t else find_named name ts
-
--- the tasks but those of a name
-abbrev pub without : Name → List PendingTask → List PendingTask
-without name tasks = filter (λ t. not (is_named name t)) tasks
 
 -- whether no task has a smaller timestamp
 abbrev pub is_least : ℕ → List PendingTask → Bool

@@ -1,7 +1,8 @@
 //! The serial meaning of a task program: a stack of bags of pending tasks, one memory, the output and a count of turns.
 //!
 //! A turn takes a task of least timestamp from the innermost bag that isn't empty and runs it whole. A turn costs the instructions of
-//! its task, its children and the length of that bag; nothing is copied, and a turn that is refused takes back its own stores.
+//! its task and, for itself and each child, the logarithm of the number of tasks in a bag; no data is copied, and a turn that is
+//! refused takes back its own stores.
 #![tactic(auto)]
 
 mod bag;
@@ -16,9 +17,9 @@ mod tests;
 mod turning;
 mod whole_run;
 
-pub use bag::PendingTask;
 pub use fault::TurnFault;
 pub use limits::{MAX_BUDGET, MAX_COMMITS};
+pub use pending_list::PendingTask;
 pub use run_journal::{Bytes, End, Entry, Items, Journal};
 pub use serial::Serial;
 pub use whole_run::{SerialRun, run_image};

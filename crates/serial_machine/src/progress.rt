@@ -3,8 +3,8 @@
 ghost use Rattle.std.specs.Prelude.{◌≡◌};
 ghost use Rattle.task_step.specs.TaskState.{begun};
 
-use crate::bag::PendingTask;
 use guest_image::Kind;
+use pending_list::PendingTask;
 use rv_core::Core;
 use std::alloc::Global;
 use std::marker::Model;

@@ -7,12 +7,13 @@ ghost use Rattle.serial_machine.specs.Run.{opening, image_task};
 ghost use Rattle.serial_machine.specs.Stack.{bags};
 ghost use Rattle.serial_machine.specs.Turn.{inner, Refuses, TakesTurn};
 
-use crate::bag::{Bag, PendingTask};
+use crate::bag::Bag;
 use crate::fault::TurnFault;
 use crate::limits::MAX_COMMITS;
-use crate::stack::{bag_at, first, top};
+use crate::stack::{bag_at, top};
 use crate::turning::take_turn;
 use guest_image::{Image, ImageTask, Kind};
+use pending_list::{PendingList, PendingTask};
 use run_journal::{Bytes, Entry};
 use std::alloc::{AllocError, Global};
 use std::marker::Model;
@@ -155,7 +156,7 @@ fn next_of(stack: &[Bag]) -> Option<Name>
 {
     let place = top(stack)?;
     let (bag, _outer) = bag_at(stack, place);
-    match first(&bag.tasks) {
+    match bag.tasks.first_least() {
         None => None,
         Some(task) => Some(task.name),
     }
@@ -174,15 +175,12 @@ fn is_pending(stack: &[Bag]) -> bool
 }
 
 /// The tasks of an image, named in order.
-fn first_tasks(
-    alloc: Global,
-    kind: Kind,
-    tasks: &[ImageTask],
-) -> Result<Vec<PendingTask>, AllocError>
+fn first_tasks(alloc: Global, kind: Kind, tasks: &[ImageTask]) -> Result<PendingList, AllocError>
     requires { length tasks.now ≤ 65536 }
-    ensures { IfOk result (λ v. v.items ≡ map (image_task kind) (enumerate_from 0 tasks.now)) }
+    ensures { IfOk result (λ list. list.tasks ≡ map (image_task kind) (enumerate_from 0 tasks.now)) }
 {
-    let mut found = Vec::with_capacity(alloc, tasks.len())?;
+    let mut found = PendingList::new(alloc);
+    found.reserve(tasks.len())?;
     for (index, task) in tasks.iter().enumerate() {
         let ts = match kind {
             Kind::Unordered => 0,
@@ -196,7 +194,7 @@ fn first_tasks(
             entry: task.entry,
             ts,
             args: task.args,
-        })?;
+        });
     }
     Ok(found)
 }

@@ -1,43 +1,26 @@
 //! The stack of bags: looking for a task, and the changes that a turn makes.
 
 ghost use Rattle.std.specs.Prelude.{◌≡◌, ◌≤◌, ◌<◌, ◌+◌, ◌++◌, ◌∷◌, [], ℕ, true, length, drop, map, vec_len, vec_capacity, IfOk, OnOk, IfSome, IfNone, MatchOption, MatchBool, Some, Contains};
-ghost use Rattle.std.specs.List.{list_any, position_from};
-ghost use Rattle.serial_machine.specs.Turn.{is_named, find_named, without, is_least, inner, is_pending, place_number, children, sub_bags, with_super};
-ghost use Rattle.serial_machine.specs.Names.{earlier, first_least, next_in, times};
-ghost use Rattle.serial_machine.specs.Stack.{bags, new_bags, HaveRoom, IsOnceInFirst, IsTopAt, settled};
+ghost use Rattle.std.specs.List.{list_any};
+ghost use Rattle.serial_machine.specs.Turn.{is_named, is_least, inner, is_pending, place_number, children, sub_bags, with_super};
+ghost use Rattle.serial_machine.specs.Stack.{bags, new_bags, AreOlder, AreAllOlder, HaveRoom, IsTopAt, settled};
 
-use crate::bag::{Bag, PendingTask};
+use crate::bag::Bag;
 use guest_image::Kind;
+use pending_list::{PendingList, PendingTask};
 use std::alloc::{AllocError, Global};
 use task_desc::{Name, Place, Spawn};
 
-fn has_name(name: Name, task: &PendingTask) -> bool
-    ensures { result ≡ is_named name task.now }
-{
-    task.name.creator == name.creator && task.name.index == name.index
-}
-
-/// The first task with a name.
-pub(crate) fn find(name: Name, tasks: &[PendingTask]) -> Option<PendingTask>
-    ensures { result ≡ find_named name tasks.now }
-{
-    for task in tasks {
-        if has_name(name, task) {
-            return Some(*task);
-        }
-    }
-    None
-}
-
 /// A smaller timestamp that is pending.
-pub(crate) fn smaller(ts: u32, tasks: &[PendingTask]) -> Option<u32>
-    ensures some { IfSome result (λ t. (t < ts) × Contains (map (λ x. x.ts) tasks.now) t) }
-    ensures none { IfNone result (is_least ts tasks.now ≡ true) }
+pub(crate) fn smaller(ts: u32, tasks: &PendingList) -> Option<u32>
+    ensures some { IfSome result (λ t. (t < ts) × Contains (map (λ x. x.ts) tasks.now.tasks) t) }
+    ensures none { IfNone result (is_least ts tasks.now.tasks ≡ true) }
 {
-    for task in tasks {
-        if task.ts < ts {
-            return Some(task.ts);
-        }
+    let Some(least) = tasks.first_least() else {
+        return None;
+    };
+    if least.ts < ts {
+        return Some(least.ts);
     }
     None
 }
@@ -76,9 +59,9 @@ pub(crate) fn bag_at(stack: &[Bag], k: usize) -> (&Bag, &[Bag])
 }
 
 fn holds(name: Name, bag: &Bag) -> bool
-    ensures { result ≡ list_any (is_named name) bag.now.tasks.items }
+    ensures { result ≡ list_any (is_named name) bag.now.tasks.tasks }
 {
-    bag.tasks.iter().any(|task| has_name(name, task))
+    bag.tasks.contains(name)
 }
 
 /// Whether some bag holds a task of a name.
@@ -89,34 +72,9 @@ pub(crate) fn pending(name: Name, stack: &[Bag]) -> bool
 }
 
 fn any_holds(name: Name, stack: &[Bag]) -> bool
-    ensures { result ≡ list_any (λ b. list_any (is_named name) b.tasks.items) stack.now }
+    ensures { result ≡ list_any (λ b. list_any (is_named name) b.tasks.tasks) stack.now }
 {
     stack.iter().any(|bag| holds(name, bag))
-}
-
-/// The second where its timestamp is smaller.
-fn choose(found: Option<PendingTask>, task: &PendingTask) -> Option<PendingTask>
-    ensures { result ≡ earlier found (Some task.now) }
-{
-    match found {
-        None => Some(*task),
-        Some(best) => if task.ts < best.ts {
-            Some(*task)
-        } else {
-            Some(best)
-        },
-    }
-}
-
-/// The first of the tasks with the least timestamp.
-pub(crate) fn first(tasks: &[PendingTask]) -> Option<PendingTask>
-    ensures { result ≡ first_least tasks.now }
-{
-    let mut found = None;
-    for task in tasks {
-        found = choose(found, task);
-    }
-    found
 }
 
 fn number(place: Place) -> u8
@@ -129,16 +87,17 @@ fn number(place: Place) -> u8
     }
 }
 
-/// The children for a domain join the tasks, which have room for them.
+/// The children for a domain join the tasks, which have room for them and were made before.
 #[tactic(auto, unfolding(crate::specs::Turn::children))]
-fn join(tasks: &mut Vec<PendingTask>, place: Place, owner: u32, spawns: &[Spawn])
+fn join(tasks: &mut PendingList, place: Place, owner: u32, spawns: &[Spawn])
     requires few { length spawns.now ≤ 64 }
-    requires room { vec_len tasks.old + length spawns.now ≤ vec_capacity tasks.old }
-    ensures { tasks.new.items ≡ tasks.old.items ++ children place owner spawns.now }
+    requires room { length spawns.now ≤ tasks.old.room }
+    requires older { AreOlder owner tasks.old.tasks }
+    ensures { tasks.new.tasks ≡ tasks.old.tasks ++ children place owner spawns.now }
 {
     for (index, spawn) in spawns.iter().enumerate() {
         if number(spawn.place) == number(place) {
-            let task = PendingTask {
+            tasks.push(PendingTask {
                 name: Name {
                     creator: owner,
                     index: index as u32,
@@ -146,29 +105,9 @@ fn join(tasks: &mut Vec<PendingTask>, place: Place, owner: u32, spawns: &[Spawn]
                 entry: spawn.entry,
                 ts: spawn.ts,
                 args: spawn.args,
-            };
-            tasks.push(task).unwrap();
+            });
         }
     }
-}
-
-/// A name leaves the tasks, where it stands at most once.
-fn leave(tasks: &mut Vec<PendingTask>, name: Name)
-    requires { times name tasks.old.items ≤ 1 }
-    ensures items { tasks.new.items ≡ without name tasks.old.items }
-    ensures len { vec_len tasks.new ≤ vec_len tasks.old }
-    ensures room { vec_capacity tasks.new ≡ vec_capacity tasks.old }
-{
-    if let Some(at) = place_of(name, tasks) {
-        let _gone = tasks.remove(at);
-    }
-}
-
-/// Where the first task of a name stands.
-fn place_of(name: Name, tasks: &[PendingTask]) -> Option<usize>
-    ensures { result ≡ position_from (is_named name) 0 tasks.now }
-{
-    tasks.iter().position(|task| has_name(name, task))
 }
 
 /// The bag of the new subdomain; none for no task.
@@ -187,7 +126,8 @@ pub(crate) fn subdomain(
     let Some(kind) = kind else {
         return Ok(None);
     };
-    let mut tasks = Vec::with_capacity(alloc, spawns.len())?;
+    let mut tasks = PendingList::new(alloc);
+    tasks.reserve(spawns.len())?;
     join(&mut tasks, Place::Sub, owner, spawns);
     if tasks.is_empty() {
         return Ok(None);
@@ -257,6 +197,7 @@ fn drop_first(stack: &mut Vec<Bag>, count: usize)
 fn join_outside(stack: &mut Vec<Bag>, owner: u32, spawns: &[Spawn])
     requires few { length spawns.now ≤ 64 }
     requires room { HaveRoom (length spawns.now) stack.old.items }
+    requires older { AreAllOlder owner (bags stack.old.items) }
     ensures joined { bags stack.new.items ≡ with_super (children Place.Super owner spawns.now) (bags stack.old.items) }
     ensures len { vec_len stack.new ≡ vec_len stack.old }
     ensures spare { vec_capacity stack.old ≤ vec_capacity stack.new }
@@ -282,12 +223,12 @@ pub(crate) fn settle(
     requires few { length spawns.now ≤ 64 }
     requires spare { vec_len stack.old < vec_capacity stack.old }
     requires room { HaveRoom (length spawns.now) stack.old.items }
-    requires once { IsOnceInFirst name (bags (drop top stack.old.items)) }
+    requires older { AreAllOlder owner (bags (drop top stack.old.items)) }
     ensures { bags stack.new.items ≡ settled name owner spawns.now (new_bags new) (bags (drop top stack.old.items)) }
 {
     drop_first(stack, top);
     let mut bag = take_first(stack);
-    leave(&mut bag.tasks, name);
+    bag.tasks.remove(name);
     join(&mut bag.tasks, Place::Same, owner, spawns);
     join_outside(stack, owner, spawns);
     put_first(stack, bag);

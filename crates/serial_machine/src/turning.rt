@@ -3,18 +3,19 @@
 ghost use Rattle.std.specs.Prelude.{◌≡◌, ◌≤◌, ◌<◌, ◌+◌, ◌++◌, ◌∷◌, ◌^◌, ℕ, length, drop, IfOk, IfErr, OnOk, OnErr, Some, IsSome, ◌↔◌, MatchBool};
 ghost use Rattle.serial_machine.specs.Legs.{SubFits, Finishes, RunFails};
 ghost use Rattle.serial_machine.specs.Names.{AreNamed};
-ghost use Rattle.serial_machine.specs.Stack.{bag_value, bags, new_bags, settled, IsSelected, IsUnselected, IsOnceInFirst, state_of};
+ghost use Rattle.serial_machine.specs.Stack.{bag_value, bags, new_bags, settled, IsSelected, IsUnselected, AreAllOlder, state_of};
 ghost use Rattle.serial_machine.specs.State.{IsStack};
 ghost use Rattle.serial_machine.specs.TaskRun.{task_run, Done};
 ghost use Rattle.serial_machine.specs.Turn.{TakesTurn, Refuses, context_of, children, sub_bags, IsNotTop, is_pending, kind_outside};
 
-use crate::bag::{Bag, PendingTask};
+use crate::bag::Bag;
 use crate::fault::TurnFault;
 use crate::limits::MAX_COMMITS;
 use crate::progress::{Progress, started, taken_back};
 use crate::running::{RunEnd, run};
-use crate::stack::{bag_at, find, make_room, pending, settle, smaller, subdomain, top};
+use crate::stack::{bag_at, make_room, pending, settle, smaller, subdomain, top};
 use guest_image::{Image, Kind};
+use pending_list::PendingTask;
 use run_journal::Entry;
 use std::alloc::{AllocError, Global};
 use std::mem::replace;
@@ -42,7 +43,7 @@ fn select(stack: &[Bag], name: Name) -> Result<(usize, PendingTask), TurnFault>
         return Err(TurnFault::NotPending);
     };
     let (bag, _outer) = bag_at(stack, place);
-    let Some(task) = find(name, &bag.tasks) else {
+    let Some(task) = bag.tasks.find(name) else {
         return Err(missing(stack, name, bag.depth));
     };
     if let Some(ts) = smaller(task.ts, &bag.tasks) {
@@ -125,7 +126,7 @@ fn join_all(
 ) -> Result<(), AllocError>
     requires within { place < length stack.old.items }
     requires depth { entry.depth < 255 }
-    requires once { IsOnceInFirst entry.name (drop place (bags stack.old.items)) }
+    requires older { AreAllOlder owner (drop place (bags stack.old.items)) }
     ensures stack { let spawns = done.now.task.spawns in
         let inside = children Place.Sub owner spawns in
         let new = sub_bags (entry.depth + 1) entry.ts owner inside done.now.task.sub in

@@ -6,7 +6,7 @@ use Rattle.std.proofs.lemmas.Grind.{common_steps}
 use Rattle.task_desc.specs.declared.desc.Name.{Name}
 use Rattle.task_desc.specs.declared.desc.Place.{Place}
 use Rattle.task_desc.specs.declared.desc.Place.TheVariants.{Same, Sub, Super}
-use Rattle.serial_machine.specs.declared.bag.PendingTask.{PendingTask}
+use Rattle.pending_list.specs.declared.task.PendingTask.{PendingTask}
 use Rattle.serial_machine.specs.Turn.{is_named}
 use Rattle.turn_law.specs.Tasks.{Creator, Committed, Live, Body, spawn_body, Task, pending, QueuedFree, IsFree, IsChild, IsFamily, Matched, IsChildDepth, Names, SpilledTask, IsSpilled}
 use Rattle.turn_law.specs.Sound.{AreSound}

@@ -3,7 +3,7 @@ use Rattle.std.proofs.Common.{◌≡◌, ◌≢◌, ◌⊎◌, ℕ, zero, suc, �
 use Rattle.std.proofs.lemmas.Bool.{cases_eq}
 use Rattle.task_desc.specs.declared.desc.Name.{Name}
 use Rattle.task_desc.specs.declared.desc.Spawn.{Spawn}
-use Rattle.serial_machine.specs.declared.bag.PendingTask.{PendingTask}
+use Rattle.pending_list.specs.declared.task.PendingTask.{PendingTask}
 use Rattle.turn_law.specs.Tasks.{Creator, Committed, Live, Body, body_of, spawn_body, Task, pending, IsFree, IsChild, IsFamily, Matched, IsChildDepth, Names, SpilledTask, IsSpilled}
 use Rattle.turn_law.specs.Sound.{AreSound, IdleLeastIsAny}
 use Rattle.turn_law.specs.Grows.{Starts, DispatchKeepsTasks, made_by, Enqueues, EnqueueKeepsTasks, Places, PlacementKeepsTasks, NoTasksAreSound}

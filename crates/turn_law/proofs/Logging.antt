@@ -10,7 +10,7 @@ use Rattle.rv_core.proofs.Runs.{PlainStep-within, PlainStep-counted}
 use Rattle.task_desc.specs.declared.desc.Ctx.{Ctx}
 use Rattle.undo_log.specs.declared.access.Access.{Access}
 use Rattle.undo_log.specs.Number.{number_at, written}
-use Rattle.serial_machine.specs.declared.bag.PendingTask.{PendingTask}
+use Rattle.pending_list.specs.declared.task.PendingTask.{PendingTask}
 use Rattle.task_step.specs.declared.request.Request.{Request}
 use Rattle.task_step.specs.declared.request.Request.TheVariants as ask
 use Rattle.task_step.specs.Conditions.{IsCall}

@@ -2,7 +2,7 @@
 use Rattle.std.proofs.Common.{◌≡◌, ◌≢◌, ◌⊎◌, ℕ, ◌+◌, ◌≤◌, Bool, true, Option, Some, refl, sym, ap, subst, ◌∙◌, inl, inr, arith}
 use Rattle.std.proofs.lemmas.Bool.{cases_eq}
 use Rattle.task_desc.specs.declared.desc.Name.{Name}
-use Rattle.serial_machine.specs.declared.bag.PendingTask.{PendingTask}
+use Rattle.pending_list.specs.declared.task.PendingTask.{PendingTask}
 use Rattle.turn_law.specs.Tasks.{Creator, Committed, Live, Body, body_of, spawn_body, Task, pending, QueuedFree, IsFree, QueuedChild, IsChild, IsFamily, Names}
 use Rattle.turn_law.specs.Sound.{AreFirm, AreApart, AreDistinct}
 use Rattle.turn_law.specs.Moves.{with_name, Spills}

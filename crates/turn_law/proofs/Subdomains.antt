@@ -1,7 +1,7 @@
 -- A task at the greatest depth makes no subdomain.
 use Rattle.std.proofs.Common.{◌≡◌, subst, ℕ, List}
 use Rattle.guest_image.specs.ImageValue.{ImageValue}
-use Rattle.serial_machine.specs.declared.bag.PendingTask.{PendingTask}
+use Rattle.pending_list.specs.declared.task.PendingTask.{PendingTask}
 use Rattle.serial_machine.specs.BagValue.{BagValue}
 use Rattle.serial_machine.specs.State.{State}
 use Rattle.serial_machine.specs.Legs.{SubFits}

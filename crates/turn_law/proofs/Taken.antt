@@ -1,6 +1,6 @@
 -- A set taken back changes no free task and no family.
 use Rattle.std.proofs.Common.{◌≡◌, ◌⊎◌, ℕ, Bool, true, false, Option, Some, None, refl, sym, ap, subst, ◌∙◌, inl, inr}
-use Rattle.serial_machine.specs.declared.bag.PendingTask.{PendingTask}
+use Rattle.pending_list.specs.declared.task.PendingTask.{PendingTask}
 use Rattle.turn_law.specs.Tasks.{Creator, Committed, Live, Body, spawn_body, Task, pending, IsFree, IsChild, IsFamily, Names, IsSpilled}
 use Rattle.turn_law.specs.Sound.{AreApart, AreDistinct}
 use Rattle.turn_law.specs.Moves.{idle_again, TakesBack, AbortKeepsTasks}

@@ -3,7 +3,7 @@ use Rattle.std.proofs.Common.{◌≡◌, ℕ, suc, ◌+◌, ◌≤◌, ◌==◌,
 use Rattle.std.proofs.lemmas.Bool.{false_from_ne_true, and_from}
 use Rattle.std.proofs.lemmas.Bool.Decides.{nat_tests}
 use Rattle.task_desc.specs.declared.desc.Name.{Name}
-use Rattle.serial_machine.specs.declared.bag.PendingTask.{PendingTask}
+use Rattle.pending_list.specs.declared.task.PendingTask.{PendingTask}
 use Rattle.serial_machine.specs.BagValue.{BagValue}
 use Rattle.serial_machine.specs.State.{IsStack}
 use Rattle.serial_machine.specs.Turn.{is_named, find_named, is_least, inner}

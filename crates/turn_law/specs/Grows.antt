@@ -1,7 +1,7 @@
 -- Events by which tasks come to be: a placement, a dispatch, by which a family begins, and an enqueue, by which it grows.
 use Rattle.std.specs.Prelude.{◌≡◌, ◌≢◌, ◌⊎◌, ◌↔◌, ℕ, ◌≤◌, Bool, true, false, List, [], ◌∷◌, ◌++◌, length, Option, Some, None}
 use Rattle.task_desc.specs.declared.desc.Spawn.{Spawn}
-use Rattle.serial_machine.specs.declared.bag.PendingTask.{PendingTask}
+use Rattle.pending_list.specs.declared.task.PendingTask.{PendingTask}
 use Rattle.turn_law.specs.Tasks.{Task, Committed, Live, spawn_body, IsChildDepth, IsFree, pending, SpilledTask, IsSpilled}
 use Rattle.turn_law.specs.Sound.{AreSound, IsFresh, SameFree}
 

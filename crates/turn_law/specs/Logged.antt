@@ -16,7 +16,7 @@ use Rattle.task_step.specs.Steps.{Continues, after_request, passed}
 use Rattle.task_step.specs.TaskState.{TaskState, begun, context}
 use Rattle.undo_log.specs.declared.access.Access.{Access}
 use Rattle.memory_law.specs.Accesses.{replayed, Replays}
-use Rattle.serial_machine.specs.declared.bag.PendingTask.{PendingTask}
+use Rattle.pending_list.specs.declared.task.PendingTask.{PendingTask}
 use Rattle.serial_machine.specs.State.{State}
 use Rattle.serial_machine.specs.Turn.{context_of, stack_after, turn, TrapsSo}
 use Rattle.turn_law.specs.Commit.{HasTurn}

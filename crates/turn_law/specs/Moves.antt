@@ -1,7 +1,7 @@
 -- Events that leave the free tasks as they are: an abort, a spill, a coalescing and a split.
 use Rattle.std.specs.Prelude.{◌≡◌, ◌≢◌, ◌⊎◌, ℕ, Bool, true, false, List, [], ◌∷◌, ◌++◌, Option, Some, None}
 use Rattle.task_desc.specs.declared.desc.Name.{Name}
-use Rattle.serial_machine.specs.declared.bag.PendingTask.{PendingTask}
+use Rattle.pending_list.specs.declared.task.PendingTask.{PendingTask}
 use Rattle.turn_law.specs.Tasks.{Task, Live, Names, SpilledTask}
 use Rattle.turn_law.specs.Sound.{AreSound, SameFree}
 

@@ -1,7 +1,7 @@
 -- What a sound view keeps about names and children.
 use Rattle.std.specs.Prelude.{◌≡◌, ◌≢◌, ◌⊎◌, ◌↔◌, ℕ, ◌+◌, ◌≤◌, Bool, true, false, List, [], ◌∷◌, Option, Some}
 use Rattle.task_desc.specs.declared.desc.Name.{Name}
-use Rattle.serial_machine.specs.declared.bag.PendingTask.{PendingTask}
+use Rattle.pending_list.specs.declared.task.PendingTask.{PendingTask}
 use Rattle.turn_law.specs.Tasks.{Task, Committed, In, IsFree, IsFamily, Names, SpilledTask, IsSpilled}
 
 -- tasks of one creator and place are one

@@ -1,6 +1,8 @@
-use Rattle.std.proofs.Common.{◌∙◌, sym, subst, arith, length, List}
+use Rattle.std.proofs.Common.{◌∙◌, sym, ap, subst, arith, length, List}
 use Rattle.serial_machine.specs.declared.bag.Bag.{Bag}
-use Rattle.serial_machine.specs.Stack.{HaveRoom}
+use Rattle.serial_machine.specs.BagValue.{BagValue}
+use Rattle.serial_machine.specs.Stack.{bags, AreOlder, AreAllOlder, HaveRoom}
+use Rattle.serial_machine.proofs.Older.{left-older}
 use Rattle.serial_machine.proofs.Stacks.{HaveRoom-drop}
 use Rattle.serial_machine.proofs.stack.settle.Goals as goal
 
@@ -15,3 +17,9 @@ join_outside-requires-clause-room c =
     let HasRoom : List Bag → Type 0 = HaveRoom (length c.args.spawns.now) in
     let room = subst HasRoom (sym c.drop_first.ensures.dropped ∙ c.take_first-bag.ensures.taken) (HaveRoom-drop (length c.args.spawns.now) c.args.top c.args.stack.now.items c.requires.room) in
     room.1
+
+pub join-requires-clause-older : goal.join-requires-clause-older
+join-requires-clause-older c =
+    let AllOlder : List BagValue → Type 0 = AreAllOlder c.args.owner in
+    let older = subst AllOlder (ap bags (sym c.drop_first.ensures.dropped ∙ c.take_first-bag.ensures.taken)) c.requires.older in
+    subst (AreOlder c.args.owner) (sym c.remove.ensures.tasks) (left-older c.args.owner c.args.name c.take_first-bag.result.tasks.tasks older.0)

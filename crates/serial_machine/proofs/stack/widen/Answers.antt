@@ -6,7 +6,7 @@ pub returns-in_err-reserve-clause-same : goal.returns-in_err-reserve-clause-same
 returns-in_err-reserve-clause-same c =
     let old = get_or c.loop-bag.stack c.loop-bag.bag-index c.bag-item.result in
     bags-set c.loop-bag.stack c.loop-bag.bag-index (record old { tasks = c.reserve.new.self }) c.bag-item.result (omega arith)
-    (ap (λ items. record { depth = old.depth; kind = old.kind; floor = old.floor; owner = old.owner; tasks = items }) c.reserve.ensures.items)
+    (ap (λ items. record { depth = old.depth; kind = old.kind; floor = old.floor; owner = old.owner; tasks = items }) c.reserve.ensures.tasks)
     ∙ c.loop-bag.invariant.same
 
 pub loop-bag-preserved : goal.loop-bag-preserved
@@ -15,7 +15,7 @@ loop-bag-preserved c =
     record {
       same =
           bags-set c.loop-bag.stack c.loop-bag.bag-index (record old { tasks = c.reserve.new.self }) c.bag-item.result (omega arith)
-          (ap (λ items. record { depth = old.depth; kind = old.kind; floor = old.floor; owner = old.owner; tasks = items }) c.reserve.ensures.items)
+          (ap (λ items. record { depth = old.depth; kind = old.kind; floor = old.floor; owner = old.owner; tasks = items }) c.reserve.ensures.tasks)
           ∙ c.loop-bag.invariant.same;
-      room = rw add-one (HaveRoom-set c.args.more c.loop-bag.stack c.loop-bag.bag-index (record old { tasks = c.reserve.new.self }) (omega arith) (omega (arith, c.in_ok-reserve.ensures.ok)) c.loop-bag.invariant.room);
+      room = rw add-one (HaveRoom-set c.args.more c.loop-bag.stack c.loop-bag.bag-index (record old { tasks = c.reserve.new.self }) (omega arith) c.in_ok-reserve.ensures.room c.loop-bag.invariant.room);
     }

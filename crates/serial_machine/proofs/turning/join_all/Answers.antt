@@ -2,15 +2,15 @@ use Rattle.std.proofs.Common.{◌≡◌, ◌∙◌, sym, ap, subst, List, drop, 
 use Rattle.task_desc.specs.declared.desc.Place.TheVariants.{Sub}
 use Rattle.serial_machine.specs.Turn.{children, sub_bags}
 use Rattle.serial_machine.specs.BagValue.{BagValue}
-use Rattle.serial_machine.specs.Stack.{bags, new_bags, settled, IsOnceInFirst}
+use Rattle.serial_machine.specs.Stack.{bags, new_bags, settled, AreAllOlder}
 use Rattle.serial_machine.proofs.Stacks.{bags-drop}
 use Rattle.serial_machine.proofs.turning.join_all.Goals as goal
 
-pub settle-requires-clause-once : goal.settle-requires-clause-once
-settle-requires-clause-once c =
+pub settle-requires-clause-older : goal.settle-requires-clause-older
+settle-requires-clause-older c =
     let same = bags-drop c.args.place c.make_room.new.stack.items ∙ ap (drop c.args.place) c.make_room.ensures.same in
-    let IsOnce : List BagValue → Type 0 = IsOnceInFirst c.args.entry.name in
-    subst IsOnce (sym same) c.requires.once
+    let AreOlder : List BagValue → Type 0 = AreAllOlder c.args.owner in
+    subst AreOlder (sym same) c.requires.older
 
 pub returns-clause-stack : goal.returns-clause-stack
 returns-clause-stack c =

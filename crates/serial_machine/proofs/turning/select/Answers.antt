@@ -1,6 +1,6 @@
 use Rattle.std.proofs.Common.{◌∙◌, sym, ap, subst, List}
 use Rattle.serial_machine.specs.declared.bag.Bag.{Bag}
-use Rattle.serial_machine.specs.Turn.{is_pending, find_named, is_least}
+use Rattle.serial_machine.specs.Turn.{is_pending}
 use Rattle.serial_machine.specs.Stack.{bags, IsSelectedFrom}
 use Rattle.serial_machine.proofs.Turns.{is_pending-inner}
 use Rattle.serial_machine.proofs.turning.select.Goals as goal
@@ -15,7 +15,7 @@ returns-clause-ok c =
       within = c.in-Some.ensures.0;
       may = subst From (sym c.bag_at.ensures) (record {
         top = c.in-Some.ensures.1 ∙ ap bags c.bag_at.ensures;
-        found = ap (find_named c.args.name) (sym c.deref.ensures.value) ∙ sym c.find.ensures ∙ c.in-Some-find.is;
-        least = ap (is_least c.in-Some-find.task.ts) (sym c.deref-2.ensures.value) ∙ c.in_default-smaller.ensures.none;
+        found = sym c.find.ensures ∙ c.in-Some-find.is;
+        least = c.in_default-smaller.ensures.none;
       });
     }

@@ -4,7 +4,7 @@ use Rattle.serial_machine.specs.Names.{AreNamed}
 use Rattle.serial_machine.specs.Stack.{bag_value, bags}
 use Rattle.serial_machine.specs.State.{IsStack}
 use Rattle.serial_machine.proofs.Naming.{AreNamed-after}
-use Rattle.serial_machine.proofs.Turns.{may_turn, once-at, stack-after, turn-taken, IsStack-inner, IsStack-after}
+use Rattle.serial_machine.proofs.Turns.{may_turn, older-at, stack-after, turn-taken, IsStack-inner, IsStack-after}
 use Rattle.serial_machine.proofs.turning.take_turn.Goals as goal
 
 pub join_all-requires-clause-depth : goal.join_all-requires-clause-depth
@@ -14,10 +14,8 @@ join_all-requires-clause-depth c =
     let same = ap (λ x. x.depth) c.context-ctx.ensures in
     omega (arith, same, depths.1)
 
-pub join_all-requires-clause-once : goal.join_all-requires-clause-once
-join_all-requires-clause-once c =
-    let may = may_turn c.args.stack.now.items _ _ _ _ _ _ _ c.deref.ensures.value c.deref-2.ensures.value c.in-Ok.ensures.ok c.bag_at.ensures in
-    once-at c.args.stack.now.items _ _ _ _ _ c.args.count _ c.deref-2.ensures.value c.bag_at.ensures may c.requires.named
+pub join_all-requires-clause-older : goal.join_all-requires-clause-older
+join_all-requires-clause-older c = older-at _ c.args.count (bags c.args.stack.now.items) c.requires.named
 
 pub returns-clause-ok : goal.returns-clause-ok
 returns-clause-ok c =

@@ -1,0 +1,189 @@
+ghost use Rattle.std.specs.Prelude.{◌≡◌, ◌==◌, ◌≤◌, ◌<◌, ◌+◌, ◌-◌, ◌*◌, ◌%◌, ◌^◌, ◌++◌, ◌∷◌, [], length, IfOk, OnOk, OnErr};
+ghost use Rattle.std.specs.List.{list_any};
+ghost use Rattle.pending_list.specs.Pending.{is_named, find_named, without, AllBefore, first_least};
+ghost use Rattle.pending_list.specs.Slots.{present, Rises};
+
+use crate::slot::{Slot, count, place_of, trim};
+use crate::task::PendingTask;
+use crate::tournament::{NO_RANK, Tournament};
+use std::alloc::{AllocError, Global};
+use std::marker::Model;
+use task_desc::Name;
+
+/// The numbers of slots lie below this: the number of a slot is the lower half of its rank.
+const SLOT_NUMBERS: u64 = 1 << 32;
+
+/// The pending tasks of a domain, in the order of their arrival, which is that of their names.
+///
+/// Each task has a slot, and a slot that its task left stays vacant until the list moves. A look by name halves the slots, whose
+/// names rise; the first task of the least timestamp is that of the root of a tournament of ranks, a timestamp with a slot's number
+/// behind it.
+#[derive(Drop)]
+pub struct PendingList {
+    alloc: Global,
+    slots: Vec<Slot>,
+    ranks: Tournament,
+}
+
+impl Model for PendingList {
+    ghost use Rattle.std.specs.Prelude.{length, ◌-◌, vec_capacity};
+    ghost use Rattle.pending_list.specs.Pending.{PendingValue};
+    ghost use Rattle.pending_list.specs.Slots.{present, IsIndexed};
+
+    ghost Value = { PendingValue };
+
+    ghost view = { λ p. record { tasks = present p.slots.items; room = length p.ranks - length p.slots.items } };
+
+    ghost invariant = { λ p. IsIndexed p.slots.items p.ranks (vec_capacity p.slots) };
+}
+
+impl PendingList {
+    /// No tasks, and no memory for any.
+    pub fn new(alloc: Global) -> PendingList
+        ensures { result ≡ record { tasks = []; room = 0 } }
+    {
+        PendingList {
+            alloc,
+            slots: Vec::new(alloc),
+            ranks: Tournament::new(alloc),
+        }
+    }
+
+    /// No tasks, with room for so many.
+    fn with_room(alloc: Global, room: usize) -> Result<PendingList, AllocError>
+        requires { room < 2 ^ 32 }
+        ensures { IfOk result (λ list. list ≡ record { tasks = []; room = room }) }
+    {
+        let slots = Vec::with_capacity(alloc, room)?;
+        let ranks = Tournament::with_width(alloc, room as u32)?;
+        Ok(PendingList {
+            alloc,
+            slots,
+            ranks,
+        })
+    }
+
+    /// How many tasks can join before memory is taken again.
+    pub fn room(&self) -> usize
+        ensures { result ≡ self.now.room }
+    {
+        self.ranks.len() - self.slots.len()
+    }
+
+    /// Whether no task is pending.
+    pub fn is_empty(&self) -> bool
+        ensures { result ≡ (length self.now.tasks == 0) }
+    {
+        self.slots.is_empty()
+    }
+
+    /// Makes room for so many more tasks. A list that is full moves into fresh slots, about twice as many as it has tasks; more
+    /// than 4,294,967,295 slots are refused as memory that is wanting.
+    pub fn reserve(&mut self, more: usize) -> Result<(), AllocError>
+        ensures tasks { self.new.tasks ≡ self.old.tasks }
+        ensures room { OnOk result (more ≤ self.new.room) }
+        ensures unchanged { OnErr result (self.new ≡ self.old) }
+    {
+        if self.room() < more {
+            *self = self.moved(more)?;
+        }
+        Ok(())
+    }
+
+    /// The same tasks in fresh slots, with room for so many more.
+    fn moved(&self, more: usize) -> Result<PendingList, AllocError>
+        ensures tasks { IfOk result (λ list. list.tasks ≡ self.now.tasks) }
+        ensures room { IfOk result (λ list. more ≤ list.room) }
+    {
+        let live = count(&self.slots);
+        let width = live.saturating_add(live.max(more));
+        if width as u64 >= SLOT_NUMBERS {
+            return Err(AllocError);
+        }
+        let mut fresh = PendingList::with_room(self.alloc, width)?;
+        copy(&self.slots, &mut fresh);
+        Ok(fresh)
+    }
+
+    /// A task joins at the end. No memory.
+    pub fn push(&mut self, task: PendingTask)
+        requires room { 0 < self.old.room }
+        requires later { AllBefore task.name self.old.tasks }
+        ensures tasks { self.new.tasks ≡ self.old.tasks ++ task ∷ [] }
+        ensures room { self.new.room + 1 ≡ self.old.room }
+    {
+        let place = self.slots.len();
+        self.ranks.set(place, rank(task.ts, place));
+        self.slots.push(Slot { task, here: true }).unwrap();
+    }
+
+    /// The task of a name. Who asks by name mostly asks for the first of the least, which is tried first.
+    pub fn find(&self, name: Name) -> Option<PendingTask>
+        ensures { result ≡ find_named name self.now.tasks }
+    {
+        let Some(place) = place_of(&self.slots, name, slot_of(self.ranks.least())) else {
+            return None;
+        };
+        Some(self.slots[place].task)
+    }
+
+    /// Whether a task of a name is pending.
+    pub fn contains(&self, name: Name) -> bool
+        ensures { result ≡ list_any (is_named name) self.now.tasks }
+    {
+        self.find(name).is_some()
+    }
+
+    /// The task of a name leaves, if it is pending. No memory.
+    pub fn remove(&mut self, name: Name)
+        ensures tasks { self.new.tasks ≡ without name self.old.tasks }
+        ensures room { self.old.room ≤ self.new.room }
+    {
+        if let Some(place) = place_of(&self.slots, name, slot_of(self.ranks.least())) {
+            self.slots[place].here = false;
+            self.ranks.set(place, NO_RANK);
+            trim(&mut self.slots);
+        }
+    }
+
+    /// The first of the tasks with the least timestamp.
+    pub fn first_least(&self) -> Option<PendingTask>
+        ensures { result ≡ first_least self.now.tasks }
+    {
+        let place = slot_of(self.ranks.least());
+        if place < self.slots.len() {
+            return Some(self.slots[place].task);
+        }
+        None
+    }
+}
+
+/// The rank of a slot's task: by timestamp, then by the slot's number.
+fn rank(ts: u32, place: usize) -> u64
+    requires { place < 2 ^ 32 }
+    ensures { result ≡ ts * 2 ^ 32 + place }
+{
+    u64::from(ts) << 32 | place as u64
+}
+
+/// The slot of a rank, which lies behind all slots for the rank of what isn't there.
+fn slot_of(rank: u64) -> usize
+    ensures { result ≡ rank % 2 ^ 32 }
+{
+    (rank % SLOT_NUMBERS) as usize
+}
+
+/// What slots hold joins a list, which has room for it.
+fn copy(slots: &[Slot], list: &mut PendingList)
+    requires rises { Rises slots.now }
+    requires empty { list.old.tasks ≡ [] }
+    requires room { length (present slots.now) ≤ list.old.room }
+    ensures tasks { list.new.tasks ≡ present slots.now }
+    ensures room { list.new.room + length (present slots.now) ≡ list.old.room }
+{
+    for slot in slots {
+        if slot.here {
+            list.push(slot.task);
+        }
+    }
+}
