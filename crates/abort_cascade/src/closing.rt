@@ -33,8 +33,8 @@ pub fn closed_sets()
     ensures least { ClosesToLeast }
 {}
 
-/// Lists the marked nodes, and tells how many they are.
-fn list_marked(marks: &[bool], members: &mut [usize]) -> usize
+/// Puts the marked nodes at the front of the members, the lowest first, and tells how many they are.
+pub fn list_marked(marks: &[bool], members: &mut [usize]) -> usize
     requires { length members.old ≡ length marks.now }
     ensures { IsListOf marks.now members.new result }
 {

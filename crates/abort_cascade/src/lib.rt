@@ -11,6 +11,6 @@ mod pulls;
 #[cfg(test)]
 mod tests;
 
-pub use closing::{close, closed_sets};
+pub use closing::{close, closed_sets, list_marked};
 pub use marking::mark;
 pub use pulls::Pulls;

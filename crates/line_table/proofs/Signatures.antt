@@ -55,7 +55,7 @@ some_line : (test : ℕ → Bool) (bound : ℕ) → list_any test (range_with_le
 some_line test bound any = let one = Any-from_list_any test (range_with_len 0 bound) any in (one.1, one.4)
 
 -- two signatures meet exactly where they do at a line below 1,024
-meets_of-Meet : (earlier later : Signature) → (meets_of earlier later ≡ true) ↔ Meet (wrote_of earlier) (touched_of later)
+pub meets_of-Meet : (earlier later : Signature) → (meets_of earlier later ≡ true) ↔ Meet (wrote_of earlier) (touched_of later)
 unfolding meets_of
 meets_of-Meet earlier later = (
   λ any.

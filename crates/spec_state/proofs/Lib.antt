@@ -6,9 +6,17 @@ pub mod Put
 pub mod Empty
 pub mod Reserved
 pub mod Moved
+pub mod Without
+pub mod Vacated
+pub mod Kept
+pub mod Left
 pub mod Renumbered
 pub mod Fresh
 pub mod Fronts
 pub mod Leasts
 pub mod Depths
 pub mod Heirs
+pub mod Picks
+pub mod Dispatched
+pub mod Conflicting
+pub mod Idles

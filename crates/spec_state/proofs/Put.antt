@@ -41,7 +41,7 @@ module _ (settings : Settings) (queues finished : List QueueValue) (core_lists b
       let same : length (slice_index_or (map (λ q. q.ids) queues) tile []) ≡ length queue.ids = ap length (ids_at queues tile queue in_tiles ∙ ap (λ q. q.ids) (sym is)) in
       omega (arith, same, free)
 
-  module _ (tasks : List (Option Task)) (slots indexed entries marks arrivals room : ℕ) (has : HasSlots settings tasks slots queues indexed entries marks arrivals room)
+  module _ (tasks : List (Option Task)) (slots indexed entries marks members arrivals room : ℕ) (has : HasSlots settings tasks slots queues indexed entries marks members arrivals room)
       (id : ℕ) where
     fits : queued_count queues + 1 ≤ settings.tiles * settings.task_queue
     fits = subst (λ n. queued_count queues + 1 ≤ n * settings.task_queue) tiles.queue_count
@@ -54,7 +54,7 @@ module _ (settings : Settings) (queues finished : List QueueValue) (core_lists b
     -- slots and entries are as many as they should be
     pub slots_after : (after : QueueValue) → after.ids ≡ queue.ids ++ id ∷ [] → (now : List (Option Task)) (slots_now indexed_now entries_now arrivals_now : ℕ)
         → count_by is_some now ≡ count_by is_some tasks + 1 → slots_now ≡ slots → indexed_now ≤ indexed + 1 → entries_now ≡ entries → arrivals_now ≡ arrivals
-        → HasSlots settings now slots_now (slice_set queues tile after) indexed_now entries_now marks arrivals_now room
+        → HasSlots settings now slots_now (slice_set queues tile after) indexed_now entries_now marks members arrivals_now room
     slots_after after ids now slots_now indexed_now entries_now arrivals_now more same_slots one_indexed same_entries same_arrivals =
         let one = one_more queues tile settings.task_queue id queue after has.short in_tiles is is_free ids in
         record {
@@ -64,6 +64,7 @@ module _ (settings : Settings) (queues finished : List QueueValue) (core_lists b
           index = same_entries ∙ has.index;
           indexed_are = omega (arith, one, has.indexed_are, one_indexed);
           marks = has.marks ∙ sym same_slots;
+          members = has.members ∙ sym same_slots;
           arrivals = same_arrivals ∙ has.arrivals ∙ sym same_slots;
           numbers = has.numbers;
         }
@@ -103,19 +104,19 @@ entered_put tasks now queues arrivals arrival entries entries_now id task kept q
 -- where a queue has a free entry, the slab and the index have room
 pub has_slot : (settings : Settings) (queues finished : List QueueValue) (core_lists block_lists : ℕ) → HasTiles settings queues finished core_lists block_lists
     → (tile : ℕ) → tile < settings.tiles → length (slice_index_or (map (λ q. q.ids) queues) tile []) < settings.task_queue
-    → (tasks : List (Option Task)) (slots indexed entries marks arrivals room : ℕ) → HasSlots settings tasks slots queues indexed entries marks arrivals room
+    → (tasks : List (Option Task)) (slots indexed entries marks members arrivals room : ℕ) → HasSlots settings tasks slots queues indexed entries marks members arrivals room
     → (count_by is_some tasks + 1 ≤ slots) × (indexed < entries)
-has_slot settings queues finished core_lists block_lists tiles tile in_range free tasks slots indexed entries marks arrivals room has =
+has_slot settings queues finished core_lists block_lists tiles tile in_range free tasks slots indexed entries marks members arrivals room has =
     let nothing : QueueValue = record { capacity = 0; ids = [] } in
     let queue : QueueValue = slice_index_or queues tile nothing in
     let within : tile < length queues = omega (arith, tiles.queue_count) in
     both_have_room settings queues finished core_lists block_lists tiles tile in_range queue (sym (get_or_default queues tile queue nothing within)) free tasks slots indexed entries
-    marks arrivals room has 0
+    marks members arrivals room has 0
 
 -- no more are indexed than the index has entries for
-pub few_indexed : (settings : Settings) (tasks : List (Option Task)) (queues finished : List QueueValue) (core_lists block_lists slots indexed entries marks arrivals room : ℕ)
-    → HasTiles settings queues finished core_lists block_lists → HasSlots settings tasks slots queues indexed entries marks arrivals room → indexed ≤ entries
-few_indexed settings tasks queues finished core_lists block_lists slots indexed entries marks arrivals room tiles has =
+pub few_indexed : (settings : Settings) (tasks : List (Option Task)) (queues finished : List QueueValue) (core_lists block_lists slots indexed entries marks members arrivals room : ℕ)
+    → HasTiles settings queues finished core_lists block_lists → HasSlots settings tasks slots queues indexed entries marks members arrivals room → indexed ≤ entries
+few_indexed settings tasks queues finished core_lists block_lists slots indexed entries marks members arrivals room tiles has =
     let fits : queued_count queues ≤ length queues * settings.task_queue = sum_by-le (λ q. length q.ids) settings.task_queue queues has.short in
     let fits' : queued_count queues ≤ settings.tiles * settings.task_queue = subst (λ n. queued_count queues ≤ n * settings.task_queue) tiles.queue_count fits in
     omega (arith, fits', has.indexed_are, has.index)

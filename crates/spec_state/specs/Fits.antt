@@ -61,14 +61,15 @@ pub record HasTiles (settings : Settings) (queues finished : List QueueValue) (c
 abbrev pub queued_count : List QueueValue → ℕ
 queued_count queues = sum_by (λ queue. length queue.ids) queues
 
--- there is a slot and an index entry for each entry of the task queues, of which no more are in use than ids are queued; each slot has a mark and
--- an arrival number, and the table of numbers has room for all that may be in use
-pub record HasSlots (settings : Settings) (tasks : List (Option Task)) (slots : ℕ) (queues : List QueueValue) (indexed entries mark_count arrival_count room : ℕ) : Type 0 where
+-- there is a slot and an index entry for each entry of the task queues, of which no more are in use than ids are queued; each slot has a mark, a
+-- place among the members and an arrival number, and the table of numbers has room for all that may be in use
+pub record HasSlots (settings : Settings) (tasks : List (Option Task)) (slots : ℕ) (queues : List QueueValue) (indexed entries mark_count member_count arrival_count room : ℕ) : Type 0 where
   pub enough : settings.tiles * settings.task_queue ≤ slots
   pub used : count_by is_some tasks ≡ queued_count queues
   pub short : All (λ queue. length queue.ids ≤ settings.task_queue) queues
   pub index : entries ≡ settings.tiles * settings.task_queue
   pub indexed_are : indexed ≤ queued_count queues
   pub marks : mark_count ≡ slots
+  pub members : member_count ≡ slots
   pub arrivals : arrival_count ≡ slots
   pub numbers : MAX_NUMBERS_IN_USE ≤ room

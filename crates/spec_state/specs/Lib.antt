@@ -14,3 +14,5 @@ pub mod Room
 pub mod Numbers
 pub mod Changes
 pub mod Opening
+pub mod Leaving
+pub mod Picks

@@ -1,5 +1,5 @@
--- What contracts see of a state: the machine, and the room that it keeps for what the next event adds.
-use Rattle.std.specs.Prelude.{◌<◌, ◌≤◌, ℕ, List, Option, length, IfSome, slice_index_or}
+-- What contracts see of a state: the machine, the room that it keeps for what the next event adds, and its notes of a cascade.
+use Rattle.std.specs.Prelude.{◌<◌, ◌≤◌, ℕ, Bool, List, Option, length, IfSome, slice_index_or}
 use Rattle.spec_state.specs.declared.task.TaskId.{TaskId}
 use Rattle.spec_state.specs.View.{View, task_at}
 
@@ -11,10 +11,16 @@ pub record Spare : Type 0 where
   pub output : ℕ
   pub blocks : List ℕ
 
--- the view, and the room
+-- which ids are marked, and a list of ids: of the tasks that are taken back, while they are
+pub record Scratch : Type 0 where
+  pub marks : List Bool
+  pub members : List ℕ
+
+-- the view, the room and the notes of a cascade
 pub record StateValue : Type 0 where
   pub view : View
   pub room : Spare
+  pub scratch : Scratch
 
 -- an access more of the task has room in its log
 abbrev pub CoversLog : StateValue → ℕ → Type 0

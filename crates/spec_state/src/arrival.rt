@@ -12,8 +12,22 @@ use commit_arbiter::Index;
 use slab::Slab;
 use tile_queues::TaskQueue;
 
-/// Gives a task of the index another arrival number.
+/// Enters a task of the index anew, under its key and this arrival number.
 #[tactic(auto, using(crate::proofs::Moved::fewer, crate::proofs::Moved::no_more))]
+pub(crate) fn enter_again(index: &mut Index, task: &Task, arrival: u64, id: usize)
+    requires indexed { HasId id index.old.entries }
+    requires room { length index.old.entries ≤ index.old.capacity }
+    ensures entries { let t = task.now in
+        let moved : Entry = record { key = t.key; tile = t.tile; arrival = arrival; id = id } in
+        index.new.entries ≡ inserted entry_cmp moved (without id index.old.entries) }
+    ensures count { length index.new.entries ≤ length index.old.entries }
+    ensures capacity { index.new.capacity ≡ index.old.capacity }
+{
+    index.remove(id);
+    index.insert(&task.key, task.tile, arrival, id);
+}
+
+/// Gives a task of the index another arrival number.
 fn move_arrival(index: &mut Index, arrivals: &mut Vec<u64>, task: &Task, id: usize, arrival: u64)
     requires slot { id < length arrivals.old.items }
     requires indexed { HasId id index.old.entries }
@@ -25,9 +39,8 @@ fn move_arrival(index: &mut Index, arrivals: &mut Vec<u64>, task: &Task, id: usi
     ensures count { length index.new.entries ≤ length index.old.entries }
     ensures capacity { index.new.capacity ≡ index.old.capacity }
 {
-    index.remove(id);
     arrivals[id] = arrival;
-    index.insert(&task.key, task.tile, arrival, id);
+    enter_again(index, task, arrival, id);
 }
 
 /// Gives the tasks of a tile's queue their places as arrival numbers.

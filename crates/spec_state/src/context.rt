@@ -118,6 +118,7 @@ impl<N: Naming> State<N> {
             arrivals: _,
             next_arrival: _,
             marks: _,
+            members: _,
             numbers: _,
             buffers: _,
             alloc: _,

@@ -11,7 +11,7 @@ use rv_core::Naming;
 use task_desc::Name;
 
 /// Whether the task's creator has committed, or is the heir.
-fn is_firm(task: &Task, heir: Option<TaskId>) -> bool
+pub(crate) fn is_firm(task: &Task, heir: Option<TaskId>) -> bool
     ensures { IsTrue result ↔ IsFirmBy (option_map (λ id. id.0) heir) task.now.creator }
 {
     match task.creator {
@@ -30,8 +30,8 @@ fn dispatched_of(least: Option<Where>) -> Option<TaskId>
     }
 }
 
-/// The name that a firm task has from its creator, where so many tasks have committed.
-fn name_given(creator: Creator, count: u32) -> Name
+/// The name that a firm task has from its creator, where so many tasks have committed: at most 1,000,000.
+pub fn name_given(creator: Creator, count: u32) -> Name
     requires { count ≤ 1000000 }
     ensures { result ≡ name_given creator count }
 {

@@ -8,14 +8,19 @@
 
 mod adding;
 mod arrival;
+mod conflicts;
 mod context;
 mod emitted;
 mod firm;
 mod history;
+mod latest;
 mod leading;
+mod leaving;
+mod lists;
 mod loads;
 mod making;
 mod numbers;
+mod queued;
 mod reading;
 mod room;
 mod settings;
@@ -26,6 +31,7 @@ mod tests;
 
 pub use context::Parts;
 pub use emitted::{Emitted, MAX_EMITTED};
+pub use firm::name_given;
 pub use history::History;
 pub use loads::{Loads, MAX_TILES};
 pub use numbers::{DISPATCH_NUMBERS, MAX_NUMBERS_IN_USE};

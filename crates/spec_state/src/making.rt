@@ -121,6 +121,7 @@ impl<N: Naming> State<N> {
             arrivals: vec![in alloc; 0; slots]?,
             next_arrival: 0,
             marks: vec![in alloc; false; slots]?,
+            members: vec![in alloc; 0; slots]?,
             numbers: Vec::with_capacity(alloc, MAX_NUMBERS_IN_USE)?,
             buffers: Buffers::new(alloc),
             alloc,

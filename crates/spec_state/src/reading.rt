@@ -76,7 +76,7 @@ impl<N: Naming> State<N> {
     }
 
     /// The task of this id, which has to be there.
-    pub(crate) fn task(&self, task: TaskId) -> &Task
+    pub fn task(&self, task: TaskId) -> &Task
         requires live { IsSome (task_at self.now.view task.0) }
         ensures { task_at self.now.view task.0 ≡ Some result.now }
     {

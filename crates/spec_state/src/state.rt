@@ -15,10 +15,12 @@ use undo_log::Memory;
 
 /// The machine between two events. Its fields are public for the crates that change a state; all others use its calls.
 ///
-/// Contracts see it as a `View` beside the room that it keeps for the next event. Its type keeps (`IsStored`) that the settings are
-/// valid, with the limits that `N` names, that each tile has its queues, of the capacities of the settings, its cores and its block, that
-/// queues, commit queues and cores hold the tasks of their tile and nothing else, each as its status says, that each task is well formed,
-/// that the data has the image's size, that the history has room for all commits, and (`IsIndexed`) that the index holds the queued tasks in
+/// Contracts see it as a `View` beside the room that it keeps for the next event and its notes of
+/// a cascade. Its type keeps (`IsStored`) that the settings are valid, with the limits that `N`
+/// names, that each tile has its queues, of the capacities of the settings, its cores and its
+/// block, that queues, commit queues and cores hold the tasks of their tile and nothing else, each
+/// as its status says, that each task is well formed, that the data has the image's size, that the
+/// history has room for all commits, and (`IsIndexed`) that the index holds the queued tasks in
 /// their order. So a free entry of a queue is a free slot and a free entry of the index too.
 #[derive(Drop)]
 pub struct State<N: Naming> {
@@ -52,6 +54,8 @@ pub struct State<N: Naming> {
     pub next_arrival: u64,
     /// Room for the marks of a cascade: one for each id that a task may have.
     pub marks: Vec<bool>,
+    /// Room for the members of a cascade: one for each id that a task may have.
+    pub members: Vec<usize>,
     /// Room for the table of the dispatch numbers in use, which is made where they are renumbered.
     pub numbers: Vec<u64>,
     /// Room that a full list moves into.
@@ -81,6 +85,7 @@ impl<N: Naming> Model for State<N> {
         output = s.buffers.output;
         blocks = map (λ block. block.spare) s.blocks.items;
       };
+      scratch = record { marks = s.marks.items; members = s.members.items };
     } };
 
     ghost invariant = { λ s.
@@ -91,7 +96,7 @@ impl<N: Naming> Model for State<N> {
         × HasTiles s.settings s.queues.items s.finished.items (vec_len s.cores) (vec_len s.blocks)
         × All (λ held. vec_len held ≡ s.settings.cores) s.cores.items
         × HasSlots s.settings s.tasks.slots s.tasks.capacity s.queues.items (length s.index.entries) s.index.capacity
-        (vec_len s.marks) (length s.arrivals.items) (vec_capacity s.numbers)
+        (vec_len s.marks) (vec_len s.members) (length s.arrivals.items) (vec_capacity s.numbers)
         × IsStored N.image.data_size view
         × IsIndexed s.tasks.slots view.queues s.arrivals.items s.next_arrival s.index.entries };
 }

@@ -17,7 +17,7 @@ use Rattle.order_law.specs.Ordered.{IsOrdered}
 use Rattle.order_law.specs.Tasks.{Keyed}
 use Rattle.order_law.specs.Events.{IsEntry, beside}
 use Rattle.order_law.proofs.Opening.{opening_law}
-use Rattle.serial_machine.specs.declared.bag.PendingTask.{PendingTask}
+use Rattle.pending_list.specs.declared.task.PendingTask.{PendingTask}
 use Rattle.turn_law.specs.Tasks.{In}
 use Rattle.serial_machine.specs.Run.{image_task, IsRun, opening, opening_memory}
 use Rattle.spill_store.specs.Entries.{Entry as Spilled}

@@ -7,7 +7,7 @@ use Rattle.guest_image.specs.declared.image.ImageTask.{ImageTask}
 use Rattle.guest_image.specs.declared.image.Kind.{Kind}
 use Rattle.guest_image.specs.declared.image.Kind.TheVariants.{Unordered, Ordered}
 use Rattle.guest_image.specs.ImageValue.{ImageValue}
-use Rattle.serial_machine.specs.declared.bag.PendingTask.{PendingTask}
+use Rattle.pending_list.specs.declared.task.PendingTask.{PendingTask}
 use Rattle.serial_machine.specs.Run.{opening, image_task}
 use Rattle.spill_store.specs.Entries.{Entry as Spilled}
 use Rattle.turn_law.specs.Commit.{Matches}

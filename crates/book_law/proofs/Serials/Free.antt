@@ -7,7 +7,7 @@ use Rattle.guest_image.specs.ImageValue.{ImageValue}
 use Rattle.order_law.specs.Events.{IsLeast}
 use Rattle.order_law.specs.Tasks.{Keyed, levels}
 use Rattle.order_law.proofs.Innermost.{innermost}
-use Rattle.serial_machine.specs.declared.bag.PendingTask.{PendingTask}
+use Rattle.pending_list.specs.declared.task.PendingTask.{PendingTask}
 use Rattle.serial_machine.specs.Turn.{inner}
 use Rattle.spec_state.specs.Groups.{all_keyed, all_spilled, bag_creator, bag_spilled, bag_task, keyed, keyed_task}
 use Rattle.spec_state.specs.Least.{HasKey, IsAllCommitted, Queued, Spilled_at, Spot}

@@ -9,7 +9,7 @@ use Rattle.memory_law.specs.Tasks.{Logged, Earlier}
 use Rattle.memory_law.proofs.Proved.{commit_keeps_chain}
 use Rattle.order_law.proofs.Least.{least_is_below}
 use Rattle.run_law.proofs.Sized.{run_sized}
-use Rattle.serial_machine.specs.declared.bag.PendingTask.{PendingTask}
+use Rattle.pending_list.specs.declared.task.PendingTask.{PendingTask}
 use Rattle.serial_machine.specs.Turn.{TrapsSo, context_of}
 use Rattle.task_desc.specs.declared.desc.Name.{Name}
 use Rattle.turn_law.specs.Domains.{FitsBags}

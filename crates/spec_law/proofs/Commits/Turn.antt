@@ -8,7 +8,7 @@ use Rattle.guest_image.specs.ImageValue.{ImageValue}
 use Rattle.memory_law.specs.Accesses.{replayed, Replays}
 use Rattle.run_law.proofs.Counted.{count-run}
 use Rattle.run_law.proofs.Placed.{done-placed}
-use Rattle.serial_machine.specs.declared.bag.PendingTask.{PendingTask}
+use Rattle.pending_list.specs.declared.task.PendingTask.{PendingTask}
 use Rattle.serial_machine.specs.State.{State, IsStack}
 use Rattle.serial_machine.specs.TaskRun.{Done, begun}
 use Rattle.serial_machine.specs.TaskState.{TaskState}

@@ -5,7 +5,7 @@ use Rattle.std.proofs.lemmas.List.{length-map}
 use Rattle.fractal_vt.specs.Levels.{closed}
 use Rattle.order_law.specs.Innermost.{IsInnermost}
 use Rattle.order_law.specs.Tasks.{Keyed}
-use Rattle.serial_machine.specs.declared.bag.PendingTask.{PendingTask}
+use Rattle.pending_list.specs.declared.task.PendingTask.{PendingTask}
 use Rattle.turn_law.specs.Tasks as bags
 use Rattle.turn_law.specs.Tasks.{In, IsFree, IsSpilled}
 use Rattle.spec_state.specs.declared.task.Creator.{Creator}

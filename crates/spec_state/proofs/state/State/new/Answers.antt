@@ -24,6 +24,7 @@ invariant_of-result g c =
         index = ap (λ (x : IndexValue). x.capacity) c.in_ok-new-3.ensures ∙ c.entries_of-entries.ensures.entries;
         indexed_are = (let nothing = ap (λ (x : IndexValue). length x.entries) c.in_ok-new-3.ensures in omega (arith, nothing));
         marks = search rules;
+        members = search rules;
         arrivals = search rules;
         numbers = search rules;
       },

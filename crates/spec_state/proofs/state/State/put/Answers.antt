@@ -16,7 +16,7 @@ use Rattle.spec_state.proofs.Put.{in_lists, slots_after, adds_seen, entered_put,
 use Rattle.spec_state.proofs.state.State.put.Goals as goal
 
 pub fresh_arrival-arrival-requires-clause-room : goal.fresh_arrival-arrival-requires-clause-room
-fresh_arrival-arrival-requires-clause-room g c = few_indexed _ _ _ _ _ _ _ _ _ _ _ _ c.self.invariant.1 c.self.invariant.3
+fresh_arrival-arrival-requires-clause-room g c = few_indexed _ _ _ _ _ _ _ _ _ _ _ _ _ c.self.invariant.1 c.self.invariant.3
 
 pub fresh_arrival-arrival-requires-clause-theirs : goal.fresh_arrival-arrival-requires-clause-theirs
 fresh_arrival-arrival-requires-clause-theirs g c =
@@ -25,7 +25,7 @@ fresh_arrival-arrival-requires-clause-theirs g c =
 
 pub insert_reserved-id-requires : goal.insert_reserved-id-requires
 insert_reserved-id-requires g c =
-    (has_slot _ c.self.inside.queues.items _ _ _ c.self.invariant.1 c.args.task.tile (search rules) (search rules) _ _ _ _ _ _ _ c.self.invariant.3).0
+    (has_slot _ c.self.inside.queues.items _ _ _ c.self.invariant.1 c.args.task.tile (search rules) (search rules) _ _ _ _ _ _ _ _ c.self.invariant.3).0
 
 pub put_last-requires-clause-absent : goal.put_last-requires-clause-absent
 put_last-requires-clause-absent g c has =
@@ -37,7 +37,7 @@ put_last-requires-clause-absent g c has =
 
 pub insert-requires-clause-room : goal.insert-requires-clause-room
 insert-requires-clause-room g c =
-    let room = (has_slot _ c.self.inside.queues.items _ _ _ c.self.invariant.1 c.args.task.tile (search rules) (search rules) _ _ _ _ _ _ _ c.self.invariant.3).1 in
+    let room = (has_slot _ c.self.inside.queues.items _ _ _ c.self.invariant.1 c.args.task.tile (search rules) (search rules) _ _ _ _ _ _ _ _ c.self.invariant.3).1 in
     omega (arith, room, c.fresh_arrival-arrival.ensures.count, c.fresh_arrival-arrival.ensures.capacity)
 
 pub insert-requires-clause-other : goal.insert-requires-clause-other
@@ -67,7 +67,7 @@ invariant_of-self g c =
       c.self.invariant.0,
       search rules,
       c.self.invariant.2,
-      slots_after _ c.self.inside.queues.items _ _ _ c.self.invariant.1 tile (search rules) queue c.index_mut.ensures.value (search rules) _ _ _ _ _ _ _ c.self.invariant.3 id after ids
+      slots_after _ c.self.inside.queues.items _ _ _ c.self.invariant.1 tile (search rules) queue c.index_mut.ensures.value (search rules) _ _ _ _ _ _ _ _ c.self.invariant.3 id after ids
           c.insert_reserved-id.new.self.slots c.insert_reserved-id.new.self.capacity (length c.insert.new.self.entries) c.insert.new.self.capacity _
           c.insert_reserved-id.ensures.len c.insert_reserved-id.ensures.capacity
           (few_more _ _ _ _ c.insert.ensures.entries c.fresh_arrival-arrival.ensures.count)

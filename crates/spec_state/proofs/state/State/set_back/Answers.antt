@@ -1,0 +1,87 @@
+use Rattle.std.proofs.Common.{rules, ◌≡◌, ◌<◌, [], map, sym, ap, subst, refl, ◌∙◌, None, Some, slice_index_or, slice_set, length, arith}
+use Rattle.std.specs.Prelude.{Contains}
+use Rattle.std.specs.Vec.{with_items}
+use Rattle.std.proofs.lemmas.List.{with_items_is, get_or_read, get_or-set_same, get_or-set_other}
+use Rattle.spec_state.specs.Leaving.{freed_of, IsHeldAs}
+use Rattle.spec_state.specs.StateValue.{StateValue}
+use Rattle.spec_state.specs.View.{core_ids}
+use Rattle.spec_state.proofs.Moved.{has_entry}
+use Rattle.spec_state.proofs.Put.{few_indexed}
+use Rattle.spec_state.proofs.Renumbered.{below_slots, ids_of_tile}
+use Rattle.spec_state.proofs.Without.{seen_at}
+use Rattle.spec_state.proofs.Vacated.{own_finished, own_held, stored_back}
+use Rattle.spec_state.proofs.Kept.{same_count, slots_kept}
+use Rattle.spec_state.proofs.Left.{task_within, back_in, back_seen, again_put}
+use Rattle.spec_state.proofs.state.State.set_back.Goals as goal
+
+pub index_mut-requires : goal.index_mut-requires
+index_mut-requires g c =
+    let within = task_within _ _ c.self.invariant.4 c.args.id.0 _ c.index_mut-task.ensures.value _ c.self.inside.queues.items _ _ _ c.self.invariant.1 refl in
+    search rules
+
+pub leave_commits-requires : goal.leave_commits-requires
+leave_commits-requires g c =
+    let within = task_within _ _ c.self.invariant.4 c.args.id.0 _ c.index_mut-task.ensures.value _ c.self.inside.queues.items _ _ _ c.self.invariant.1 refl in
+    let ids = ids_of_tile c.self.inside.finished.items c.index_mut-task.result.now.tile c.index_mut.result.now _ (search rules) c.index_mut.ensures.value refl in
+    record { finished = λ has. own_finished _ _ c.self.invariant.4 c.args.id.0 _ c.index_mut-task.ensures.value (subst (λ xs. Contains xs c.args.id.0) (sym ids) has) }
+
+pub index_mut-requires-2 : goal.index_mut-requires-2
+index_mut-requires-2 g c =
+    let within = task_within _ _ c.self.invariant.4 c.args.id.0 _ c.index_mut-task.ensures.value _ c.self.inside.queues.items _ _ _ c.self.invariant.1 refl in
+    search rules
+
+pub leave_core-requires : goal.leave_core-requires
+leave_core-requires g c =
+    let within = task_within _ _ c.self.invariant.4 c.args.id.0 _ c.index_mut-task.ensures.value _ c.self.inside.queues.items _ _ _ c.self.invariant.1 refl in
+    let held = seen_at (λ cores. core_ids cores.items) c.self.inside.cores.items c.index_mut-task.result.now.tile c.index_mut-2.result.now [] (search rules) c.index_mut-2.ensures.value in
+    record {
+      held = subst (IsHeldAs c.args.id.0 c.index_mut-task.result.now.status) (held ∙ ap core_ids (sym c.deref_mut.ensures.value))
+          (own_held _ _ c.self.invariant.4 c.args.id.0 _ c.index_mut-task.ensures.value);
+    }
+
+pub index-arrival-requires : goal.index-arrival-requires
+index-arrival-requires g c =
+    let below = below_slots c.self.inside.tasks.slots c.args.id.0 _ c.index_mut-task.ensures.value in
+    let has = c.self.invariant.3 in
+    omega (arith, below, has.arrivals, c.capacity-slots.ensures.slots, c.capacity-slots.ensures.value)
+
+pub enter_again-requires-clause-indexed : goal.enter_again-requires-clause-indexed
+enter_again-requires-clause-indexed g c = has_entry _ _ _ _ _ c.self.invariant.5 c.args.id.0 _ c.index_mut-task.ensures.value
+
+pub enter_again-requires-clause-room : goal.enter_again-requires-clause-room
+enter_again-requires-clause-room g c = few_indexed _ _ _ _ _ _ _ _ _ _ _ _ _ c.self.invariant.1 c.self.invariant.3
+
+pub returns-clause-back : goal.returns-clause-back
+returns-clause-back g c =
+    let within = task_within _ _ c.self.invariant.4 c.args.id.0 _ c.index_mut-task.ensures.value _ c.self.inside.queues.items _ _ _ c.self.invariant.1 refl in
+    let below = below_slots c.self.inside.tasks.slots c.args.id.0 _ c.index_mut-task.ensures.value in
+    let held_now = with_items c.index_mut-2.result.now c.leave_core.new.cores in
+    let items : held_now.items ≡ c.leave_core.new.cores = with_items_is c.index_mut-2.result.now c.leave_core.new.cores (search rules) in
+    back_in c.args.id.0 _ _ _ (ap (λ (v : StateValue). v.view) c.self.view_is)
+    (back_seen g.N.Naming.image.data_size _ _ _ (slice_set c.self.inside.tasks.slots c.args.id.0 (Some c.reset.new.task)) _ _ _ _ _ c.self.inside.queues.items c.self.inside.finished.items _
+    (λ cores. core_ids cores.items) c.self.inside.cores.items _ c.args.id.0 c.index_mut-task.result.now c.self.invariant.4 c.index_mut-task.ensures.value
+    (λ k other. get_or-set_other c.self.inside.tasks.slots c.args.id.0 k (Some c.reset.new.task) None other)
+    (get_or-set_same c.self.inside.tasks.slots c.args.id.0 (Some c.reset.new.task) None below ∙ ap Some c.reset.ensures)
+    c.index_mut.result.now c.leave_commits.new.waiting c.index_mut-2.result.now held_now (search rules) c.index_mut.ensures.value c.leave_commits.ensures (search rules) c.index_mut-2.ensures.value
+    (ap core_ids items ∙ c.leave_core.ensures ∙ ap (λ held. map (freed_of c.args.id.0) (core_ids held)) c.deref_mut.ensures.value))
+
+pub invariant_of-self : goal.invariant_of-self
+invariant_of-self g c =
+    let within = task_within _ _ c.self.invariant.4 c.args.id.0 _ c.index_mut-task.ensures.value _ c.self.inside.queues.items _ _ _ c.self.invariant.1 refl in
+    let back = back_in c.args.id.0 _ _ _ (sym (ap (λ (v : StateValue). v.view) c.self.view_is)) (returns-clause-back g c) in
+    let below = below_slots c.self.inside.tasks.slots c.args.id.0 _ c.index_mut-task.ensures.value in
+    let slots = c.self.invariant.3 in
+    let inside : c.args.id.0 < length c.self.inside.arrivals.items = omega (arith, below, slots.arrivals, c.capacity-slots.ensures.slots, c.capacity-slots.ensures.value) in
+    let arrival : c.index-arrival.result.now ≡ slice_index_or c.self.inside.arrivals.items c.args.id.0 0 =
+    get_or_read c.self.inside.arrivals.items c.args.id.0 c.index-arrival.result.now inside c.index-arrival.ensures 0 in (
+      c.self.invariant.0,
+      search rules,
+      search rules,
+      slots_kept _ _ (slice_set c.self.inside.tasks.slots c.args.id.0 (Some c.reset.new.task)) _ c.self.inside.queues.items _ (length c.enter_again.new.index.entries) _ c.enter_again.new.index.capacity _ _ _ _ c.self.invariant.3
+          (same_count c.self.inside.tasks.slots c.args.id.0 _ c.reset.new.task c.index_mut-task.ensures.value) c.enter_again.ensures.count c.enter_again.ensures.capacity,
+      stored_back g.N.Naming.image.data_size _ _ c.args.id.0 back c.self.invariant.4,
+      again_put _ (slice_set c.self.inside.tasks.slots c.args.id.0 (Some c.reset.new.task)) _ _ _ _ c.args.id.0 c.self.invariant.5
+          (λ k other. get_or-set_other c.self.inside.tasks.slots c.args.id.0 k (Some c.reset.new.task) None other) c.reset.new.task
+          (get_or-set_same c.self.inside.tasks.slots c.args.id.0 (Some c.reset.new.task) None below) c.index.result.now c.index-arrival.result.now _
+          c.index.ensures arrival c.enter_again.ensures.entries,
+    )

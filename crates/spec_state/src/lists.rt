@@ -1,0 +1,51 @@
+//! The lists of a tile as slices. No call takes memory.
+
+ghost use Rattle.std.specs.Prelude.{◌≡◌, ◌<◌, length, option_copied};
+ghost use Rattle.tile_queues.specs.Queue.{AreDistinct};
+ghost use Rattle.spec_state.specs.View.{task_at, queue_at, finished_at, cores_at, core_ids};
+
+use crate::state::State;
+use crate::task::{Task, TaskId};
+use rv_core::Naming;
+
+impl<N: Naming> State<N> {
+    /// The ids in the task queue of a tile, in order of arrival.
+    pub(crate) fn queued_in(&self, tile: u32) -> &[usize]
+        requires { tile < self.now.view.settings.tiles }
+        ensures ids { result.now ≡ queue_at self.now.view tile }
+        ensures distinct { AreDistinct result.now }
+    {
+        self.queues[tile as usize].ids()
+    }
+
+    /// The ids in the commit queue of a tile, in order of arrival.
+    pub(crate) fn finished_in(&self, tile: u32) -> &[usize]
+        requires { tile < self.now.view.settings.tiles }
+        ensures { result.now ≡ finished_at self.now.view tile }
+    {
+        self.finished[tile as usize].ids()
+    }
+
+    /// What the cores of a tile hold.
+    pub(crate) fn held_in(&self, tile: u32) -> &[Option<TaskId>]
+        requires { tile < self.now.view.settings.tiles }
+        ensures { core_ids result.now ≡ cores_at self.now.view tile }
+    {
+        self.cores[tile as usize].as_slice()
+    }
+
+    /// The task of this id; None exactly where it is no task's.
+    pub(crate) fn find(&self, id: TaskId) -> Option<&Task>
+        ensures { option_copied result ≡ task_at self.now.view id.0 }
+    {
+        self.tasks.get(id.0)
+    }
+
+    /// How many tiles there are: each has a task queue.
+    pub(crate) fn tile_count(&self) -> u32
+        ensures count { result ≡ self.now.view.settings.tiles }
+        ensures queues { result ≡ length self.now.view.queues }
+    {
+        self.settings.tiles
+    }
+}
