@@ -1,0 +1,132 @@
+-- A child that comes to be: it is well formed, and the record of the enqueue.
+use Rattle.std.proofs.Common.{◌≡◌, ◌≢◌, ◌<◌, ◌≤◌, ◌+◌, ◌-◌, ◌*◌, ◌%◌, ◌^◌, ◌∷◌, ◌++◌, ℕ, suc, List, [], length}
+use Rattle.std.proofs.Common.{Option, Some, None, refl, sym, ap, subst, ◌∙◌, arith, min, inl, inr}
+use Rattle.std.specs.Prelude.{IsSome, Ok}
+use Rattle.std.proofs.lemmas.List.{length_push, length-take}
+use Rattle.std.proofs.lemmas.Bool.{cases_eq}
+use Rattle.std.proofs.Math.Nat.{pow-suc, mod-lt}
+use Rattle.std.proofs.Math.Pow.{pow-lt}
+use Rattle.std.proofs.lemmas.Nat.{pow_pos}
+use Rattle.guest_image.specs.declared.image.Kind.{Kind}
+use Rattle.guest_image.specs.declared.image.Kind.TheVariants.{Ordered, Unordered}
+use Rattle.rv_core.specs.LegValue.{LegValue}
+use Rattle.task_desc.specs.declared.calls.TheConstants.{MAX_CHILDREN, MAX_DEPTH}
+use Rattle.task_desc.specs.declared.desc.Ctx.{Ctx}
+use Rattle.task_desc.specs.declared.desc.Place.{Place}
+use Rattle.task_desc.specs.declared.desc.Place.TheVariants.{Same, Sub, Super}
+use Rattle.task_desc.specs.declared.desc.Spawn.{Spawn}
+use Rattle.task_desc.specs.Calls.{allowed_at, allowed_sub}
+use Rattle.task_step.specs.declared.request.Request.TheVariants.{Enqueue}
+use Rattle.spec_state.specs.declared.task.Creator.TheVariants.{Live}
+use Rattle.spec_state.specs.declared.task.Task.{Task}
+use Rattle.spec_state.specs.View.{View, task_at, queued_last}
+use Rattle.spec_state.specs.Tasks.{depth_of, sub_bit, child_domain, child_kinds, child_descriptor, own_level}
+use Rattle.spec_state.specs.Tasks.{idle_task, context_of}
+use Rattle.spec_state.specs.Stored.{IsWellFormed}
+use Rattle.spec_state.specs.Opening.{Adds}
+use Rattle.spec_state.specs.Changes.{Keeps, Enqueues, passed}
+use Rattle.spec_access.specs.Asking.{Asks}
+use Rattle.spec_access.proofs.Asked.{asked_allowed}
+
+-- a child of the subdomain is allowed only where one was made
+sub_made : (ctx : Ctx) (ts to : ℕ) (sub : Option Kind) → allowed_sub ctx ts sub ≡ Ok to → IsSome sub
+sub_made ctx ts to None refused = absurd (cc (refused))
+sub_made ctx ts to (Some kind) allows = refl
+
+pub asks_made : (view seen : View) (leg : LegValue) (id : ℕ) (spawn : Spawn) (task : Task)
+    → Asks view leg id (Enqueue spawn) → seen ≡ view
+    → task_at seen id ≡ Some task → spawn.place ≡ Sub → IsSome task.sub
+asks_made view seen leg id spawn task asks same there place =
+    let allows = asked_allowed view seen leg id (Enqueue spawn) task asks same there in
+    let asked : Spawn = allows.0 in
+    let at : asked.place ≡ Sub = ap (λ s. s.place) (sym allows.2) ∙ place in
+    sub_made (context_of view.version task) asked.ts spawn.ts task.sub
+    (ap (allowed_at (context_of view.version task) asked.ts) (sym at) ∙ allows.1)
+
+-- the depth of a child, and the kinds on its path
+depth_at : (parent : Task) (place : Place) → depth_of parent ≤ MAX_DEPTH → (place ≡ Sub → depth_of parent < MAX_DEPTH)
+    → length (child_domain parent place) + 1 ≤ MAX_DEPTH
+depth_at parent Same deep sub = deep
+depth_at parent Sub deep sub = omega (arith, length_push parent.key.domain (own_level parent), sub refl)
+depth_at parent Super deep sub = omega (arith, length-take (length parent.key.domain - 1) parent.key.domain, deep)
+
+kinds_sub : (kinds n m : ℕ) (sub : Option Kind) → kinds < 2 ^ (n + 1) → m ≡ n + 1
+    → kinds + sub_bit sub * 2 ^ (n + 1) < 2 ^ (m + 1)
+kinds_sub kinds n m sub below is = by_kind sub
+  where
+    twice : 2 ^ (m + 1) ≡ 2 ^ (n + 1) * 2
+    twice = let next : m + 1 ≡ suc (n + 1) = omega (arith, is) in ap (λ k. 2 ^ k) next ∙ pow-suc 2 (n + 1)
+
+    by_kind : (made : Option Kind) → kinds + sub_bit made * 2 ^ (n + 1) < 2 ^ (m + 1)
+    by_kind None = omega (arith, below, twice)
+    by_kind (Some Ordered) = omega (arith, below, twice)
+    by_kind (Some Unordered) = omega (arith, below, twice)
+
+kinds_super : (kinds n m : ℕ) → m ≡ min (n - 1) n → kinds % 2 ^ n < 2 ^ (m + 1)
+kinds_super kinds n m is =
+    let rest : kinds % 2 ^ n < 2 ^ n = mod-lt kinds (pow_pos n) in
+    elim (cases_eq n (m + 1)) [
+      | inl same ↦ subst (λ k. kinds % 2 ^ n < 2 ^ k) same rest
+      | inr other ↦ (let more = pow-lt {i = n} {j = m + 1} (omega (arith, is, other)) in omega (arith, rest, more))
+    ]
+
+kinds_at : (parent : Task) (place : Place) → parent.kinds < 2 ^ depth_of parent
+    → child_kinds parent place < 2 ^ (length (child_domain parent place) + 1)
+kinds_at parent Same below = below
+kinds_at parent Sub below =
+    kinds_sub parent.kinds (length parent.key.domain) (length (child_domain parent Sub)) parent.sub below
+    (length_push parent.key.domain (own_level parent))
+kinds_at parent Super below =
+    kinds_super parent.kinds (length parent.key.domain) (length (child_domain parent Super))
+    (length-take (length parent.key.domain - 1) parent.key.domain)
+
+-- a child is well formed, as its creator is
+pub child_formed : (size commits version tile index : ℕ) (parent child : Task) (spawn : Spawn) (id : ℕ)
+    → IsWellFormed size commits parent
+    → (spawn.place ≡ Sub → IsSome parent.sub)
+    → child ≡ idle_task version (child_descriptor parent spawn) (Live (record { 0 = id }) index) tile
+    → IsWellFormed size commits child
+child_formed size commits version tile index parent child spawn id formed made is = subst
+    (IsWellFormed size commits) (sym is)
+    (record {
+      depth = depth_at parent spawn.place formed.depth (λ at. formed.inner (made at));
+      kinds = kinds_at parent spawn.place formed.kinds;
+      inner = λ some. absurd (cc (some));
+      children = omega arith;
+      accesses = λ k d within. absurd (omega (arith, within));
+      dispatched = refl;
+      turn = λ turn at same. absurd (cc (same));
+    })
+
+-- the task goes on with one child more, and then the child comes to be
+pub enqueued : (old mid new : View) (id child : ℕ) (task made : Task) (leg : LegValue) (spawn : Spawn) (tile : ℕ)
+    → task_at old id ≡ Some task
+    → Keeps id (record (passed task leg) { spawns = task.spawns ++ spawn ∷ [] }) old mid → Adds child made mid new
+    → made ≡ idle_task old.version (child_descriptor task spawn) (Live (record { 0 = id }) (length task.spawns)) tile
+    → Enqueues id task leg spawn tile old new
+enqueued old mid new id child task made leg spawn tile there keeps adds is =
+    let other : child ≢ id = λ same. absurd (cc (adds.vacant, ap (task_at mid) same, keeps.changes.changed)) in
+    let queued : queued_last mid made.tile child ≡ queued_last old tile child =
+    ap (λ v. queued_last v made.tile child) keeps.rest ∙ ap (λ t. queued_last old t child) (ap (λ t. t.tile) is) in
+    let after : View → View = λ (v : View). record v { tasks = new.tasks; queues = new.queues } in
+    record {
+      child = child;
+      vacant = sym (keeps.changes.others child other) ∙ adds.vacant;
+      parent = adds.changes.others id (λ same. other (sym same)) ∙ keeps.changes.changed;
+      made = adds.changes.changed ∙ ap Some is;
+      others = λ k apart far. adds.changes.others k far ∙ keeps.changes.others k apart;
+      queues = adds.queues ∙ queued;
+      rest = adds.rest ∙ ap after keeps.rest;
+    }
+
+-- one child more is within the bound
+pub one_more : (spawns : List Spawn) (spawn : Spawn) (now : List Spawn) → now ≡ spawns ++ spawn ∷ []
+    → length spawns < MAX_CHILDREN → length now ≤ MAX_CHILDREN
+one_more spawns spawn now is room = let long = ap length is ∙ length_push spawns spawn in omega (arith, long, room)
+
+-- the child of the task that was looked at is that of the one that asks; the version makes no difference yet
+pub child_of_same : (version at tile : ℕ) (parent task child : Task) (spawn : Spawn) (id : ℕ) → parent ≡ task
+    → child ≡ idle_task version (child_descriptor parent spawn) (Live (record { 0 = id }) (length parent.spawns)) tile
+    → child ≡ idle_task at (child_descriptor task spawn) (Live (record { 0 = id }) (length task.spawns)) tile
+child_of_same version at tile parent task child spawn id same is =
+    is ∙ ap (λ t. idle_task version (child_descriptor t spawn) (Live (record { 0 = id }) (length t.spawns)) tile) same

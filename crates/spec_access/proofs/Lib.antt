@@ -1,0 +1,6 @@
+pub mod Slots
+pub mod Kept
+pub mod Asked
+pub mod Accessed
+pub mod Enqueued
+pub mod Finished

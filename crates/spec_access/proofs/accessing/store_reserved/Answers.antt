@@ -1,0 +1,36 @@
+use Rattle.std.proofs.Common.{refl, ap, subst, ◌∙◌, sym}
+use Rattle.rv_core.specs.Legs.{after_other_of}
+use Rattle.undo_log.specs.Number.{IsAccessible}
+use Rattle.undo_log.specs.Undo.{Store}
+use Rattle.spec_state.specs.StateValue.{StateValue}
+use Rattle.spec_access.proofs.Kept.{slots_kept, indexed_kept, stored_set, formed_kept, same_stands, any_core}
+use Rattle.spec_access.proofs.Accessed.{asks_inside, log_accessible, accessed}
+use Rattle.spec_access.proofs.accessing.store_reserved.Goals as goal
+
+pub store_with-requires-clause-within : goal.store_with-requires-clause-within
+store_with-requires-clause-within g c =
+    let inside = asks_inside g.N.Naming.image.data_size _ _ _ _ c.requires.asks c.to-to.ensures.run.inside in
+    subst (λ n. IsAccessible n c.args.offset c.args.bytes) (sym c.state.invariant.4.memory) inside
+
+pub invariant_of-state : goal.invariant_of-state
+invariant_of-state g c =
+    let found = c.index_mut-task.ensures.value in
+    let was = c.state.invariant.4.tasks c.args.id.0 _ found in
+    let inside = asks_inside g.N.Naming.image.data_size _ _ _ _ c.requires.asks c.to-to.ensures.run.inside in
+    let log = log_accessible _ _ _ _ c.store_with.ensures.logged was.accesses inside in (
+      c.state.invariant.0,
+      c.state.invariant.1,
+      c.state.invariant.2,
+      slots_kept _ _ _ _ _ _ _ _ _ _ _ _ _ c.state.invariant.3 found,
+      stored_set _ _ c.args.id.0 _ _ _ c.state.invariant.4 found refl (same_stands _ _ refl)
+          (formed_kept _ _ _ _ was refl refl refl (any_core _ _ _) was.inner was.children log)
+          (c.store_with.ensures.size ∙ c.state.invariant.4.memory),
+      indexed_kept _ _ _ _ _ _ _ _ c.state.invariant.5 found refl refl,
+    )
+
+pub returns-clause-stores : goal.returns-clause-stores
+returns-clause-stores g c tile core task takes had =
+    accessed c.args.id.0 _ task (Store c.args.offset c.args.bytes c.args.value) (λ m. after_other_of c.args.leg.now.to)
+    _ _ _ _ _ _ (ap (λ (v : StateValue). v.view) c.state.view_is) c.index_mut-task.ensures.value takes.runs.on.there
+    c.core_behind-core.ensures
+    c.store_with.ensures.logged c.mark.ensures c.store_with.ensures.stored had

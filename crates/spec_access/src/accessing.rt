@@ -1,0 +1,149 @@
+//! Loads and stores. Each takes its room first, so that nothing has changed where memory is
+//! wanting.
+
+ghost use Rattle.std.specs.Prelude.{◌≡◌, ℕ, IsOk, IsSome, OnOk, OnErr};
+ghost use Rattle.memory_law.specs.Notes.{notes_of};
+ghost use Rattle.task_step.specs.declared.request.Request.TheVariants.{Load, Store};
+ghost use Rattle.spec_state.specs.declared.task.Task.{Task};
+ghost use Rattle.spec_state.specs.View.{task_at};
+ghost use Rattle.spec_state.specs.StateValue.{CoversLog};
+ghost use Rattle.spec_state.specs.Filters.{HasNotes};
+ghost use Rattle.spec_state.specs.Changes.{TakesLeg, Loads, Stores};
+ghost use Rattle.spec_access.specs.Asking.{Asks};
+
+use crate::calling::core_behind;
+use rv_core::{Leg, Naming, after_load, bytes_of_load};
+use rv_table::{LoadWidth, Reg};
+use spec_state::{State, TaskId};
+use std::alloc::AllocError;
+use undo_log::{load_with, store_with};
+
+/// Makes room for one access more of the task.
+#[inline]
+fn reserve_access<N: Naming>(state: &mut State<N>, id: TaskId) -> Result<(), AllocError>
+    requires live { IsSome (task_at state.old.view id.0) }
+    ensures view { state.new.view ≡ state.old.view }
+    ensures room { state.new.room ≡ record state.old.room { log = state.new.room.log } }
+    ensures covers { OnOk result (CoversLog state.new id.0) }
+    ensures enough { CoversLog state.old id.0 → IsOk result }
+    ensures err { OnErr result (state.new ≡ state.old) }
+{
+    let made = state.tasks[id.0].log.accesses().len();
+    state.buffers.log.reserve(made + 1)
+}
+
+/// Loads where the access has room.
+#[inline]
+fn load_reserved<N: Naming>(
+    state: &mut State<N>,
+    id: TaskId,
+    leg: &Leg<N>,
+    width: LoadWidth,
+    rd: Reg,
+    offset: u32,
+)
+    requires asks { Asks state.old.view leg.now id.0 (Load width rd offset) }
+    requires covers { CoversLog state.old id.0 }
+    ensures loads { (tile core : ℕ) (task : Task)
+        → TakesLeg state.old.view tile core leg.now id.0 task
+        → HasNotes task.lines (notes_of state.old.view.settings.line task.log)
+        → Loads id.0 task leg.now width rd offset state.old.view state.new.view }
+    ensures room { state.new.room ≡ record state.old.room { log = state.new.room.log } }
+{
+    let to = leg.to();
+    let line = offset / state.settings.line;
+    let task = &mut state.tasks[id.0];
+    let raw = load_with(
+        &state.memory,
+        &mut task.log,
+        &mut state.buffers.log,
+        offset,
+        bytes_of_load(width),
+    );
+    task.lines.mark(line, false);
+    task.core = after_load(to, width, rd, raw);
+}
+
+/// A task loads from the data: the register `rd` has what the memory has from `offset` on, counted
+/// from the start of the data, as many bytes as the width says, and the access joins its log and
+/// its lines. `AllocError` where memory is wanting; nothing has changed then.
+pub fn read<N: Naming>(
+    state: &mut State<N>,
+    id: TaskId,
+    leg: &Leg<N>,
+    width: LoadWidth,
+    rd: Reg,
+    offset: u32,
+) -> Result<(), AllocError>
+    requires asks { Asks state.old.view leg.now id.0 (Load width rd offset) }
+    ensures loads { OnOk result ((tile core : ℕ) (task : Task)
+        → TakesLeg state.old.view tile core leg.now id.0 task
+        → HasNotes task.lines (notes_of state.old.view.settings.line task.log)
+        → Loads id.0 task leg.now width rd offset state.old.view state.new.view) }
+    ensures err { OnErr result (state.new ≡ state.old) }
+    ensures covered { CoversLog state.old id.0 → IsOk result }
+    ensures room { state.new.room ≡ record state.old.room { log = state.new.room.log } }
+{
+    reserve_access(state, id)?;
+    load_reserved(state, id, leg, width, rd, offset);
+    Ok(())
+}
+
+/// Stores where the access has room.
+#[inline]
+fn store_reserved<N: Naming>(
+    state: &mut State<N>,
+    id: TaskId,
+    leg: &Leg<N>,
+    offset: u32,
+    bytes: u8,
+    value: u32,
+)
+    requires asks { Asks state.old.view leg.now id.0 (Store offset bytes value) }
+    requires covers { CoversLog state.old id.0 }
+    ensures stores { (tile core : ℕ) (task : Task)
+        → TakesLeg state.old.view tile core leg.now id.0 task
+        → HasNotes task.lines (notes_of state.old.view.settings.line task.log)
+        → Stores id.0 task leg.now offset bytes value state.old.view state.new.view }
+    ensures room { state.new.room ≡ record state.old.room { log = state.new.room.log } }
+{
+    let core = core_behind(state, leg);
+    let to = leg.to();
+    let line = offset / state.settings.line;
+    let task = &mut state.tasks[id.0];
+    store_with(
+        &mut state.memory,
+        &mut task.log,
+        &mut state.buffers.log,
+        offset,
+        bytes,
+        value,
+    );
+    task.lines.mark(line, true);
+    task.core = core;
+}
+
+/// A task stores to the data: the low bytes of the value, 1, 2 or 4 of them, are written from
+/// `offset` on, counted from the start of the data, and the access joins its log and its lines.
+/// `AllocError` where memory is wanting; nothing has changed then.
+pub fn write<N: Naming>(
+    state: &mut State<N>,
+    id: TaskId,
+    leg: &Leg<N>,
+    offset: u32,
+    bytes: u8,
+    value: u32,
+) -> Result<(), AllocError>
+    requires asks { Asks state.old.view leg.now id.0 (Store offset bytes value) }
+    ensures stores { OnOk result ((tile core : ℕ) (task : Task)
+        → TakesLeg state.old.view tile core leg.now id.0 task
+        → HasNotes task.lines (notes_of state.old.view.settings.line task.log)
+        → Stores id.0 task leg.now offset bytes value state.old.view state.new.view) }
+    ensures err { OnErr result (state.new ≡ state.old) }
+    ensures covered { CoversLog state.old id.0 → IsOk result }
+    ensures room { state.new.room ≡ record state.old.room { log = state.new.room.log } }
+{
+    reserve_access(state, id)?;
+    store_reserved(state, id, leg, offset, bytes, value);
+    Ok(())
+}

@@ -1,0 +1,91 @@
+//! What changes one task alone. No call takes memory.
+
+ghost use Rattle.std.specs.Prelude.{◌≡◌, ◌∷◌, ◌++◌, [], ℕ};
+ghost use Rattle.rv_core.specs.Legs.{after_other_of};
+ghost use Rattle.task_step.specs.declared.request.Request.TheVariants.{Continue, MakeSub};
+ghost use Rattle.task_step.specs.declared.request.Request.TheVariants.{Emit, Trap};
+ghost use Rattle.spec_state.specs.declared.task.Status.TheVariants.{Running};
+ghost use Rattle.spec_state.specs.declared.task.Task.{Task};
+ghost use Rattle.spec_state.specs.Changes.{TakesLeg, GoesOn, KeepsTrap, MakesSub, Emits};
+ghost use Rattle.spec_access.specs.Asking.{Asks};
+
+use guest_image::Kind;
+use rv_core::{Core, Leg, Naming, after_other};
+use spec_state::{State, Status, TaskId};
+
+/// The core of its tile on which a task with this status runs.
+#[inline]
+pub(crate) fn held_core(status: Status) -> u32
+    requires runs { (core : ℕ) × (status ≡ Running core) }
+    ensures { status ≡ Running result }
+{
+    match status {
+        Status::Running { core } => core,
+        Status::Idle | Status::Trapped { .. } | Status::Finished => unreachable!(),
+    }
+}
+
+/// The core at the instruction behind the leg's end.
+#[inline]
+pub(crate) fn core_behind<N: Naming>(state: &State<N>, leg: &Leg<N>) -> Core
+    ensures { result ≡ after_other_of leg.now.to }
+{
+    // A leg stays within the budget, whose range leaves room for one instruction more.
+    let _most = state.settings.budget;
+    after_other(leg.to())
+}
+
+/// A task that did its quantum goes on from the end of its leg.
+#[inline]
+pub fn keep<N: Naming>(state: &mut State<N>, id: TaskId, leg: &Leg<N>)
+    requires asks { Asks state.old.view leg.now id.0 Continue }
+    ensures goes_on { (tile core : ℕ) (task : Task)
+        → TakesLeg state.old.view tile core leg.now id.0 task
+        → GoesOn id.0 task leg.now state.old.view state.new.view }
+    ensures room { state.new.room ≡ state.old.room }
+{
+    state.tasks[id.0].core = *leg.to();
+}
+
+/// A task that came to a trap, by an instruction or by a call that its rules refuse, keeps the
+/// cause, 1 to 17, and its core.
+pub fn call_trap<N: Naming>(state: &mut State<N>, id: TaskId, leg: &Leg<N>, cause: u8)
+    requires asks { Asks state.old.view leg.now id.0 (Trap cause) }
+    ensures traps { (tile core : ℕ) (task : Task)
+        → TakesLeg state.old.view tile core leg.now id.0 task
+        → KeepsTrap id.0 task leg.now core cause state.old.view state.new.view }
+    ensures room { state.new.room ≡ state.old.room }
+{
+    let task = &mut state.tasks[id.0];
+    let core = held_core(task.status);
+    task.core = *leg.to();
+    task.status = Status::Trapped { core, cause };
+}
+
+/// A task makes its subdomain, of this kind.
+pub fn make_sub<N: Naming>(state: &mut State<N>, id: TaskId, leg: &Leg<N>, kind: Kind)
+    requires asks { Asks state.old.view leg.now id.0 (MakeSub kind) }
+    ensures makes { (tile core : ℕ) (task : Task)
+        → TakesLeg state.old.view tile core leg.now id.0 task
+        → MakesSub id.0 task leg.now kind state.old.view state.new.view }
+    ensures room { state.new.room ≡ state.old.room }
+{
+    let core = core_behind(state, leg);
+    let task = &mut state.tasks[id.0];
+    task.core = core;
+    task.sub = Some(kind);
+}
+
+/// A task emits a byte.
+pub fn emit<N: Naming>(state: &mut State<N>, id: TaskId, leg: &Leg<N>, byte: u8)
+    requires asks { Asks state.old.view leg.now id.0 (Emit byte) }
+    ensures emits { (tile core : ℕ) (task : Task)
+        → TakesLeg state.old.view tile core leg.now id.0 task
+        → Emits id.0 task leg.now byte state.old.view state.new.view }
+    ensures room { state.new.room ≡ state.old.room }
+{
+    let core = core_behind(state, leg);
+    let task = &mut state.tasks[id.0];
+    task.core = core;
+    task.bytes.push(byte);
+}

@@ -1,0 +1,108 @@
+//! The child that a task asks for. No call takes memory.
+
+ghost use Rattle.std.specs.Prelude.{◌≡◌, ◌<◌, ◌*◌, ◌-◌, ◌^◌, ℕ, true, take, length, IsSome};
+ghost use Rattle.task_desc.specs.declared.desc.Place.TheVariants.{Sub};
+ghost use Rattle.spec_state.specs.declared.task.Creator.TheVariants.{Live};
+ghost use Rattle.spec_state.specs.View.{version_of};
+ghost use Rattle.spec_state.specs.Tasks.{is_dispatched, sub_bit, child_domain, child_kinds};
+ghost use Rattle.spec_state.specs.Tasks.{child_descriptor, idle_task};
+ghost use Rattle.spec_state.specs.Stored.{IsWellFormed};
+
+use fractal_vt::{Key, Vt, as_domain};
+use guest_image::Kind;
+use line_table::Signature;
+use rv_core::{Core, Naming};
+use spec_state::{Creator, Emitted, Spawns, Status, Task, TaskId};
+use std::alloc::Global;
+use task_desc::{Place, Spawn};
+use undo_log::Log;
+
+/// The domain in which this one lies: its levels but the last one.
+fn superdomain(domain: &Vt) -> Vt
+    ensures { result ≡ take (length domain.now - 1) domain.now }
+{
+    let levels = domain.levels();
+    let outer = levels.len().saturating_sub(1);
+    match Vt::new(&levels[..outer]) {
+        Some(found) => found,
+        None => unreachable!(),
+    }
+}
+
+/// The domain of a child.
+fn domain_of(parent: &Task, place: Place) -> Vt
+    requires formed { (size commits : ℕ) × IsWellFormed size commits parent.now }
+    requires dispatched { is_dispatched parent.now ≡ true }
+    requires made { place ≡ Sub → IsSome parent.now.sub }
+    ensures { result ≡ child_domain parent.now place }
+{
+    match place {
+        Place::Same => parent.key.domain.copied(),
+        Place::Sub => as_domain(&parent.key),
+        Place::Super => superdomain(&parent.key.domain),
+    }
+}
+
+/// The bit of a subdomain's kind.
+fn bit_of(sub: Option<Kind>) -> u16
+    ensures bit { result ≡ sub_bit sub }
+    ensures below { result < 2 }
+{
+    match sub {
+        Some(Kind::Ordered) => 1,
+        Some(Kind::Unordered) | None => 0,
+    }
+}
+
+/// The kinds of the domains on a child's path.
+fn kinds_of(parent: &Task, place: Place) -> u16
+    requires formed { (size commits : ℕ) × IsWellFormed size commits parent.now }
+    ensures { result ≡ child_kinds parent.now place }
+{
+    let outer = parent.key.domain.levels().len();
+    match place {
+        Place::Same => parent.kinds,
+        Place::Sub => parent.kinds + (bit_of(parent.sub) << (outer + 1)),
+        Place::Super => parent.kinds % (1 << outer),
+    }
+}
+
+/// The child that a dispatched task asks for, idle, in a tile.
+pub(crate) fn child_of<N: Naming>(
+    alloc: Global,
+    parent: &Task,
+    id: TaskId,
+    spawn: &Spawn,
+    tile: u32,
+) -> Task
+    requires formed { (size commits : ℕ) × IsWellFormed size commits parent.now }
+    requires dispatched { is_dispatched parent.now ≡ true }
+    requires made { spawn.now.place ≡ Sub → IsSome parent.now.sub }
+    ensures { let creator = Live (record { 0 = id.0 }) (length parent.now.spawns) in
+        let descriptor = child_descriptor parent.now spawn.now in
+        result ≡ idle_task (version_of N.image) descriptor creator tile }
+{
+    Task {
+        entry: spawn.entry,
+        args: spawn.args,
+        hint: spawn.hint,
+        kinds: kinds_of(parent, spawn.place),
+        key: Key {
+            domain: domain_of(parent, spawn.place),
+            ts: spawn.ts,
+            tb: None,
+        },
+        creator: Creator::Live {
+            task: id,
+            index: parent.spawns.as_slice().len() as u32,
+        },
+        tile,
+        status: Status::Idle,
+        core: Core::start(spawn.entry, spawn.ts, spawn.args),
+        log: Log::new(alloc),
+        lines: Signature::new(),
+        spawns: Spawns::new(alloc),
+        bytes: Emitted::new(),
+        sub: None,
+    }
+}

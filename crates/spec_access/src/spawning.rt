@@ -1,0 +1,92 @@
+//! An enqueue. It takes its room first, so that nothing has changed where memory is wanting.
+
+ghost use Rattle.std.specs.Prelude.{◌≡◌, ◌<◌, ◌∷◌, ◌++◌, [], ℕ, length, IsOk, IsSome, OnOk, OnErr};
+ghost use Rattle.task_step.specs.declared.request.Request.TheVariants.{Enqueue};
+ghost use Rattle.spec_state.specs.declared.task.Task.{Task};
+ghost use Rattle.spec_state.specs.View.{task_at};
+ghost use Rattle.spec_state.specs.StateValue.{CoversChild};
+ghost use Rattle.spec_state.specs.Room.{HasFreeEntry};
+ghost use Rattle.spec_state.specs.Changes.{TakesLeg, Keeps, Enqueues, passed};
+ghost use Rattle.spec_access.specs.Asking.{Asks};
+
+use crate::calling::core_behind;
+use crate::child::child_of;
+use rv_core::{Leg, Naming};
+use spec_state::{State, TaskId};
+use std::alloc::AllocError;
+use task_desc::Spawn;
+
+/// Makes room for one child more of the task.
+#[inline]
+fn reserve_child<N: Naming>(state: &mut State<N>, id: TaskId) -> Result<(), AllocError>
+    requires live { IsSome (task_at state.old.view id.0) }
+    ensures view { state.new.view ≡ state.old.view }
+    ensures room { state.new.room ≡ record state.old.room { spawns = state.new.room.spawns } }
+    ensures covers { OnOk result (CoversChild state.new id.0) }
+    ensures enough { CoversChild state.old id.0 → IsOk result }
+    ensures err { OnErr result (state.new ≡ state.old) }
+{
+    let made = state.tasks[id.0].spawns.as_slice().len();
+    state.buffers.spawns.reserve(made + 1)
+}
+
+/// The task goes on behind its call, with one child more.
+fn add_spawn<N: Naming>(state: &mut State<N>, id: TaskId, leg: &Leg<N>, spawn: Spawn)
+    requires asks { Asks state.old.view leg.now id.0 (Enqueue spawn) }
+    requires covers { CoversChild state.old id.0 }
+    ensures keeps { (task : Task) → task_at state.old.view id.0 ≡ Some task
+        → Keeps id.0 (record (passed task leg.now) { spawns = task.spawns ++ spawn ∷ [] })
+        state.old.view state.new.view }
+    ensures room { state.new.room ≡ record state.old.room { spawns = state.new.room.spawns } }
+{
+    let core = core_behind(state, leg);
+    let task = &mut state.tasks[id.0];
+    task.spawns.push_with(&mut state.buffers.spawns, spawn);
+    task.core = core;
+}
+
+/// Enqueues where the child has room.
+fn spawn_reserved<N: Naming>(
+    state: &mut State<N>,
+    id: TaskId,
+    leg: &Leg<N>,
+    spawn: Spawn,
+    tile: u32,
+)
+    requires asks { Asks state.old.view leg.now id.0 (Enqueue spawn) }
+    requires tile { tile < state.old.view.settings.tiles }
+    requires free { HasFreeEntry state.old.view tile }
+    requires covers { CoversChild state.old id.0 }
+    ensures enqueues { (from core : ℕ) (task : Task)
+        → TakesLeg state.old.view from core leg.now id.0 task
+        → Enqueues id.0 task leg.now spawn tile state.old.view state.new.view }
+    ensures room { state.new.room ≡ record state.old.room { spawns = state.new.room.spawns } }
+{
+    let child = child_of::<N>(state.alloc, &state.tasks[id.0], id, &spawn, tile);
+    add_spawn(state, id, leg, spawn);
+    let _ = state.put(child);
+}
+
+/// A task enqueues a child: an idle task, which stands last in the task queue of this tile, where
+/// an entry is free. `AllocError` where memory is wanting; nothing has changed then.
+pub fn spawn<N: Naming>(
+    state: &mut State<N>,
+    id: TaskId,
+    leg: &Leg<N>,
+    spawn: Spawn,
+    tile: u32,
+) -> Result<(), AllocError>
+    requires asks { Asks state.old.view leg.now id.0 (Enqueue spawn) }
+    requires tile { tile < state.old.view.settings.tiles }
+    requires free { HasFreeEntry state.old.view tile }
+    ensures enqueues { OnOk result ((from core : ℕ) (task : Task)
+        → TakesLeg state.old.view from core leg.now id.0 task
+        → Enqueues id.0 task leg.now spawn tile state.old.view state.new.view) }
+    ensures err { OnErr result (state.new ≡ state.old) }
+    ensures covered { CoversChild state.old id.0 → IsOk result }
+    ensures room { state.new.room ≡ record state.old.room { spawns = state.new.room.spawns } }
+{
+    reserve_child(state, id)?;
+    spawn_reserved(state, id, leg, spawn, tile);
+    Ok(())
+}

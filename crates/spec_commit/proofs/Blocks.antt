@@ -1,0 +1,107 @@
+-- One block of several is replaced: what is seen of the blocks.
+use Rattle.std.proofs.Common.{◌≡◌, ◌<◌, ◌≤◌, ◌+◌, ℕ, List, [], length, map, Option, refl, sym, ap, subst, ◌∙◌, arith, slice_index_or, slice_set}
+use Rattle.std.proofs.lemmas.List.{get_or-map, map-set, get_or-set_same, get_or-set_other}
+use Rattle.std.specs.Prelude.{Result, Ok, Err, OnOk}
+use Rattle.std.specs.declared.alloc.AllocError.{AllocError}
+use Rattle.fractal_vt.specs.declared.level.Level.{Level}
+use Rattle.run_journal.specs.declared.journal.Entry.{Entry}
+use Rattle.spill_store.specs.Entries.{Entry as Spilled, BlockValue, TakesLeast, pushed}
+use Rattle.tile_queues.specs.Queue.{QueueValue}
+use Rattle.spec_state.specs.declared.settings.Settings.{Settings}
+use Rattle.spec_state.specs.declared.task.Task.{Task}
+use Rattle.spec_state.specs.View.{View}
+use Rattle.spec_state.specs.Fits.{seen, entries_in}
+use Rattle.spec_state.specs.StateValue.{Spare, HasNoLessRoom}
+use Rattle.spec_state.proofs.Reserved.{spare_grows, spare_at, spare_before, same_entries}
+use Rattle.spec_commit.specs.Spilling.{KeepsOtherRoom}
+
+-- what stands in the place of a block now
+pub entries_now : (blocks : List BlockValue) (tile : ℕ) (after : BlockValue) → tile < length blocks → slice_index_or (entries_in (slice_set blocks tile after)) tile [] ≡ after.entries
+entries_now blocks tile after within =
+    ap (λ lists. slice_index_or lists tile []) (map-set (λ b. b.entries) blocks tile after)
+    ∙ get_or-set_same (entries_in blocks) tile after.entries [] (subst (λ n. tile < n) (sym (Rattle.std.proofs.lemmas.List.length-map blocks (λ (b : BlockValue). b.entries))) within)
+
+-- and what stood there
+pub entries_was : (blocks : List BlockValue) (tile : ℕ) (block : BlockValue) → tile < length blocks → block ≡ slice_index_or blocks tile block → slice_index_or (entries_in blocks) tile [] ≡ block.entries
+entries_was blocks tile block within is = get_or-map (λ (b : BlockValue). b.entries) blocks tile block [] within ∙ ap (λ (b : BlockValue). b.entries) (sym is)
+
+-- the lists with this one in its place
+pub entries_set : (blocks : List BlockValue) (tile : ℕ) (after : BlockValue) → tile < length blocks
+    → entries_in (slice_set blocks tile after) ≡ slice_set (entries_in blocks) tile (slice_index_or (entries_in (slice_set blocks tile after)) tile [])
+entries_set blocks tile after within =
+    map-set (λ (b : BlockValue). b.entries) blocks tile after ∙ ap (slice_set (entries_in blocks) tile) (sym (entries_now blocks tile after within))
+
+-- the least entry is taken out of that block
+pub taken_seen : (blocks : List BlockValue) (tile : ℕ) (block after : BlockValue) (s : Spilled) → tile < length blocks → block ≡ slice_index_or blocks tile block → TakesLeast block.entries after.entries s
+    → (lists : List (List Spilled)) → entries_in blocks ≡ lists → TakesLeast (slice_index_or lists tile []) (slice_index_or (entries_in (slice_set blocks tile after)) tile []) s
+taken_seen blocks tile block after s within is takes lists same =
+    subst (λ lists. TakesLeast (slice_index_or lists tile []) (slice_index_or (entries_in (slice_set blocks tile after)) tile []) s) same
+    (subst (λ entries. TakesLeast entries (slice_index_or (entries_in (slice_set blocks tile after)) tile []) s) (sym (entries_was blocks tile block within is))
+    (subst (λ entries. TakesLeast block.entries entries s) (sym (entries_now blocks tile after within)) takes))
+
+-- all else of the view stays
+pub block_seen : (version : ℕ) (settings : Settings) (tasks : List (Option Task)) (memory : List ℕ) (history : List Entry) (output : List ℕ) (next : ℕ) (path : List Level)
+    (queues finished : List QueueValue) (cores : List (List (Option ℕ))) (blocks : List BlockValue) (tile : ℕ) (after : BlockValue) → tile < length blocks
+    → (view : View) → seen version settings tasks memory history output next path queues finished cores (entries_in blocks) ≡ view
+    → seen version settings tasks memory history output next path queues finished cores (entries_in (slice_set blocks tile after))
+    ≡ record view { blocks = slice_set view.blocks tile (slice_index_or (entries_in (slice_set blocks tile after)) tile []) }
+block_seen version settings tasks memory history output next path queues finished cores blocks tile after within view same =
+    subst (λ (view : View). seen version settings tasks memory history output next path queues finished cores (entries_in (slice_set blocks tile after))
+    ≡ record view { blocks = slice_set view.blocks tile (slice_index_or (entries_in (slice_set blocks tile after)) tile []) }) same
+    (ap (seen version settings tasks memory history output next path queues finished cores) (entries_set blocks tile after within))
+
+-- no room is less where that block has no less
+pub room_seen : (log spawns output : ℕ) (blocks : List BlockValue) (tile : ℕ) (block after : BlockValue) → block ≡ slice_index_or blocks tile block → block.spare ≤ after.spare
+    → (room : Spare) → record { log = log; spawns = spawns; output = output; blocks = map (λ b. b.spare) blocks } ≡ room
+    → HasNoLessRoom room (record { log = log; spawns = spawns; output = output; blocks = map (λ b. b.spare) (slice_set blocks tile after) })
+room_seen log spawns output blocks tile block after is more room same =
+    subst (λ (room : Spare). HasNoLessRoom room (record { log = log; spawns = spawns; output = output; blocks = map (λ (b : BlockValue). b.spare) (slice_set blocks tile after) })) same
+    (record { log = omega arith; spawns = omega arith; output = omega arith; blocks = spare_grows blocks tile block after is more })
+
+-- an entry is pushed into that block
+pub push_seen : (version : ℕ) (settings : Settings) (tasks : List (Option Task)) (memory : List ℕ) (history : List Entry) (output : List ℕ) (next : ℕ) (path : List Level)
+    (queues finished : List QueueValue) (cores : List (List (Option ℕ))) (blocks : List BlockValue) (tile : ℕ) (block after : BlockValue) (s : Spilled) → tile < length blocks
+    → block ≡ slice_index_or blocks tile block → after.entries ≡ pushed block.entries s
+    → (view : View) → seen version settings tasks memory history output next path queues finished cores (entries_in blocks) ≡ view
+    → seen version settings tasks memory history output next path queues finished cores (entries_in (slice_set blocks tile after))
+    ≡ record view { blocks = slice_set view.blocks tile (pushed (slice_index_or view.blocks tile []) s) }
+push_seen version settings tasks memory history output next path queues finished cores blocks tile block after s within is pushes view same =
+    subst (λ (view : View). seen version settings tasks memory history output next path queues finished cores (entries_in (slice_set blocks tile after))
+    ≡ record view { blocks = slice_set view.blocks tile (pushed (slice_index_or view.blocks tile []) s) }) same
+    (ap (seen version settings tasks memory history output next path queues finished cores)
+    (map-set (λ (b : BlockValue). b.entries) blocks tile after
+    ∙ ap (slice_set (entries_in blocks) tile) (pushes ∙ ap (λ entries. pushed entries s) (sym (entries_was blocks tile block within is)))))
+
+-- its entries stay
+pub same_seen : (version : ℕ) (settings : Settings) (tasks : List (Option Task)) (memory : List ℕ) (history : List Entry) (output : List ℕ) (next : ℕ) (path : List Level)
+    (queues finished : List QueueValue) (cores : List (List (Option ℕ))) (blocks : List BlockValue) (tile : ℕ) (block after : BlockValue)
+    → block ≡ slice_index_or blocks tile block → after.entries ≡ block.entries
+    → (view : View) → seen version settings tasks memory history output next path queues finished cores (entries_in blocks) ≡ view
+    → seen version settings tasks memory history output next path queues finished cores (entries_in (slice_set blocks tile after)) ≡ view
+same_seen version settings tasks memory history output next path queues finished cores blocks tile block after is stays view same =
+    ap (seen version settings tasks memory history output next path queues finished cores) (same_entries blocks tile block after is stays) ∙ same
+
+-- how many pushes the block has to spare
+pub spare_seen : (blocks : List BlockValue) (tile : ℕ) (block after : BlockValue) → tile < length blocks → block ≡ slice_index_or blocks tile block → block.spare ≤ after.spare + 1
+    → (spares : List ℕ) → map (λ (b : BlockValue). b.spare) blocks ≡ spares
+    → slice_index_or spares tile 0 ≤ slice_index_or (map (λ (b : BlockValue). b.spare) (slice_set blocks tile after)) tile 0 + 1
+spare_seen blocks tile block after within is less spares same =
+    subst (λ spares. slice_index_or spares tile 0 ≤ slice_index_or (map (λ (b : BlockValue). b.spare) (slice_set blocks tile after)) tile 0 + 1) same
+    (let was = spare_before blocks tile block is within in let now = spare_at blocks tile after within in omega (arith, was, now, less))
+
+pub covers_seen : (spares : List ℕ) (tile spare : ℕ) → slice_index_or spares tile 0 ≡ spare → (result : Result (Unit {0}) AllocError) → OnOk result (8 ≤ spare) → OnOk result (8 ≤ slice_index_or spares tile 0)
+covers_seen spares tile spare is (Ok done) enough = omega (arith, is, enough)
+covers_seen spares tile spare is (Err error) enough = tt
+
+-- the room of other tiles stays
+pub other_room : (log spawns output : ℕ) (blocks : List BlockValue) (tile : ℕ) (after : BlockValue) (room : Spare)
+    → record { log = log; spawns = spawns; output = output; blocks = map (λ (b : BlockValue). b.spare) blocks } ≡ room
+    → KeepsOtherRoom tile room (record { log = log; spawns = spawns; output = output; blocks = map (λ (b : BlockValue). b.spare) (slice_set blocks tile after) })
+other_room log spawns output blocks tile after room same =
+    subst (λ (room : Spare). KeepsOtherRoom tile room (record { log = log; spawns = spawns; output = output; blocks = map (λ (b : BlockValue). b.spare) (slice_set blocks tile after) })) same
+    (record {
+      other_blocks = λ t other.
+          ap (λ spares. slice_index_or spares t 0) (map-set (λ (b : BlockValue). b.spare) blocks tile after)
+          ∙ get_or-set_other (map (λ (b : BlockValue). b.spare) blocks) tile t after.spare 0 other;
+      rest = refl;
+    })

@@ -1,0 +1,9 @@
+pub mod Blocks
+pub mod Named
+pub mod Places
+pub mod Latest
+pub mod Choices
+pub mod Victims
+pub mod Moving
+pub mod Room
+pub mod Committed

@@ -1,0 +1,43 @@
+-- Which tasks of a tile's queue are the latest.
+use Rattle.std.specs.Prelude.{◌≡◌, ◌≢◌, ℕ, ◌<◌, ◌≤◌, ◌+◌, ◌-◌, List, length, drop, AllPairs, Contains, Some, slice_get}
+use Rattle.std.specs.List.{insert}
+use Rattle.std.specs.declared.cmp.Ordering.TheVariants.{Less}
+use Rattle.fractal_vt.specs.Keys.{key_cmp}
+use Rattle.spec_state.specs.declared.task.Task.{Task}
+use Rattle.spec_state.specs.View.{View, task_at, queue_at}
+use Rattle.spec_state.specs.Least.{Precedes}
+use Rattle.spec_state.specs.Room.{Asker, Enqueuer, IsMovable, most_moved}
+
+-- of two tasks the first has the lesser key
+pub record HasLessKey (view : View) (a b : ℕ) : Type 0 where
+  pub x : Task
+  pub y : Task
+  pub first : task_at view a ≡ Some x
+  pub second : task_at view b ≡ Some y
+  pub less : key_cmp x.key y.key ≡ Less
+
+-- the id stands at one of the first places of the tile's task queue, so many
+abbrev pub IsAmong : View → ℕ → ℕ → ℕ → Type 0
+IsAmong view tile count id = (place : ℕ) × (place < count) × (slice_get (queue_at view tile) place ≡ Some id)
+
+-- it may move besides
+abbrev pub MayMove : View → ℕ → ℕ → ℕ → Type 0
+MayMove view tile count id = IsAmong view tile count id × IsMovable view tile id
+
+-- of the ids of a kind the latest in an order, the first of them first: all of them, or so many
+pub record AreLatest (comes_before : ℕ → ℕ → Type 0) (kind : ℕ → Type 0) (most : ℕ) (ids : List ℕ) : Type 0 where
+  pub each : (id : ℕ) → Contains ids id → kind id
+  pub few : length ids ≤ most
+  pub all : length ids < most → (id : ℕ) → kind id → Contains ids id
+  pub latest : (stays id : ℕ) → kind stays → (Contains ids stays → ⊥) → Contains ids id → comes_before stays id
+  pub rising : AllPairs comes_before ids
+
+-- the last of the ids, as many as move at once, once one more stands at this place
+abbrev pub with_one : List ℕ → ℕ → ℕ → List ℕ
+with_one ids place id = drop (length ids + 1 - most_moved) (insert ids place id)
+
+-- of the first places' ids other than the asker's, the latest
+pub record IsLatestOther (view : View) (tile : ℕ) (asker : Asker) (count id : ℕ) : Type 0 where
+  pub among : IsAmong view tile count id
+  pub other : asker ≢ Enqueuer id
+  pub last : (k : ℕ) → IsAmong view tile count k → k ≢ id → asker ≢ Enqueuer k → Precedes view tile k id

@@ -1,0 +1,114 @@
+//! Idle tasks that move into the block of their tile.
+
+ghost use Rattle.std.specs.Prelude.{◌≡◌, ◌≢◌, ◌<◌, ◌≤◌, ◌+◌, ◌^◌, [], ℕ, length, IsOk, IfOk, OnOk, OnErr, slice_index_or, slice_set};
+ghost use Rattle.task_desc.specs.declared.calls.TheConstants.{MAX_DEPTH};
+ghost use Rattle.task_desc.specs.Record.{IsDesc};
+ghost use Rattle.spill_store.specs.Entries.{pushed};
+ghost use Rattle.spec_state.specs.View.{block_at};
+ghost use Rattle.spec_state.specs.StateValue.{CoversPushes};
+ghost use Rattle.spec_state.specs.Tasks.{depth_of, descriptor_of, spilled_as};
+ghost use Rattle.spec_state.specs.Fronts.{name_given};
+ghost use Rattle.spec_state.specs.Room.{IsMovable, AreChosen, Coalesces};
+ghost use Rattle.spec_commit.specs.Spilling.{IsIdleTask, Spills, KeepsOtherRoom};
+
+use crate::choosing::chosen;
+use fractal_vt::Vt;
+use rv_core::Naming;
+use spec_state::{MAX_MOVED, State, Task, TaskId, name_given};
+use std::alloc::AllocError;
+use task_desc::Desc;
+
+/// The descriptor that a task is spilled with, where so many tasks have committed: at most 1,000,000.
+fn spilled_desc(task: &Task, count: u32) -> Desc
+    requires count { count ≤ 1000000 }
+    requires depth { depth_of task.now ≤ MAX_DEPTH }
+    requires kinds { task.now.kinds < 2 ^ depth_of task.now }
+    ensures value { result ≡ (spilled_as (name_given task.now.creator count) (descriptor_of task.now)).desc }
+    ensures fits { IsDesc result }
+{
+    Desc {
+        name: name_given(task.creator, count),
+        entry: task.entry,
+        ts: task.key.ts,
+        args: task.args,
+        hint: task.hint,
+        depth: task.key.domain.levels().len() as u8 + 1,
+        kinds: task.kinds,
+    }
+}
+
+/// Makes room for as many pushes into the block of a tile as move at once. `AllocError` where memory is wanting; the view stays in any
+/// case.
+fn reserve_pushes<N: Naming>(state: &mut State<N>, tile: u32) -> Result<(), AllocError>
+    requires tile { tile < state.old.view.settings.tiles }
+    ensures view { state.new.view ≡ state.old.view }
+    ensures covers { OnOk result (CoversPushes state.new tile 8) }
+    ensures enough { CoversPushes state.old tile 8 → IsOk result }
+    ensures room { KeepsOtherRoom tile state.old.room state.new.room }
+{
+    state.blocks[tile as usize].reserve(MAX_MOVED)
+}
+
+/// Adds a task to the block of a tile, which has a push to spare.
+fn push_spilled<N: Naming>(state: &mut State<N>, tile: u32, desc: &Desc, domain: &Vt)
+    requires tile { tile < state.old.view.settings.tiles }
+    requires spare { CoversPushes state.old tile 1 }
+    requires desc { IsDesc desc.now }
+    requires domain { length domain.now + 1 ≡ desc.now.depth }
+    ensures view { state.new.view ≡ record state.old.view {
+      blocks = slice_set state.old.view.blocks tile
+          (pushed (block_at state.old.view tile) (record { desc = desc.now; domain = domain.now }));
+    } }
+    ensures spare { slice_index_or state.old.room.blocks tile 0 ≤ slice_index_or state.new.room.blocks tile 0 + 1 }
+    ensures room { KeepsOtherRoom tile state.old.room state.new.room }
+{
+    state.blocks[tile as usize].push(desc, domain);
+}
+
+/// Moves an idle task into the block of a tile, which has a push to spare.
+fn spill<N: Naming>(state: &mut State<N>, tile: u32, id: TaskId)
+    requires tile { tile < state.old.view.settings.tiles }
+    requires idle { IsIdleTask state.old.view id.0 }
+    requires spare { CoversPushes state.old tile 1 }
+    ensures spills { Spills tile id.0 state.old.view state.new.view }
+    ensures spare { slice_index_or state.old.room.blocks tile 0 ≤ slice_index_or state.new.room.blocks tile 0 + 1 }
+    ensures room { KeepsOtherRoom tile state.old.room state.new.room }
+{
+    state.is_stored();
+    let count = state.history.count();
+    let task = state.take_out(id);
+    let desc = spilled_desc(&task, count);
+    push_spilled(state, tile, &desc, &task.key.domain);
+}
+
+/// Moves the chosen tasks into the block of their tile, one after another, the least of them first.
+fn spill_all<N: Naming>(state: &mut State<N>, tile: u32, ids: &[usize])
+    requires tile { tile < state.old.view.settings.tiles }
+    requires chosen { AreChosen state.old.view tile ids.now }
+    requires some { ids.now ≢ [] }
+    requires spare { CoversPushes state.old tile 8 }
+    ensures coalesces { (c : Coalesces tile state.old.view state.new.view) × (c.ids ≡ ids.now) }
+    ensures room { KeepsOtherRoom tile state.old.room state.new.room }
+{
+    state.is_stored();
+    for id in ids {
+        spill(state, tile, TaskId(*id));
+    }
+}
+
+/// Moves the latest idle firm tasks of a tile, which has one, into its block: at most eight, the least of them first. Their number, or
+/// `AllocError` where memory is wanting, and then nothing has moved.
+pub fn coalesce<N: Naming>(state: &mut State<N>, tile: u32) -> Result<u32, AllocError>
+    requires tile { tile < state.old.view.settings.tiles }
+    requires some { (id : ℕ) × IsMovable state.old.view tile id }
+    ensures ok { IfOk result (λ n. (moved : Coalesces tile state.old.view state.new.view)
+        × (n ≡ length moved.ids)) }
+    ensures err { OnErr result (state.new.view ≡ state.old.view) }
+    ensures covered { CoversPushes state.old tile 8 → IsOk result }
+    ensures room { KeepsOtherRoom tile state.old.room state.new.room }
+{
+    reserve_pushes(state, tile)?;
+    let ids = chosen(state, tile);
+    spill_all(state, tile, ids.as_slice());
+    Ok(ids.len() as u32)
+}

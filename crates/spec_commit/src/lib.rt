@@ -1,0 +1,18 @@
+//! Tasks that leave the queues for good or for a while: a commit, the moving of idle tasks into a block and their return, and the task
+//! that makes way in a full queue.
+//!
+//! Each call changes a state as its definition says and keeps what the state's type keeps. What takes memory takes it before its first
+//! change, so that a want of it leaves the state as it was. Whether an event is allowed is decided above.
+#![tactic(auto)]
+
+mod choosing;
+mod coalescing;
+mod committing;
+mod queue;
+mod splitting;
+mod victim;
+
+pub use coalescing::coalesce;
+pub use committing::commit;
+pub use splitting::split;
+pub use victim::victim_of;

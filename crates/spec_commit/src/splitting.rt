@@ -1,0 +1,114 @@
+//! A spilled task that comes back.
+
+ghost use Rattle.std.specs.Prelude.{◌≡◌, ◌≢◌, ◌<◌, ◌≤◌, ◌+◌, [], ℕ, length, IsOk, IsSome, OnOk, OnErr, Contains, option_map, slice_set};
+ghost use Rattle.task_desc.specs.Record.{IsDesc};
+ghost use Rattle.spill_store.specs.Entries.{Entry as Spilled, TakesLeast};
+ghost use Rattle.spec_state.specs.declared.task.Creator.{Creator};
+ghost use Rattle.spec_state.specs.declared.task.Creator.TheVariants.{Committed};
+ghost use Rattle.spec_state.specs.View.{version_of, block_at};
+ghost use Rattle.spec_state.specs.StateValue.{HasNoLessRoom};
+ghost use Rattle.spec_state.specs.Tasks.{idle_task, spilled_descriptor};
+ghost use Rattle.spec_state.specs.Least.{HasName};
+ghost use Rattle.spec_state.specs.Fronts.{IsFirmBy, name_given};
+ghost use Rattle.spec_state.specs.Room.{HasFreeEntry, Splits};
+ghost use Rattle.spec_commit.specs.Spilling.{KeepsOtherRoom};
+
+use fractal_vt::{Key, Vt};
+use line_table::Signature;
+use rv_core::{Core, Naming};
+use spec_state::{Creator, Emitted, Spawns, State, Status, Task, TaskId};
+use std::alloc::{AllocError, Global};
+use task_desc::{Desc, Name};
+use undo_log::Log;
+
+/// The creator that gives this name, where so many tasks have committed: one of them, or the heir.
+fn creator_named(name: Name, count: u32, heir: Option<TaskId>) -> Creator
+    requires heir { count < name.creator → IsSome heir × (name.creator ≡ count + 1) }
+    ensures name { name_given result count ≡ name }
+    ensures firm { IsFirmBy (option_map (λ id. id.0) heir) result }
+    ensures turn { (turn index : ℕ) → result ≡ Committed turn index → turn ≤ count }
+{
+    match heir {
+        Some(task) if count < name.creator => Creator::Live {
+            task,
+            index: name.index,
+        },
+        _ => Creator::Committed {
+            turn: name.creator,
+            index: name.index,
+        },
+    }
+}
+
+/// The idle task that a spilled one becomes, in a tile. It takes no memory.
+fn idle_spilled<N: Naming>(
+    alloc: Global,
+    desc: &Desc,
+    domain: Vt,
+    creator: Creator,
+    tile: u32,
+) -> Task
+    ensures { let s : Spilled = record { desc = desc.now; domain = domain } in
+        result ≡ idle_task (version_of N.image) (spilled_descriptor s) creator tile }
+{
+    Task {
+        entry: desc.entry,
+        args: desc.args,
+        hint: desc.hint,
+        kinds: desc.kinds,
+        key: Key {
+            domain,
+            ts: desc.ts,
+            tb: None,
+        },
+        creator,
+        tile,
+        status: Status::Idle,
+        core: Core::start(desc.entry, desc.ts, desc.args),
+        log: Log::new(alloc),
+        lines: Signature::new(),
+        spawns: Spawns::new(alloc),
+        bytes: Emitted::new(),
+        sub: None,
+    }
+}
+
+/// Takes the least task out of the block of a tile, which has one.
+fn take_spilled<N: Naming>(state: &mut State<N>, tile: u32) -> (Desc, Vt)
+    requires tile { tile < state.old.view.settings.tiles }
+    requires some { block_at state.old.view tile ≢ [] }
+    ensures taken { TakesLeast (block_at state.old.view tile) (block_at state.new.view tile)
+        (record { desc = result.0; domain = result.1 }) }
+    ensures fits { IsDesc result.0 × (length result.1 + 1 ≡ result.0.depth) }
+    ensures rest { state.new.view ≡ record state.old.view {
+      blocks = slice_set state.old.view.blocks tile (block_at state.new.view tile);
+    } }
+    ensures room { KeepsOtherRoom tile state.old.room state.new.room }
+    ensures stays { HasNoLessRoom state.old.room state.new.room }
+{
+    match state.blocks[tile as usize].take_least() {
+        Some(taken) => taken,
+        None => unreachable!(),
+    }
+}
+
+/// Brings the least task of a tile's block back, idle, as the last one of its task queue, which has a free entry. It takes no memory, and
+/// never answers `AllocError`.
+pub fn split<N: Naming>(state: &mut State<N>, tile: u32) -> Result<(), AllocError>
+    requires tile { tile < state.old.view.settings.tiles }
+    requires some { block_at state.old.view tile ≢ [] }
+    requires free { HasFreeEntry state.old.view tile }
+    requires named { (s : Spilled) → Contains (block_at state.old.view tile) s
+        → (creator : Creator) × HasName state.old.view creator s.desc.name }
+    ensures ok { OnOk result (Splits tile state.old.view state.new.view) }
+    ensures err { OnErr result (state.new ≡ state.old) }
+    ensures covered { IsOk result }
+    ensures room { KeepsOtherRoom tile state.old.room state.new.room }
+    ensures stays { HasNoLessRoom state.old.room state.new.room }
+{
+    let heir = state.heir();
+    let (desc, domain) = take_spilled(state, tile);
+    let creator = creator_named(desc.name, state.history.count(), heir);
+    state.put(idle_spilled::<N>(state.alloc, &desc, domain, creator, tile));
+    Ok(())
+}

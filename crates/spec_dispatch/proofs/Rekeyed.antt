@@ -1,0 +1,55 @@
+-- A task of the index under another key.
+use Rattle.std.proofs.Common.{◌≡◌, ◌≢◌, ◌∷◌, ℕ, List, Option, Some, None, refl, sym, ap, subst, ◌∙◌, inl, inr, slice_index_or}
+use Rattle.std.specs.Prelude.{Contains}
+use Rattle.std.specs.List.Sorted.{IsPermutation}
+use Rattle.std.proofs.lemmas.Bool.{cases_eq}
+use Rattle.std.proofs.lemmas.List.Sorted.{Contains-permutation, IsPermutation-sym}
+use Rattle.commit_arbiter.specs.declared.entry.Entry.{Entry}
+use Rattle.commit_arbiter.specs.Indexed.{entry_cmp, without}
+use Rattle.fractal_vt.specs.Sorted.{inserted}
+use Rattle.fractal_vt.proofs.Sorted.{inserted-permutes}
+use Rattle.spec_state.specs.declared.task.Task.{Task}
+use Rattle.spec_state.specs.Stored.{IsIndexed, entry_of}
+use Rattle.spec_state.proofs.Entered.{head_or_tail, has_head, in_tail}
+use Rattle.spec_state.proofs.Moved.{in_without, from_without}
+
+module _ (tasks now : List (Option Task)) (lists : List (List ℕ)) (arrivals : List ℕ) (next id : ℕ) (entries : List Entry) (task : Task)
+    (is : IsIndexed tasks lists arrivals next entries) (here : slice_index_or now id None ≡ Some task)
+    (others : (k : ℕ) → k ≢ id → slice_index_or now k None ≡ slice_index_or tasks k None) where
+  abbrev own : Entry
+  own = entry_of arrivals id task
+
+  abbrev left : List Entry
+  left = inserted entry_cmp own (without id entries)
+
+  permutes : IsPermutation (own ∷ without id entries) left
+  permutes = inserted-permutes entry_cmp own (without id entries)
+
+  all_in : (k : ℕ) (t : Task) → slice_index_or now k None ≡ Some t → Contains left (entry_of arrivals k t)
+  all_in k t found = elim (cases_eq k id) [
+    | inl same ↦
+        let both : Some t ≡ Some task = sym found ∙ ap (λ j. slice_index_or now j None) same ∙ here in
+        let it : t ≡ task = cc in
+        let e : entry_of arrivals k t ≡ own = ap (λ j. entry_of arrivals j t) same ∙ ap (entry_of arrivals id) it in
+        subst (Contains left) (sym e) (Contains-permutation (own ∷ without id entries) left own permutes (has_head own (without id entries)))
+    | inr other ↦
+        Contains-permutation (own ∷ without id entries) left (entry_of arrivals k t) permutes
+        (in_tail own (without id entries) (entry_of arrivals k t)
+        (in_without id entries (entry_of arrivals k t) other (is.all k t (sym (others k other) ∙ found))))
+  ]
+
+  abbrev Has : Entry → Type 0
+  Has e = (t : Task) × (slice_index_or now e.id None ≡ Some t) × (e ≡ entry_of arrivals e.id t)
+
+  each_is : (e : Entry) → Contains left e → Has e
+  each_is e has =
+      elim (head_or_tail own (without id entries) e (Contains-permutation left (own ∷ without id entries) e (IsPermutation-sym (own ∷ without id entries) left permutes) has)) [
+        | inl head ↦ subst Has head (task, here, refl)
+        | inr tail ↦
+            let more = from_without id entries e tail in
+            let was = is.each e more.0 in
+            (was.0, others e.id more.1 ∙ was.1, was.2)
+      ]
+
+  pub rekeyed : IsIndexed now lists arrivals next left
+  rekeyed = record { all = all_in; each = each_is; early = is.early; rising = is.rising }

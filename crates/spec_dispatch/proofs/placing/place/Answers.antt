@@ -1,0 +1,48 @@
+use Rattle.std.proofs.Common.{rules, ◌<◌, ◌∙◌, None, [], length, ap, sym, subst, refl, arith, slice_get, slice_index_or}
+use Rattle.spec_state.specs.Queries.{IsLeastIdle, IsLowestFree}
+use Rattle.spec_state.specs.StateValue.{StateValue}
+use Rattle.spec_state.proofs.Put.{few_indexed}
+use Rattle.spec_dispatch.proofs.Dispatched.{stored_dispatched}
+use Rattle.spec_dispatch.proofs.Placed.{as_many, cores_counted, core_within, dispatches_seen, indexed_placed, slot_within, slots_stay}
+use Rattle.spec_dispatch.proofs.placing.place.Goals as goal
+
+pub index-requires-2 : goal.index-requires-2
+index-requires-2 g c =
+    let low = slot_within c.state.inside.tasks.slots c.args.id.0 c.index_mut.result.now c.index_mut.ensures.value in
+    omega (arith, low, c.capacity-slots.ensures.slots, c.capacity-slots.ensures.value, c.state.invariant.3.arrivals, c.state.inside.arrivals.ok.0)
+
+pub move_key-requires-clause-room : goal.move_key-requires-clause-room
+move_key-requires-clause-room g c = few_indexed _ _ _ _ _ _ _ _ _ _ _ _ _ c.state.invariant.1 c.state.invariant.3
+
+pub index_mut-requires-3 : goal.index_mut-requires-3
+index_mut-requires-3 g c =
+    core_within c.state.inside.cores.items c.args.tile c.args.core c.index_mut-2.result.now None (search rules) c.index_mut-2.ensures.value
+    (ap (λ (v : StateValue). slice_get (slice_index_or v.view.cores c.args.tile []) c.args.core) c.state.view_is ∙ c.requires.free.free)
+
+pub returns-clause-dispatches : goal.returns-clause-dispatches
+returns-clause-dispatches g c =
+    dispatches_seen _ _ c.state.inside.tasks.slots _ _ _ _ _ c.state.inside.queues.items c.state.inside.finished.items c.state.inside.cores.items _ c.args.tile c.args.core c.args.id
+    c.index_mut.result.now c.start.new.task c.index_mut-2.result.now (search rules) c.index_mut-2.ensures.value c.index_mut.ensures.value c.start.ensures
+    _ (ap (λ (v : StateValue). v.view) c.state.view_is) c.requires.least.0 c.requires.least.1 c.requires.free
+
+pub invariant_of-state : goal.invariant_of-state
+invariant_of-state g c =
+    let view = λ (v : StateValue). v.view in
+    let within : c.args.tile < length c.state.inside.cores.items = search rules in
+    let low = slot_within c.state.inside.tasks.slots c.args.id.0 c.index_mut.result.now c.index_mut.ensures.value in
+    let dispatches = dispatches_seen _ _ c.state.inside.tasks.slots _ _ _ _ _ c.state.inside.queues.items c.state.inside.finished.items c.state.inside.cores.items _ c.args.tile c.args.core c.args.id
+    c.index_mut.result.now c.start.new.task c.index_mut-2.result.now within c.index_mut-2.ensures.value c.index_mut.ensures.value c.start.ensures
+    _ refl c.requires.least.0
+    (subst (λ (v : StateValue). IsLeastIdle v.view c.args.tile c.args.id.0 c.requires.least.0) (sym c.state.view_is) c.requires.least.1)
+    (subst (λ (v : StateValue). IsLowestFree v.view c.args.tile c.args.core) (sym c.state.view_is) c.requires.free) in (
+      c.state.invariant.0,
+      c.state.invariant.1,
+      cores_counted c.state.inside.cores.items c.args.tile c.args.core c.state.inside.settings.cores c.args.id c.index_mut-2.result.now within c.index_mut-2.ensures.value c.state.invariant.2,
+      slots_stay _ _ _ _ _ _ _ _ _ _ c.state.invariant.3 _ _ _ (as_many c.state.inside.tasks.slots c.args.id.0 c.index_mut.result.now c.start.new.task c.index_mut.ensures.value)
+          c.move_key.ensures.count c.move_key.ensures.capacity,
+      stored_dispatched _ _ c.args.tile dispatches g.N.Naming.image.data_size c.state.invariant.4,
+      indexed_placed c.state.inside.tasks.slots _ c.state.inside.arrivals.items _ c.args.id.0 c.index-2.result.now _ _ c.index_mut.result.now c.start.new.task c.index.result.now c.state.invariant.5
+          c.index_mut.ensures.value c.index.ensures
+          (omega (arith, low, c.capacity-slots.ensures.slots, c.capacity-slots.ensures.value, c.state.invariant.3.arrivals))
+          c.index-2.ensures c.move_key.ensures.entries,
+    )

@@ -1,0 +1,3 @@
+pub mod Started
+pub mod Table
+pub mod Numbered

@@ -1,0 +1,13 @@
+-- The dispatch numbers that the path and the dispatched tasks have.
+use Rattle.std.specs.Prelude.{ℕ, List, ◌++◌, map, filter_map}
+use Rattle.fractal_vt.specs.declared.level.Level.{Level}
+use Rattle.slab.specs.Slab.{Slab, entries}
+use Rattle.spec_state.specs.declared.task.Task.{Task}
+
+-- the numbers of those of these tasks that are dispatched
+abbrev pub numbers_of : List (ℕ × Task) → List ℕ
+numbers_of tasks = filter_map (λ entry. entry.1.key.tb) tasks
+
+-- the tiebreakers of the path, and then the numbers of the dispatched tasks
+abbrev pub held_numbers : List Level → Slab Task → List ℕ
+held_numbers path tasks = map (λ level. level.tb) path ++ numbers_of (entries tasks)

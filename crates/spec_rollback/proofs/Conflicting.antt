@@ -1,0 +1,137 @@
+-- The tasks with which an access conflicts stand on cores and in commit queues, so a walk over these finds them all.
+use Rattle.std.proofs.Common.{◌≡◌, ◌≤◌, ℕ, Bool, true, false, List, length, Option, Some, None, refl, sym, ap, subst}
+use Rattle.std.proofs.Common.{◌∙◌, inl, inr, arith, option_map}
+use Rattle.std.specs.Prelude.{◌↔◌, ◌&&◌, is_some, IfSome}
+use Rattle.std.specs.Ordering.{is_lt}
+use Rattle.std.proofs.lemmas.Bool.{and_parts, and_from}
+use Rattle.std.proofs.lemmas.Option.{slice_get_within, slice_get-get_or}
+use Rattle.fractal_vt.specs.Keys.{key_cmp}
+use Rattle.spec_state.specs.declared.task.Status.{Status}
+use Rattle.spec_state.specs.declared.task.Status.TheVariants.{Idle, Running, Trapped, Finished}
+use Rattle.spec_state.specs.declared.task.Task.{Task}
+use Rattle.spec_state.specs.View.{View, task_at, finished_at, cores_at}
+use Rattle.spec_state.specs.Stored.{IsStored, HasCore}
+use Rattle.spec_state.specs.Tasks.{is_dispatched, kept_core}
+use Rattle.spec_state.specs.Queries.{Conflicts, HasLine}
+use Rattle.spec_state.proofs.Joined.{within_lists}
+use Rattle.spec_rollback.specs.Marking.{has_line, conflicts, conflicts_at, IsInTile, IsInTiles, IsFound, Finds}
+use Rattle.spec_rollback.specs.Marking.{FindsConflicts}
+use Rattle.spec_rollback.proofs.Pulled.{less_is}
+
+-- the line of an access, as a test
+line_is : (write : Bool) (task : Task) (line : ℕ) → has_line write task line ≡ true → HasLine write task line
+line_is true task line is = is
+line_is false task line is = is
+
+is_line : (write : Bool) (task : Task) (line : ℕ) → HasLine write task line → has_line write task line ≡ true
+is_line true task line is = is
+is_line false task line is = is
+
+module _ (view : View) (task : Task) (line : ℕ) (write : Bool) where
+  conflict_found : (id : ℕ) → conflicts_at view.tasks task line write id ≡ true → Conflicts view task line write id
+  conflict_found id is = by_slot (task_at view id) refl is
+    where
+      by_slot : (slot : Option Task) → task_at view id ≡ slot → conflicts task line write slot ≡ true
+          → Conflicts view task line write id
+      by_slot None at is = absurd (cc)
+      by_slot (Some other) at is =
+          let one = and_parts (is_dispatched other && has_line write other line) (is_lt (key_cmp task.key other.key))
+          is in
+          let two = and_parts (is_dispatched other) (has_line write other line) one.0 in
+          record {
+            other = other;
+            later = record { there = at; dispatched = two.0; later = less_is (key_cmp task.key other.key) one.1 };
+            has_line = line_is write other line two.1;
+          }
+
+  finds_conflict : (id : ℕ) → Conflicts view task line write id → conflicts_at view.tasks task line write id ≡ true
+  finds_conflict id c =
+      ap (conflicts task line write) c.later.there
+      ∙ and_from (is_dispatched c.other && has_line write c.other line) (is_lt (key_cmp task.key c.other.key))
+      (and_from (is_dispatched c.other) (has_line write c.other line) c.later.dispatched
+      (is_line write c.other line c.has_line))
+      (ap is_lt c.later.later)
+
+-- a dispatched task stands on a core of its tile or in its commit queue
+dispatched_in_tile : (size : ℕ) (view : View) → IsStored size view → (id : ℕ) (x : Task) → task_at view id ≡ Some x
+    → is_dispatched x ≡ true
+    → IsInTile (cores_at view x.tile) (finished_at view x.tile) id
+dispatched_in_tile size view stored id x at runs =
+    by_status x.status refl (sym (stored.tasks id x at).dispatched ∙ runs)
+  where
+    on_core : (core : ℕ) → HasCore x.status core → IsInTile (cores_at view x.tile) (finished_at view x.tile) id
+    on_core core has =
+        let held = (stored.held_are x.tile core id).1 (x, at, refl, has) in
+        inl (
+          core,
+          slice_get_within (cores_at view x.tile) core (Some id) held,
+          ap (option_map (λ (one : Option ℕ). one)) held,
+        )
+
+    in_queue : x.status ≡ Finished → IsInTile (cores_at view x.tile) (finished_at view x.tile) id
+    in_queue is =
+        let has = (stored.finished_are x.tile id).1 (x, at, refl, is) in
+        let ids = finished_at view x.tile in
+        inr (
+          has.0,
+          has.1,
+          ap (option_map (λ (one : ℕ). Some one))
+              (slice_get-get_or ids has.0 id has.1 ∙ ap Some has.2),
+        )
+
+    by_status : (status : Status) → x.status ≡ status → is_some (kept_core x.status x.core) ≡ true
+        → IsInTile (cores_at view x.tile) (finished_at view x.tile) id
+    by_status Idle is kept = absurd (cc (kept, is))
+    by_status (Running core) is kept = on_core core (subst (λ s. HasCore s core) (sym is) refl)
+    by_status (Trapped core cause) is kept = on_core core (subst (λ s. HasCore s core) (sym is) refl)
+    by_status Finished is kept = in_queue is
+
+-- where all tiles are looked at, the conflicts are found
+pub found_conflicts : (size : ℕ) (view : View) → IsStored size view → (count : ℕ) → length view.queues ≤ count
+    → (task : Task) (line : ℕ) (write found : Bool) (old new : List Bool)
+    → Finds (conflicts_at view.tasks task line write) (IsInTiles view.cores view.finished count) false old found new
+    → FindsConflicts view task line write found new
+found_conflicts size view stored count all task line write found old new finds = record { none = none; some = some }
+  where
+    in_tiles : (id : ℕ) (c : Conflicts view task line write id) → IsInTiles view.cores view.finished count id
+    in_tiles id c =
+        let queued = (stored.queued_are c.other.tile id).1 (c.other, c.later.there, refl, tt) in
+        let within = within_lists view.queues c.other.tile id queued in (
+          c.other.tile,
+          omega (arith, within, all),
+          dispatched_in_tile size view stored id c.other c.later.there c.later.dispatched,
+        )
+
+    is_found : (id : ℕ) → Conflicts view task line write id → IsFound found new id
+    is_found id c = (finds.exact id).1 (inr (in_tiles id c, finds_conflict view task line write id c))
+
+    none : found ≡ false → (id : ℕ) → Conflicts view task line write id → ⊥
+    none is id c = absurd (cc ((is_found id c).0, is))
+
+    some : found ≡ true → (id : ℕ)
+        → Rattle.abort_cascade.specs.Cascade.Marked new id ↔ Conflicts view task line write id
+    some is id = (
+      λ marked. elim ((finds.exact id).0 (is, marked)) [
+        | inl was ↦ absurd (cc (was.0))
+        | inr here ↦ conflict_found view task line write id here.1
+      ],
+      λ c. (is_found id c).1,
+    )
+
+-- the same of the parts of a view, of which the access's task is one
+pub conflicts_in : (size : ℕ) (parts view : View) → parts ≡ view → IsStored size parts
+    → (held : List (List (Option ℕ))) (ids : List (List ℕ)) → held ≡ parts.cores → ids ≡ parts.finished
+    → (count : ℕ) → length parts.queues ≤ count → (id : ℕ) (task : Task) → task_at parts id ≡ Some task
+    → (line : ℕ) (write found : Bool) (old new marks : List Bool)
+    → Finds (conflicts_at parts.tasks task line write) (IsInTiles held ids count) false old found new → marks ≡ new
+    → IfSome (task_at view id) (λ t. FindsConflicts view t line write found marks)
+conflicts_in size parts view same stored held ids held_is ids_is count all id task at line write found old new marks
+    finds marks_are =
+    subst (λ v. IfSome (task_at v id) (λ t. FindsConflicts v t line write found marks)) same
+    (subst (λ (slot : Option Task). IfSome slot (λ t. FindsConflicts parts t line write found marks)) (sym at)
+    (subst (FindsConflicts parts task line write found) (sym marks_are)
+    (found_conflicts size parts stored count all task line write found old new
+    (subst (λ c. Finds (conflicts_at parts.tasks task line write) (IsInTiles c parts.finished count) false old found
+    new) held_is
+    (subst (λ f. Finds (conflicts_at parts.tasks task line write) (IsInTiles held f count) false old found new) ids_is
+    finds)))))

@@ -1,0 +1,11 @@
+pub mod Pulled
+pub mod Marked
+pub mod Sorted
+pub mod Undone
+pub mod Seen
+pub mod Conflicting
+pub mod TakenBack
+pub mod Members
+pub mod Aborted
+pub mod Removed
+pub mod Emptied

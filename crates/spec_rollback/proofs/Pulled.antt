@@ -1,0 +1,109 @@
+-- The test of what is taken back with a task.
+use Rattle.std.proofs.Common.{◌≡◌, ◌⊎◌, ℕ, Bool, true, List, Option, Some, None, refl, sym, ap, subst, ◌∙◌, inl, inr}
+use Rattle.std.specs.Prelude.{◌↔◌, ◌==◌, ◌&&◌, IsSome, is_some, count_by, ◌≤◌}
+use Rattle.std.specs.Ordering.{is_lt}
+use Rattle.std.specs.declared.cmp.Ordering.{Ordering}
+use Rattle.std.specs.declared.cmp.Ordering.TheVariants.{Less, Equal, Greater}
+use Rattle.std.proofs.lemmas.Bool.{and_parts, and_from, or_cases, or_left, or_right}
+use Rattle.std.proofs.lemmas.Bool.Decides.{nat_tests}
+use Rattle.std.proofs.Common.{arith}
+use Rattle.abort_cascade.specs.Cascade.{Reached, start, step, IsLeastClosed, Marked}
+use Rattle.spec_rollback.proofs.Marked.{fewer}
+use Rattle.fractal_vt.specs.Keys.{key_cmp}
+use Rattle.line_table.specs.Signature.{meets_of}
+use Rattle.line_table.proofs.Signatures.{meets_of-Meet}
+use Rattle.spec_state.specs.declared.task.Task.{Task}
+use Rattle.spec_state.specs.View.{View, task_at}
+use Rattle.spec_state.specs.Tasks.{is_dispatched}
+use Rattle.spec_state.specs.Groups.{live_creator}
+use Rattle.spec_state.specs.Aborts.{ReadsFrom, Pulls}
+use Rattle.spec_rollback.specs.Pulled.{is_creator, reads_from, reads_from_some, pulls_task, pull_in}
+
+-- an order that is less is Less
+pub less_is : (o : Ordering) → is_lt o ≡ true → o ≡ Less
+less_is Less is = refl
+less_is Equal is = absurd (cc)
+less_is Greater is = absurd (cc)
+
+creator_is : (id : ℕ) (creator : Option ℕ) → is_creator id creator ≡ true → creator ≡ Some id
+creator_is id None is = absurd (cc)
+creator_is id (Some c) is = let same : c ≡ id = grind (arith, nat_tests) in ap Some same
+
+is_the_creator : (id : ℕ) (creator : Option ℕ) → creator ≡ Some id → is_creator id creator ≡ true
+is_the_creator id creator is = subst (λ c. is_creator id c ≡ true) (sym is)
+    (let same : (id == id) ≡ true = grind (arith, nat_tests) in same)
+
+module _ (view : View) (a b : ℕ) where
+  -- what the test finds is taken back
+  found : (first second : Option Task) → task_at view a ≡ first → task_at view b ≡ second
+      → pulls_task a first second ≡ true → Pulls view a b
+  found first None at_a at_b is = absurd (cc)
+  found first (Some y) at_a at_b is = by_case
+      (or_cases (is_creator a (live_creator y.creator)) (reads_from_some first y) is)
+    where
+      reads : (writer : Option Task) → task_at view a ≡ writer → reads_from_some writer y ≡ true → ReadsFrom view a b
+      reads None at is = absurd (cc)
+      reads (Some x) at is =
+          let one = and_parts (is_dispatched x && is_dispatched y && meets_of x.lines y.lines)
+          (is_lt (key_cmp x.key y.key)) is in
+          let two = and_parts (is_dispatched x && is_dispatched y) (meets_of x.lines y.lines) one.0 in
+          let three = and_parts (is_dispatched x) (is_dispatched y) two.0 in
+          record {
+            writer = x;
+            there = at;
+            dispatched = three.0;
+            reader = y;
+            later = record { there = at_b; dispatched = three.1; later = less_is (key_cmp x.key y.key) one.1 };
+            meets = (meets_of-Meet x.lines y.lines).0 two.1;
+          }
+
+      by_case : (is_creator a (live_creator y.creator) ≡ true) ⊎ (reads_from_some first y ≡ true) → Pulls view a b
+      by_case (inl made) = inl
+          (record { child = y; there = at_b; made_by = creator_is a (live_creator y.creator) made })
+      by_case (inr later) = inr (reads first at_a later)
+
+  -- what is taken back is found by the test
+  finds : Pulls view a b → pull_in view.tasks a b ≡ true
+  finds (inl child) =
+      ap (pulls_task a (task_at view a)) child.there
+      ∙ or_left (is_creator a (live_creator child.child.creator)) (reads_from_some (task_at view a) child.child)
+      (is_the_creator a (live_creator child.child.creator) child.made_by)
+  finds (inr reads) =
+      let x = reads.writer in
+      let y = reads.reader in
+      let read : reads_from x y ≡ true =
+      and_from (is_dispatched x && is_dispatched y && meets_of x.lines y.lines) (is_lt (key_cmp x.key y.key))
+      (and_from (is_dispatched x && is_dispatched y) (meets_of x.lines y.lines)
+      (and_from (is_dispatched x) (is_dispatched y) reads.dispatched reads.later.dispatched)
+      ((meets_of-Meet x.lines y.lines).1 reads.meets))
+      (ap is_lt reads.later.later)
+      in
+      ap (pulls_task a (task_at view a)) reads.later.there
+      ∙ or_right (is_creator a (live_creator y.creator)) (reads_from_some (task_at view a) y)
+      (ap (λ o. reads_from_some o y) reads.there ∙ read)
+
+  pub pull_is : (pull_in view.tasks a b ≡ true) ↔ Pulls view a b
+  pull_is = (found (task_at view a) (task_at view b) refl refl, finds)
+
+-- what is taken back with a task is there
+pulled_there : (view : View) (a b : ℕ) → Pulls view a b → IsSome (task_at view b)
+pulled_there view a b (inl child) = subst IsSome (sym child.there) refl
+pulled_there view a b (inr reads) = subst IsSome (sym reads.later.there) refl
+
+-- where the first tasks are there, so is what is reached from them
+pub reached_there : (view : View) (count : ℕ) (firsts : ℕ → Type 0) → ((id : ℕ) → firsts id → IsSome (task_at view id))
+    → (id : ℕ) → Reached count (pull_in view.tasks) firsts id → IsSome (task_at view id)
+reached_there view count firsts there id (start a is) = there a is
+reached_there view count firsts there id (step {a} b before in_a in_b pulled) = pulled_there view a b
+    ((pull_is view a b).0 pulled)
+
+-- a cascade of tasks that are there has no more members than there are tasks
+pub few_members : (view : View) (slots : List (Option Task)) (firsts marks : List Bool) (count : ℕ)
+    → slots ≡ view.tasks → IsLeastClosed count (pull_in slots) (Marked firsts) marks
+    → ((id : ℕ) → Marked firsts id → IsSome (task_at view id)) → count_by (λ mark. mark) marks ≤ count_by is_some slots
+few_members view slots firsts marks count same least there =
+    let least' : IsLeastClosed count (pull_in view.tasks) (Marked firsts) marks = subst
+    (λ tasks. IsLeastClosed count (pull_in tasks) (Marked firsts) marks) same least in
+    subst (λ tasks. count_by (λ mark. mark) marks ≤ count_by is_some tasks) (sym same)
+    (fewer marks view.tasks
+    (λ id marked. reached_there view count (Marked firsts) there id (least'.reached id marked)))

@@ -1,0 +1,22 @@
+use Rattle.std.proofs.Common.{rules, arith, ap, length, map, ◌≤◌}
+use Rattle.std.proofs.lemmas.List.{length-map}
+use Rattle.tile_queues.specs.Queue.{QueueValue}
+use Rattle.spec_state.specs.View.{core_ids}
+use Rattle.spec_state.specs.StateValue.{StateValue}
+use Rattle.spec_rollback.proofs.Conflicting.{conflicts_in}
+use Rattle.spec_rollback.proofs.Marked.{put_back}
+use Rattle.spec_rollback.proofs.marking.mark_conflicts.Goals as goal
+
+pub returns-clause-found : goal.returns-clause-found
+returns-clause-found g c =
+    let tiles = c.state.invariant.1 in
+    let many = length-map c.state.inside.queues.items (λ (q : QueueValue). q.ids) in
+    let all : length (map (λ (q : QueueValue). q.ids) c.state.inside.queues.items) ≤ length
+    c.as_slice.result.now = omega (arith, many, tiles, c.as_slice.ensures.len) in
+    conflicts_in g.N.Naming.image.data_size _ _ (ap (λ (v : StateValue). v.view) c.state.view_is) c.state.invariant.4
+    _ _
+    (ap (map (λ held. core_ids held.items)) c.as_slice.ensures.value)
+    (ap (map (λ (q : QueueValue). q.ids)) c.as_slice-2.ensures.value)
+    (length c.as_slice.result.now) all c.args.task.0 c.index.result.now c.index.ensures c.args.line c.args.write
+    c.mark_tiles.result _ c.mark_tiles.new.marks _ c.mark_tiles.ensures
+    (put_back c.state.inside.marks.len c.mark_tiles.new.marks c.state.inside.marks.items (search rules) (search rules))

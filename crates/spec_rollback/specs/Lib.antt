@@ -1,0 +1,6 @@
+pub mod Pulled
+pub mod Undone
+pub mod Marking
+pub mod TakenBack
+pub mod Removed
+pub mod Lists

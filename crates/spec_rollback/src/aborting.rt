@@ -1,0 +1,64 @@
+//! Aborts: the cascade of one task, and of all tasks that conflict with an access.
+
+ghost use Rattle.std.specs.Prelude.{◌≡◌, ℕ, List, IsSome, IfSome};
+ghost use Rattle.abort_cascade.specs.Cascade.{Marked};
+ghost use Rattle.memory_law.specs.Tasks.{IsByKey};
+ghost use Rattle.spec_state.specs.View.{task_at};
+ghost use Rattle.spec_state.specs.Groups.{logged};
+ghost use Rattle.spec_state.specs.Aborts.{Aborts, Only};
+ghost use Rattle.spec_state.specs.Queries.{Conflicts};
+
+use crate::cascade::close_marks;
+use crate::marking::{mark_conflicts, mark_one};
+use crate::releasing::release_marked;
+use crate::undoing::undo_marked;
+use rv_core::Naming;
+use spec_state::{State, TaskId};
+
+/// Takes back the cascade of a dispatched task, and tells how many tasks that were. It takes no
+/// memory.
+pub fn abort<N: Naming>(state: &mut State<N>, task: TaskId) -> u32
+    requires live { IsSome (task_at state.old.view task.0) }
+
+    // The dispatched tasks of a sound state have an order by key.
+    ensures aborts { let old = state.old.view in
+        let new = state.new.view in
+        (ids : List ℕ) → IsByKey (logged old) ids → Aborts (Only task.0) old result new }
+    ensures room { state.new.room ≡ state.old.room }
+{
+    mark_one(state, task);
+    abort_marked(state)
+}
+
+/// Takes back the cascades of all tasks that conflict with an access of this task as one set, and
+/// tells how many tasks that were. Where none does, nothing changes. It takes no memory.
+pub fn abort_conflicts<N: Naming>(state: &mut State<N>, task: TaskId, line: u32, write: bool) -> u32
+    requires live { IsSome (task_at state.old.view task.0) }
+    ensures aborts { let old = state.old.view in
+        let new = state.new.view in
+        IfSome (task_at old task.0) (λ t. (ids : List ℕ) → IsByKey (logged old) ids
+        → Aborts (Conflicts old t line write) old result new) }
+    ensures room { state.new.room ≡ state.old.room }
+{
+    state.is_stored();
+    if mark_conflicts(state, task, line, write) {
+        abort_marked(state)
+    } else {
+        0
+    }
+}
+
+/// Takes back the cascades of the marked tasks, and tells how many tasks that were.
+fn abort_marked<N: Naming>(state: &mut State<N>) -> u32
+    requires live { let old = state.old in
+        (id : ℕ) → Marked old.scratch.marks id → IsSome (task_at old.view id) }
+    ensures aborts { let firsts = Marked state.old.scratch.marks in
+        let old = state.old.view in
+        (ids : List ℕ) → IsByKey (logged old) ids → Aborts firsts old result state.new.view }
+    ensures room { state.new.room ≡ state.old.room }
+{
+    let found = close_marks(state);
+    undo_marked(state, found);
+    release_marked(state, found);
+    found as u32
+}
