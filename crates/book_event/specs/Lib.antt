@@ -3,6 +3,7 @@ pub mod Causes
 pub mod Events
 pub mod Trace
 pub mod Happens
+pub mod Comes
 pub mod Opening
 pub mod Advancing
 pub mod Closing

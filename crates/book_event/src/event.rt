@@ -1,5 +1,6 @@
 use rv_core::{Leg, Naming};
 use serial_machine::{Bytes, End, Journal};
+use trace_tap::Record;
 
 /// One atomic step of the machine. Tiles and cores are counted from 0.
 #[derive(Drop)]
@@ -67,6 +68,15 @@ pub struct Applied {
     pub reply: Reply,
     /// How many tasks were taken back.
     pub aborted: u32,
+}
+
+/// What came of one event.
+#[derive(Clone, Copy, Debug, PartialEq, Eq)]
+pub enum Came {
+    /// It was made, and the taps are told so; the record has how many tasks it took back.
+    Made(Record),
+    /// It was refused with this reply, which is never `Ok`, and took no task back.
+    Refused(Reply),
 }
 
 /// What came of one event for the least task.

@@ -6,4 +6,4 @@
 
 mod event;
 
-pub use event::{Advance, Applied, Closed, Event, Halt, Reply};
+pub use event::{Advance, Applied, Came, Closed, Event, Halt, Reply};

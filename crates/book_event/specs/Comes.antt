@@ -1,0 +1,28 @@
+-- What comes of an event in a book that wasn't stopped, before its taps note it.
+use Rattle.std.specs.Prelude.{◌≡◌, List}
+use Rattle.place_policy.specs.Policy.{Policy}
+use Rattle.spec_state.specs.View.{View}
+use Rattle.book_event.specs.declared.event.Came.{Came}
+use Rattle.book_event.specs.declared.event.Came.TheVariants.{Made, Refused}
+use Rattle.book_event.specs.declared.event.Event.{Event}
+use Rattle.book_event.specs.declared.event.Reply.TheVariants as reply
+use Rattle.book_event.specs.Book.{BookView}
+use Rattle.book_event.specs.Causes.{IsRefused, IsGranted, TakesMemory}
+use Rattle.book_event.specs.Events.{Makes}
+use Rattle.book_event.specs.Trace.{IsRecord}
+
+-- the view and the placers are as they were
+abbrev pub IsAsBefore : BookView → View → List Policy → Type 0
+IsAsBefore book view placers = (view ≡ book.view) × (placers ≡ book.placers)
+
+-- from a book the event leads to this view and these placers, and the taps are told so; or it is refused with this reply, or memory is
+-- wanting for an event that takes it and that nothing else refuses, and view and placers are as they were
+abbrev pub Comes : {N : Type 0} → BookView → Event N → Came → View → List Policy → Type 0
+Comes book event (Made seen) view placers =
+    IsGranted book event
+    × Makes book event seen.aborted view placers
+    × IsRecord book.view event seen.aborted view seen
+Comes book event (Refused reply.Ok) view placers = ⊥
+Comes book event (Refused reply.Memory) view placers =
+    IsGranted book event × TakesMemory book event × IsAsBefore book view placers
+Comes book event (Refused answer) view placers = IsRefused book event answer × IsAsBefore book view placers

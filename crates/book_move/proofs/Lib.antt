@@ -1,0 +1,4 @@
+mod Dispatched
+mod Aborted
+mod Committed
+mod Moved

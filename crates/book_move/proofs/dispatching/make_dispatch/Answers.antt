@@ -1,0 +1,36 @@
+use Rattle.std.proofs.Common.{◌<◌, sym, subst}
+use Rattle.spec_state.specs.declared.settings.Settings.{Settings}
+use Rattle.step_law.proofs.Cores.{core_leaves_idle}
+use Rattle.step_law.proofs.Views.{sound_numbers}
+use Rattle.book_move.proofs.Dispatched.{dispatched}
+use Rattle.book_move.proofs.dispatching.make_dispatch.Goals as goal
+
+pub dispatch-requires-clause-tile : goal.dispatch-requires-clause-tile
+dispatch-requires-clause-tile g c =
+    let left = core_leaves_idle g.N.Naming.image c.args.state.now.view c.args.tile c.args.id.0 c.requires.idle.0 _ _ c.requires.sound
+    c.requires.idle.1 c.requires.may c.clear_core-aborted.ensures in
+    subst (λ (s : Settings). c.args.tile < s.tiles) (sym left.like.settings) c.requires.tile
+
+pub dispatch-requires-clause-idle : goal.dispatch-requires-clause-idle
+dispatch-requires-clause-idle g c =
+    let left = core_leaves_idle g.N.Naming.image c.args.state.now.view c.args.tile c.args.id.0 c.requires.idle.0 _ _ c.requires.sound
+    c.requires.idle.1 c.requires.may c.clear_core-aborted.ensures in
+    (c.requires.idle.0, left.idle)
+
+pub dispatch-requires-clause-free : goal.dispatch-requires-clause-free
+dispatch-requires-clause-free g c =
+    let left = core_leaves_idle g.N.Naming.image c.args.state.now.view c.args.tile c.args.id.0 c.requires.idle.0 _ _ c.requires.sound
+    c.requires.idle.1 c.requires.may c.clear_core-aborted.ensures in
+    (left.core, left.free)
+
+pub dispatch-requires-clause-held : goal.dispatch-requires-clause-held
+dispatch-requires-clause-held g c =
+    let left = core_leaves_idle g.N.Naming.image c.args.state.now.view c.args.tile c.args.id.0 c.requires.idle.0 _ _ c.requires.sound
+    c.requires.idle.1 c.requires.may c.clear_core-aborted.ensures in
+    sound_numbers g.N.Naming.image c.clear_core-aborted.new.state.view left.now
+
+pub returns : goal.returns
+returns g c =
+    dispatched g.row.N.Denot c.args.state.now.view c.requires.goes_on c.args.tile c.args.id.0 c.clear_core-aborted.result c.requires.idle.0
+    c.clear_core-aborted.new.state.view c.dispatch.new.state.view c.record_of.result c.requires.idle.1 c.requires.may
+    c.clear_core-aborted.ensures c.dispatch.ensures.dispatch c.record_of.ensures

@@ -1,0 +1,12 @@
+use Rattle.book_move.proofs.Moved.{coalesce_wants, coalesced}
+use Rattle.book_move.proofs.spilling.make_coalesce.Goals as goal
+
+pub returns-in-Ok : goal.returns-in-Ok
+returns-in-Ok g c =
+    coalesced g.row.N.Denot c.args.state.now.view c.requires.goes_on c.args.tile c.requires.some.0 c.requires.some.1 c.coalesce.new.state.view
+    c.record_of.result c.in-Ok.ensures.ok.0 c.record_of.ensures
+
+pub returns-in-Err : goal.returns-in-Err
+returns-in-Err g c =
+    coalesce_wants g.row.N.Denot c.args.state.now.view c.requires.goes_on c.args.tile c.requires.some.0 c.requires.some.1 c.coalesce.new.state.view
+    c.in-Err.ensures.err

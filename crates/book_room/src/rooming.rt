@@ -1,0 +1,118 @@
+//! A free entry in a task queue, for a child or for a spilled task that comes back.
+
+ghost use Rattle.std.specs.Prelude.{◌≡◌, ◌<◌, ◌↔◌, ℕ, IsTrue, IsFalse, IsSome, IfSome, Some, option_map};
+ghost use Rattle.spec_law.specs.Sound.{Sound};
+ghost use Rattle.spec_commit.specs.Spilling.{KeepsOtherRoom};
+ghost use Rattle.spec_state.specs.StateValue.{CoversPushes};
+ghost use Rattle.spec_state.specs.View.{task_at};
+ghost use Rattle.spec_state.specs.Groups.{live_creator};
+ghost use Rattle.spec_state.specs.Least.{IsFirm};
+ghost use Rattle.spec_state.specs.Room.{IsFull, IsMovable, NoneMoves, IsLeastAsker, Stalls, Coalesces, MakesRoom, asker_of};
+ghost use Rattle.step_law.specs.Forcing.{RunsIfTask};
+ghost use Rattle.book_room.specs.Entering.{MayEnter};
+
+use crate::leasts::{is_least, is_least_spilled};
+use rv_core::Naming;
+use spec_commit::{coalesce, victim_of};
+use spec_rollback::abort;
+use spec_state::{Creator, State, TaskId};
+
+/// Whether who asks for an entry is the least task, or asks for it.
+fn asks_as_least<N: Naming>(state: &State<N>, tile: u32, asker: Option<TaskId>) -> bool
+    ensures { let who = asker_of (option_map (λ id. id.0) asker) in
+        IsTrue result ↔ IsLeastAsker state.now.view tile who }
+{
+    match asker {
+        Some(id) => is_least(state, id),
+        None => is_least_spilled(state, tile),
+    }
+}
+
+/// Whether an entry of a tile's task queue is refused to who asks, a task for its child or else the splitter: the queue is full, none of
+/// its tasks moves, and who asks doesn't ask as the least task. No memory.
+pub fn stalls<N: Naming>(state: &State<N>, tile: u32, asker: Option<TaskId>) -> bool
+    requires tile { tile < state.now.view.settings.tiles }
+    ensures stalls { let who = asker_of (option_map (λ id. id.0) asker) in
+        IsTrue result ↔ Stalls state.now.view tile who }
+    ensures granted { IsFalse result → MayEnter state.now.view tile (asker_of (option_map (λ id. id.0) asker)) }
+{
+    if state.has_free_entry(tile) {
+        return false;
+    }
+    if state.has_firm(tile) {
+        return false;
+    }
+    !asks_as_least(state, tile, asker)
+}
+
+/// Moves idle firm tasks of a tile, which has one, into its block, which has the pushes to spare.
+fn spill<N: Naming>(state: &mut State<N>, tile: u32)
+    requires tile { tile < state.old.view.settings.tiles }
+    requires some { (id : ℕ) × IsMovable state.old.view tile id }
+    requires covered { CoversPushes state.old tile 8 }
+    ensures moves { Coalesces tile state.old.view state.new.view }
+    ensures room { KeepsOtherRoom tile state.old.room state.new.room }
+{
+    match coalesce(state, tile) {
+        Ok(_) => {}
+        Err(_) => unreachable!(),
+    }
+}
+
+/// The creator of a task that isn't firm.
+fn creator_of<N: Naming>(state: &State<N>, id: TaskId) -> TaskId
+    requires live { IsSome (task_at state.now.view id.0) }
+    requires loose { IfSome (task_at state.now.view id.0) (λ t. IsFirm state.now.view t → ⊥) }
+    ensures { IfSome (task_at state.now.view id.0) (λ t. live_creator t.creator ≡ Some result.0) }
+{
+    match state.task(id).creator {
+        Creator::Live { task, .. } => task,
+        Creator::Committed { .. } => unreachable!(),
+    }
+}
+
+/// Takes the latest task of a full queue back, which is then idle and moves, or its creator where it isn't firm, so that it leaves.
+fn take_victim<N: Naming>(state: &mut State<N>, tile: u32, asker: Option<TaskId>) -> u32
+    requires sound { Sound N.image state.old.view }
+    requires tile { tile < state.old.view.settings.tiles }
+    requires full { IsFull state.old.view tile }
+    requires none_moves { NoneMoves state.old.view tile }
+    requires runs { RunsIfTask state.old.view (asker_of (option_map (λ id. id.0) asker)) }
+    requires least { IsLeastAsker state.old.view tile (asker_of (option_map (λ id. id.0) asker)) }
+    requires covered { CoversPushes state.old tile 8 }
+    ensures makes { let who = asker_of (option_map (λ id. id.0) asker) in
+        MakesRoom tile who state.old.view result state.new.view }
+    ensures room { KeepsOtherRoom tile state.old.room state.new.room }
+{
+    let last = victim_of(state, tile, asker);
+    if state.firm(last) {
+        let aborted = abort(state, last);
+        spill(state, tile);
+        aborted
+    } else {
+        let creator = creator_of(state, last);
+        abort(state, creator)
+    }
+}
+
+/// Makes a free entry in a tile's task queue for who asks, a running task for its child or else the splitter, which doesn't stall. It tells
+/// how many tasks were taken back for it. The tile's block has room for what moves, so it takes no memory.
+pub fn make_room<N: Naming>(state: &mut State<N>, tile: u32, asker: Option<TaskId>) -> u32
+    requires sound { Sound N.image state.old.view }
+    requires tile { tile < state.old.view.settings.tiles }
+    requires runs { RunsIfTask state.old.view (asker_of (option_map (λ id. id.0) asker)) }
+    requires granted { MayEnter state.old.view tile (asker_of (option_map (λ id. id.0) asker)) }
+    requires covered { CoversPushes state.old tile 8 }
+    ensures makes { let who = asker_of (option_map (λ id. id.0) asker) in
+        MakesRoom tile who state.old.view result state.new.view }
+    ensures room { KeepsOtherRoom tile state.old.room state.new.room }
+{
+    if state.has_free_entry(tile) {
+        return 0;
+    }
+    if state.has_firm(tile) {
+        spill(state, tile);
+        return 0;
+    }
+    take_victim(state, tile, asker)
+}

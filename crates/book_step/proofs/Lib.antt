@@ -1,0 +1,4 @@
+pub mod Stepping
+pub mod Accessing
+pub mod Ending
+pub mod Placing

@@ -1,0 +1,16 @@
+//! The event of a running task: a leg of it, and what it asks for at the end of that.
+//!
+//! Each function is over a state and answers what came of the event; its contract is that of the
+//! event in a book of that state, whatever else the book has. A step finds the causes to refuse
+//! it, takes its room, forces what stands in its way and makes one change. It takes room first,
+//! so that nothing has changed where memory is wanting, and never needs any afterwards.
+#![tactic(auto)]
+
+mod accesses;
+mod calls;
+mod ends;
+mod enqueues;
+mod legs;
+mod told;
+
+pub use legs::{make_step, step};

@@ -1,0 +1,12 @@
+pub mod Views
+pub mod Leasts
+pub mod Readings
+pub mod Causes
+pub mod Forced
+pub mod Asker
+pub mod Rooms
+pub mod Made
+pub mod Comes
+pub mod Falling
+pub mod Holders
+pub mod Cores

@@ -1,0 +1,4 @@
+pub mod Forcing
+pub mod Readings
+pub mod Falling
+pub mod Laws
