@@ -1,3 +1,7 @@
+ghost use Rattle.std.specs.Prelude.{◌≡◌};
+ghost use Rattle.book_event.specs.Book.{counted};
+ghost use Rattle.spec_law.specs.Sound.{Sound};
+
 use place_policy::Placer;
 use rv_core::Naming;
 use spec_state::State;
@@ -7,8 +11,8 @@ use trace_tap::Tap;
 /// A sound state, and how many events have been made on it, up to 2^64 - 1. Its type keeps the soundness.
 #[derive(Drop)]
 pub struct SoundState<N: Naming> {
-    state: State<N>,
-    steps: u64,
+    pub(crate) state: State<N>,
+    pub(crate) steps: u64,
 }
 
 impl<N: Naming> Model for SoundState<N> {
@@ -28,8 +32,32 @@ impl<N: Naming> Model for SoundState<N> {
 /// It has no invariant of its own, so that boxed placers and taps may stand in it; what holds of every book is kept by [`SoundState`].
 #[derive(Drop)]
 pub struct Book<N: Naming, P: Placer = Box<dyn Placer + Send>, T: Tap = Box<dyn Tap + Send>> {
-    sound: SoundState<N>,
-    placers: Vec<P>,
-    taps: Vec<T>,
-    stopped: bool,
+    pub(crate) sound: SoundState<N>,
+    pub(crate) placers: Vec<P>,
+    pub(crate) taps: Vec<T>,
+    pub(crate) stopped: bool,
+}
+
+impl<N: Naming> SoundState<N> {
+    /// Law: what the type keeps of the view.
+    pub(crate) fn is_sound(&self)
+        ensures { Sound N.image self.now.view }
+    {
+        let _ = &self.state;
+    }
+
+    /// The state.
+    pub(crate) fn state(&self) -> &State<N>
+        ensures view { result.now.view ≡ self.now.view }
+        ensures sound { Sound N.image self.now.view }
+    {
+        &self.state
+    }
+
+    /// Counts an event that was made.
+    pub(crate) fn count(&mut self)
+        ensures { self.new ≡ record self.old { steps = counted self.old.steps } }
+    {
+        self.steps = self.steps.saturating_add(1);
+    }
 }

@@ -1,9 +1,15 @@
-//! The book of the speculative machine: a sound state, with the placers that pick tiles for its tasks.
+//! The book of the speculative machine: a sound state, with the placers that pick tiles for its tasks and the taps that note its events.
 //!
 //! Its type keeps that the state is sound. A book keeps its state beside the placers, so that to pick a tile costs one call of a placer.
 #![tactic(auto)]
 
+mod advancing;
+mod applying;
 mod book;
+mod closing;
+mod events;
+mod opening;
+mod reading;
 #[cfg(test)]
 mod tests;
 

@@ -1,0 +1,80 @@
+-- Room for one more task where nothing has run yet.
+use Rattle.std.proofs.Common.{ℕ, ◌≡◌, ◌≢◌, ◌<◌, ◌≤◌, ◌⊎◌, inl, inr, Some, None, List, [], ◌∷◌, false, refl, sym, ap, subst, ◌∙◌, arith}
+use Rattle.std.specs.Prelude.{length, slice_index_or, is_some, option_map, Contains}
+use Rattle.std.proofs.lemmas.Bool.{cases_eq}
+use Rattle.spec_state.specs.declared.task.Creator.TheVariants.{Committed}
+use Rattle.spec_state.specs.declared.task.Status.TheVariants.{Idle}
+use Rattle.spec_state.specs.declared.task.Task.{Task}
+use Rattle.spec_state.specs.Groups.{waiting, waiting_task}
+use Rattle.spec_state.specs.Opening.{Adds}
+use Rattle.spec_state.specs.Room.{Coalesces, HasFreeEntry, IsFull, IsMovable}
+use Rattle.spec_state.specs.Settings.{IsValid}
+use Rattle.spec_state.specs.Stored.{IsStored}
+use Rattle.spec_state.specs.View.{View, queue_at, task_at}
+use Rattle.book_law.proofs.Openings.Queued.{kept_at, kept_fewer}
+use Rattle.book_law.proofs.Openings.Rooted.{coalesced_was}
+use Rattle.turn_law.specs.Room.{queue_after}
+use Rattle.conflict_book.specs.Fresh.{AreFresh}
+
+-- what is no empty list holds something
+some_in : (ids : List ℕ) → 1 ≤ length ids → (id : ℕ) × Contains ids id
+some_in [] some = absurd (omega (arith, some))
+some_in (id ∷ ids) some = (id, (0, omega arith, refl))
+
+-- in a full queue a fresh task may move
+pub fresh_moves : (size : ℕ) (view : View) (tile : ℕ) → IsStored size view → AreFresh view → IsValid view.settings → IsFull view tile
+    → (id : ℕ) × IsMovable view tile id
+fresh_moves size view tile stored fresh valid full =
+    let some = valid.task_queue.0 in
+    let first = some_in (queue_at view tile) (omega (arith, some, full)) in
+    let has = (stored.queued_are tile first.0).0 first.1 in
+    let one = fresh first.0 has.0 has.1 in (
+      first.0,
+      (
+        has.0,
+        record {
+          this = record { queued = first.1; there = has.1; idle = one.0 };
+          firm = inl (0, one.1.0, one.1.1);
+        },
+      ),
+    )
+
+module _ (tile : ℕ) (old new : View) (c : Coalesces tile old new) where
+  -- tasks that move leave the others fresh
+  pub fresh_moved : AreFresh old → AreFresh new
+  fresh_moved fresh id task there = fresh id task (coalesced_was tile old new c id task there)
+
+  some_first : (ids : List ℕ) → ids ≢ [] → (id : ℕ) × Contains ids id
+  some_first [] some = absurd (some refl)
+  some_first (id ∷ ids) some = some_in (id ∷ ids) (omega arith)
+
+  -- and a free entry
+  pub free_moved : length (queue_at old tile) ≤ old.settings.task_queue → HasFreeEntry new tile
+  free_moved short =
+      let first = some_first c.ids c.some in
+      let movable = c.chosen.movable first.0 first.1 in
+      let gone : is_some (waiting new first.0) ≡ false = ap (λ o. is_some (option_map waiting_task o)) (c.gone first.0 first.1) in
+      let fewer = kept_fewer (waiting new) (queue_at old tile) first.0 movable.1.this.queued gone in
+      let queue_is : queue_at new tile ≡ queue_after (waiting new) (queue_at old tile) =
+      ap (λ (qs : List (List ℕ)). slice_index_or qs tile []) c.queues ∙ kept_at (waiting new) old.queues tile in
+      let now : length (queue_at new tile) < old.settings.task_queue =
+      subst (λ (ids : List ℕ). length ids < old.settings.task_queue) (sym queue_is) (omega (arith, fewer, short)) in
+      subst (λ s. length (queue_at new tile) < s.task_queue) (sym (ap (λ v. v.settings) c.rest)) now
+
+-- a task of the image that is added leaves all of them fresh
+pub fresh_added : (id index : ℕ) (task : Task) (old new : View) → AreFresh old → Adds id task old new → task.status ≡ Idle
+    → task.creator ≡ Committed 0 index → AreFresh new
+fresh_added id index task old new fresh adds idle made k x there = by_case (cases_eq k id)
+  where
+    by_case : (k ≡ id) ⊎ (k ≡ id → ⊥) → (x.status ≡ Idle) × ((index : ℕ) × (x.creator ≡ Committed 0 index))
+    by_case (inl same) =
+        let both : Some task ≡ Some x = sym adds.changes.changed ∙ (ap (task_at new) (sym same) ∙ there) in
+        let is : task ≡ x = cc in
+        subst (λ (t : Task). (t.status ≡ Idle) × ((index : ℕ) × (t.creator ≡ Committed 0 index))) is (idle, (index, made))
+    by_case (inr other) = fresh k x (sym (adds.changes.others k other) ∙ there)
+
+-- where there is no task all are fresh
+pub fresh_none : (view : View) → ((id : ℕ) → task_at view id ≡ None) → AreFresh view
+fresh_none view none id task there =
+    let no_way : None ≡ Some task = sym (none id) ∙ there in
+    absurd (cc (no_way))

@@ -1,0 +1,22 @@
+-- What a closed book leaves is a run.
+use Rattle.guest_image.specs.ImageValue.{ImageValue}
+use Rattle.run_law.proofs.Lawful.{lawful}
+use Rattle.spec_law.specs.Sound.{Sound}
+use Rattle.book_event.specs.declared.event.Closed.{Closed}
+use Rattle.book_event.specs.Book.{BookView}
+use Rattle.book_event.specs.Closing.{Closes}
+use Rattle.book_law.proofs.Histories.{close_is_serial}
+use Rattle.conflict_book.specs.Left.{LeavesRun}
+
+-- a sound book that is closed leaves a run, which keeps the laws of runs
+pub closed_is_run : (image : ImageValue) (book : BookView) (closed : Closed) → Sound image book.view → Closes book closed
+    → LeavesRun image book.view.settings.budget closed
+closed_is_run image book closed sound closes =
+    let run = close_is_serial image book closed sound closes in
+    record {
+      serial = run.0;
+      is_run = run.1;
+      memory = run.2;
+      output = run.3;
+      lawful = lawful image book.view.settings.budget closed.journal run.0 run.1;
+    }

@@ -1,0 +1,11 @@
+mod Placing
+mod Fresh
+mod Cores
+mod LeftRun
+mod Telling
+mod Passing
+mod Slices
+mod Used
+mod Leading
+mod Nexts
+mod Lists

@@ -1,0 +1,213 @@
+-- The events for the least tasks.
+use Rattle.std.proofs.Common.{ℕ, ◌≡◌, ◌≢◌, ◌+◌, ◌*◌, ◌≤◌, ◌<◌, ◌⊎◌, Bool, true, false, List, inl, inr, refl, sym, ap, subst, ◌∙◌, arith, add-one, suc, length}
+use Rattle.std.proofs.lemmas.Bool.{cases_eq}
+use Rattle.std.proofs.lemmas.Nat.{mul-le}
+use Rattle.guest_image.specs.ImageValue.{ImageValue}
+use Rattle.place_policy.specs.Policy.{Policy}
+use Rattle.run_journal.specs.declared.end.End.TheVariants as ends
+use Rattle.task_step.specs.declared.request.Request.{Request}
+use Rattle.task_step.specs.declared.request.Request.TheVariants.{Continue, Load, Store, Enqueue, MakeSub, Emit, End, Trap}
+use Rattle.trace_tap.specs.declared.record.Deed.{Deed}
+use Rattle.trace_tap.specs.declared.record.Record.{Record}
+use Rattle.trace_tap.specs.Reading.{Reading}
+use Rattle.spec_state.specs.declared.task.TaskId.{TaskId}
+use Rattle.spec_state.specs.declared.task.Where.TheVariants as where_
+use Rattle.spec_state.specs.Least.{IsLeast}
+use Rattle.spec_state.specs.View.{View}
+use Rattle.spec_law.specs.Sound.{Sound}
+use Rattle.book_event.specs.declared.event.Advance.{Advance}
+use Rattle.book_event.specs.declared.event.Advance.TheVariants as answers
+use Rattle.book_event.specs.declared.event.Came.{Came}
+use Rattle.book_event.specs.declared.event.Came.TheVariants.{Made, Refused}
+use Rattle.book_event.specs.declared.event.Event.{Event}
+use Rattle.book_event.specs.declared.event.Event.TheVariants as event
+use Rattle.book_event.specs.declared.event.Halt.{Halt}
+use Rattle.book_event.specs.declared.event.Halt.TheVariants as halts
+use Rattle.book_event.specs.declared.event.Reply.{Reply}
+use Rattle.book_event.specs.declared.event.Reply.TheVariants as reply
+use Rattle.book_event.specs.Advancing.{AdvanceAnswers, Advances, AdvancesBy, IsNextEvent}
+use Rattle.book_event.specs.Book.{BookView, CountedView}
+use Rattle.book_event.specs.Comes.{Comes, IsAsBefore}
+use Rattle.book_event.specs.End.{IsOver}
+use Rattle.book_event.specs.Happens.{Happens, IsUnchanged}
+use Rattle.book_event.specs.Trace.{deed_of}
+use Rattle.book_law.proofs.Falls.Falls.{advances_fall}
+use Rattle.book_law.proofs.Few.{least_events_are_few}
+use Rattle.book_law.proofs.Given.{next_event_is_given}
+use Rattle.book_law.proofs.Granted.{least_event_is_granted}
+use Rattle.book_law.proofs.Rests.RestThere.{rest_is_there}
+use Rattle.step_law.proofs.Comes.{comes_stays_sound}
+use Rattle.step_law.proofs.Readings.{limit_ends}
+use Rattle.step_law.proofs.Views.{least_is_committed, trap_ends}
+use Rattle.conflict_book.specs.Halting.{FallsIfMoved, GoesOn, NextComes, RunsLeast, advance_by, advance_of, last_answer}
+use Rattle.conflict_book.specs.Seen.{going, told}
+use Rattle.conflict_book.proofs.Telling.{happens_made, moved, part_made}
+
+-- where the least task is trapped the run is over
+pub trapped_is_over : (image : ImageValue) (view : View) (id : TaskId) → Sound image view → IsLeast view (where_.Trapped id) → IsOver view
+trapped_is_over image view id sound is = by_limit (cases_eq (length view.history) view.settings.commits)
+  where
+    by_limit : (length view.history ≡ view.settings.commits) ⊎ (length view.history ≡ view.settings.commits → ⊥) → IsOver view
+    by_limit (inl full) = (ends.Limit, limit_ends view (where_.Trapped id) is full)
+    by_limit (inr few) =
+        let made = least_is_committed image view id.0 is.0 sound is.3 in (
+          ends.Trap (record { creator = made.0; index = made.1 }) is.2 is.0.core.pc,
+          trap_ends view id.0 is.1 is.2 made.0 made.1 is.0 few is.3 is.4 made.2,
+        )
+
+-- the event for the least task leaves a sound view
+pub next_comes_sound : (N : Type 0) (image : ImageValue) (book : BookView) (came : Came) (new : View) (placers : List Policy)
+    → Sound image book.view → NextComes N image book came new placers → Sound image new
+next_comes_sound N image book came new placers sound next =
+    comes_stays_sound N image book next.0 came new placers (next_event_is_given N image book.view next.0 sound next.1) sound next.2
+
+module _ (N : Type 0) (image : ImageValue) (old new : BookView) (aborted : ℕ) where
+  -- an event other than a commit was made
+  moved_on : (e : Event N) → IsNextEvent image old.view e → Happens old e reply.Ok aborted new → (request : Request)
+      → AdvanceAnswers N image old (answers.Moved aborted) new
+      → AdvanceAnswers N image old (advance_by (deed_of request) aborted) new
+  moved_on e next happens Continue answer = answer
+  moved_on e next happens (Load width rd offset) answer = answer
+  moved_on e next happens (Store offset bytes value) answer = answer
+  moved_on e next happens (Enqueue spawn) answer = answer
+  moved_on e next happens (MakeSub kind) answer = answer
+  moved_on e next happens (Emit byte) answer = answer
+  moved_on e next happens End answer = answer
+  moved_on e next happens (Trap cause) answer = answer
+
+-- what is answered of an event for the least task that was made
+module _ (N : Type 0) (image : ImageValue) (book : BookView) (goes_on : book.stopped ≡ false) (view : View) (placers : List Policy) (seen : Record) where
+  made_by : (e : Event N) → IsNextEvent image book.view e → Comes book e (Made seen) view placers
+      → AdvanceAnswers N image book (advance_of seen) (told seen (moved book view placers))
+  made_by (event.Dispatch tile) next comes =
+      subst (λ d. AdvanceAnswers N image book (advance_by d seen.aborted) (told seen (moved book view placers)))
+      (ap (λ (r : Record). r.deed) (sym comes.2))
+      (event.Dispatch tile, next, tt, happens_made book goes_on (event.Dispatch tile) view placers seen comes)
+  made_by (event.Step tile core leg) next comes =
+      let step : Event N = event.Step tile core leg in
+      let happens = happens_made book goes_on step view placers seen comes in
+      subst (λ d. AdvanceAnswers N image book (advance_by d seen.aborted) (told seen (moved book view placers)))
+      (ap (λ (r : Record). r.deed) (sym comes.2.3))
+      (moved_on N image book (told seen (moved book view placers)) seen.aborted step next happens _
+      (step, next, tt, happens))
+  made_by (event.Split tile) next comes =
+      subst (λ d. AdvanceAnswers N image book (advance_by d seen.aborted) (told seen (moved book view placers)))
+      (ap (λ (r : Record). r.deed) (sym comes.2))
+      (event.Split tile, next, tt, happens_made book goes_on (event.Split tile) view placers seen comes)
+  made_by event.Commit next comes =
+      let commit : Event N = event.Commit in
+      let happens = happens_made book goes_on commit view placers seen comes in
+      subst (λ d. AdvanceAnswers N image book (advance_by d seen.aborted) (told seen (moved book view placers)))
+      (ap (λ (r : Record). r.deed) (sym comes.2.3))
+      (next, subst (λ n. Happens book commit reply.Ok n (told seen (moved book view placers))) comes.1.1 happens)
+  made_by (event.Abort tile) next comes = absurd next.least
+  made_by (event.Coalesce tile) next comes = absurd next.least
+
+  pub answers_made : NextComes N image book (Made seen) view placers → AdvanceAnswers N image book (advance_of seen) (told seen (moved book view placers))
+  answers_made next = made_by next.0 next.1 next.2
+
+-- and of one that was refused
+module _ (N : Type 0) (image : ImageValue) (book : BookView) (sound : Sound image book.view) (view : View) (placers : List Policy) where
+  refused_by : (e : Event N) → IsNextEvent image book.view e → (answer : Reply) → Comes book e (Refused answer) view placers
+      → AdvanceAnswers N image book answers.Memory (moved book view placers)
+  refused_by e next reply.Ok comes = absurd comes
+  refused_by e next reply.Memory comes =
+      inr (e, next, (inr (comes.0, comes.1), record { none = refl; same = λ i. record book { view = comes.2.0 i; placers = comes.2.1 i } }))
+  refused_by e next reply.Empty comes = absurd (least_event_is_granted N image book e sound next reply.Empty comes.0.cause)
+  refused_by e next reply.Busy comes = absurd (least_event_is_granted N image book e sound next reply.Busy comes.0.cause)
+  refused_by e next reply.Stall comes = absurd (least_event_is_granted N image book e sound next reply.Stall comes.0.cause)
+  refused_by e next reply.Stale comes = absurd (least_event_is_granted N image book e sound next reply.Stale comes.0.cause)
+  refused_by e next reply.Firm comes = absurd (least_event_is_granted N image book e sound next reply.Firm comes.0.cause)
+  refused_by e next reply.Ended comes = absurd (least_event_is_granted N image book e sound next reply.Ended comes.0.cause)
+
+  pub answers_refused : (answer : Reply) → NextComes N image book (Refused answer) view placers
+      → AdvanceAnswers N image book answers.Memory (moved book view placers)
+  answers_refused answer next = refused_by next.0 next.1 answer next.2
+
+-- in the words of a book's parts: it was not stopped, and what it has now is told part by part
+module _ (N : Type 0) (image : ImageValue) (sound : CountedView) (placers : List Policy) (taps : List Reading) (stopped : Bool) (goes_on : stopped ≡ false)
+    (view : View) (after : List Policy) (steps : ℕ) (same : steps ≡ sound.steps) where
+  -- the book before
+  abbrev was : Bool → BookView
+  was s = record { view = sound.view; placers = placers; taps = taps; steps = sound.steps; stopped = s }
+
+  -- and after what came
+  abbrev becomes : ℕ → Bool → BookView
+  becomes n s = record { view = view; placers = after; taps = taps; steps = n; stopped = s }
+
+  pub parts_made : (seen : Record) (new : BookView) → new ≡ told seen (becomes steps stopped)
+      → NextComes N image (going sound placers taps) (Made seen) view after
+      → AdvanceAnswers N image (was stopped) (advance_of seen) new
+  parts_made seen new is next =
+      let made = answers_made N image (going sound placers taps) refl view after seen next in
+      subst (AdvanceAnswers N image (was stopped) (advance_of seen)) (sym (is ∙ ap (λ n. told seen (becomes n stopped)) same))
+      (subst (λ s. AdvanceAnswers N image (was s) (advance_of seen) (told seen (becomes sound.steps s))) (sym goes_on) made)
+
+  pub parts_refused : Sound image sound.view → (answer : Reply) → NextComes N image (going sound placers taps) (Refused answer) view after
+      → AdvanceAnswers N image (was stopped) answers.Memory (becomes steps stopped)
+  parts_refused is_sound answer next =
+      let refused = answers_refused N image (going sound placers taps) is_sound view after answer next in
+      subst (λ n. AdvanceAnswers N image (was stopped) answers.Memory (becomes n stopped)) (sym same)
+      (subst (λ s. AdvanceAnswers N image (was s) answers.Memory (becomes sound.steps s)) (sym goes_on) refused)
+
+  pub parts_stay : IsAsBefore (going sound placers taps) view after → becomes steps stopped ≡ was stopped
+  parts_stay as_before = λ i. record { view = as_before.0 i; placers = as_before.1 i; taps = taps; steps = same i; stopped = stopped }
+
+-- less is left after each event but a commit
+pub falls_if_moved : (N : Type 0) (image : ImageValue) (old new : BookView) (answer : Advance) → Sound image old.view
+    → AdvanceAnswers N image old answer new → FallsIfMoved answer old.view new.view
+falls_if_moved N image old new (answers.Moved aborted) sound answered =
+    λ before after had has. advances_fall N image old new answered.0 aborted before after sound answered.1 answered.2 answered.3 had has
+falls_if_moved N image old new answers.Committed sound answered = tt
+falls_if_moved N image old new (answers.Ended end) sound answered = tt
+falls_if_moved N image old new answers.Memory sound answered = tt
+
+-- a run of one event more
+next_one : (N : Type 0) (image : ImageValue) (n : ℕ) (old mid new : BookView) (answer : Advance) → AdvancesBy N image n old mid
+    → AdvanceAnswers N image mid answer new → GoesOn answer → AdvancesBy N image (suc n) old new
+next_one N image n old mid new (answers.Moved aborted) advances answered goes =
+    (mid, aborted, advances, record { event = answered.0; next = answered.1; happens = answered.3 })
+next_one N image n old mid new answers.Committed advances answered goes =
+    (mid, 0, advances, record { event = event.Commit; next = answered.0; happens = answered.1 })
+next_one N image n old mid new (answers.Ended end) advances answered goes = absurd goes
+next_one N image n old mid new answers.Memory advances answered goes = absurd goes
+
+pub one_more : (N : Type 0) (image : ImageValue) (n : ℕ) (old mid new : BookView) (answer : Advance) → AdvancesBy N image n old mid
+    → AdvanceAnswers N image mid answer new → GoesOn answer → AdvancesBy N image (n + 1) old new
+one_more N image n old mid new answer advances answered goes =
+    subst (λ m. AdvancesBy N image m old new) (sym (add-one n)) (next_one N image n old mid new answer advances answered goes)
+
+-- a run that halts has changed nothing at its last answer
+pub halts_where : (N : Type 0) (image : ImageValue) (mid new : BookView) (halt : Halt) → AdvanceAnswers N image mid (last_answer halt) new → new ≡ mid
+halts_where N image mid new (halts.Ended end) answered = answered.2
+halts_where N image mid new halts.Memory (inl stopped) = stopped.1
+halts_where N image mid new halts.Memory (inr wants) = wants.2.1.same
+
+-- so it is a run that halts there
+pub halted : (N : Type 0) (image : ImageValue) (n : ℕ) (old mid new : BookView) (halt : Halt) → Sound image old.view → AdvancesBy N image n old mid
+    → AdvanceAnswers N image mid (last_answer halt) new → RunsLeast N image old halt new
+halted N image n old mid new halt sound advances answered =
+    let same = halts_where N image mid new halt answered in
+    let few = least_events_are_few N image n old mid sound advances in
+    let left = rest_is_there image mid.view few.now in
+    let most = few.few left.0 left.1 in
+    record {
+      made = n;
+      advances = subst (AdvancesBy N image n old) (sym same) advances;
+      halts = subst (λ b. AdvanceAnswers N image b (last_answer halt) new) (sym same) answered;
+      commits = few.commits;
+      longer = ap (λ (b : BookView). length b.view.history) same ∙ few.longer;
+      few = omega (arith, most);
+    }
+
+-- and there are not enough events to go on for ever
+pub not_enough : (N : Type 0) (image : ImageValue) (n : ℕ) (old mid : BookView) → Sound image old.view → AdvancesBy N image n old mid
+    → n ≡ (old.view.settings.commits + 1) * (old.view.settings.budget + 4) + 1 → ⊥
+not_enough N image n old mid sound advances all =
+    let few = least_events_are_few N image n old mid sound advances in
+    let left = rest_is_there image mid.view few.now in
+    let most = few.few left.0 left.1 in
+    let within : length mid.view.history ≤ old.view.settings.commits = subst (λ s. length mid.view.history ≤ s.commits) few.settings few.now.tasks.few in
+    let longer = few.longer in
+    let product = mul-le (few.commits + 1) (old.view.settings.budget + 4) (old.view.settings.commits + 1) (old.view.settings.budget + 4) (omega (arith, within, longer)) (omega arith) in
+    omega (arith, all, most, product)

@@ -1,0 +1,27 @@
+-- The placers after a commit.
+use Rattle.std.proofs.Common.{ℕ, ◌≡◌, ◌+◌, ◌∷◌, ◌++◌, ◌<◌, ◌≤◌, false, List, [], length, map, refl, sym, ap, subst, ◌∙◌, arith}
+use Rattle.guest_image.specs.ImageValue.{ImageValue}
+use Rattle.place_policy.specs.Policy.{Policy}
+use Rattle.trace_tap.specs.Reading.{Reading}
+use Rattle.spec_state.specs.declared.settings.Settings.{Settings}
+use Rattle.spec_state.specs.View.{View}
+use Rattle.spec_law.specs.Sound.{Sound}
+use Rattle.book_event.specs.declared.event.Came.{Came}
+use Rattle.book_event.specs.declared.event.Event.{Event}
+use Rattle.book_event.specs.declared.event.Event.TheVariants as event
+use Rattle.book_event.specs.Comes.{Comes}
+use Rattle.book_move.specs.Moving.{CommitComes, book_of, placers_after}
+use Rattle.conflict_book.proofs.Telling.{comes_keeps_settings}
+
+-- what comes of a commit, with the placers that are left as the view afterwards tells
+pub commit_comes : (N : Type 0) (image : ImageValue) (old new : View) (came : Came) (before after : List Policy) → Sound image old
+    → CommitComes N old came new → after ≡ placers_after new.settings.phase (length new.history) came before
+    → (taps : List Reading) (steps : ℕ) → Comes {N = N} (book_of old before taps steps) event.Commit came new after
+commit_comes N image old new came before after sound comes passed taps steps =
+    let commit : Event N = event.Commit in
+    let first = comes before taps steps in
+    let same : new.settings ≡ old.settings =
+    comes_keeps_settings N image (book_of old before taps steps) commit new (placers_after old.settings.phase (length new.history) came before) tt sound came first in
+    let is : placers_after old.settings.phase (length new.history) came before ≡ after =
+    ap (λ (s : Settings). placers_after s.phase (length new.history) came before) (sym same) ∙ sym passed in
+    subst (Comes (book_of old before taps steps) commit came new) is first

@@ -1,0 +1,56 @@
+-- A run by the events for the least tasks.
+use Rattle.std.specs.Prelude.{◌≡◌, ◌+◌, ◌*◌, ◌<◌, ◌≤◌, ℕ, List, length}
+use Rattle.guest_image.specs.ImageValue.{ImageValue}
+use Rattle.place_policy.specs.Policy.{Policy}
+use Rattle.spec_state.specs.View.{View}
+use Rattle.trace_tap.specs.declared.record.Deed.{Deed}
+use Rattle.trace_tap.specs.declared.record.Deed.TheVariants as deed
+use Rattle.trace_tap.specs.declared.record.Record.{Record}
+use Rattle.book_event.specs.declared.event.Advance.{Advance}
+use Rattle.book_event.specs.declared.event.Advance.TheVariants as answers
+use Rattle.book_event.specs.declared.event.Came.{Came}
+use Rattle.book_event.specs.declared.event.Event.{Event}
+use Rattle.book_event.specs.declared.event.Halt.{Halt}
+use Rattle.book_event.specs.declared.event.Halt.TheVariants as halts
+use Rattle.book_event.specs.Advancing.{AdvanceAnswers, AdvancesBy, HasRest, IsNextEvent}
+use Rattle.book_event.specs.Book.{BookView}
+use Rattle.book_event.specs.Comes.{Comes}
+
+-- what comes of the event for the least task
+abbrev pub NextComes : Type 0 → ImageValue → BookView → Came → View → List Policy → Type 0
+NextComes N image book came new placers =
+    (event : Event N) × IsNextEvent image book.view event × Comes book event came new placers
+
+-- where an event other than a commit was made, less is left up to the next commit or the end
+abbrev pub FallsIfMoved : Advance → View → View → Type 0
+FallsIfMoved (answers.Moved aborted) old new = (before after : ℕ) → HasRest old before → HasRest new after → after < before
+FallsIfMoved other old new = Unit {0}
+
+-- what an advance answers of an event that was made, by its deed and how many tasks it took back
+abbrev pub advance_by : Deed → ℕ → Advance
+advance_by deed.Commit aborted = answers.Committed
+advance_by other aborted = answers.Moved aborted
+
+abbrev pub advance_of : Record → Advance
+advance_of seen = advance_by seen.deed seen.aborted
+
+-- a run goes on after an event that was made
+abbrev pub GoesOn : Advance → Type 0
+GoesOn (answers.Moved aborted) = Unit {0}
+GoesOn answers.Committed = Unit {0}
+GoesOn other = ⊥
+
+-- the answer at which a run halted
+abbrev pub last_answer : Halt → Advance
+last_answer (halts.Ended end) = answers.Ended end
+last_answer halts.Memory = answers.Memory
+
+-- so many events for the least tasks were made, and then the run halted; with the commits among them they are no more than the budget and
+-- 4 for each commit and one more
+pub record RunsLeast (N : Type 0) (image : ImageValue) (old : BookView) (halt : Halt) (new : BookView) : Type 0 where
+  pub made : ℕ
+  pub advances : AdvancesBy N image made old new
+  pub halts : AdvanceAnswers N image new (last_answer halt) new
+  pub commits : ℕ
+  pub longer : length new.view.history ≡ length old.view.history + commits
+  pub few : made ≤ (commits + 1) * (old.view.settings.budget + 4)

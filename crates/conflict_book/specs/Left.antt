@@ -1,0 +1,15 @@
+-- What a closed book means.
+use Rattle.std.specs.Prelude.{◌≡◌, ℕ}
+use Rattle.guest_image.specs.ImageValue.{ImageValue}
+use Rattle.run_law.specs.Laws.{AreLawful}
+use Rattle.serial_machine.specs.Run.{IsRun}
+use Rattle.serial_machine.specs.State.{State}
+use Rattle.book_event.specs.declared.event.Closed.{Closed}
+
+-- the journal is a run of the serial machine, with this memory and output, and keeps the laws of runs
+pub record LeavesRun (image : ImageValue) (budget : ℕ) (closed : Closed) : Type 0 where
+  pub serial : State
+  pub is_run : IsRun image budget closed.journal serial
+  pub memory : closed.memory ≡ serial.memory
+  pub output : closed.output ≡ serial.output
+  pub lawful : AreLawful image budget closed.journal serial

@@ -1,0 +1,15 @@
+-- A tile that a dispatch may serve at once, and the core of a running task.
+use Rattle.std.specs.Prelude.{◌≡◌, ℕ}
+use Rattle.rv_core.specs.declared.state.Core.{Core}
+use Rattle.spec_state.specs.declared.task.Task.{Task}
+use Rattle.spec_state.specs.Queries.{IsFreeCore, IsIdle, IsRunning}
+use Rattle.spec_state.specs.View.{View}
+
+-- the tile has an idle task, and a core that holds no task
+abbrev pub IsReady : View → ℕ → Type 0
+IsReady view tile =
+    ((id : ℕ) × (task : Task) × IsIdle view tile id task) × ((core : ℕ) × IsFreeCore view tile core)
+
+-- the task that runs on that core of the tile has come to this core
+abbrev pub HasRunning : View → ℕ → ℕ → Core → Type 0
+HasRunning view tile at core = (id : ℕ) × (task : Task) × IsRunning view tile at id task × (core ≡ task.core)

@@ -1,0 +1,256 @@
+//! The events for the least task.
+
+ghost use Rattle.std.specs.Prelude.{◌≡◌, ◌+◌, ◌*◌, ℕ, List, IfSome, IsNone, map};
+ghost use Rattle.place_policy.specs.Policy.{Policy};
+ghost use Rattle.trace_tap.specs.Reading.{Reading};
+ghost use Rattle.spec_law.specs.Sound.{Sound};
+ghost use Rattle.spec_state.specs.declared.task.Task.{Task};
+ghost use Rattle.spec_state.specs.declared.task.Where.TheVariants as where_;
+ghost use Rattle.spec_state.specs.Least.{IsLeast, IsLeastTask, IsLeastSpilled};
+ghost use Rattle.spec_state.specs.Settings.{IsValid};
+ghost use Rattle.book_event.specs.Advancing.{AdvanceAnswers, IsLegFrom};
+ghost use Rattle.book_event.specs.End.{IsOver};
+ghost use Rattle.book_move.specs.Moving.{book_of};
+ghost use Rattle.conflict_book.specs.Halting.{FallsIfMoved, GoesOn, NextComes, RunsLeast};
+ghost use Rattle.conflict_book.specs.Halting.{advance_of, last_answer};
+ghost use Rattle.conflict_book.specs.Next.{ComesNext};
+ghost use Rattle.conflict_book.specs.Seen.{going, view_of};
+
+use crate::book::{Book, SoundState};
+use crate::events::{has_limits, pass_after};
+use book_event::{Advance, Came, Halt};
+use book_move::{make_commit, make_dispatch, make_split};
+use book_room::end_with;
+use book_step::make_step;
+use guest_image::Image;
+use place_policy::Placer;
+use rv_core::{Leg, Naming, run_leg};
+use serial_machine::End;
+use spec_state::{Settings, State, TaskId, Where};
+use trace_tap::{Deed, Record, Tap};
+
+/// The leg of a running task from its kept core, with the quantum of the settings.
+fn leg_of<N: Naming>(state: &State<N>, image: &Image, id: TaskId) -> Leg<N>
+    requires sound { Sound N.image state.now.view }
+    requires image { image.now ≡ N.image }
+    requires least { IsLeast state.now.view (where_.Running id) }
+    ensures { (task : Task) → IsLeastTask state.now.view id.0 task
+        → IsLegFrom N.image state.now.view task result }
+{
+    has_limits(state);
+    let settings = state.settings();
+    run_leg(
+        image,
+        &state.task(id).core,
+        settings.quantum,
+        settings.budget,
+    )
+}
+
+/// A leg of the least task, which runs.
+fn step_least<N: Naming, P: Placer>(
+    state: &mut State<N>,
+    placers: &mut [P],
+    image: &Image,
+    id: TaskId,
+) -> Came
+    requires sound { Sound N.image state.old.view }
+    requires image { image.now ≡ N.image }
+    requires goes_on { IsOver state.old.view → ⊥ }
+    requires least { IsLeast state.old.view (where_.Running id) }
+    ensures { let before = map P.policy placers.old in
+        (taps : List Reading) (steps : ℕ)
+        → NextComes N N.image (book_of state.old.view before taps steps) result state.new.view
+        (map P.policy placers.new) }
+{
+    let tile = state.tile_of(id);
+    let leg = leg_of(state, image, id);
+    make_step(state, placers, tile, id, &leg)
+}
+
+/// The dispatch of the least task, which is idle.
+fn dispatch_least<N: Naming>(state: &mut State<N>, id: TaskId) -> Came
+    requires sound { Sound N.image state.old.view }
+    requires goes_on { IsOver state.old.view → ⊥ }
+    requires least { IsLeast state.old.view (where_.Idle id) }
+    ensures { (placers : List Policy) (taps : List Reading) (steps : ℕ)
+        → NextComes N N.image (book_of state.old.view placers taps steps) result state.new.view
+        placers }
+{
+    let tile = state.tile_of(id);
+    Came::Made(make_dispatch(state, tile, id))
+}
+
+/// The commit of the least task, which is finished; another placer may serve then.
+fn commit_least<N: Naming, P: Placer>(
+    state: &mut State<N>,
+    placers: &mut Vec<P>,
+    id: TaskId,
+) -> Came
+    requires sound { Sound N.image state.old.view }
+    requires goes_on { IsOver state.old.view → ⊥ }
+    requires least { IsLeast state.old.view (where_.Finished id) }
+    ensures { let before = map P.policy placers.old.items in
+        (taps : List Reading) (steps : ℕ)
+        → NextComes N N.image (book_of state.old.view before taps steps) result state.new.view
+        (map P.policy placers.new.items) }
+{
+    let came = make_commit(state, id);
+    pass_after(state, placers, &came);
+    came
+}
+
+/// The split that brings the least task back, which is spilled.
+fn split_least<N: Naming>(state: &mut State<N>, tile: u32) -> Came
+    requires sound { Sound N.image state.old.view }
+    requires goes_on { IsOver state.old.view → ⊥ }
+    requires least { IsLeastSpilled state.old.view tile }
+    ensures { (placers : List Policy) (taps : List Reading) (steps : ℕ)
+        → NextComes N N.image (book_of state.old.view placers taps steps) result state.new.view
+        placers }
+{
+    make_split(state, tile)
+}
+
+/// The event for the least task, where the run isn't over.
+fn come_least<N: Naming, P: Placer>(
+    state: &mut State<N>,
+    placers: &mut Vec<P>,
+    image: &Image,
+    least: Where,
+) -> Came
+    requires sound { Sound N.image state.old.view }
+    requires image { image.now ≡ N.image }
+    requires goes_on { IsOver state.old.view → ⊥ }
+    requires least { IsLeast state.old.view least }
+    ensures { let before = map P.policy placers.old.items in
+        (taps : List Reading) (steps : ℕ)
+        → NextComes N N.image (book_of state.old.view before taps steps) result state.new.view
+        (map P.policy placers.new.items) }
+{
+    match least {
+        Where::Idle(id) => dispatch_least(state, id),
+        Where::Running(id) => step_least(state, placers.as_mut_slice(), image, id),
+        Where::Finished(id) => commit_least(state, placers, id),
+        Where::Spilled(tile) => split_least(state, tile),
+        Where::Trapped(_) => unreachable!(),
+    }
+}
+
+/// The end of a run that is over, or what came of the event for the least task.
+enum Next {
+    Over(End),
+    Came(Came),
+}
+
+impl<N: Naming> SoundState<N> {
+    /// The end of a run that is over, or the event for the least task. It costs one call of `least` beside the event.
+    fn come_next<P: Placer>(&mut self, placers: &mut Vec<P>, image: &Image) -> Next
+        requires image { image.now ≡ N.image }
+        ensures next { let before = map P.policy placers.old.items in
+            (taps : List Reading)
+            → ComesNext N N.image (going self.old before taps) result self.new.view
+            (map P.policy placers.new.items) }
+        ensures steps { self.new.steps ≡ self.old.steps }
+    {
+        let least = self.state.least();
+        if let Some(end) = end_with(&self.state, least) {
+            return Next::Over(end);
+        }
+        match least {
+            Some(stands) => Next::Came(come_least(&mut self.state, placers, image, stands)),
+            None => unreachable!(),
+        }
+    }
+}
+
+/// What an advance answers of an event that was made.
+fn advance_of(seen: &Record) -> Advance
+    ensures { result ≡ advance_of seen.now }
+{
+    match seen.deed {
+        Deed::Commit => Advance::Committed,
+        _ => Advance::Moved {
+            aborted: seen.aborted,
+        },
+    }
+}
+
+/// Why a run halts at this answer; None where it goes on.
+fn halt_of(answer: Advance) -> Option<Halt>
+    ensures some { IfSome result (λ halt. answer ≡ last_answer halt) }
+    ensures none { IsNone result → GoesOn answer }
+{
+    match answer {
+        Advance::Moved { .. } | Advance::Committed => None,
+        Advance::Ended(end) => Some(Halt::Ended(end)),
+        Advance::Memory => Some(Halt::Memory),
+    }
+}
+
+/// More events than there are for the least tasks: for each commit and one more as many as the task budget and 4.
+fn enough_events(settings: &Settings) -> u64
+    requires { IsValid settings.now }
+    ensures { result ≡ (settings.now.commits + 1) * (settings.now.budget + 4) + 1 }
+{
+    (u64::from(settings.commits) + 1) * (u64::from(settings.budget) + 4) + 1
+}
+
+impl<N: Naming, P: Placer, T: Tap> Book<N, P, T> {
+    /// Law: the state is sound, and the settings are valid.
+    fn is_sound(&self)
+        ensures sound { Sound N.image (view_of P.policy T.reading self.now).view }
+        ensures valid { IsValid (view_of P.policy T.reading self.now).view.settings }
+    {
+        self.sound.is_sound();
+    }
+
+    /// The same as `advance`, of which it proves what is answered.
+    fn advance_once(&mut self, image: &Image) -> Advance
+        requires image { image.now ≡ N.image }
+        ensures { let old = view_of P.policy T.reading self.old in
+            AdvanceAnswers N N.image old result (view_of P.policy T.reading self.new) }
+    {
+        if self.stopped {
+            return Advance::Memory;
+        }
+        self.is_sound();
+        match self.sound.come_next(&mut self.placers, image) {
+            Next::Over(end) => Advance::Ended(end),
+            Next::Came(Came::Made(seen)) => {
+                self.note(&seen);
+                advance_of(&seen)
+            }
+            Next::Came(Came::Refused(_)) => Advance::Memory,
+        }
+    }
+
+    /// Makes the event for the least task: a split where it is spilled, a dispatch where it is idle, a leg where it runs, and its commit
+    /// where it is finished. `Ended` where the run is over, and `Memory` where memory is wanting or the book was stopped; nothing changes
+    /// then. Less is left up to the next commit after each event but that.
+    pub fn advance(&mut self, image: &Image) -> Advance
+        requires image { image.now ≡ N.image }
+        ensures answers { let old = view_of P.policy T.reading self.old in
+            AdvanceAnswers N N.image old result (view_of P.policy T.reading self.new) }
+        ensures falls { let old = view_of P.policy T.reading self.old in
+            FallsIfMoved result old.view (view_of P.policy T.reading self.new).view }
+    {
+        self.is_sound();
+        self.advance_once(image)
+    }
+
+    /// Makes events for the least tasks until the run is over or memory is wanting, which a stopped book answers too.
+    pub fn run_least(&mut self, image: &Image) -> Halt
+        requires image { image.now ≡ N.image }
+        ensures { let old = view_of P.policy T.reading self.old in
+            RunsLeast N N.image old result (view_of P.policy T.reading self.new) }
+    {
+        self.is_sound();
+        for made in 0..enough_events(self.settings()) {
+            if let Some(halt) = halt_of(self.advance_once(image)) {
+                return halt;
+            }
+        }
+        unreachable!()
+    }
+}

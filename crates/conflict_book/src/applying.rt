@@ -1,0 +1,97 @@
+//! Events that are handed in.
+
+ghost use Rattle.std.specs.Prelude.{◌≡◌, ◌+◌, ◌≤◌, ◌++◌, ◌∷◌, [], All, IfOk, OnErr};
+ghost use Rattle.std.specs.Prelude.{length, map, vec_capacity};
+ghost use Rattle.book_event.specs.Happens.{Happens, HappenAll};
+ghost use Rattle.conflict_book.specs.Ranges.{IsInRange};
+ghost use Rattle.conflict_book.specs.Seen.{told, view_of};
+
+use crate::book::Book;
+use book_event::{Applied, Came, Event, Reply};
+use place_policy::Placer;
+use rv_core::Naming;
+use std::alloc::AllocError;
+use trace_tap::{Record, Tap, note_all};
+
+/// Adds an answer to a list that has room for it.
+fn push_answer(answers: &mut Vec<Applied>, applied: Applied)
+    requires { length answers.old.items + 1 ≤ vec_capacity answers.old }
+    ensures items { answers.new.items ≡ answers.old.items ++ applied ∷ [] }
+    ensures room { vec_capacity answers.old ≤ vec_capacity answers.new }
+{
+    match answers.push(applied) {
+        Ok(()) => {}
+        Err(_) => unreachable!(),
+    }
+}
+
+impl<N: Naming, P: Placer, T: Tap> Book<N, P, T> {
+    /// Counts an event that was made, and tells the taps of it.
+    pub(crate) fn note(&mut self, seen: &Record)
+        ensures { let old = view_of P.policy T.reading self.old in
+            view_of P.policy T.reading self.new ≡ told seen.now old }
+    {
+        self.sound.count();
+        note_all(self.taps.as_mut_slice(), seen);
+    }
+
+    /// The same as `apply`, of an event that the caller keeps.
+    fn apply_kept(&mut self, event: &Event<N>) -> Applied
+        requires given { let old = view_of P.policy T.reading self.old in
+            IsInRange old.view.settings event.now }
+        ensures happens { let old = view_of P.policy T.reading self.old in
+            let new = view_of P.policy T.reading self.new in
+            Happens old event.now result.reply result.aborted new }
+        ensures settings { let old = view_of P.policy T.reading self.old in
+            (view_of P.policy T.reading self.new).view.settings ≡ old.view.settings }
+    {
+        if self.stopped {
+            return Applied {
+                reply: Reply::Memory,
+                aborted: 0,
+            };
+        }
+        match self.sound.come(&mut self.placers, event) {
+            Came::Made(seen) => {
+                self.note(&seen);
+                Applied {
+                    reply: Reply::Ok,
+                    aborted: seen.aborted,
+                }
+            }
+            Came::Refused(reply) => Applied { reply, aborted: 0 },
+        }
+    }
+
+    /// Makes an event on a tile and a core that are there, or refuses it, and then nothing changes. Each event that is made is counted, and
+    /// the taps are told of it. A stopped book answers `Memory`.
+    pub fn apply(&mut self, event: Event<N>) -> Applied
+        requires given { let old = view_of P.policy T.reading self.old in
+            IsInRange old.view.settings event }
+        ensures happens { let old = view_of P.policy T.reading self.old in
+            let new = view_of P.policy T.reading self.new in
+            Happens old event result.reply result.aborted new }
+        ensures settings { let old = view_of P.policy T.reading self.old in
+            (view_of P.policy T.reading self.new).view.settings ≡ old.view.settings }
+    {
+        self.apply_kept(&event)
+    }
+
+    /// Makes or refuses events one after another, and lists their answers. `AllocError` where there is no memory for the list, and then no
+    /// event was tried.
+    pub fn apply_all(&mut self, events: Vec<Event<N>>) -> Result<Vec<Applied>, AllocError>
+        requires given { let old = view_of P.policy T.reading self.old in
+            All (IsInRange old.view.settings) events.items }
+        ensures ok { let old = view_of P.policy T.reading self.old in
+            let new = view_of P.policy T.reading self.new in
+            IfOk result (λ answers. HappenAll old events.items answers.items new) }
+        ensures err { let old = view_of P.policy T.reading self.old in
+            OnErr result (view_of P.policy T.reading self.new ≡ old) }
+    {
+        let mut answers = Vec::with_capacity(self.sound.state.alloc, events.len())?;
+        for event in &events {
+            push_answer(&mut answers, self.apply_kept(event));
+        }
+        Ok(answers)
+    }
+}

@@ -1,0 +1,54 @@
+//! The end of a book.
+
+ghost use Rattle.std.specs.Prelude.{◌≡◌};
+ghost use Rattle.spec_law.specs.Sound.{Sound};
+ghost use Rattle.spec_state.specs.Aborts.{UndoesAll};
+ghost use Rattle.book_event.specs.Book.{BookView};
+ghost use Rattle.book_event.specs.Closing.{Closes};
+ghost use Rattle.conflict_book.specs.Left.{LeavesRun};
+ghost use Rattle.conflict_book.specs.Seen.{view_of};
+
+use crate::book::{Book, SoundState};
+use book_event::Closed;
+use place_policy::Placer;
+use rv_core::Naming;
+use spec_rollback::undo_all;
+use spec_state::State;
+use trace_tap::Tap;
+
+/// Takes all tasks of a sound state back.
+fn undo<N: Naming>(state: &mut State<N>)
+    requires { Sound N.image state.old.view }
+    ensures { UndoesAll state.old.view state.new.view }
+{
+    undo_all(state);
+}
+
+/// What a sound state leaves once its uncommitted tasks are taken back.
+fn close_state<N: Naming>(sound: SoundState<N>) -> Closed
+    ensures closes { (book : BookView) → book.view ≡ sound.view → book.steps ≡ sound.steps
+        → Closes book result }
+    ensures sound { Sound N.image sound.view }
+{
+    let SoundState { mut state, steps } = sound;
+    undo(&mut state);
+    let parts = state.into_parts();
+    Closed {
+        journal: parts.journal,
+        memory: parts.memory,
+        output: parts.output,
+        steps,
+    }
+}
+
+impl<N: Naming, P: Placer, T: Tap> Book<N, P, T> {
+    /// The committed tasks, with their memory and output, once all other tasks are taken back: a run of the serial machine. It takes no
+    /// memory.
+    pub fn close(self) -> Closed
+        ensures closes { Closes (view_of P.policy T.reading self) result }
+        ensures run { let book = view_of P.policy T.reading self in
+            LeavesRun N.image book.view.settings.budget result }
+    {
+        close_state(self.sound)
+    }
+}

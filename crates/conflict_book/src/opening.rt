@@ -1,0 +1,232 @@
+//! The opening of a book: the tasks of the image are placed one after another.
+
+ghost use Rattle.std.specs.Prelude.{◌≡◌, ◌⊎◌, ◌<◌, ◌≤◌, ℕ, List, None, IfOk, OnOk};
+ghost use Rattle.std.specs.Prelude.{length, map};
+ghost use Rattle.std.specs.List.{enumerate_from};
+ghost use Rattle.guest_image.specs.declared.image.ImageTask.{ImageTask};
+ghost use Rattle.guest_image.specs.ImageValue.{IsImage};
+ghost use Rattle.place_policy.specs.Policy.{IsTileCount};
+ghost use Rattle.place_policy.specs.Serving.{first_placed, serving_tile};
+ghost use Rattle.task_desc.specs.Calls.{domain_ts};
+ghost use Rattle.trace_tap.specs.Reading.{Reading};
+ghost use Rattle.spec_state.specs.Opening.{IsOfImage};
+ghost use Rattle.spec_state.specs.Room.{HasFreeEntry, IsFull, Coalesces};
+ghost use Rattle.spec_state.specs.Settings.{IsValid};
+ghost use Rattle.spec_state.specs.Tasks.{root_descriptor};
+ghost use Rattle.spec_state.specs.View.{loads, queue_at, task_at};
+ghost use Rattle.book_event.specs.Opening.{image_descriptor, root_kinds, opened};
+ghost use Rattle.book_event.specs.Opening.{Places, PlacesAll, IsOpening};
+ghost use Rattle.conflict_book.specs.Fresh.{AreFresh};
+ghost use Rattle.conflict_book.specs.Seen.{going, view_of};
+
+use crate::book::{Book, SoundState};
+use guest_image::{Image, ImageTask, Kind};
+use place_policy::{Placer, serving_pick, serving_placed};
+use rv_core::Naming;
+use spec_commit::coalesce;
+use spec_state::{Settings, State};
+use std::alloc::{AllocError, Global};
+use task_desc::{Desc, Name};
+use trace_tap::Tap;
+
+/// The timestamp that the root domain takes a timestamp for.
+fn root_ts(kind: Kind, ts: u32) -> u32
+    ensures { result ≡ domain_ts kind ts }
+{
+    match kind {
+        Kind::Unordered => 0,
+        Kind::Ordered => ts,
+    }
+}
+
+/// The bit of the root domain's kind.
+fn kinds_of(kind: Kind) -> u16
+    ensures value { result ≡ root_kinds kind }
+    ensures small { result < 2 }
+{
+    match kind {
+        Kind::Unordered => 0,
+        Kind::Ordered => 1,
+    }
+}
+
+/// The descriptor of the image task of this place, which is its hint too.
+fn image_desc(kind: Kind, index: u32, task: &ImageTask) -> Desc
+    ensures value { root_descriptor result ≡ image_descriptor kind index task.now }
+    ensures name { result.name ≡ record { creator = 0; index = index } }
+    ensures image { IsOfImage result }
+{
+    Desc {
+        name: Name { creator: 0, index },
+        entry: task.entry,
+        ts: root_ts(kind, task.ts),
+        args: task.args,
+        hint: index,
+        depth: 1,
+        kinds: kinds_of(kind),
+    }
+}
+
+/// Law: the settings are valid, and there are as many loads as tiles, 1 to 16.
+fn has_loads<N: Naming>(state: &State<N>)
+    ensures valid { IsValid state.now.view.settings }
+    ensures tiles { IsTileCount (length (loads state.now.view)) }
+    ensures each { length (loads state.now.view) ≡ state.now.view.settings.tiles }
+{
+    let _ = &state.settings;
+}
+
+/// Law: the task queue of a tile is no longer than it may be.
+fn is_short<N: Naming>(state: &State<N>, tile: u32)
+    requires { tile < state.now.view.settings.tiles }
+    ensures { length (queue_at state.now.view tile) ≤ state.now.view.settings.task_queue }
+{
+    let _ = state.queues[tile as usize].ids();
+}
+
+/// The tile that the serving placer picks.
+fn pick<N: Naming, P: Placer>(state: &State<N>, placers: &[P], hint: u32) -> u32
+    ensures tile { result ≡ serving_tile (map P.policy placers.now) hint (loads state.now.view) }
+    ensures inside { result < state.now.view.settings.tiles }
+{
+    has_loads(state);
+    let loads = state.loads();
+    serving_pick(placers, hint, loads.as_slice())
+}
+
+/// Leaves a free entry in the task queue of a tile: where it is full, idle tasks move into the tile's block.
+fn free_entry<N: Naming>(state: &mut State<N>, tile: u32) -> Result<(), AllocError>
+    requires tile { tile < state.old.view.settings.tiles }
+    requires fresh { AreFresh state.old.view }
+    ensures room { let old = state.old.view in
+        OnOk result ((HasFreeEntry old tile × (state.new.view ≡ old))
+        ⊎ (IsFull old tile × Coalesces tile old state.new.view)) }
+    ensures free { OnOk result (HasFreeEntry state.new.view tile) }
+    ensures fresh { OnOk result (AreFresh state.new.view) }
+{
+    if state.has_free_entry(tile) {
+        return Ok(());
+    }
+    state.is_stored();
+    has_loads(state);
+    is_short(state, tile);
+    coalesce(state, tile)?;
+    Ok(())
+}
+
+/// Places the image task of this place.
+fn place<N: Naming, P: Placer>(
+    state: &mut State<N>,
+    placers: &mut [P],
+    kind: Kind,
+    index: u32,
+    task: &ImageTask,
+) -> Result<(), AllocError>
+    requires fresh { AreFresh state.old.view }
+    ensures places { let before = map P.policy placers.old in
+        let after = map P.policy placers.new in
+        OnOk result ((taps : List Reading)
+        → Places kind index task.now (opened state.old.view before taps)
+        (opened state.new.view after taps)) }
+    ensures fresh { OnOk result (AreFresh state.new.view) }
+{
+    let tile = pick(state, placers, index);
+    free_entry(state, tile)?;
+    state.add(&image_desc(kind, index, task), tile)?;
+    serving_placed(placers, tile);
+    Ok(())
+}
+
+/// Places all tasks of an image.
+fn place_all<N: Naming, P: Placer>(
+    state: &mut State<N>,
+    placers: &mut [P],
+    kind: Kind,
+    tasks: &[ImageTask],
+) -> Result<(), AllocError>
+    requires none { (id : ℕ) → task_at state.old.view id ≡ None }
+    requires few { length tasks.now ≤ 65536 }
+    ensures { let before = map P.policy placers.old in
+        let after = map P.policy placers.new in
+        OnOk result ((taps : List Reading)
+        → PlacesAll kind (enumerate_from 0 tasks.now) (opened state.old.view before taps)
+        (opened state.new.view after taps)) }
+{
+    for index in 0..tasks.len() as u32 {
+        place(state, placers, kind, index, &tasks[index as usize])?;
+    }
+    Ok(())
+}
+
+/// A state with the tasks of the image.
+fn opening<N: Naming, P: Placer>(
+    alloc: Global,
+    image: &Image,
+    settings: Settings,
+    placers: &mut [P],
+) -> Result<State<N>, AllocError>
+    requires valid { IsValid settings }
+    requires image { image.now ≡ N.image }
+    requires budget { settings.budget ≡ N.budget }
+    requires commits { settings.commits ≡ N.commits }
+    ensures opening { let before = map P.policy placers.old in
+        let after = map P.policy placers.new in
+        IfOk result (λ state. (taps : List Reading)
+        → IsOpening N.image settings before taps (opened state.view after taps)) }
+    ensures image { IsImage N.image }
+{
+    let tasks = image.tasks();
+    let mut state = State::new(alloc, image, settings)?;
+    place_all(&mut state, placers, image.kind(), tasks)?;
+    Ok(state)
+}
+
+/// A sound state with the tasks of the image, on which no event was made.
+fn sound_opening<N: Naming, P: Placer>(
+    alloc: Global,
+    image: &Image,
+    settings: Settings,
+    placers: &mut Vec<P>,
+) -> Result<SoundState<N>, AllocError>
+    requires valid { IsValid settings }
+    requires image { image.now ≡ N.image }
+    requires budget { settings.budget ≡ N.budget }
+    requires commits { settings.commits ≡ N.commits }
+    ensures { let before = map P.policy placers.old.items in
+        let after = map P.policy placers.new.items in
+        IfOk result (λ sound. (taps : List Reading)
+        → IsOpening N.image settings before taps (going sound after taps)) }
+{
+    let state = opening(alloc, image, settings, placers.as_mut_slice())?;
+    Ok(SoundState { state, steps: 0 })
+}
+
+impl<N: Naming, P: Placer, T: Tap> Book<N, P, T> {
+    /// The book of a machine of valid settings at its opening: the tasks of the image are placed one after another, each in the tile that
+    /// the serving placer picks for its place among them. `AllocError` where memory is wanting.
+    pub fn begin(
+        alloc: Global,
+        image: &Image,
+        settings: Settings,
+        placers: Vec<P>,
+        taps: Vec<T>,
+    ) -> Result<Self, AllocError>
+        requires valid { IsValid settings }
+        requires image { image.now ≡ N.image }
+        requires budget { settings.budget ≡ N.budget }
+        requires commits { settings.commits ≡ N.commits }
+        ensures { let serving = map P.policy placers.items in
+            let noting = map T.reading taps.items in
+            IfOk result (λ book.
+            IsOpening N.image settings serving noting (view_of P.policy T.reading book)) }
+    {
+        let mut placers = placers;
+        let sound = sound_opening(alloc, image, settings, &mut placers)?;
+        Ok(Book {
+            sound,
+            placers,
+            taps,
+            stopped: false,
+        })
+    }
+}

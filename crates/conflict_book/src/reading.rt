@@ -1,0 +1,141 @@
+//! What a book tells of itself. No call takes memory.
+
+ghost use Rattle.std.specs.Prelude.{◌≡◌, ◌↔◌, ◌<◌, ◌≤◌, ℕ, true, Some, IsNone, IfSome, IsTrue, length};
+ghost use Rattle.std.specs.Prelude.{map, option_map, option_and_then, slice_get};
+ghost use Rattle.spec_state.specs.declared.task.Task.{Task};
+ghost use Rattle.spec_law.specs.Sound.{Sound};
+ghost use Rattle.spec_state.specs.Settings.{IsValid};
+ghost use Rattle.spec_state.specs.View.{loads};
+ghost use Rattle.spec_state.specs.Queries.{IsFreeCore, IsIdle, IsRunning};
+ghost use Rattle.book_event.specs.End.{HasEnd, IsOver};
+ghost use Rattle.conflict_book.specs.Seen.{view_of};
+ghost use Rattle.conflict_book.specs.Ready.{HasRunning, IsReady};
+
+use crate::book::Book;
+use book_room::end_of;
+use place_policy::Placer;
+use rv_core::{Core, Naming};
+use serial_machine::{End, Entry};
+use spec_dispatch::free_core;
+use spec_state::{Loads, Settings, State, Status, TaskId};
+use trace_tap::Tap;
+
+/// The settings of a state, which are within their limits.
+fn limited_settings<N: Naming>(state: &State<N>) -> &Settings
+    ensures value { result.now ≡ state.now.view.settings }
+    ensures valid { IsValid result.now }
+    ensures budget { result.now.budget ≡ N.budget }
+{
+    &state.settings
+}
+
+/// The core of a running task that a core of a tile holds; None exactly where no running task is there.
+fn running_core<N: Naming>(state: &State<N>, tile: u32, core: u32) -> Option<&Core>
+    requires tile { tile < state.now.view.settings.tiles }
+    requires core { core < state.now.view.settings.cores }
+    requires sound { Sound N.image state.now.view }
+    ensures within { IfSome result (λ c. c.now.used ≤ state.now.view.settings.budget) }
+    ensures some { IfSome result (λ c. HasRunning state.now.view tile core c.now) }
+    ensures none { let view = state.now.view in
+        IsNone result ↔ ((id : ℕ) (task : Task) → IsRunning view tile core id task → ⊥) }
+{
+    state.is_stored();
+    let id = state.on_core(tile, core)?;
+    let task = state.task(id);
+    match task.status {
+        Status::Running { .. } => Some(&task.core),
+        Status::Idle | Status::Trapped { .. } | Status::Finished => None,
+    }
+}
+
+impl<N: Naming, P: Placer, T: Tap> Book<N, P, T> {
+    /// The settings with which it began: they are valid, with the task budget that `N` names.
+    pub fn settings(&self) -> &Settings
+        ensures value { result.now ≡ (view_of P.policy T.reading self.now).view.settings }
+        ensures valid { IsValid result.now }
+        ensures budget { result.now.budget ≡ N.budget }
+    {
+        limited_settings(self.sound.state())
+    }
+
+    /// How the run ended: with no task uncommitted, with as many committed as may, or at a trap of the least task; None exactly where it
+    /// goes on.
+    pub fn end(&self) -> Option<End>
+        ensures some { IfSome result (HasEnd (view_of P.policy T.reading self.now).view) }
+        ensures none { let book = view_of P.policy T.reading self.now in
+            IsNone result ↔ (IsOver book.view → ⊥) }
+    {
+        end_of(self.sound.state())
+    }
+
+    /// How many events were made, up to 2^64 - 1.
+    pub fn steps(&self) -> u64
+        ensures { result ≡ (view_of P.policy T.reading self.now).steps }
+    {
+        self.sound.steps
+    }
+
+    /// The committed tasks, in the order of their commits.
+    pub fn history(&self) -> &[Entry]
+        ensures { result.now ≡ (view_of P.policy T.reading self.now).view.history }
+    {
+        self.sound.state().history()
+    }
+
+    /// How many tasks each tile's task queue holds, the lowest tile first.
+    pub fn loads(&self) -> Loads
+        ensures { result ≡ loads (view_of P.policy T.reading self.now).view }
+    {
+        self.sound.state().loads()
+    }
+
+    /// The core to which the running task on a core of a tile has come, within the task budget; None exactly where no running task is
+    /// there.
+    pub fn core_at(&self, tile: u32, core: u32) -> Option<&Core>
+        requires tile { tile < (view_of P.policy T.reading self.now).view.settings.tiles }
+        requires core { core < (view_of P.policy T.reading self.now).view.settings.cores }
+        ensures within { let view = (view_of P.policy T.reading self.now).view in
+            IfSome result (λ c. c.now.used ≤ view.settings.budget) }
+        ensures some { let view = (view_of P.policy T.reading self.now).view in
+            IfSome result (λ c. HasRunning view tile core c.now) }
+        ensures none { let view = (view_of P.policy T.reading self.now).view in
+            IsNone result ↔ ((id : ℕ) (task : Task) → IsRunning view tile core id task → ⊥) }
+    {
+        running_core(self.sound.state(), tile, core)
+    }
+
+    /// Whether a tile has an idle task and a core that holds no task. It looks at each task of the queue.
+    pub fn ready(&self, tile: u32) -> bool
+        requires tile { tile < (view_of P.policy T.reading self.now).view.settings.tiles }
+        ensures { IsTrue result ↔ IsReady (view_of P.policy T.reading self.now).view tile }
+    {
+        let state = self.sound.state();
+        free_core(state, tile).is_some() && state.idle(tile).is_some()
+    }
+
+    /// Lets no event through any more: each one is answered `Memory` from now on.
+    pub fn stop(&mut self)
+        ensures { let old = view_of P.policy T.reading self.old in
+            view_of P.policy T.reading self.new ≡ record old { stopped = true } }
+    {
+        self.stopped = true;
+    }
+
+    /// How many numbers the list of a tap has; None exactly past the last tap.
+    pub fn tap_len(&self, tap: u32) -> Option<u32>
+        ensures { let book = view_of P.policy T.reading self.now in
+            result ≡ option_map (λ reading. length reading.list) (slice_get book.taps tap) }
+    {
+        let found = self.taps.get(tap as usize)?;
+        Some(found.len())
+    }
+
+    /// The number at a place of the list of a tap; None exactly past its end, or past the last tap.
+    pub fn tap_at(&self, tap: u32, place: u32) -> Option<u64>
+        ensures { let book = view_of P.policy T.reading self.now in
+            result ≡ option_and_then (λ reading. slice_get reading.list place) (slice_get book.taps tap) }
+    {
+        let found = self.taps.get(tap as usize)?;
+        found.at(place)
+    }
+}
