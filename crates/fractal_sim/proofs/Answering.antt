@@ -1,7 +1,7 @@
 -- What was found and is told is an answer.
-use Rattle.std.proofs.Common.{◌≡◌, ◌≢◌, ◌⊎◌, inl, inr, refl, sym, ap, ◌∙◌, subst, ℕ, ◌<◌, ◌≤◌, List, [], ◌++◌, length, append-nil, length-append, arith, drop, ◌==◌, Bool, true, false, Some, None}
+use Rattle.std.proofs.Common.{◌≡◌, ◌≢◌, ◌⊎◌, inl, inr, refl, sym, ap, ◌∙◌, subst, ℕ, ◌<◌, ◌≤◌, List, ◌++◌, length, append-nil, length-append, arith, drop, ◌==◌, Bool, true, false, Some, None}
 use Rattle.std.specs.declared.option.Option.{Option}
-use Rattle.std.specs.Prelude.{IsSomeAnd, option_map, unwrap_or}
+use Rattle.std.specs.Prelude.{IfSome, IsSomeAnd, option_map, unwrap_or}
 use Rattle.std.proofs.lemmas.Bool.Decides.{nat_tests}
 use Rattle.std.proofs.lemmas.Grind.{common_steps}
 use Rattle.std.specs.Io.KnownBytes.{Consumes, IsAtEnd}
@@ -13,18 +13,20 @@ use Rattle.run_journal.specs.declared.end.End.{End}
 use Rattle.guest_image.specs.Reading.{image_of}
 use Rattle.run_law.proofs.Lawful.{lawful}
 use Rattle.report_text.specs.Report.{report}
-use Rattle.report_text.specs.Grammar.{report_of}
-use Rattle.fractal_sim.specs.declared.words.Request.{Request}
+use Rattle.command_line.specs.declared.request.Command.TheVariants as commands
+use Rattle.command_line.specs.declared.request.Request.{Request}
+use Rattle.place_policy.specs.Policy.{Policy}
+use Rattle.trace_tap.specs.Reading.{Reading}
 use Rattle.serial_machine.specs.declared.whole_run.SerialRun.{SerialRun}
 use Rattle.fractal_sim.specs.declared.finding.Finding.{Finding}
 use Rattle.fractal_sim.specs.declared.finding.Finding.TheVariants as finding
 use Rattle.fractal_sim.specs.declared.outcome.Outcome.{Outcome}
-use Rattle.fractal_sim.specs.Words.{request_of}
+use Rattle.fractal_sim.specs.Asked.{asked_by}
 use Rattle.fractal_sim.specs.Call.{Call, Input}
 use Rattle.fractal_sim.specs.Top as top
 use Rattle.serial_machine.specs.WholeRun.{IsRunOf}
-use Rattle.fractal_sim.specs.Top.{ReadsInput, ReadsImage, HoldsRunOfInput, HoldsRunOrNothing, HoldsLawfulRun, RunsToEnd, IsAccepted, IsAnswer, HoldsRunSoFar, TellsWant, TellsOutcome, BeginsWithImage, IsDue, IsComplete, IsWrongLine, closed_of, end_status, accepted_line, input_limit}
-use Rattle.fractal_sim.specs.Finding.{IsRan, IsFound, Keeps, run_status, status_of, text_of, TakesText, TellsFinding}
+use Rattle.fractal_sim.specs.Top.{ReadsInput, ReadsImage, HoldsRunOfInput, HoldsRunOrNothing, HoldsLawfulRun, RunsToEnd, IsAccepted, IsAnswer, HoldsRunSoFar, TellsWant, TellsOutcome, BeginsWithImage, IsDue, IsComplete, IsWrongLine, MakesRun, TellsSteps, closed_of, end_status, accepted_line, input_limit}
+use Rattle.fractal_sim.specs.Finding.{IsRan, IsFound, IsMadeSo, Keeps, run_status, status_of, text_of, TakesText, TellsFinding}
 
 same-some : {A : Type 0} (a b : A) → Some a ≡ Some b → a ≡ b
 same-some a b h = ap (λ o. unwrap_or o a) h
@@ -43,7 +45,7 @@ ran-held input image closed o found kept = record {
   image = image;
   rest = found.rest;
   given = found.given;
-  run = holds-kept image found.request.commits found.request.budget closed o kept found.run;
+  run = holds-kept image found.request.settings.commits found.request.settings.budget closed o kept found.run;
 }
 
 pub holds : (input : Input) (f : Finding) (o : Outcome) → IsFound input f → Keeps f o → HoldsRunOrNothing input o
@@ -53,17 +55,17 @@ holds input finding.Unread o found kept = inl kept
 holds input finding.Long o found kept = inl kept
 holds input (finding.NoImage fault) o found kept = inl kept
 holds input (finding.Refused line) o found kept = inl kept
-holds input (finding.Accepted closed) o found kept = inr record {
+holds input (finding.Accepted closed) o found holding = (let kept = holding.run_is in inr record {
   request = found.request;
   image = found.image;
   rest = found.rest;
   given = found.given;
-  run = holds-kept found.image found.request.commits found.request.budget closed o kept found.run;
-}
-holds input (finding.Ran image closed) o found kept = inr (ran-held input image closed o found kept)
+  run = holds-kept found.image found.request.settings.commits found.request.settings.budget closed o kept found.run;
+})
+holds input (finding.Ran image closed steps) o found kept = inr (ran-held input image closed o found kept.run_is)
 
 pub holds-lawful : (input : Input) (o : Outcome) → HoldsLawfulRun input o
-holds-lawful input o = λ h. lawful h.image h.request.budget o.journal h.run.state h.run.is_run
+holds-lawful input o = λ h. lawful h.image h.request.settings.budget o.journal h.run.state h.run.is_run
 
 -- a run, as an outcome keeps it
 ended : (input : Input) (image : ImageValue) (closed : SerialRun) (o : Outcome) (end : End) → closed.end ≡ Some end → IsRan input image closed → closed_of o ≡ closed
@@ -73,7 +75,7 @@ ended input image closed o end is found kept = record {
   rest = found.rest;
   given = found.given;
   command = found.command;
-  run = holds-kept image found.request.commits found.request.budget closed o kept found.run;
+  run = holds-kept image found.request.settings.commits found.request.settings.budget closed o kept found.run;
   end_is = ap (λ c. c.end) kept ∙ is;
   over = λ unfinished. found.over (is ∙ ap Some unfinished);
 }
@@ -87,14 +89,14 @@ answers input finding.Long o text found kept is = subst (IsAnswer input o 10) (s
 answers input (finding.NoImage fault) o text found kept is = subst (IsAnswer input o 2) (same-some _ text is) (top.NoImage fault found kept)
 answers input (finding.Refused line) o text found kept is = subst (IsAnswer input o 8) (same-some _ text is) (top.Refused line found kept)
 answers input (finding.Accepted closed) o text found kept is =
-    let line : accepted_line (length o.journal) ≡ text = ap (λ c. accepted_line (length c.journal)) kept ∙ same-some _ text is in
-    subst (IsAnswer input o 0) line (top.Accepted (subst (IsAccepted input) (sym kept) found))
-answers input (finding.Ran image closed) o text found kept is = go closed.end refl is where
+    let line : accepted_line (length o.journal) ≡ text = ap (λ c. accepted_line (length c.journal)) kept.run_is ∙ same-some _ text is in
+    subst (IsAnswer input o 0) line (top.Accepted (subst (IsAccepted input) (sym kept.run_is) found))
+answers input (finding.Ran image closed steps) o text found kept is = go closed.end refl is where
   go : (e : Option End) → closed.end ≡ e → option_map (report image closed.journal closed.memory closed.output) e ≡ Some text → IsAnswer input o (run_status e) text
   go None at t = let z : ⊥ = cc in absurd z
   go (Some end) at t =
-      let told : report image o.journal o.memory o.output end ≡ text = ap (λ c. report image c.journal c.memory c.output end) kept ∙ same-some _ text t in
-      subst (IsAnswer input o (end_status end)) told (top.Ended image end (ended input image closed o end at found kept))
+      let told : report image o.journal o.memory o.output end ≡ text = ap (λ c. report image c.journal c.memory c.output end) kept.run_is ∙ same-some _ text t in
+      subst (IsAnswer input o (end_status end)) told (top.Ended image end (ended input image closed o end at found kept.run_is))
 
 is_seven : (n : ℕ) → (n ≡ 7) ⊎ (n ≢ 7)
 is_seven n = go (n == 7) refl where
@@ -125,21 +127,21 @@ well_told call finding.Long o found kept s w = took call finding.Long o _ found 
 well_told call (finding.NoImage fault) o found kept s w = took call (finding.NoImage fault) o _ found kept refl s w
 well_told call (finding.Refused line) o found kept s w = took call (finding.Refused line) o _ found kept refl s w
 well_told call (finding.Accepted closed) o found kept s w = took call (finding.Accepted closed) o _ found kept refl s w
-well_told call (finding.Ran image closed) o found kept s w = go closed.end refl where
+well_told call (finding.Ran image closed steps) o found kept s w = go closed.end refl where
   go : (e : Option End) → closed.end ≡ e → TellsOutcome call o
   go None is =
-      let held : HoldsRunOfInput call.input o = ran-held call.input image closed o found kept in
+      let held : HoldsRunOfInput call.input o = ran-held call.input image closed o found kept.run_is in
       let short : HoldsRunSoFar call.input o = record { held = held; command = found.command } in
       let read = found.given.read.read in
       inl record {
         status_is = s ∙ ap run_status is;
-        end = ap (λ c. c.end) kept ∙ is;
+        end = ap (λ c. c.end) kept.run_is ∙ is;
         held = inr short;
         read = read-some call.input.source_before call.input.source_after input_limit found.given.bytes read;
         untouched = subst (λ e. TakesText call.sink_before call.sink_after (option_map (report image closed.journal closed.memory closed.output) e)) is w;
       }
   go (Some end) is =
-      took call (finding.Ran image closed) o (report image closed.journal closed.memory closed.output end) found kept (ap (option_map (report image closed.journal closed.memory closed.output)) is) s w
+      took call (finding.Ran image closed steps) o (report image closed.journal closed.memory closed.output end) found kept (ap (option_map (report image closed.journal closed.memory closed.output)) is) s w
 
 -- the text of a finding whose text the sink failed on
 record HasFront (old new : SinkState) (text : Option (List ℕ)) : Type 0 where
@@ -184,7 +186,7 @@ past_all bytes old new limit is h = go new.left (subst (λ l. Consumes l new.lef
 
 -- the words ask for this, and these are all the bytes that there are
 record IsAll (words : List (List ℕ)) (bytes found : List ℕ) (request : Request) : Type 0 where
-  asked : request_of words ≡ Some request
+  asked : asked_by words ≡ Some request
   same : found ≡ bytes
   within : length bytes ≤ input_limit
 
@@ -220,7 +222,7 @@ due input bytes (finding.Refused line) is well found =
     inr (top.Refused found.request found.image found.rest line (begins input bytes found.request found.image found.rest is found.given) found.command found.wrong)
 due input bytes (finding.Accepted closed) is well found =
     inr (top.Checked found.request found.image found.rest found.report (begins input bytes found.request found.image found.rest is found.given) found.command found.report_is found.accepted)
-due input bytes (finding.Ran image closed) is well found = go closed.end refl where
+due input bytes (finding.Ran image closed steps) is well found = go closed.end refl where
   go : (e : Option End) → closed.end ≡ e → (run_status e ≡ 5) ⊎ IsDue input.words bytes (run_status e)
   go None at = inl refl
   go (Some end) at =
@@ -230,3 +232,38 @@ pub complete : (call : Call) (f : Finding) (o : Outcome) → IsFound call.input 
 complete call f o found tells = λ bytes is well.
     let status : o.status ≡ status_of f = (tells.told (λ seven. well.sink (tells.failed seven).0)).0 in
     subst (λ n. (n ≡ 5) ⊎ IsDue call.input.words bytes n) (sym status) (due call.input bytes f is well.source found)
+
+-- ---- events
+
+-- one list of words asks for one thing
+same_request : (words : List (List ℕ)) (a b : Request) → asked_by words ≡ Some a → asked_by words ≡ Some b → a ≡ b
+same_request words a b ha hb = same-some a b (sym ha ∙ hb)
+
+is_run : (a b : Request) → a ≡ b → a.command ≡ commands.Check → b.command ≡ commands.Run → ⊥
+is_run a b same check runs = (let clash : commands.Check ≡ commands.Run = sym check ∙ ap (λ (r : Request). r.command) same ∙ runs in cc)
+
+-- an outcome without a run tells no count, and has no end
+none_told : (N : Type 0) (input : Input) (placers : List Policy) (taps : List Reading) (o : Outcome) → top.IsEmpty o → TellsSteps N input placers taps o
+none_told N input placers taps o empty = record {
+  made = subst (λ s. IfSome s (λ events. MakesRun N input placers taps events (closed_of o))) (sym empty.steps) tt;
+  told = λ request asked runs ended. absurd (ended empty.end);
+}
+
+-- what was found tells the events of its run
+pub steps_told : (N : Type 0) (input : Input) (placers : List Policy) (taps : List Reading) (f : Finding) (o : Outcome) → IsFound input f → IsMadeSo N input placers taps f → Keeps f o
+    → TellsSteps N input placers taps o
+steps_told N input placers taps finding.Usage o found made kept = none_told N input placers taps o kept
+steps_told N input placers taps finding.Memory o found made kept = none_told N input placers taps o kept
+steps_told N input placers taps finding.Unread o found made kept = none_told N input placers taps o kept
+steps_told N input placers taps finding.Long o found made kept = none_told N input placers taps o kept
+steps_told N input placers taps (finding.NoImage fault) o found made kept = none_told N input placers taps o kept
+steps_told N input placers taps (finding.Refused line) o found made kept = none_told N input placers taps o kept
+steps_told N input placers taps (finding.Accepted closed) o found made kept = record {
+  made = subst (λ s. IfSome s (λ events. MakesRun N input placers taps events (closed_of o))) (sym kept.steps_is) tt;
+  told = λ request asked runs ended. absurd (is_run found.request request (same_request input.words found.request request found.given.read.asked asked) found.command runs);
+}
+steps_told N input placers taps (finding.Ran image closed steps) o found made kept = record {
+  made = subst (λ s. IfSome s (λ events. MakesRun N input placers taps events (closed_of o))) (sym kept.steps_is)
+      (subst (MakesRun N input placers taps steps) (sym kept.run_is) made);
+  told = λ request asked runs ended none. (let clash : Some steps ≡ None = sym kept.steps_is ∙ none in cc);
+}

@@ -1,4 +1,3 @@
-pub mod Options
-pub mod Limits
 pub mod Answering
 pub mod Found
+pub mod Least

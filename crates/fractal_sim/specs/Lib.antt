@@ -1,5 +1,5 @@
-pub mod Words
-pub mod WordKinds
+pub mod Asked
+pub mod Least
 pub mod Call
 pub mod Top
 pub mod Finding

@@ -10,8 +10,9 @@ use Rattle.guest_image.specs.Fault.{fault_number, fault_offset}
 use Rattle.guest_image.specs.declared.fault.ImageFault.{ImageFault}
 use Rattle.run_journal.specs.declared.end.End.{End}
 use Rattle.run_journal.specs.declared.end.End.TheVariants as ends
+use Rattle.place_policy.specs.Policy.{Policy}
+use Rattle.trace_tap.specs.Reading.{Reading}
 use Rattle.serial_machine.specs.declared.fault.TurnFault.{TurnFault}
-use Rattle.serial_machine.specs.State.{State}
 use Rattle.serial_machine.specs.WholeRun.{IsRunOf}
 use Rattle.run_law.specs.Laws.{AreLawful}
 use Rattle.report_text.specs.declared.report.Report.{Report}
@@ -19,12 +20,13 @@ use Rattle.report_text.specs.declared.verdict.Verdict.TheVariants as verdicts
 use Rattle.report_text.specs.Report.{report}
 use Rattle.report_text.specs.Grammar.{report_of}
 use Rattle.report_text.specs.Check.{IsReportOf, IsVerdict}
-use Rattle.fractal_sim.specs.declared.words.Command.TheVariants.{Run, Check}
-use Rattle.fractal_sim.specs.declared.words.Request.{Request}
+use Rattle.command_line.specs.declared.request.Command.TheVariants.{Run, Check}
+use Rattle.command_line.specs.declared.request.Request.{Request}
 use Rattle.serial_machine.specs.declared.whole_run.SerialRun.{SerialRun}
 use Rattle.fractal_sim.specs.declared.outcome.Outcome.{Outcome}
-use Rattle.fractal_sim.specs.Words.{request_of}
+use Rattle.fractal_sim.specs.Asked.{asked_by}
 use Rattle.fractal_sim.specs.Call.{Call, Input}
+use Rattle.fractal_sim.specs.Least.{IsLeastRun}
 
 -- the greatest number of bytes that are read
 abbrev pub input_limit : ℕ
@@ -34,7 +36,7 @@ input_limit = 67108864
 
 -- the words ask for this, and these are all the bytes that the source had left
 pub record ReadsInput (input : Input) (request : Request) (bytes : List ℕ) : Type 0 where
-  pub asked : request_of input.words ≡ Some request
+  pub asked : asked_by input.words ≡ Some request
   pub read : ReadsAll input.source_before input.source_after input_limit bytes
 
 -- the bytes that were read begin with this image, and these stand behind it
@@ -47,20 +49,20 @@ pub record ReadsImage (input : Input) (request : Request) (image : ImageValue) (
 
 -- the words are refused, and the source was left alone
 pub record IsUsage (input : Input) : Type 0 where
-  pub refused : request_of input.words ≡ None
+  pub refused : asked_by input.words ≡ None
   pub untouched : input.source_after ≡ input.source_before
 
 -- the words ask for something, and the source failed behind at most as many bytes as are read
 pub record IsUnread (input : Input) : Type 0 where
   pub request : Request
-  pub asked : request_of input.words ≡ Some request
+  pub asked : asked_by input.words ≡ Some request
   pub read : ReadsSome input.source_before input.source_after input_limit
   pub rose : Rose input.source_before.faults input.source_after.faults
 
 -- the words ask for something, and the source has more bytes than are read
 pub record IsLong (input : Input) : Type 0 where
   pub request : Request
-  pub asked : request_of input.words ≡ Some request
+  pub asked : asked_by input.words ≡ Some request
   pub past : ReadsPast input.source_before input.source_after input_limit
 
 -- the bytes that were read begin with no image
@@ -76,12 +78,13 @@ pub record IsNoImage (input : Input) (fault : ImageFault) : Type 0 where
 abbrev pub closed_of : Outcome → SerialRun
 closed_of o = record { journal = o.journal; memory = o.memory; output = o.output; end = o.end }
 
--- no run was made: journal, memory and output are empty, and there is no end
+-- no run was made: journal, memory and output are empty, and there is no end and no count of events
 pub record IsEmpty (o : Outcome) : Type 0 where
   pub journal : o.journal ≡ []
   pub memory : o.memory ≡ []
   pub output : o.output ≡ []
   pub end : o.end ≡ None
+  pub steps : o.steps ≡ None
 
 -- the outcome holds a run of the image that was read, with the limits that the words ask for
 pub record HoldsRunOfInput (input : Input) (o : Outcome) : Type 0 where
@@ -89,7 +92,7 @@ pub record HoldsRunOfInput (input : Input) (o : Outcome) : Type 0 where
   pub image : ImageValue
   pub rest : List ℕ
   pub given : ReadsImage input request image rest
-  pub run : IsRunOf image request.commits request.budget (closed_of o)
+  pub run : IsRunOf image request.settings.commits request.settings.budget (closed_of o)
 
 -- the outcome is empty or holds a run of the image that was read
 abbrev pub HoldsRunOrNothing : Input → Outcome → Type 0
@@ -97,7 +100,8 @@ HoldsRunOrNothing input o = IsEmpty o ⊎ HoldsRunOfInput input o
 
 -- whatever run the outcome holds, it meets the laws of runs
 abbrev pub HoldsLawfulRun : Input → Outcome → Type 0
-HoldsLawfulRun input o = (h : HoldsRunOfInput input o) → AreLawful h.image h.request.budget o.journal h.run.state
+HoldsLawfulRun input o =
+    (h : HoldsRunOfInput input o) → AreLawful h.image h.request.settings.budget o.journal h.run.state
 
 -- the words ask for a run, and the image that was read was run to this end
 pub record RunsToEnd (input : Input) (image : ImageValue) (end : End) (closed : SerialRun) : Type 0 where
@@ -105,9 +109,30 @@ pub record RunsToEnd (input : Input) (image : ImageValue) (end : End) (closed : 
   pub rest : List ℕ
   pub given : ReadsImage input request image rest
   pub command : request.command ≡ Run
-  pub run : IsRunOf image request.commits request.budget closed
+  pub run : IsRunOf image request.settings.commits request.settings.budget closed
   pub end_is : closed.end ≡ Some end
   pub over : end ≢ ends.Unfinished
+
+-- ---- events
+
+-- the words ask for a run, and so many events of the least tasks made it of the image that was read, with these placers
+-- and taps
+pub record MakesRun (N : Type 0) (input : Input) (placers : List Policy) (taps : List Reading)
+    (events : ℕ) (run : SerialRun) : Type 0 where
+  pub request : Request
+  pub image : ImageValue
+  pub rest : List ℕ
+  pub given : ReadsImage input request image rest
+  pub command : request.command ≡ Run
+  pub least : IsLeastRun N image request.settings placers taps events run
+
+-- where a count is told, so many events made the run that the outcome holds; it is told of each run with an end that the
+-- words ask for
+pub record TellsSteps (N : Type 0) (input : Input) (placers : List Policy) (taps : List Reading) (o : Outcome)
+    : Type 0 where
+  pub made : IfSome o.steps (λ events. MakesRun N input placers taps events (closed_of o))
+  pub told : (request : Request) → asked_by input.words ≡ Some request → request.command ≡ Run
+      → o.end ≢ None → o.steps ≢ None
 
 -- ---- reports that are checked
 
@@ -116,7 +141,7 @@ pub record RunsToEnd (input : Input) (image : ImageValue) (end : End) (closed : 
 pub data IsWrongLine (image : ImageValue) (request : Request) (rest : List ℕ) : ℕ → Type 0 where
   Outside : {line : ℕ} → report_of rest ≡ Err line → IsWrongLine image request rest line
   Illegal : {line : ℕ} → (report : Report) (why : Option TurnFault) → report_of rest ≡ Ok report
-      → IsVerdict image request.commits request.budget report (verdicts.Illegal line why)
+      → IsVerdict image request.settings.commits request.settings.budget report (verdicts.Illegal line why)
       → IsWrongLine image request rest line
 
 -- the words ask for a check, and the report behind the image is accepted; this is its run
@@ -128,8 +153,8 @@ pub record IsAccepted (input : Input) (closed : SerialRun) : Type 0 where
   pub given : ReadsImage input request image rest
   pub command : request.command ≡ Check
   pub report_is : report_of rest ≡ Ok report
-  pub accepted : IsReportOf image request.commits request.budget report
-  pub run : IsRunOf image request.commits request.budget closed
+  pub accepted : IsReportOf image request.settings.commits request.settings.budget report
+  pub run : IsRunOf image request.settings.commits request.settings.budget closed
   pub journal_is : closed.journal ≡ report.journal
   pub end_is : closed.end ≡ Some report.end
 
@@ -220,7 +245,7 @@ TellsOutcome call o = TellsWant call o ⊎ TellsSourceFault call o ⊎ TellsSink
 -- the words ask for this, and the bytes are no more than are read and begin with this image, behind which these stand
 pub record BeginsWithImage (words : List (List ℕ)) (bytes : List ℕ)
     (request : Request) (image : ImageValue) (rest : List ℕ) : Type 0 where
-  pub asked : request_of words ≡ Some request
+  pub asked : asked_by words ≡ Some request
   pub within : length bytes ≤ input_limit
   pub size : ℕ
   pub image_is : image_of bytes ≡ Ok (image, size)
@@ -229,16 +254,17 @@ pub record BeginsWithImage (words : List (List ℕ)) (bytes : List ℕ)
 -- the status that is due to words and to bytes that are all there is, where nothing fails and memory is there; which of
 -- its ends a run has is told by its journal
 pub data IsDue (words : List (List ℕ)) (bytes : List ℕ) : ℕ → Type 0 where
-  Usage : request_of words ≡ None → IsDue words bytes 1
-  Long : (request : Request) → request_of words ≡ Some request → input_limit < length bytes → IsDue words bytes 10
-  NoImage : (request : Request) (fault : ImageFault) → request_of words ≡ Some request
+  Usage : asked_by words ≡ None → IsDue words bytes 1
+  Long : (request : Request) → asked_by words ≡ Some request → input_limit < length bytes → IsDue words bytes 10
+  NoImage : (request : Request) (fault : ImageFault) → asked_by words ≡ Some request
       → length bytes ≤ input_limit → image_of bytes ≡ Err fault → IsDue words bytes 2
   Ended : (request : Request) (image : ImageValue) (rest : List ℕ) (end : End)
       → BeginsWithImage words bytes request image rest → request.command ≡ Run
       → end ≢ ends.Unfinished → IsDue words bytes (end_status end)
   Checked : (request : Request) (image : ImageValue) (rest : List ℕ) (report : Report)
       → BeginsWithImage words bytes request image rest → request.command ≡ Check
-      → report_of rest ≡ Ok report → IsReportOf image request.commits request.budget report → IsDue words bytes 0
+      → report_of rest ≡ Ok report → IsReportOf image request.settings.commits request.settings.budget report
+      → IsDue words bytes 0
   Refused : (request : Request) (image : ImageValue) (rest : List ℕ) (line : ℕ)
       → BeginsWithImage words bytes request image rest → request.command ≡ Check
       → IsWrongLine image request rest line → IsDue words bytes 8

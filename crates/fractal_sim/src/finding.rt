@@ -20,6 +20,6 @@ pub(crate) enum Finding {
     Refused(u32),
     /// The report is accepted; this is its run.
     Accepted(SerialRun),
-    /// The image was run.
-    Ran(Image, SerialRun),
+    /// The image was run, by so many events.
+    Ran(Image, SerialRun, u64),
 }

@@ -1,25 +1,32 @@
-//! Runs a guest program on the serial machine, or checks the report of a run: the image comes from standard input, and
+//! Runs a guest program on the machine of tiles, or checks the report of a run: the image comes from standard input, and
 //! the report, or a line that says what is wrong, goes to standard output. Everything is found before anything is
 //! written; a run takes memory for its tasks, its journal and its output, and one copy of the data memory.
 #![tactic(auto)]
 
+mod asking;
 mod deciding;
 mod finding;
 mod outcome;
 mod program;
+mod running;
 mod telling;
 #[cfg(test)]
 mod tests;
-mod words;
 
+use place_policy::{ByHint, LeastLoaded, Placer, RoundRobin};
 use program::top;
 use sim_io::{StdSink, StdSource};
+use std::alloc::AllocError;
 use std::env;
 use std::io::ErrorKind;
 use std::process::ExitCode;
+use trace_tap::{LastN, LineProfile, Tap};
 
 /// The exit status where memory was wanting.
 const NO_MEMORY: u8 = 5;
+
+/// How many events the first tap keeps, and how many lines the second one counts by.
+const KEPT: u32 = 16;
 
 fn main(rt: HostRuntime) -> ExitCode {
     let alloc = rt.alloc();
@@ -27,7 +34,7 @@ fn main(rt: HostRuntime) -> ExitCode {
         Ok(args) => args,
         Err(error) if error.kind() == ErrorKind::OutOfMemory => return ExitCode::from(NO_MEMORY),
         // A word that is no UTF-8 is refused as one that is not known.
-        Err(_) => return answer(&rt, &[]),
+        Err(_) => return status(answer(&rt, &[])),
     };
     let _ = args.next();
     let mut owned = Vec::new(alloc);
@@ -42,13 +49,28 @@ fn main(rt: HostRuntime) -> ExitCode {
             return ExitCode::from(NO_MEMORY);
         }
     }
-    answer(&rt, &words)
+    status(answer(&rt, &words))
 }
 
-/// Does what the words ask for, on the standard streams.
-fn answer(rt: &HostRuntime, words: &[&str]) -> ExitCode {
+fn status(answered: Result<u8, AllocError>) -> ExitCode {
+    match answered {
+        Ok(status) => ExitCode::from(status),
+        Err(_) => ExitCode::from(NO_MEMORY),
+    }
+}
+
+/// Does what the words ask for, on the standard streams, and tells the exit status.
+fn answer(rt: &HostRuntime, words: &[&str]) -> Result<u8, AllocError> {
+    let alloc = rt.alloc();
+    let mut placers: Vec<Box<dyn Placer + Send>> = Vec::new(alloc);
+    placers.push(Box::new(alloc, ByHint::new())?)?;
+    placers.push(Box::new(alloc, LeastLoaded::new())?)?;
+    placers.push(Box::new(alloc, RoundRobin::new())?)?;
+    let mut taps: Vec<Box<dyn Tap + Send>> = Vec::new(alloc);
+    taps.push(Box::new(alloc, LastN::new(alloc, KEPT)?)?)?;
+    taps.push(Box::new(alloc, LineProfile::new(alloc, KEPT)?)?)?;
     let mut source = StdSource::new(rt);
     let mut sink = StdSink::new(rt);
-    let outcome = top(rt, rt.alloc(), words, &mut source, &mut sink);
-    ExitCode::from(outcome.status)
+    let outcome = top(rt, alloc, words, &mut source, &mut sink, placers, taps);
+    Ok(outcome.status)
 }

@@ -1,8 +1,8 @@
 //! What was found is written, and told by a status. Nothing here takes memory.
 
 ghost use Rattle.std.specs.Prelude.{◌≡◌, ◌≢◌, ◌<◌, ◌++◌, ◌-◌, ◌^◌, codes, decimal, length, OnOk};
-ghost use Rattle.fractal_sim.specs.Finding.{IsWritable, TellsFinding, TellsLine, run_status};
-ghost use Rattle.fractal_sim.specs.Top.{IsEmpty, accepted_line, closed_of, end_status, image_fault_line};
+ghost use Rattle.fractal_sim.specs.Finding.{HoldsRun, IsWritable, TellsFinding, TellsLine, run_status};
+ghost use Rattle.fractal_sim.specs.Top.{IsEmpty, accepted_line, end_status, image_fault_line};
 ghost use Rattle.fractal_sim.specs.Top.{journal_fault_line};
 
 use crate::finding::Finding;
@@ -27,7 +27,7 @@ pub(crate) fn tell<K: Sink>(alloc: Global, sink: &mut K, found: Finding) -> Outc
         Finding::NoImage(fault) => tell_image_fault(alloc, sink, fault),
         Finding::Refused(line) => tell_journal_fault(alloc, sink, line),
         Finding::Accepted(closed) => accept(sink, closed),
-        Finding::Ran(image, closed) => publish(sink, &image, closed),
+        Finding::Ran(image, run, steps) => publish(sink, &image, run, steps),
     }
 }
 
@@ -41,6 +41,7 @@ fn empty(alloc: Global, status: u8) -> Outcome
         memory: Bytes::new(alloc),
         output: Bytes::new(alloc),
         end: None,
+        steps: None,
     }
 }
 
@@ -105,10 +106,10 @@ fn accept_line(entries: u64) -> Line
     line
 }
 
-/// What is answered with a run.
-fn outcome(status: u8, run: SerialRun) -> Outcome
+/// What is answered with a run, and with the count of events that made it.
+fn outcome(status: u8, run: SerialRun, steps: Option<u64>) -> Outcome
     ensures status { result.status ≡ status }
-    ensures kept { closed_of result ≡ run }
+    ensures kept { HoldsRun run steps result }
 {
     Outcome {
         status,
@@ -116,6 +117,7 @@ fn outcome(status: u8, run: SerialRun) -> Outcome
         memory: run.memory,
         output: run.output,
         end: run.end,
+        steps,
     }
 }
 
@@ -125,18 +127,18 @@ fn accept<K: Sink>(sink: &mut K, run: SerialRun) -> Outcome
 {
     let line = accept_line(run.journal.as_slice().len() as u64);
     match write_all(sink, line.as_slice()) {
-        Ok(()) => outcome(0, run),
-        Err(_) => outcome(7, run),
+        Ok(()) => outcome(0, run, None),
+        Err(_) => outcome(7, run, None),
     }
 }
 
 /// Writes the report of a run; none where memory was wanting.
-fn publish<K: Sink>(sink: &mut K, image: &Image, run: SerialRun) -> Outcome
+fn publish<K: Sink>(sink: &mut K, image: &Image, run: SerialRun, steps: u64) -> Outcome
     requires { length run.memory ≡ image.now.data_size }
-    ensures { TellsFinding (Finding.Ran image.now run) (K.state sink.old) (K.state sink.new) result }
+    ensures { TellsFinding (Finding.Ran image.now run steps) (K.state sink.old) (K.state sink.new) result }
 {
     let Some(end) = run.end else {
-        return outcome(5, run);
+        return outcome(5, run, Some(steps));
     };
     match write_report(
         sink,
@@ -146,8 +148,8 @@ fn publish<K: Sink>(sink: &mut K, image: &Image, run: SerialRun) -> Outcome
         run.output.as_slice(),
         &end,
     ) {
-        Ok(()) => outcome(status_of_end(&end), run),
-        Err(_) => outcome(7, run),
+        Ok(()) => outcome(status_of_end(&end), run, Some(steps)),
+        Err(_) => outcome(7, run, Some(steps)),
     }
 }
 

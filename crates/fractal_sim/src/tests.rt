@@ -1,10 +1,14 @@
-//! Worked runs, devices that fail, and an input that is too long.
+//! Worked runs, counted events, a placer that counts, devices that fail, and an input that is too long.
 
 use crate::outcome::Outcome;
 use crate::program::top;
+use place_policy::{ByHint, LeastLoaded, Placer, RoundRobin};
 use sim_io::{MemSink, MemSource};
 use std::alloc::Global;
+use std::sync::Arc;
+use std::sync::atomic::{AtomicU64, Ordering};
 use std::test::Fail;
+use trace_tap::{LastN, LineProfile, Tap};
 
 // Images in hexadecimal: the header of 32 bytes, the text, and 20 bytes for each task.
 
@@ -79,8 +83,18 @@ const STORE: &str = "46524143010001000600000000000000000000000000000000000000010
 const BIG: &str = "4652414301000100010001000000000000000000000000000000000001000000\
     13051004930850007300000093080000730000000000010000000000000000000000000000000000";
 
+// A task enqueues 64 children, at 64 down to 1, each of which ends.
+const MANY: &str = "46524143010001000a0000000000000000000000000000000000000001000000\
+    9304000437050100130505029308100093850400730000009384f4ffe39a04fe9308000073000000\
+    0000010000000000000000000000000000000000";
+
+// The same with one child more than a task may have.
+const MORE: &str = "46524143010001000a0000000000000000000000000000000000000001000000\
+    9304100437050100130505029308100093850400730000009384f4ffe39a04fe9308000073000000\
+    0000010000000000000000000000000000000000";
+
 // Words, the image and the text behind it, and what is written with which status.
-static CASES: [(&str, &str, &str, &str, u8); 28] = [
+static CASES: [(&str, &str, &str, &str, u8); 31] = [
     (
         "run",
         EMIT,
@@ -161,6 +175,13 @@ static CASES: [(&str, &str, &str, &str, u8); 28] = [
         3,
     ),
     (
+        "run --tiles 1 --task-queue 4",
+        MORE,
+        "",
+        "fractal 1\noutput -\nend trap 15 00010014 0.0\n",
+        3,
+    ),
+    (
         "run",
         ROOT,
         "",
@@ -218,7 +239,9 @@ static CASES: [(&str, &str, &str, &str, u8); 28] = [
     ),
     ("", EMIT, "", "fault usage\n", 1),
     ("run --", EMIT, "", "fault usage\n", 1),
-    ("run --commits 2 --commits 2", EMIT, "", "fault usage\n", 1),
+    ("walk", EMIT, "", "fault usage\n", 1),
+    ("run --tiles 17", EMIT, "", "fault usage\n", 1),
+    ("run --tiles 2 --tiles 2", EMIT, "", "fault usage\n", 1),
     ("run", BIG, "", "fault image 5 8\n", 2),
     (
         "check",
@@ -249,20 +272,116 @@ fn input(alloc: Global, image: &str, behind: &str) -> Result<Vec<u8>, Fail> {
     Ok(bytes)
 }
 
+fn split(alloc: Global, line: &str) -> Result<Vec<&str>, Fail> {
+    let mut words = Vec::new(alloc);
+    for word in line.split(' ').filter(|word| !word.is_empty()) {
+        words.push(word)?;
+    }
+    Ok(words)
+}
+
+/// What the program leaves with the placers and taps that it comes with.
+fn outcome_of(
+    rt: &HostRuntime,
+    words: &[&str],
+    source: &mut MemSource,
+    sink: &mut MemSink,
+) -> Result<Outcome, Fail> {
+    let alloc = rt.alloc();
+    let mut placers: Vec<Box<dyn Placer + Send>> = Vec::new(alloc);
+    placers.push(Box::new(alloc, ByHint::new())?)?;
+    placers.push(Box::new(alloc, LeastLoaded::new())?)?;
+    placers.push(Box::new(alloc, RoundRobin::new())?)?;
+    let mut taps: Vec<Box<dyn Tap + Send>> = Vec::new(alloc);
+    taps.push(Box::new(alloc, LastN::new(alloc, 16)?)?)?;
+    taps.push(Box::new(alloc, LineProfile::new(alloc, 16)?)?)?;
+    Ok(top(rt, alloc, words, source, sink, placers, taps))
+}
+
 #[test]
 fn worked_runs_give_their_reports(rt: HostRuntime) -> Result<(), Fail> {
     let alloc = rt.alloc();
     for (line, image, behind, text, status) in &CASES {
-        let mut words = Vec::new(alloc);
-        for word in line.split(' ').filter(|word| !word.is_empty()) {
-            words.push(word)?;
-        }
+        let words = split(alloc, line)?;
         let mut source = MemSource::new(input(alloc, image, behind)?, 50, Vec::new(alloc));
         let mut sink = MemSink::new(alloc, 10_000, 3, Vec::new(alloc))?;
-        let outcome = top(&rt, alloc, &words, &mut source, &mut sink);
+        let outcome = outcome_of(&rt, &words, &mut source, &mut sink)?;
         assert_eq!(rt; sink.bytes(), text.as_bytes());
         assert_eq!(rt; outcome.status, *status);
     }
+    Ok(())
+}
+
+/// The report of the run with 64 children, which commit in the order of their timestamps.
+fn many_report(alloc: Global) -> Result<String, Fail> {
+    let mut text = format!(in alloc; "fractal 1\n1 0.0 1 0\n")?;
+    for number in 2u32..66 {
+        let line = format!(in alloc; "{number} 1.{} 1 {}\n", 65 - number, number - 1)?;
+        text.push_str(&line)?;
+    }
+    text.push_str("output -\nend normal\n")?;
+    Ok(text)
+}
+
+#[test]
+fn events_of_the_least_tasks_are_counted(rt: HostRuntime) -> Result<(), Fail> {
+    let alloc = rt.alloc();
+    let words = split(alloc, "run --tiles 1 --task-queue 4")?;
+    let mut source = MemSource::new(input(alloc, MANY, "")?, 4096, Vec::new(alloc));
+    let mut sink = MemSink::new(alloc, 10_000, 4096, Vec::new(alloc))?;
+    let outcome = outcome_of(&rt, &words, &mut source, &mut sink)?;
+    assert_eq!(rt; sink.bytes(), many_report(alloc)?.as_bytes());
+    assert_eq!(rt; outcome.status, 0);
+    // The task is dispatched, enqueues 64 times, ends and commits; each child is dispatched, ends and commits; and all
+    // children but one are spilled and come back.
+    assert_eq!(rt; outcome.steps, Some(322));
+    Ok(())
+}
+
+/// Always picks the first tile, and counts the tasks that are placed.
+#[derive(Drop)]
+struct FirstTile {
+    placed: Arc<AtomicU64>,
+}
+
+impl Placer for FirstTile {
+    ghost policy = { λ _. record { state = 0; chosen = λ state hint loads. 0; after = λ state tile. 0 } };
+
+    fn pick(&self, _hint: u32, _loads: &[u32]) -> u32 {
+        0
+    }
+
+    fn placed(&mut self, _tile: u32) {
+        self.placed.fetch_add(1, Ordering::SeqCst);
+    }
+}
+
+#[test]
+fn a_placer_that_is_handed_in_is_told_of_each_task(rt: HostRuntime) -> Result<(), Fail> {
+    let alloc = rt.alloc();
+    let placed = Arc::new(alloc, AtomicU64::new(0))?;
+    let mut placers: Vec<Box<dyn Placer + Send>> = Vec::new(alloc);
+    placers.push(Box::new(
+        alloc,
+        FirstTile {
+            placed: Arc::try_clone(&placed)?,
+        },
+    )?)?;
+    let words = split(alloc, "run --tiles 1 --task-queue 4")?;
+    let mut source = MemSource::new(input(alloc, MANY, "")?, 4096, Vec::new(alloc));
+    let mut sink = MemSink::new(alloc, 10_000, 4096, Vec::new(alloc))?;
+    let outcome = top(
+        &rt,
+        alloc,
+        &words,
+        &mut source,
+        &mut sink,
+        placers,
+        Vec::new(alloc),
+    );
+    assert_eq!(rt; outcome.status, 0);
+    assert_eq!(rt; sink.bytes(), many_report(alloc)?.as_bytes());
+    assert_eq!(rt; placed.load(Ordering::SeqCst), 65);
     Ok(())
 }
 
@@ -271,7 +390,7 @@ fn run_on(rt: &HostRuntime, read: Vec<u32>, write: Vec<u32>) -> Result<(Outcome,
     let alloc = rt.alloc();
     let mut source = MemSource::new(input(alloc, EMIT, "")?, 4096, read);
     let mut sink = MemSink::new(alloc, 10_000, 4096, write)?;
-    let outcome = top(rt, alloc, &["run"], &mut source, &mut sink);
+    let outcome = outcome_of(rt, &["run"], &mut source, &mut sink)?;
     Ok((outcome, sink))
 }
 
@@ -282,7 +401,7 @@ fn run_long(rt: &HostRuntime) -> Result<(u8, Vec<u8>), Fail> {
     bytes.resize(67_108_865, 0)?;
     let mut source = MemSource::new(bytes, 1_048_576, Vec::new(alloc));
     let mut sink = MemSink::new(alloc, 10_000, 4096, Vec::new(alloc))?;
-    let outcome = top(rt, alloc, &["run"], &mut source, &mut sink);
+    let outcome = outcome_of(rt, &["run"], &mut source, &mut sink)?;
     Ok((outcome.status, sink.bytes().to_vec(alloc)?))
 }
 

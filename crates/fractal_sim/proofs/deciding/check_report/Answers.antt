@@ -31,5 +31,5 @@ returns-in-Yes-clause-found c =
 pub returns-in-Illegal-clause-found : goal.returns-in-Illegal-clause-found
 returns-in-Illegal-clause-found c =
     let read : report_of c.args.rest.now ≡ Ok c.in-Ok.report = search rules in
-    let wrong : IsVerdict c.args.image.now c.args.request.commits c.args.request.budget c.in-Ok.report (verdicts.Illegal c.in-Illegal.line c.in-Illegal.why) = c.in-Illegal.ensures in
+    let wrong : IsVerdict c.args.image.now c.args.request.settings.commits c.args.request.settings.budget c.in-Ok.report (verdicts.Illegal c.in-Illegal.line c.in-Illegal.why) = c.in-Illegal.ensures in
     (c.requires.command, Illegal c.in-Ok.report c.in-Illegal.why read wrong)

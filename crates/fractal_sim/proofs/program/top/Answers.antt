@@ -1,5 +1,5 @@
 use Rattle.fractal_sim.specs.Call.{call_on, input_of}
-use Rattle.fractal_sim.proofs.Answering.{holds, holds-lawful, told, complete}
+use Rattle.fractal_sim.proofs.Answering.{holds, holds-lawful, steps_told, told, complete}
 use Rattle.fractal_sim.proofs.program.top.Goals as goal
 
 pub returns : goal.returns
@@ -10,6 +10,7 @@ returns g c =
     record {
       run = holds input c.find-found.result c.tell.result found c.tell.ensures.kept;
       laws = holds-lawful input c.tell.result;
+      steps = steps_told _ input _ _ c.find-found.result c.tell.result found c.find-found.ensures.made c.tell.ensures.kept;
       told = told call c.find-found.result c.tell.result found c.tell.ensures;
       complete = complete call c.find-found.result c.tell.result found c.tell.ensures;
     }
