@@ -1,9 +1,6 @@
-pub mod Breaks
-pub mod Cuts
 pub mod HexBack
 pub mod HexValues
 pub mod NumberBack
-pub mod Numbers
 pub mod Replays
 pub mod ReportBack
 pub mod Sizes

@@ -10,10 +10,9 @@ use Rattle.std.proofs.lemmas.Fmt.{digits_decimal, digits_value-decimal, decimal_
 use Rattle.std.proofs.lemmas.Str.Parse.{not_in_digits}
 use Rattle.std.proofs.lemmas.List.{take_at, drop_at}
 use Rattle.report_text.specs.Hex.{byte_hex, word_hex}
-use Rattle.report_text.specs.Lines.{cut, behind, lines_of}
-use Rattle.report_text.specs.Numerals.{number, field}
-use Rattle.report_text.proofs.Numbers.{own}
-use Rattle.report_text.proofs.Breaks.{lines_cut}
+use Rattle.text_lines.specs.Lines.{cut, behind, lines_of}
+use Rattle.text_lines.specs.Numerals.{number, field}
+use Rattle.text_lines.proofs.Proved.{lines_cut, own}
 use Rattle.report_text.proofs.HexBack.{digit-free}
 
 pub and_two : (a b : Bool) → (a && b) ≡ true → (a ≡ true) × (b ≡ true)

@@ -16,8 +16,7 @@ use Rattle.serial_machine.specs.BagValue.{BagValue}
 use Rattle.serial_machine.specs.State.{State}
 use Rattle.serial_machine.specs.TaskRun.{TaskEnd, Done, Trapped}
 use Rattle.serial_machine.specs.Turn.{turn, MayTurn, TrapsSo, run_of, Refuses, find_named, is_named, is_least, is_pending}
-use Rattle.serial_machine.proofs.Turns.{is_pending-inner}
-use Rattle.serial_machine.proofs.Refused.{may-why}
+use Rattle.serial_machine.proofs.Proved.{is_pending-inner, may-why}
 
 pub found_at : (es : List Entry) (i : ℕ) (d e : Entry) → i < length es → e ≡ get_or es i d → slice_get es i ≡ Some e
 found_at es i d e lt is = slice_get-get_or es i d lt ∙ ap Some (sym is)

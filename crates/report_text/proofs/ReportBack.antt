@@ -16,7 +16,7 @@ use Rattle.run_journal.specs.declared.end.End.TheVariants as ends
 use Rattle.report_text.specs.declared.limits.TheConstants.{MAX_ENTRIES, MAX_DEPTH, MAX_CAUSE}
 use Rattle.report_text.specs.declared.report.WindowWord.{WindowWord}
 use Rattle.report_text.specs.Hex.{byte_hex, word_hex, hex_digit, hex_bytes}
-use Rattle.report_text.specs.Lines.{behind, lines_of, cut}
+use Rattle.text_lines.specs.Lines.{behind, lines_of, cut}
 use Rattle.report_text.specs.Grammar.{entry_in, output_in, output_bytes, window_in, trap_in, end_in, onto_journal, onto_window, with_output, entries_at, window_at, report_of}
 use Rattle.report_text.specs.Report.{name_text, entry_line, entry_lines, output_digits, output_line, window_word, window_of, window_line, body_lines, end_line, report}
 use Rattle.report_text.specs.ReadBack.{IsName, EntryFits, TrapFits, EndFits, ReadsBack}

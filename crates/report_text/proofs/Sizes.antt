@@ -1,8 +1,7 @@
 -- A turn counts one and keeps the size of the memory.
 use Rattle.std.proofs.Common.{◌≡◌, ℕ, ◌+◌, length, Some, ap}
 use Rattle.guest_image.specs.ImageValue.{ImageValue}
-use Rattle.run_law.proofs.Sized.{turned-keeps}
-use Rattle.run_law.proofs.Turned.{turn-did}
+use Rattle.run_law.proofs.Proved.{turn-did, turned-keeps}
 use Rattle.task_desc.specs.declared.desc.Name.{Name}
 use Rattle.run_journal.specs.declared.journal.Entry.{Entry}
 use Rattle.serial_machine.specs.State.{State}

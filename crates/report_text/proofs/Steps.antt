@@ -4,7 +4,7 @@ use Rattle.run_journal.specs.declared.journal.Entry.{Entry}
 use Rattle.run_journal.specs.declared.end.End.{End}
 use Rattle.report_text.specs.declared.report.WindowWord.{WindowWord}
 use Rattle.report_text.specs.declared.report.Report.{Report}
-use Rattle.report_text.specs.Lines.{lines_of, onto}
+use Rattle.text_lines.specs.Lines.{lines_of, onto}
 use Rattle.report_text.specs.Grammar.{entry_in, output_in, window_in, end_in, entries_at, window_at, onto_journal, onto_window, with_output, is_nothing}
 
 pub onto_journal_both : (xs ys : List Entry) (r : Result Report ℕ) → onto_journal (xs ++ ys) r ≡ onto_journal xs (onto_journal ys r)

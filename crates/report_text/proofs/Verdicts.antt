@@ -14,7 +14,7 @@ use Rattle.serial_machine.specs.BagValue.{BagValue}
 use Rattle.serial_machine.specs.State.{State}
 use Rattle.serial_machine.specs.Turn.{turn, turned, Refuses, find_named, is_named, is_least, is_pending, inner}
 use Rattle.serial_machine.specs.Run.{Runs, IsRun, IsEnd, opening}
-use Rattle.serial_machine.proofs.Turns.{is_pending-inner}
+use Rattle.serial_machine.proofs.Proved.{is_pending-inner}
 use Rattle.report_text.specs.declared.report.Report.{Report}
 use Rattle.report_text.specs.declared.verdict.Verdict.TheVariants as verdicts
 use Rattle.report_text.specs.Report.{window_of}

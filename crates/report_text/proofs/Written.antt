@@ -10,7 +10,7 @@ use Rattle.guest_image.specs.ImageValue.{ImageValue}
 use Rattle.run_journal.specs.declared.journal.Entry.{Entry}
 use Rattle.sim_io.specs.Parts.{Writes}
 use Rattle.sim_io.specs.Streams.{SinkState}
-use Rattle.sim_io.proofs.Lists.{Wrote, wrote_item, wrote_item_front, wrote_items, wrote_more, wrote_front}
+use Rattle.sim_io.proofs.Proved.{Wrote, wrote_front, wrote_item, wrote_item_front, wrote_items, wrote_more}
 use Rattle.report_text.specs.declared.report.WindowWord.{WindowWord}
 use Rattle.report_text.specs.Hex.{byte_hex}
 use Rattle.report_text.specs.Report.{entry_line, window_line, window_of, window_word}

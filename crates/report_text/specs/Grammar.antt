@@ -10,8 +10,8 @@ use Rattle.report_text.specs.declared.report.WindowWord.{WindowWord}
 use Rattle.report_text.specs.declared.report.Report.{Report}
 use Rattle.report_text.specs.declared.fault.JournalFault.{JournalFault}
 use Rattle.report_text.specs.declared.fault.JournalFault.TheVariants as faults
-use Rattle.report_text.specs.Lines.{◌>>=◌, guarded, lines_of, cut, behind}
-use Rattle.report_text.specs.Numerals.{number, field}
+use Rattle.text_lines.specs.Lines.{◌>>=◌, guarded, lines_of, cut, behind}
+use Rattle.text_lines.specs.Numerals.{number, field}
 use Rattle.report_text.specs.Hex.{hex_word, hex_bytes}
 
 -- the n-th entry: `<n> <creator>.<index> <depth> <ts>`

@@ -1,7 +1,7 @@
 -- Numbers in hex digits, which are in lower case.
 use Rattle.std.specs.Prelude.{ℕ, ◌+◌, ◌-◌, ◌*◌, ◌/◌, ◌%◌, ◌^◌, ◌==◌, ◌&&◌, nat_lt, nat_le, List, [], ◌∷◌, ◌++◌, length, Some, None, option_map, if◌then◌else◌}
 use Rattle.std.specs.declared.option.Option.{Option}
-use Rattle.report_text.specs.Lines.{◌>>=◌}
+use Rattle.text_lines.specs.Lines.{◌>>=◌}
 
 -- the digit of a number below 16
 abbrev pub hex_digit : ℕ → ℕ

@@ -1,10 +1,10 @@
 //! The report of a run as a text: written line by line without memory, read back against its grammar, and checked
 //! against the serial machine. A writer keeps one line at a time; reading takes memory for what the text says and
 //! time linear in it; checking takes the time of the run and copies no entry.
+//! It stands on the serial machine and on sinks; the program calls it.
 #![tactic(auto)]
 
 mod checking;
-mod cutting;
 mod fault;
 mod hexing;
 mod limits;
@@ -19,7 +19,6 @@ mod window;
 mod writing;
 
 pub use checking::{check, examine, verdicts_agree_on_the_line};
-pub use cutting::{behind, cut};
 pub use fault::JournalFault;
 pub use limits::{MAX_CAUSE, MAX_DEPTH, MAX_ENTRIES};
 pub use line::{Line, put};

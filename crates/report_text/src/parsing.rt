@@ -3,13 +3,13 @@
 ghost use Rattle.std.specs.Prelude.{◌≡◌, option_map, IfOk};
 ghost use Rattle.report_text.specs.Grammar.{end_in, entry_in, output_bytes, output_in, trap_in, window_in};
 
-use crate::cutting::{behind, cut, field, number};
 use crate::hexing::{hex_bytes, hex_word};
 use crate::limits::{MAX_CAUSE, MAX_DEPTH, MAX_ENTRIES};
 use crate::report::WindowWord;
 use serial_machine::{End, Entry};
 use std::alloc::{AllocError, Global};
 use task_desc::Name;
+use text_lines::{behind, cut, field, number};
 
 /// The n-th entry.
 #[tactic(auto, unfolding(crate::specs::Grammar::entry_in))]

@@ -1,16 +1,16 @@
 //! A report that is read back.
 
 ghost use Rattle.std.specs.Prelude.{◌≡◌, ◌+◌, ◌<◌, ◌≤◌, length};
-ghost use Rattle.report_text.specs.Lines.{lines_of};
+ghost use Rattle.text_lines.specs.Lines.{lines_of};
 ghost use Rattle.report_text.specs.ReadBack.{ReadsBack};
 ghost use Rattle.report_text.specs.Grammar.{Gives, entries_at, report_of, window_at};
 
-use crate::cutting::next_line;
 use crate::fault::JournalFault;
 use crate::parsing::{end_in, entry_in, output_in, window_in};
 use crate::report::{Report, Window};
 use serial_machine::{Bytes, End, Journal};
 use std::alloc::Global;
+use text_lines::next_line;
 
 /// The report that a text is. `Line` tells the first line outside the grammar; a line that is
 /// missing is told by the number that it should have.

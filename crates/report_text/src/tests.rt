@@ -5,7 +5,8 @@ use crate::{
     write_body, write_report, written_reports_read_back,
 };
 use guest_image::{Image, read_image};
-use serial_machine::{End, Entry, Journal, TurnFault};
+use run_journal::{Bytes, Closed, End, Entry, Journal};
+use serial_machine::TurnFault;
 use sim_io::{Failed, MemSink};
 use std::alloc::Global;
 use std::test::Fail;
@@ -226,7 +227,13 @@ fn a_report_goes_out_in_lines_and_its_output_in_pieces(rt: HostRuntime) -> Resul
         ts: 10,
     })?;
     let memory = [7, 0, 0, 0, 8, 0, 0, 0xff];
-    assert!(rt; image.data_size() == 8);
+    let closed = Closed {
+        journal,
+        memory: Bytes::from_vec(memory.to_vec(alloc)?),
+        output: Bytes::from_vec(b"PC".to_vec(alloc)?),
+        steps: 3,
+    };
+    assert!(rt; image.data_size() == 8 && closed.memory.as_slice().len() == 8);
     let end = End::Trap {
         name: Name {
             creator: 1,
@@ -236,13 +243,13 @@ fn a_report_goes_out_in_lines_and_its_output_in_pieces(rt: HostRuntime) -> Resul
         pc: 0x0001_0020,
     };
     let mut sink = MemSink::new(alloc, 1000, 1000, Vec::new(alloc))?;
-    assert!(rt; write_report(&mut sink, &image, &journal, &memory, b"PC", &end) == Ok(()));
+    assert!(rt; write_report(&mut sink, &image, &closed, &end) == Ok(()));
     assert_eq!(rt;
         sink.bytes(),
         b"fractal 1\n1 0.4294967295 1 10\noutput 5043\nwindow 10000000 00000007\nwindow 10000004 ff000008\nend trap 10 00010020 1.0\n".as_slice()
     );
     let mut sink = MemSink::new(alloc, 1000, 1000, vec![in alloc; 3]?)?;
-    assert!(rt; write_report(&mut sink, &image, &journal, &memory, b"PC", &end) == Err(Failed));
+    assert!(rt; write_report(&mut sink, &image, &closed, &end) == Err(Failed));
     assert_eq!(rt;
         sink.bytes(),
         b"fractal 1\n1 0.4294967295 1 10\n".as_slice()

@@ -13,45 +13,42 @@ use crate::line::{Line, digits_of, put, put_count, put_number, put_word};
 use crate::report::WindowWord;
 use crate::window::{window_len, word_of};
 use guest_image::Image;
-use serial_machine::{End, Entry, Journal};
+use run_journal::{Closed, End, Entry, Journal};
 use sim_io::{Failed, Sink, write_all};
 use task_desc::Name;
 
-/// Writes the report of a run: its journal, the image's window of the memory and the output at its
-/// end, and how it ended. After `Failed` a front of the text was taken.
+/// Writes the report of a closed run: its journal, the image's window of its memory, its output, and how it ended.
+/// After `Failed` a front of the text was taken.
 #[tactic(auto, unfolding(crate::specs::Report::report))]
 pub fn write_report<K: Sink>(
     sink: &mut K,
     image: &Image,
-    journal: &Journal,
-    memory: &[u8],
-    output: &[u8],
+    closed: &Closed,
     end: &End,
 ) -> Result<(), Failed>
-    requires { length memory.now ≡ image.now.data_size }
+    requires { length closed.now.memory ≡ image.now.data_size }
     ensures { Writes (K.state sink.old) (K.state sink.new) result
-        (report image.now journal.now memory.now output.now end.now) }
+        (report image.now closed.now.journal closed.now.memory closed.now.output end.now) }
 {
-    match write_front(sink, image, journal, memory, output) {
+    match write_front(sink, image, closed) {
         Ok(()) => write_end(sink, end),
         Err(failed) => Err(failed),
     }
 }
 
 // All lines but the last.
-fn write_front<K: Sink>(
-    sink: &mut K,
-    image: &Image,
-    journal: &Journal,
-    memory: &[u8],
-    output: &[u8],
-) -> Result<(), Failed>
-    requires { length memory.now ≡ image.now.data_size }
+fn write_front<K: Sink>(sink: &mut K, image: &Image, closed: &Closed) -> Result<(), Failed>
+    requires { length closed.now.memory ≡ image.now.data_size }
     ensures { Writes (K.state sink.old) (K.state sink.new) result
-        (entry_lines journal.now ++ body_lines image.now memory.now output.now) }
+        (entry_lines closed.now.journal ++ body_lines image.now closed.now.memory closed.now.output) }
 {
-    match write_entries(sink, journal) {
-        Ok(()) => write_body(sink, image, memory, output),
+    match write_entries(sink, &closed.journal) {
+        Ok(()) => write_body(
+            sink,
+            image,
+            closed.memory.as_slice(),
+            closed.output.as_slice(),
+        ),
         Err(failed) => Err(failed),
     }
 }

@@ -1,4 +1,4 @@
-use Rattle.run_law.proofs.Lawful.{lawful}
+use Rattle.run_law.proofs.Proved.{lawful}
 use Rattle.report_text.proofs.checking.check.Goals as goal
 
 pub returns-clause-laws : goal.returns-clause-laws

@@ -1,8 +1,7 @@
 use Rattle.std.proofs.Common.{◌≡◌, ◌+◌, ◌∙◌, Some, refl, sym, ap, subst, inr, rules, take, length}
 use Rattle.serial_machine.specs.Turn.{turn}
 use Rattle.serial_machine.specs.Run.{IsRun, opening}
-use Rattle.run_law.proofs.RunSteps.{Runs-more}
-use Rattle.run_law.proofs.Sized.{length-opening}
+use Rattle.run_law.proofs.Proved.{length-opening, Runs-more}
 use Rattle.report_text.proofs.Replays.{take-more}
 use Rattle.report_text.proofs.Sizes.{turn-keeps}
 use Rattle.report_text.proofs.checking.replay.Goals as goal

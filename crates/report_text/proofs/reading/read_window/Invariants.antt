@@ -1,5 +1,5 @@
 use Rattle.std.proofs.Common.{◌≡◌, ◌≤◌, ◌+◌, length}
-use Rattle.report_text.specs.Lines.{lines_of}
+use Rattle.text_lines.specs.Lines.{lines_of}
 use Rattle.report_text.specs.Grammar.{onto_window, window_at}
 use Rattle.report_text.proofs.reading.read_window.Given as goal
 

@@ -1,6 +1,6 @@
 use Rattle.std.proofs.Common.{refl, Ok}
 use Rattle.std.specs.List.{flat_map}
-use Rattle.sim_io.proofs.Fronts.{writes_then, writes_front}
+use Rattle.sim_io.proofs.Proved.{writes_front, writes_then}
 use Rattle.report_text.specs.Report.{output_line, window_line, window_of, body_lines}
 use Rattle.report_text.proofs.writing.write_body.Goals as goal
 

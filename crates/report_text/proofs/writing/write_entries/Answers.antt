@@ -1,6 +1,6 @@
 use Rattle.std.proofs.Common.{refl, codes, Ok}
 use Rattle.std.specs.List.{flat_map, enumerate_from}
-use Rattle.sim_io.proofs.Fronts.{writes_then, writes_front}
+use Rattle.sim_io.proofs.Proved.{writes_front, writes_then}
 use Rattle.report_text.specs.Report.{entry_line, entry_lines}
 use Rattle.report_text.proofs.writing.write_entries.Goals as goal
 

@@ -1,6 +1,6 @@
 use Rattle.std.proofs.Common.{take}
 use Rattle.std.specs.List.{flat_map, enumerate_from}
-use Rattle.sim_io.proofs.Lists.{Wrote}
+use Rattle.sim_io.proofs.Proved.{Wrote}
 use Rattle.report_text.specs.Report.{entry_line}
 use Rattle.report_text.proofs.writing.write_list.Given as goal
 

@@ -1,5 +1,5 @@
 use Rattle.std.proofs.Common.{refl, ◌++◌, codes, Ok}
-use Rattle.sim_io.proofs.Fronts.{writes_then, writes_front}
+use Rattle.sim_io.proofs.Proved.{writes_front, writes_then}
 use Rattle.report_text.specs.Report.{output_digits, output_line}
 use Rattle.report_text.proofs.writing.write_output.Goals as goal
 

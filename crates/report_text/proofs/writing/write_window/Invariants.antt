@@ -1,6 +1,6 @@
 use Rattle.std.proofs.Common.{take}
 use Rattle.std.specs.List.{flat_map}
-use Rattle.sim_io.proofs.Lists.{Wrote}
+use Rattle.sim_io.proofs.Proved.{Wrote}
 use Rattle.report_text.specs.Report.{window_line, window_of}
 use Rattle.report_text.proofs.writing.write_window.Given as goal
 

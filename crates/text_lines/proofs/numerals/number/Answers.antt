@@ -1,7 +1,7 @@
 use Rattle.std.proofs.Common.{rules, true, ◌≡◌, ◌∙◌}
-use Rattle.report_text.specs.Numerals.{is_plain}
-use Rattle.report_text.proofs.Numbers.{parsed_number, plain_is_text}
-use Rattle.report_text.proofs.cutting.number.Goals as goal
+use Rattle.text_lines.specs.Numerals.{is_plain}
+use Rattle.text_lines.proofs.Numbers.{parsed_number, plain_is_text}
+use Rattle.text_lines.proofs.numerals.number.Goals as goal
 
 pub returns-in-Ok : goal.returns-in-Ok
 returns-in-Ok c =

@@ -1,14 +1,11 @@
-//! The parts of a line: what stands before and behind a mark or a front, and numbers in decimal digits.
+//! The next line of a text, and what stands in a line before and behind a mark or a front.
 
 ghost use Rattle.std.specs.Prelude.{◌≡◌, ◌≢◌, ℕ, ◌<◌, ◌≤◌, ◌∷◌, [], length, option_map, slice_index, IfSome, MatchOption};
-ghost use Rattle.std.specs.List.{list_all};
-ghost use Rattle.std.specs.Char.{is_ascii_digit};
-ghost use Rattle.report_text.specs.Lines.{behind, cut, lines_of};
-ghost use Rattle.report_text.specs.Numerals.{field, is_plain, number};
+ghost use Rattle.text_lines.specs.Lines.{behind, cut, lines_of};
 
 /// The next line of a text without its newline, and what follows it; None where nothing is left.
 #[tactic(auto, using(crate::proofs::Breaks::line_breaks))]
-pub(crate) fn next_line(text: &[u8]) -> Option<(&[u8], &[u8])>
+pub fn next_line(text: &[u8]) -> Option<(&[u8], &[u8])>
     ensures lines { MatchOption result (lines_of text.now ≡ [])
         (λ p. lines_of text.now ≡ p.0.now ∷ lines_of p.1.now) }
     ensures shorter { IfSome result (λ p. length p.1.now < length text.now) }
@@ -60,38 +57,4 @@ pub fn behind<'a>(line: &'a [u8], front: &[u8]) -> Option<&'a [u8]>
     }
     let (head, rest) = line.split_at(front.len());
     if head == front { Some(rest) } else { None }
-}
-
-/// A number below 2^32 in decimal digits without a leading zero.
-pub(crate) fn number(digits: &[u8]) -> Option<u32>
-    ensures { result ≡ number digits.now }
-{
-    if !is_plain(digits) {
-        return None;
-    }
-    match str::from_utf8(digits) {
-        Ok(text) => text.parse::<u32>().ok(),
-        Err(_) => None,
-    }
-}
-
-fn is_plain(digits: &[u8]) -> bool
-    ensures { result ≡ is_plain digits.now }
-{
-    are_digits(digits) && !digits.is_empty() && (digits[0] != b'0' || digits.len() == 1)
-}
-
-fn are_digits(bytes: &[u8]) -> bool
-    ensures { result ≡ list_all is_ascii_digit bytes.now }
-{
-    bytes.iter().all(|byte| byte.is_ascii_digit())
-}
-
-/// The number before the first `mark`, and what stands behind it.
-pub(crate) fn field(line: &[u8], mark: u8) -> Option<(u32, &[u8])>
-    ensures { option_map (λ p. (p.0, p.1.now)) result ≡ field mark line.now }
-{
-    let (digits, rest) = cut(line, mark)?;
-    let value = number(digits)?;
-    Some((value, rest))
 }

@@ -1,5 +1,5 @@
 use Rattle.std.proofs.Common.{◌≡◌, ◌≢◌, ℕ, ◌+◌, ◌<◌, ◌==◌, List, [], ◌∷◌, length, take, drop, get_or, Some, None, refl, ap, ◌∙◌, arith, zero, suc, false, option_map, eq-eqb, rules}
-use Rattle.report_text.specs.Lines.{cut}
+use Rattle.text_lines.specs.Lines.{cut}
 
 -- the front byte is put before what a cut of the rest gives
 step_on : (c x : ℕ) (xs : List ℕ) → x ≢ c → cut c (x ∷ xs) ≡ option_map (λ p. (x ∷ p.0, p.1)) (cut c xs)

@@ -7,7 +7,7 @@ use Rattle.std.specs.Result.{OkIff, result_ok}
 use Rattle.std.proofs.lemmas.Str.{IsUtf8-from_ascii}
 use Rattle.std.proofs.lemmas.Fmt.{IsAscii-from_digits}
 use Rattle.std.proofs.lemmas.Str.Parse.{IsNumeralModel, numerals_by_value, parse_digits, IsDigitsTest}
-use Rattle.step_script.specs.Numerals.{is_plain, number}
+use Rattle.text_lines.specs.Numerals.{is_plain, number}
 
 -- digits by a test of each
 pub digits_tested : IsDigitsTest (λ ds. list_all is_ascii_digit ds ≡ true)

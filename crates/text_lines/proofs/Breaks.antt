@@ -1,7 +1,7 @@
 use Rattle.std.proofs.Common.{◌≡◌, ℕ, ◌<◌, ◌==◌, List, [], ◌∷◌, length, take, drop, Some, None, refl, ◌∙◌, arith, true, false, option_map, Bool, subst}
 use Rattle.std.proofs.Math.Seq.{take-length, drop-length}
 use Rattle.std.specs.declared.option.Option.{Option}
-use Rattle.step_script.specs.Lines.{cut, lines_of}
+use Rattle.text_lines.specs.Lines.{cut, lines_of}
 
 -- the lines of a byte and the rest, by what a cut of them gives
 abbrev OneMore : ℕ → List ℕ → Option (List ℕ × List ℕ) → Type 0

@@ -1,0 +1,4 @@
+pub mod Breaks
+pub mod Cuts
+pub mod Numbers
+pub mod Proved
