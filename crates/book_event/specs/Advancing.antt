@@ -21,7 +21,7 @@ use Rattle.book_event.specs.Happens.{Happens}
 -- the leg from the kept core of a task, with the quantum of the settings
 pub record IsLegFrom (image : ImageValue) (view : View) (task : Task) (leg : LegValue) : Type 0 where
   pub from : leg.from ≡ task.core
-  pub is_leg : IsLeg image.text image.data_size view.settings.budget view.settings.quantum leg.from leg.to leg.steps
+  pub is_leg : IsLeg image image.data_size view.settings.budget view.settings.quantum leg.from leg.to leg.steps
       leg.stop
 
 -- the leg from the kept core of the least task, which runs on this core of its tile

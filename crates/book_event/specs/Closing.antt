@@ -2,7 +2,7 @@
 use Rattle.std.specs.Prelude.{◌≡◌}
 use Rattle.spec_state.specs.View.{View}
 use Rattle.spec_state.specs.Aborts.{UndoesAll}
-use Rattle.book_event.specs.declared.event.Closed.{Closed}
+use Rattle.run_journal.specs.declared.closed.Closed.{Closed}
 use Rattle.book_event.specs.Book.{BookView}
 
 -- the history, the output and the memory that are left where all uncommitted tasks are taken back, and the count of

@@ -136,7 +136,7 @@ Makes book (event.Split tile) aborted new placers = SplitEvent tile book.view ab
 abbrev pub IsGiven : {N : Type 0} → ImageValue → Settings → Event N → Type 0
 IsGiven image settings (event.Dispatch tile) = tile < settings.tiles
 IsGiven image settings (event.Step tile core leg) =
-    (tile < settings.tiles) × (core < settings.cores) × IsRun image.text image.data_size settings.budget leg
+    (tile < settings.tiles) × (core < settings.cores) × IsRun image settings.budget leg
 IsGiven image settings (event.Abort tile) = tile < settings.tiles
 IsGiven image settings event.Commit = Unit {0}
 IsGiven image settings (event.Coalesce tile) = tile < settings.tiles

@@ -1,5 +1,5 @@
 use rv_core::{Leg, Naming};
-use serial_machine::{Bytes, End, Journal};
+use serial_machine::End;
 use trace_tap::Record;
 
 /// One atomic step of the machine. Tiles and cores are counted from 0.
@@ -102,17 +102,4 @@ pub enum Halt {
     Ended(End),
     /// Memory is wanting.
     Memory,
-}
-
-/// What a closed book leaves.
-#[derive(Drop)]
-pub struct Closed {
-    /// The committed tasks, in the order of their commits.
-    pub journal: Journal,
-    /// The data memory after the last commit.
-    pub memory: Bytes,
-    /// The bytes of the committed tasks.
-    pub output: Bytes,
-    /// How many events were made, up to 2^64 - 1.
-    pub steps: u64,
 }

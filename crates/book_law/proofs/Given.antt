@@ -6,15 +6,15 @@ use Rattle.guest_image.specs.ImageValue.{ImageValue}
 use Rattle.rv_core.specs.declared.state.Stop.TheVariants as stop
 use Rattle.rv_core.specs.LegValue.{LegValue, IsRun}
 use Rattle.rv_core.specs.Legs.{IsInside, IsLeg}
-use Rattle.rv_core.proofs.Runs.{next_at-inside, PlainStep-counted, PlainStep-within, PlainSteps-within}
-use Rattle.serial_machine.proofs.Runs.{spent_traps}
+use Rattle.rv_core.proofs.Proved.{next_at-inside, PlainStep-counted, PlainStep-within, PlainSteps-within}
+use Rattle.serial_machine.proofs.Proved.{spent_traps}
 use Rattle.task_desc.specs.declared.desc.Ctx.{Ctx}
 use Rattle.task_step.specs.declared.request.Request.{Request}
 use Rattle.task_step.specs.declared.request.Request.TheVariants.{Load, Store, Trap}
 use Rattle.task_step.specs.Conditions.{IsCall}
 use Rattle.task_step.specs.Requests.{request_at}
 use Rattle.task_step.specs.TaskState.{TaskState, begun, context}
-use Rattle.task_step.proofs.Stepping.{HasUsed, after_request-used}
+use Rattle.task_step.proofs.Proved.{after_request-used, HasUsed}
 use Rattle.undo_log.specs.declared.access.Access.{Access}
 use Rattle.turn_law.specs.Logged.{Asks, LoggedRun, none, plain, call, load, store}
 use Rattle.spec_state.specs.declared.task.Status.TheVariants.{Running}
@@ -38,7 +38,7 @@ module _ (image : ImageValue) (budget size : ℕ) (ctx : Ctx) where
   asks_within task request asks other = elim (cases_lt task.core.used budget) [
     | inl below ↦ below
     | inr spent ↦
-        let traps : asks.found ≡ stop.Trap 17 task.core.pc = spent_traps image.text size budget task.core asks.found asks.stands spent in
+        let traps : asks.found ≡ stop.Trap 17 task.core.pc = spent_traps image size budget task.core asks.found asks.stands spent in
         absurd (other 17 (sym asks.asks ∙ ap (request_at (context ctx task) task.core) traps))
   ]
 
@@ -47,8 +47,8 @@ module _ (image : ImageValue) (budget size : ℕ) (ctx : Ctx) where
       → start.core.used ≤ budget → task.core.used ≤ budget
   used_within start none low = low
   used_within start (plain {log} {task} core run at) low =
-      let below = PlainStep-within image.text size budget task.core core at in
-      let counts = PlainStep-counted image.text size budget task.core core at in
+      let below = PlainStep-within image size budget task.core core at in
+      let counts = PlainStep-counted image size budget task.core core at in
       omega (arith, below, counts)
   used_within start (call {log} {task} request after run asks is_call goes) low =
       let below = asks_within task request asks (λ cause same. subst IsCall same is_call) in
@@ -64,21 +64,21 @@ module _ (image : ImageValue) (budget size : ℕ) (ctx : Ctx) where
 
 -- a leg from within the budget is a run
 leg_is_run : (image : ImageValue) (budget quantum : ℕ) (leg : LegValue)
-    → IsLeg image.text image.data_size budget quantum leg.from leg.to leg.steps leg.stop → leg.from.used ≤ budget
-    → IsRun image.text image.data_size budget leg
+    → IsLeg image image.data_size budget quantum leg.from leg.to leg.steps leg.stop → leg.from.used ≤ budget
+    → IsRun image budget leg
 leg_is_run image budget quantum leg is low = record {
   run = is.run;
   next = stands image budget quantum leg is;
   inside = by_case (cases_eq leg.steps quantum);
   counted = counted image budget quantum leg is;
-  within = PlainSteps-within image.text image.data_size budget leg.steps leg.from leg.to is.run low;
+  within = PlainSteps-within image image.data_size budget leg.steps leg.from leg.to is.run low;
 }
   where
     by_case : (leg.steps ≡ quantum) ⊎ (leg.steps ≢ quantum) → IsInside image.data_size leg.stop
     by_case (inl all) = subst (IsInside image.data_size) (sym (is.full all)) tt
     by_case (inr fewer) =
         let bound = is.bound in
-        next_at-inside image.text image.data_size budget leg.to leg.stop (is.next (omega (arith, bound, fewer)))
+        next_at-inside image image.data_size budget leg.to leg.stop (is.next (omega (arith, bound, fewer)))
 
 module _ (image : ImageValue) (view : View) (sound : Sound image view) where
   -- the tile of the least task is there
@@ -91,7 +91,7 @@ module _ (image : ImageValue) (view : View) (sound : Sound image view) where
       subst (λ n. tile < n) sound.sizes.blocks (within view.blocks tile least.place least.least.has.0 least.least.has.1)
 
   -- a running task has used its budget at most
-  running_within : (id core : ℕ) (task : Task) → task_at view id ≡ Some task → task.status ≡ Running core → task.core.used ≤ view.settings.budget
+  pub running_within : (id core : ℕ) (task : Task) → task_at view id ≡ Some task → task.status ≡ Running core → task.core.used ≤ view.settings.budget
   running_within id core task there runs =
       let ran : StandsAs image view.settings.budget task (Running core) =
       subst (StandsAs image view.settings.budget task) runs (sound.tasks.stands id task there) in
@@ -108,7 +108,7 @@ module _ (image : ImageValue) (view : View) (sound : Sound image view) where
 
   -- the leg of the least task
   leg_is_given : (tile core : ℕ) (leg : LegValue) → IsLeastLeg image view tile core leg
-      → (tile < view.settings.tiles) × (core < view.settings.cores) × IsRun image.text image.data_size view.settings.budget leg
+      → (tile < view.settings.tiles) × (core < view.settings.cores) × IsRun image view.settings.budget leg
   leg_is_given tile core leg next =
       let inside : tile < view.settings.tiles = subst (λ t. t < view.settings.tiles) next.there (tile_is_there next.id next.task next.least) in
       let used : leg.from.used ≤ view.settings.budget =

@@ -15,7 +15,7 @@ use Rattle.spec_state.specs.Least.{Queued, IsQueuedAt, IsLeastTask, ranked_cmp}
 use Rattle.spec_state.specs.Queries.{IsIdle, IsFinished, IsLater}
 use Rattle.spec_state.specs.Changes.{TakesLeg}
 use Rattle.spec_law.specs.Sound.{Sound, SoundSizes, StandsAs, HoldsCore}
-use Rattle.spec_law.proofs.Proved.{below_others, get_contains, ranked_turned, queued_at, least_key}
+use Rattle.spec_law.proofs.Proved.{below_others, get_contains, least_key, queued_at, ranked_turned}
 use Rattle.book_event.specs.declared.event.Event.{Event}
 use Rattle.book_event.specs.declared.event.Event.TheVariants as event
 use Rattle.book_event.specs.declared.event.Reply.{Reply}

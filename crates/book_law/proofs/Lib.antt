@@ -11,3 +11,4 @@ pub mod Falls
 pub mod Search
 pub mod Given
 pub mod Few
+pub mod Proved

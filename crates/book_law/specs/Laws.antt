@@ -11,7 +11,7 @@ use Rattle.spec_state.specs.Settings.{IsValid}
 use Rattle.spec_state.specs.View.{View}
 use Rattle.spec_state.specs.Aborts.{IsUndone}
 use Rattle.book_event.specs.declared.event.Applied.{Applied}
-use Rattle.book_event.specs.declared.event.Closed.{Closed}
+use Rattle.run_journal.specs.declared.closed.Closed.{Closed}
 use Rattle.book_event.specs.declared.event.Event.{Event}
 use Rattle.book_event.specs.declared.event.Reply.{Reply}
 use Rattle.book_event.specs.declared.event.Reply.TheVariants as reply

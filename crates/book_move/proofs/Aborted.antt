@@ -13,7 +13,7 @@ use Rattle.book_event.specs.declared.event.Came.TheVariants.{Made}
 use Rattle.book_event.specs.declared.event.Event.TheVariants as event
 use Rattle.book_event.specs.End.{IsOver}
 use Rattle.book_event.specs.Trace.{record_of}
-use Rattle.step_law.proofs.Causes.{abort_is_granted, latest_is_not_least}
+use Rattle.step_law.proofs.Proved.{abort_is_granted, latest_is_not_least}
 use Rattle.book_move.specs.Moving.{ComesSo, book_of}
 
 module _ (N : Type 0) (view : View) (going : IsOver view → ⊥) (tile : ℕ) where

@@ -21,7 +21,7 @@ use Rattle.book_event.specs.declared.event.Reply.TheVariants as reply
 use Rattle.book_event.specs.declared.event.Event.TheVariants as event
 use Rattle.book_event.specs.End.{IsOver}
 use Rattle.book_event.specs.Trace.{record_of}
-use Rattle.step_law.proofs.Causes.{commit_is_granted, empty_is_refused}
+use Rattle.step_law.proofs.Proved.{commit_is_granted, empty_is_refused}
 use Rattle.book_move.specs.Moving.{CommitComes, book_of}
 
 -- a task that has children in a sound view has made some

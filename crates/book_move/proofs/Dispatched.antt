@@ -14,7 +14,7 @@ use Rattle.book_event.specs.Causes.{AllCoresHeld, IsBusy}
 use Rattle.book_event.specs.End.{IsOver}
 use Rattle.book_event.specs.Events.{FreesCore}
 use Rattle.book_event.specs.Trace.{record_of}
-use Rattle.step_law.proofs.Causes.{dispatch_is_granted, least_is_not_busy}
+use Rattle.step_law.proofs.Proved.{dispatch_is_granted, least_is_not_busy}
 use Rattle.book_move.specs.Moving.{ComesSo, book_of}
 
 -- whether a tile without a free core is busy, by whether its least idle task is the least one

@@ -9,7 +9,7 @@ use Rattle.book_event.specs.declared.event.Event.TheVariants as event
 use Rattle.book_event.specs.declared.event.Reply.TheVariants as reply
 use Rattle.book_event.specs.End.{IsOver}
 use Rattle.book_event.specs.Trace.{record_of}
-use Rattle.step_law.proofs.Causes.{coalesce_is_granted}
+use Rattle.step_law.proofs.Proved.{coalesce_is_granted}
 use Rattle.book_move.specs.Moving.{ComesSo, book_of}
 
 module _ (N : Type 0) (view : View) (going : IsOver view → ⊥) (tile id : ℕ) (moves : IsMovable view tile id) where

@@ -13,8 +13,7 @@ use Rattle.spec_state.specs.Room.{Asker, Coalesces, HasFreeEntry, IsFull, IsLeas
 use Rattle.spec_law.specs.Sound.{Sound}
 use Rattle.step_law.specs.Forcing.{RunsIfTask}
 use Rattle.book_room.specs.Entering.{MayEnter}
-use Rattle.step_law.proofs.Rooms.{taken_is_live, victim_moves}
-use Rattle.step_law.proofs.Views.{sound_by_key}
+use Rattle.step_law.proofs.Proved.{sound_by_key, taken_is_live, victim_moves}
 
 -- a queue without a free entry is full
 pub full_if_not : (view : View) (tile : ℕ) (free : Bool) → IsTrue free ↔ HasFreeEntry view tile → free ≡ false

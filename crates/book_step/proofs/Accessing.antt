@@ -16,7 +16,7 @@ use Rattle.memory_law.specs.Tasks.{IsByKey}
 use Rattle.spec_law.specs.Sound.{Sound}
 use Rattle.book_event.specs.Events.{TakesConflicts}
 use Rattle.step_law.specs.Forcing.{TakesStill}
-use Rattle.step_law.proofs.Views.{sound_by_key}
+use Rattle.step_law.proofs.Proved.{sound_by_key}
 use Rattle.book_step.proofs.Stepping.{asks_still}
 
 -- what holds where a call succeeds, and it does

@@ -29,10 +29,7 @@ use Rattle.book_event.specs.Events.{FreesCommit, EndEvent, has_free}
 use Rattle.book_event.specs.Events as events
 use Rattle.book_event.specs.Trace.{record_of}
 use Rattle.step_law.specs.Forcing.{TakesStill}
-use Rattle.step_law.proofs.Asker.{commit_leaves_asker, commit_leaves_entry}
-use Rattle.step_law.proofs.Causes.{no_child_no_stall, stall_is_refused}
-use Rattle.step_law.proofs.Holders.{finished_is_later, none_is_later}
-use Rattle.step_law.proofs.Views.{sound_by_key}
+use Rattle.step_law.proofs.Proved.{commit_leaves_asker, commit_leaves_entry, finished_is_later, no_child_no_stall, none_is_later, sound_by_key, stall_is_refused}
 use Rattle.book_step.specs.Coming.{book_of}
 use Rattle.book_step.specs.Ending.{HasLater, HasNoLater, Tells}
 use Rattle.book_step.proofs.Stepping.{asks_same, granted, made_granted}

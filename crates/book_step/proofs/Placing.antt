@@ -26,8 +26,7 @@ use Rattle.book_event.specs.End.{IsOver}
 use Rattle.book_event.specs.Events.{EnqueueEvent}
 use Rattle.book_event.specs.Trace.{record_of}
 use Rattle.step_law.specs.Forcing.{TakesStill, LeavesRoom}
-use Rattle.step_law.proofs.Causes.{child_no_stall, no_end_no_stall, stall_is_refused}
-use Rattle.step_law.proofs.Rooms.{room_leaves, room_leaves_asker, taker_asks}
+use Rattle.step_law.proofs.Proved.{child_no_stall, no_end_no_stall, room_leaves, room_leaves_asker, stall_is_refused, taker_asks}
 use Rattle.book_step.specs.Coming.{book_of}
 use Rattle.book_step.specs.Placing.{PlacesChild}
 use Rattle.book_step.proofs.Stepping.{asks_same, granted, made_granted, wants_memory}

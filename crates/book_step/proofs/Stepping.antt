@@ -22,7 +22,7 @@ use Rattle.book_event.specs.End.{IsOver}
 use Rattle.book_event.specs.Events.{ComesTo, StepEvent}
 use Rattle.book_event.specs.Trace.{deed_of, line_of, record_of}
 use Rattle.step_law.specs.Forcing.{TakesStill}
-use Rattle.step_law.proofs.Causes.{no_child_no_stall, no_end_no_stall, step_is_granted}
+use Rattle.step_law.proofs.Proved.{no_child_no_stall, no_end_no_stall, step_is_granted}
 use Rattle.book_step.specs.Coming.{book_of}
 
 -- a step may stall at an enqueue and at an end call

@@ -6,3 +6,4 @@ pub mod Ordered
 pub mod Places
 pub mod Renumber
 pub mod Swaps
+pub mod Proved

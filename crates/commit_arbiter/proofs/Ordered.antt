@@ -15,13 +15,11 @@ use Rattle.std.proofs.lemmas.List.Sorted.{IsPermutation-refl, IsPermutation-cons
 use Rattle.std.proofs.lemmas.Map.Keys.{IsDistinct-IsPermutation, IsDistinct-head, IsDistinct-cons}
 use Rattle.fractal_vt.specs.Keys.{key_cmp}
 use Rattle.fractal_vt.specs.Sorted.{inserted}
-use Rattle.fractal_vt.proofs.KeyLaws.{equal_keys_tie}
-use Rattle.fractal_vt.proofs.Sorted.{in_turn, front-inserted, inserted-permutes, in_order-inserted, AllPairs-head}
+use Rattle.fractal_vt.proofs.Proved.{AllPairs-head, equal_keys_tie, front-inserted, in_order-inserted, in_turn, in_turn-permutation, inserted-permutes}
 use Rattle.fractal_vt.specs.Sorted.{IsInOrder}
 use Rattle.fractal_vt.specs.Least.{IsFirstLeast}
 use Rattle.std.specs.Option.{IsSome}
 use Rattle.std.proofs.lemmas.List.Kept.{AllPairs-cons}
-use Rattle.fractal_vt.proofs.InTurn.{in_turn-permutation}
 use Rattle.commit_arbiter.specs.declared.entry.Entry.{Entry}
 use Rattle.commit_arbiter.specs.Indexed.{entry_cmp, HasId, without, first_id, keys, OrderIsOne}
 use Rattle.commit_arbiter.specs.Slots.{blank, entry_at}

@@ -7,7 +7,7 @@ use Rattle.std.proofs.lemmas.Bool.Decides.{nat_tests}
 use Rattle.std.proofs.lemmas.Option.{slice_get_within, get_or_from_slice_get}
 use Rattle.std.proofs.lemmas.List.Elements.{All-nil, All-cons}
 use Rattle.std.proofs.lemmas.List.Sums.{length-filter, count_by-le-length}
-use Rattle.fractal_vt.proofs.KeyLaws.{key_cmp_total}
+use Rattle.fractal_vt.proofs.Proved.{key_cmp_total}
 use Rattle.commit_arbiter.specs.declared.entry.Entry.{Entry}
 use Rattle.commit_arbiter.specs.Indexed.{entry_cmp, HasId, without}
 use Rattle.commit_arbiter.specs.Slots.{IsPlaceOf}

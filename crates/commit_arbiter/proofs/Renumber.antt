@@ -4,7 +4,7 @@ use Rattle.std.specs.List.{All, AllByRecursion, IsDistinct}
 use Rattle.std.specs.Ordering.{nat_cmp, ordering_then, is_lt}
 use Rattle.std.specs.declared.cmp.Ordering.TheVariants.{Greater}
 use Rattle.fractal_vt.specs.Renumbered.{HoldsKey}
-use Rattle.fractal_vt.proofs.Renumbered.{keeps_order}
+use Rattle.fractal_vt.proofs.Proved.{keeps_order}
 use Rattle.commit_arbiter.specs.declared.entry.Entry.{Entry}
 use Rattle.commit_arbiter.specs.Indexed.{entry_cmp, renumbered_entry}
 use Rattle.commit_arbiter.specs.Slots.{blank, in_slots, entry_at}

@@ -11,8 +11,7 @@ use Rattle.spec_state.specs.Room.{Coalesces, HasFreeEntry, IsFull, IsMovable}
 use Rattle.spec_state.specs.Settings.{IsValid}
 use Rattle.spec_state.specs.Stored.{IsStored}
 use Rattle.spec_state.specs.View.{View, queue_at, task_at}
-use Rattle.book_law.proofs.Openings.Queued.{kept_at, kept_fewer}
-use Rattle.book_law.proofs.Openings.Rooted.{coalesced_was}
+use Rattle.book_law.proofs.Proved.{coalesced_was, kept_at, kept_fewer}
 use Rattle.turn_law.specs.Room.{queue_after}
 use Rattle.conflict_book.specs.Fresh.{AreFresh}
 

@@ -15,10 +15,8 @@ use Rattle.spec_law.specs.Sound.{HoldsCore, Sound}
 use Rattle.book_event.specs.declared.event.Event.TheVariants as event
 use Rattle.book_event.specs.Advancing.{IsLegFrom, IsNextEvent}
 use Rattle.book_event.specs.End.{IsOver}
-use Rattle.book_law.proofs.Given.{next_event_is_given}
-use Rattle.step_law.proofs.Falling.{next_is_commit, next_is_dispatch, next_is_split, next_is_step}
-use Rattle.step_law.proofs.Leasts.{least_idle}
-use Rattle.conflict_book.proofs.Used.{running_within}
+use Rattle.book_law.proofs.Proved.{next_event_is_given, running_within}
+use Rattle.step_law.proofs.Proved.{least_idle, next_is_commit, next_is_dispatch, next_is_split, next_is_step}
 
 -- the tile that is read of the task of this id
 abbrev ReadsTile : View → TaskId → ℕ → Type 0
@@ -33,7 +31,7 @@ pub runs_within : (image : ImageValue) (view : View) (id : TaskId) → Sound ima
 runs_within image view id sound is task there =
     let both : Some is.0 ≡ Some task = sym is.2.at.there ∙ there in
     let same : is.0 ≡ task = cc in
-    running_within image view id.0 is.1 task sound there (ap (λ (t : Task). t.status) (sym same) ∙ is.3)
+    running_within image view sound id.0 is.1 task there (ap (λ (t : Task). t.status) (sym same) ∙ is.3)
 
 module _ (N : Type 0) (image : ImageValue) (view : View) (sound : Sound image view) (going : IsOver view → ⊥) where
   -- it is idle

@@ -1,11 +1,11 @@
 -- What a closed book leaves is a run.
 use Rattle.guest_image.specs.ImageValue.{ImageValue}
-use Rattle.run_law.proofs.Lawful.{lawful}
+use Rattle.run_law.proofs.Proved.{lawful}
 use Rattle.spec_law.specs.Sound.{Sound}
-use Rattle.book_event.specs.declared.event.Closed.{Closed}
+use Rattle.run_journal.specs.declared.closed.Closed.{Closed}
 use Rattle.book_event.specs.Book.{BookView}
 use Rattle.book_event.specs.Closing.{Closes}
-use Rattle.book_law.proofs.Histories.{close_is_serial}
+use Rattle.book_law.proofs.Proved.{close_is_serial}
 use Rattle.conflict_book.specs.Left.{LeavesRun}
 
 -- a sound book that is closed leaves a run, which keeps the laws of runs

@@ -5,7 +5,7 @@ mod LeftRun
 mod Telling
 mod Passing
 mod Slices
-mod Used
 mod Leading
 mod Nexts
 mod Lists
+mod Settled

@@ -6,7 +6,7 @@ use Rattle.book_event.specs.declared.event.Applied.{Applied}
 use Rattle.book_event.specs.declared.event.Event.{Event}
 use Rattle.book_event.specs.Book.{BookView}
 use Rattle.book_event.specs.Happens.{Happens, HappenAll}
-use Rattle.book_law.proofs.Histories.{histories_join}
+use Rattle.book_law.proofs.Proved.{histories_join}
 
 -- one event more
 pub one_more : (N : Type 0) (old mid new : BookView) (events : List (Event N)) (i : ℕ) (event : Event N) (answers : List Applied) (applied : Applied)

@@ -31,14 +31,8 @@ use Rattle.book_event.specs.Comes.{Comes, IsAsBefore}
 use Rattle.book_event.specs.End.{IsOver}
 use Rattle.book_event.specs.Happens.{Happens, IsUnchanged}
 use Rattle.book_event.specs.Trace.{deed_of}
-use Rattle.book_law.proofs.Falls.Falls.{advances_fall}
-use Rattle.book_law.proofs.Few.{least_events_are_few}
-use Rattle.book_law.proofs.Given.{next_event_is_given}
-use Rattle.book_law.proofs.Granted.{least_event_is_granted}
-use Rattle.book_law.proofs.Rests.RestThere.{rest_is_there}
-use Rattle.step_law.proofs.Comes.{comes_stays_sound}
-use Rattle.step_law.proofs.Readings.{limit_ends}
-use Rattle.step_law.proofs.Views.{least_is_committed, trap_ends}
+use Rattle.book_law.proofs.Proved.{advances_fall, least_event_is_granted, least_events_are_few, next_event_is_given, rest_is_there}
+use Rattle.step_law.proofs.Proved.{comes_stays_sound, least_is_committed, limit_ends, trap_ends}
 use Rattle.conflict_book.specs.Halting.{FallsIfMoved, GoesOn, NextComes, RunsLeast, advance_by, advance_of, last_answer}
 use Rattle.conflict_book.specs.Seen.{going, told}
 use Rattle.conflict_book.proofs.Telling.{happens_made, moved, part_made}

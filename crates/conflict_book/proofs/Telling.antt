@@ -16,7 +16,7 @@ use Rattle.book_event.specs.Causes.{IsRefused}
 use Rattle.book_event.specs.Comes.{Comes, IsAsBefore}
 use Rattle.book_event.specs.Events.{IsGiven}
 use Rattle.book_event.specs.Happens.{Happens, IsUnchanged}
-use Rattle.step_law.proofs.Made.{makes_keeps_settings}
+use Rattle.step_law.proofs.Proved.{makes_keeps_settings}
 use Rattle.conflict_book.specs.Seen.{going, told}
 
 -- the book with another view and other placers

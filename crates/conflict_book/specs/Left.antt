@@ -4,7 +4,7 @@ use Rattle.guest_image.specs.ImageValue.{ImageValue}
 use Rattle.run_law.specs.Laws.{AreLawful}
 use Rattle.serial_machine.specs.Run.{IsRun}
 use Rattle.serial_machine.specs.State.{State}
-use Rattle.book_event.specs.declared.event.Closed.{Closed}
+use Rattle.run_journal.specs.declared.closed.Closed.{Closed}
 
 -- the journal is a run of the serial machine, with this memory and output, and keeps the laws of runs
 pub record LeavesRun (image : ImageValue) (budget : ℕ) (closed : Closed) : Type 0 where

@@ -197,14 +197,6 @@ fn enough_events(settings: &Settings) -> u64
 }
 
 impl<N: Naming, P: Placer, T: Tap> Book<N, P, T> {
-    /// Law: the state is sound, and the settings are valid.
-    fn is_sound(&self)
-        ensures sound { Sound N.image (view_of P.policy T.reading self.now).view }
-        ensures valid { IsValid (view_of P.policy T.reading self.now).view.settings }
-    {
-        self.sound.is_sound();
-    }
-
     /// The same as `advance`, of which it proves what is answered.
     fn advance_once(&mut self, image: &Image) -> Advance
         requires image { image.now ≡ N.image }
@@ -234,6 +226,8 @@ impl<N: Naming, P: Placer, T: Tap> Book<N, P, T> {
             AdvanceAnswers N N.image old result (view_of P.policy T.reading self.new) }
         ensures falls { let old = view_of P.policy T.reading self.old in
             FallsIfMoved result old.view (view_of P.policy T.reading self.new).view }
+        ensures settings { let old = view_of P.policy T.reading self.old in
+            (view_of P.policy T.reading self.new).view.settings ≡ old.view.settings }
     {
         self.is_sound();
         self.advance_once(image)

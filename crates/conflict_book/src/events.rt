@@ -31,10 +31,11 @@ fn pass_on<P: Placer>(placers: &mut Vec<P>, phase: u32, commits: u32)
     }
 }
 
-/// Law: the settings are valid, with the task budget that `N` names.
+/// Law: the settings are valid, with the task budget and the commit limit that `N` names.
 pub(crate) fn has_limits<N: Naming>(state: &State<N>)
     ensures valid { IsValid state.now.view.settings }
     ensures budget { state.now.view.settings.budget ≡ N.budget }
+    ensures commits { state.now.view.settings.commits ≡ N.commits }
 {
     let _ = &state.settings;
 }

@@ -12,6 +12,7 @@ ghost use Rattle.conflict_book.specs.Seen.{view_of};
 ghost use Rattle.conflict_book.specs.Ready.{HasRunning, IsReady};
 
 use crate::book::Book;
+use crate::events::has_limits;
 use book_room::end_of;
 use place_policy::Placer;
 use rv_core::{Core, Naming};
@@ -49,6 +50,18 @@ fn running_core<N: Naming>(state: &State<N>, tile: u32, core: u32) -> Option<&Co
 }
 
 impl<N: Naming, P: Placer, T: Tap> Book<N, P, T> {
+    /// Law: what holds of every book. Its state is sound, so that its history is a run of the image that `N` names; its settings are
+    /// valid, with the task budget and the commit limit that `N` names.
+    pub fn is_sound(&self)
+        ensures sound { Sound N.image (view_of P.policy T.reading self.now).view }
+        ensures valid { IsValid (view_of P.policy T.reading self.now).view.settings }
+        ensures budget { (view_of P.policy T.reading self.now).view.settings.budget ≡ N.budget }
+        ensures commits { (view_of P.policy T.reading self.now).view.settings.commits ≡ N.commits }
+    {
+        self.sound.is_sound();
+        has_limits(self.sound.state());
+    }
+
     /// The settings with which it began: they are valid, with the task budget that `N` names.
     pub fn settings(&self) -> &Settings
         ensures value { result.now ≡ (view_of P.policy T.reading self.now).view.settings }

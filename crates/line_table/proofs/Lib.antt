@@ -1,3 +1,4 @@
 pub mod Bits
 pub mod Entries
 pub mod Signatures
+pub mod Proved

@@ -6,7 +6,7 @@ use Rattle.undo_log.specs.declared.access.Access.{Access}
 use Rattle.undo_log.specs.Number.{number_at, written, AreBytes}
 use Rattle.memory_law.specs.Accesses.{written_if, accessed, replayed, Fits, Replays, AllHaveRoom}
 use Rattle.memory_law.specs.ByteChain.{digit, covers, new_digit, byte_events, IsByteChain}
-use Rattle.undo_log.proofs.Numbers.{get_or-written_before, get_or-written_behind}
+use Rattle.undo_log.proofs.Proved.{get_or-written_before, get_or-written_behind}
 use Rattle.memory_law.proofs.Bytes.{low_digit, number_at-below}
 use Rattle.memory_law.proofs.Replays.{length-accessed, AreBytes-accessed}
 

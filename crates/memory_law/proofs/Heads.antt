@@ -2,8 +2,7 @@
 use Rattle.std.proofs.Common.{◌≡◌, ◌≢◌, ◌⊎◌, ℕ, false, List, [], ◌∷◌, ◌++◌, length, Option, Some, refl, sym, ap, subst, ◌∙◌, inl, inr}
 use Rattle.std.proofs.lemmas.Bool.{cases_eq}
 use Rattle.fractal_vt.specs.Levels.{level_cmp}
-use Rattle.fractal_vt.proofs.Total.{level_cmp_total, levels_cmp_total}
-use Rattle.fractal_vt.proofs.Stack.{not_both}
+use Rattle.fractal_vt.proofs.Proved.{level_cmp_total, levels_cmp_total, not_both}
 use Rattle.memory_law.specs.Accesses.{replayed, Replays}
 use Rattle.memory_law.proofs.Replays.{replayed-append, Replays-front, Replays-back}
 use Rattle.memory_law.proofs.Joins.{AreBytes-replayed, length-replayed}

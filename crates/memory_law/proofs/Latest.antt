@@ -6,8 +6,7 @@ use Rattle.memory_law.specs.Events.{IsLatest, without_one}
 use Rattle.undo_log.specs.Undo.{undone}
 use Rattle.memory_law.specs.Tasks.{Logged, log_of, Member, Earlier, Ascends, undone_set}
 use Rattle.fractal_vt.specs.Levels.{level_cmp}
-use Rattle.fractal_vt.proofs.Total.{level_cmp_total}
-use Rattle.fractal_vt.proofs.Stack.{not_both}
+use Rattle.fractal_vt.proofs.Proved.{level_cmp_total, not_both}
 
 -- no task is earlier than itself
 pub not_self : (x : Logged) → Earlier x x → ⊥

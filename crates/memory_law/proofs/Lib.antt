@@ -12,3 +12,4 @@ pub mod Aborts
 pub mod Access
 pub mod Heads
 pub mod Proved
+pub mod WholeChains

@@ -1,8 +1,7 @@
 -- The dispatched tasks stand by rising key in one order alone.
 use Rattle.std.proofs.Common.{◌≡◌, ◌≢◌, ℕ, List, [], ◌∷◌, Option, refl, sym, ap, subst, ◌∙◌, inl, inr}
 use Rattle.fractal_vt.specs.Levels.{level_cmp}
-use Rattle.fractal_vt.proofs.Total.{level_cmp_total}
-use Rattle.fractal_vt.proofs.Stack.{not_both}
+use Rattle.fractal_vt.proofs.Proved.{level_cmp_total, not_both}
 use Rattle.memory_law.specs.Tasks.{Logged, Member, Ascends, IsByKey}
 use Rattle.memory_law.proofs.Latest.{not_self, member_runs}
 

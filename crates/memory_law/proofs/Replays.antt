@@ -5,7 +5,7 @@ use Rattle.undo_log.specs.Number.{number_at, written, AreBytes}
 use Rattle.undo_log.specs.Undo.{restored, taken_back, undone}
 use Rattle.memory_law.specs.Accesses.{written_if, accessed, replayed, Fits, Replays, Apart}
 use Rattle.memory_law.proofs.Marks.{Untouched, ApartIfStore, Unwritten, UntouchedIfStore, Clear}
-use Rattle.undo_log.proofs.Numbers.{length-written, number_at-written_apart, written_comm, written-restored, AreBytes-written}
+use Rattle.undo_log.proofs.Proved.{AreBytes-written, length-written, number_at-written_apart, written-restored, written_comm}
 
 length-accessed_by : (m : List ℕ) (o w : ℕ) (n : Option ℕ) → length (written_if m o w n) ≡ length m
 length-accessed_by m o w None = refl

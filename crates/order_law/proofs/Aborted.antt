@@ -9,8 +9,7 @@ use Rattle.fractal_vt.specs.Paths.{OnPath}
 use Rattle.order_law.specs.Tasks.{Keyed, levels, HasNumber}
 use Rattle.order_law.specs.Ordered.{LevelsBelow, HasCreator, IsShaped, IsOrdered}
 use Rattle.order_law.specs.Events.{reopened, Aborts}
-use Rattle.fractal_vt.proofs.Total.{level_cmp_total, levels_cmp_total}
-use Rattle.fractal_vt.proofs.Stack.{same_front}
+use Rattle.fractal_vt.proofs.Proved.{level_cmp_total, levels_cmp_total, same_front}
 
 pub nat_self : (n : ℕ) → nat_cmp n n ≡ Equal
 nat_self n = grind (arith, nat_tests)

@@ -1,8 +1,7 @@
 -- A cascade lies above what its first tasks lie above.
 use Rattle.std.proofs.Common.{refl, ◌≡◌, ℕ, Bool, true, List, Option, Some, sym, subst, ◌∙◌, inl, inr}
 use Rattle.std.specs.declared.cmp.Ordering.TheVariants.{Less}
-use Rattle.fractal_vt.proofs.Total.{level_cmp_total, levels_cmp_total}
-use Rattle.fractal_vt.proofs.Stack.{not_both}
+use Rattle.fractal_vt.proofs.Proved.{level_cmp_total, levels_cmp_total, not_both}
 use Rattle.abort_cascade.specs.Cascade.{Marked, Reached, start, step, IsLeastClosed}
 use Rattle.fractal_vt.specs.Levels.{Open, level_cmp, levels_cmp}
 use Rattle.order_law.specs.Tasks.{Keyed, levels}

@@ -8,8 +8,7 @@ use Rattle.fractal_vt.specs.Paths.{OnPath, Below}
 use Rattle.order_law.specs.Tasks.{Keyed, levels, HasNumber, Kin}
 use Rattle.order_law.specs.Ordered.{TieBelow, LevelsBelow, IsNumberOf, HasCreator, IsShaped, IsOrdered}
 use Rattle.order_law.specs.Events.{freed, Commits, IsLeast}
-use Rattle.fractal_vt.proofs.Total.{level_cmp_total}
-use Rattle.fractal_vt.proofs.Stack.{not_both, stays_on_path, same_child_on_path, sub_child_on_path, super_child_on_path}
+use Rattle.fractal_vt.proofs.Proved.{level_cmp_total, not_both, same_child_on_path, stays_on_path, sub_child_on_path, super_child_on_path}
 use Rattle.order_law.proofs.Least.{IsBelowAll, least_is_below}
 use Rattle.order_law.proofs.Numbers.{LevelsBelow-append, number_in, differ_more, domain_in_path, domain_differs}
 

@@ -4,7 +4,7 @@ use Rattle.std.proofs.lemmas.Bool.{cases_eq}
 use Rattle.std.specs.Ordering.{nat_cmp, ordering_then, ordering_reverse}
 use Rattle.std.specs.declared.cmp.Ordering.{Ordering}
 use Rattle.std.specs.declared.cmp.Ordering.TheVariants.{Less, Equal, Greater}
-use Rattle.fractal_vt.proofs.Total.{levels_cmp_total}
+use Rattle.fractal_vt.proofs.Proved.{levels_cmp_total}
 use Rattle.fractal_vt.specs.Levels.{Open, level_cmp, levels_cmp}
 use Rattle.order_law.specs.Tasks.{Keyed, levels, HasNumber}
 use Rattle.order_law.specs.Ordered.{TieBelow, LevelsBelow, HasCreator, IsOrdered}

@@ -6,7 +6,7 @@ use Rattle.std.specs.Ordering.{is_lt}
 use Rattle.std.specs.declared.cmp.Ordering.{Ordering}
 use Rattle.std.specs.declared.cmp.Ordering.TheVariants.{Less, Equal, Greater}
 use Rattle.fractal_vt.specs.Levels.{Open, level_cmp, levels_cmp}
-use Rattle.fractal_vt.proofs.Total.{levels_cmp_total}
+use Rattle.fractal_vt.proofs.Proved.{levels_cmp_total}
 use Rattle.order_law.specs.Tasks.{Keyed, levels, HasNumber, Kin}
 use Rattle.order_law.specs.Ordered.{IsNumberOf, HasCreator, IsOrdered}
 use Rattle.order_law.specs.Laws.{DomainNumbersAreHeld}

@@ -4,8 +4,7 @@ use Rattle.std.proofs.lemmas.Bool.{cases_lt}
 use Rattle.std.proofs.lemmas.Bool.Decides.{nat_tests}
 use Rattle.std.specs.Ordering.{nat_cmp, ordering_then, ordering_reverse}
 use Rattle.std.specs.declared.cmp.Ordering.TheVariants.{Less, Greater}
-use Rattle.fractal_vt.proofs.Total.{level_cmp_total, levels_cmp_total}
-use Rattle.fractal_vt.proofs.Stack.{deeper_is_less, same_depth}
+use Rattle.fractal_vt.proofs.Proved.{deeper_is_less, level_cmp_total, levels_cmp_total, same_depth}
 use Rattle.fractal_vt.specs.Levels.{Open, tie_cmp, level_cmp, levels_cmp}
 use Rattle.fractal_vt.specs.Paths.{OnPath}
 use Rattle.order_law.specs.Tasks.{Keyed, levels}

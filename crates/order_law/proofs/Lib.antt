@@ -11,3 +11,4 @@ pub mod Renumbered
 pub mod Opening
 pub mod Heir
 pub mod Above
+pub mod Proved

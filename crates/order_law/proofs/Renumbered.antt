@@ -14,7 +14,7 @@ use Rattle.fractal_vt.specs.declared.vt.TheConstants.{MAX_LEVELS}
 use Rattle.order_law.specs.Tasks.{Keyed, levels, HasNumber, IsTimely, Kin}
 use Rattle.order_law.specs.Ordered.{TieBelow, LevelsBelow, IsNumberOf, NumbersDiffer, HasCreator, IsShaped, IsOrdered}
 use Rattle.fractal_vt.specs.Renumbered.{place_in, with_number}
-use Rattle.fractal_vt.proofs.Renumbered.{place_cmp, place_within}
+use Rattle.fractal_vt.proofs.Proved.{place_cmp, place_within}
 use Rattle.order_law.specs.Renumber.{new_task, renumbered, LevelsIn, IsTableOf}
 
 -- for any elements and any order

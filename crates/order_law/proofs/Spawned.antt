@@ -11,10 +11,9 @@ use Rattle.std.specs.List.{AllZip}
 use Rattle.std.specs.Ordering.{nat_cmp, ordering_then}
 use Rattle.std.proofs.lemmas.Bool.Decides.{nat_tests}
 use Rattle.fractal_vt.specs.declared.vt.TheConstants.{MAX_LEVELS}
-use Rattle.fractal_vt.proofs.Stack.{same_front, prefix_is_less}
+use Rattle.fractal_vt.proofs.Proved.{level_cmp_total, prefix_is_less, same_front}
 use Rattle.order_law.specs.Events.{Changes, IsAllowed, IsPlaced, Spawns}
 use Rattle.order_law.proofs.Numbers.{LevelsBelow-append}
-use Rattle.fractal_vt.proofs.Total.{level_cmp_total}
 
 module _ (old new : ℕ → Option Keyed) (path : List Open) (next id : ℕ) (child : Keyed) (vacant : old id ≡ None) (changes : Changes old new id (Some child)) (open' : child.last.tb ≡ None) (low : LevelsBelow next child.domain) (good : IsShaped child) (creator : ℕ) (parent : child.creator ≡ Some creator) (has : HasCreator old creator child) (ordered : IsOrdered old path next) where
   which : (k : ℕ) (x : Keyed) → new k ≡ Some x → ((k ≡ id) × (x ≡ child)) ⊎ (old k ≡ Some x)

@@ -2,6 +2,7 @@
 //!
 //! The tasks are a function from ids to what the order reads of them; no state of the machine is known here. Each law is the contract
 //! of a function that does nothing and costs nothing.
+//! It stands on keys and closed sets; the laws of states stand on it.
 #![tactic(auto)]
 
 mod laws;

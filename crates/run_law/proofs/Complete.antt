@@ -11,8 +11,7 @@ use Rattle.serial_machine.specs.State.{State}
 use Rattle.serial_machine.specs.Names.{one, times, times_in}
 use Rattle.serial_machine.specs.Turn.{child}
 use Rattle.serial_machine.specs.Run.{Runs, IsRun, opening, image_task}
-use Rattle.serial_machine.proofs.Naming.{times_in-inner, kids, AreNamed-opening}
-use Rattle.serial_machine.proofs.Turns.{turn-done}
+use Rattle.serial_machine.proofs.Proved.{AreNamed-opening, kids, times_in-inner, turn-done}
 use Rattle.run_law.specs.Laws.{is_same, turns_of, IsOfImage, IsChild, IsMade, IsComplete}
 use Rattle.run_law.proofs.Turned.{Turned, turn-did}
 use Rattle.run_law.proofs.RunSteps.{Runs-more, turn-taken}

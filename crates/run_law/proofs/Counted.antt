@@ -17,8 +17,7 @@ use Rattle.serial_machine.specs.State.{State}
 use Rattle.serial_machine.specs.Names.{one, times, times_in, AreNamed}
 use Rattle.serial_machine.specs.Turn.{is_named, without, stack_after, children, sub_bags, with_super, kind_outside}
 use Rattle.serial_machine.specs.Run.{Runs, IsRun, opening}
-use Rattle.serial_machine.proofs.Naming.{times_in-inner, times-append, times-kids, kids_for, kids, AreNamed-opening, AreNamed-after, once-in-first}
-use Rattle.serial_machine.proofs.Stacks.{without-none}
+use Rattle.serial_machine.proofs.Proved.{AreNamed-after, AreNamed-opening, kids, kids_for, once-in-first, times-append, times-kids, times_in-inner, without-none}
 use Rattle.run_law.specs.Laws.{is_same, turns_of}
 use Rattle.run_law.proofs.Distinct.{one-same}
 use Rattle.run_law.proofs.Placed.{HasDomain, HaveDomains, done-placed}

@@ -15,7 +15,7 @@ use Rattle.serial_machine.specs.State.{State}
 use Rattle.serial_machine.specs.Names.{one, times, times_in}
 use Rattle.serial_machine.specs.Turn.{is_named, without, stack_after, children, with_super, find_named}
 use Rattle.serial_machine.specs.Run.{Runs, IsRun, opening}
-use Rattle.serial_machine.proofs.Naming.{times-without, times_in-inner, times-append, times_in-sub, times_in-super, times-kids, kids-fresh, kids_for, kids, AreNamed-opening}
+use Rattle.serial_machine.proofs.Proved.{AreNamed-opening, kids, kids-fresh, kids_for, times-append, times-kids, times-without, times_in-inner, times_in-sub, times_in-super}
 use Rattle.run_law.specs.Laws.{is_same, turns_of, AreDistinct}
 use Rattle.run_law.proofs.Turned.{Turned, turn-did}
 

@@ -8,3 +8,4 @@ pub mod Deeper
 pub mod Forced
 pub mod Lawful
 pub mod Sized
+pub mod Proved

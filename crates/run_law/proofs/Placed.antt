@@ -12,12 +12,12 @@ use Rattle.pending_list.specs.declared.task.PendingTask.{PendingTask}
 use Rattle.serial_machine.specs.BagValue.{BagValue}
 use Rattle.serial_machine.specs.State.{State}
 use Rattle.serial_machine.specs.TaskRun.{task_run, Done}
-use Rattle.serial_machine.proofs.Kept.{StepHolds, EndHolds, task_run-holds}
+use Rattle.serial_machine.proofs.Proved.{EndHolds, StepHolds, task_run-holds}
 use Rattle.task_step.specs.declared.request.Request.{Request}
 use Rattle.task_step.specs.declared.request.Request.TheVariants as request
 use Rattle.task_step.specs.Steps.{after_request}
 use Rattle.task_step.specs.TaskState.{TaskState, context}
-use Rattle.task_step.proofs.Asked.{AllowedBy}
+use Rattle.task_step.proofs.Proved.{AllowedBy}
 use Rattle.serial_machine.specs.Turn.{run_of, context_of, kind_outside}
 
 -- there is a domain at a place, by the kinds of the superdomain and the subdomain

@@ -10,7 +10,7 @@ use Rattle.run_journal.specs.declared.journal.Entry.{Entry}
 use Rattle.serial_machine.specs.Run.{IsRun, Runs, opening}
 use Rattle.serial_machine.specs.State.{State}
 use Rattle.serial_machine.specs.Turn.{context_of}
-use Rattle.serial_machine.proofs.Kept.{EndHolds, task_run-size}
+use Rattle.serial_machine.proofs.Proved.{EndHolds, task_run-size}
 
 -- a turn keeps the size of the memory
 pub turned-keeps : (image : ImageValue) (budget : ℕ) (s after : State) (name : Name) (e : Entry) → Turned image budget s after name e → length after.memory ≡ length s.memory

@@ -2,6 +2,7 @@
 //!
 //! They are definitions over an image, a budget, a journal and a state, and are proved once, of every run; whoever holds a run states
 //! them of its own journal and state.
+//! It stands on the serial machine; the book and the program state them.
 #![tactic(auto)]
 
 mod laws;

@@ -1,6 +1,7 @@
 -- What follows from plain instructions: each is counted and within the budget, and what stops a run lies inside the data.
 use Rattle.std.proofs.Common.{◌≡◌, ◌≢◌, ℕ, ◌+◌, ◌<◌, ◌≤◌, ◌%◌, ◌==◌, not, List, Option, Some, None, Bool, true, false, nat_lt, ◌&&◌, if◌then◌else◌, zero, suc, refl, subst, arith, add-zero, add-suc}
 use Rattle.std.proofs.lemmas.Bool.{ltb-true, leb-true, eqb-true}
+use Rattle.guest_image.specs.ImageValue.{ImageValue}
 use Rattle.rv_table.specs.declared.instr.Instr.{Instr}
 use Rattle.rv_table.specs.declared.instr.Effect.{Effect}
 use Rattle.rv_table.specs.declared.instr.Effect.TheVariants as does
@@ -59,80 +60,80 @@ store_keeps size core width addr value aligned =
     (λ within. (inside size addr (store_bytes width) aligned within, λ e. cc))
     (λ _. trap_keeps size core 7)
 
-effect_keeps : (text : List ℕ) (size : ℕ) (core : Core) (effect : Effect) → Keeps size core (effect_next text size core effect)
-effect_keeps text size core (does.Plain pc rd value) = refl
-effect_keeps text size core (does.Load width rd addr) =
-    either size core (not (addr % load_bytes width == 0)) (traps core 4) (load_next size core width rd addr (text_loaded text addr (load_bytes width)))
+effect_keeps : (image : ImageValue) (size : ℕ) (core : Core) (effect : Effect) → Keeps size core (effect_next image size core effect)
+effect_keeps image size core (does.Plain pc rd value) = refl
+effect_keeps image size core (does.Load width rd addr) =
+    either size core (not (addr % load_bytes width == 0)) (traps core 4) (load_next size core width rd addr (text_loaded image.text addr (load_bytes width)))
     (λ _. trap_keeps size core 4)
-    (load_keeps size core width rd addr (text_loaded text addr (load_bytes width)))
-effect_keeps text size core (does.Store width addr value) =
+    (load_keeps size core width rd addr (text_loaded image.text addr (load_bytes width)))
+effect_keeps image size core (does.Store width addr value) =
     either size core (not (addr % store_bytes width == 0)) (traps core 6) _
     (λ _. trap_keeps size core 6)
     (store_keeps size core width addr value)
-effect_keeps text size core does.Call = (tt, λ e. cc)
-effect_keeps text size core does.Break = trap_keeps size core 8
-effect_keeps text size core does.Misaligned = trap_keeps size core 3
+effect_keeps image size core does.Call = (tt, λ e. cc)
+effect_keeps image size core does.Break = trap_keeps size core 8
+effect_keeps image size core does.Misaligned = trap_keeps size core 3
 
-instr_keeps : (text : List ℕ) (size : ℕ) (core : Core) (instr : Option Instr) → Keeps size core (instr_next text size core instr)
-instr_keeps text size core None = trap_keeps size core 2
-instr_keeps text size core (Some instr) = effect_keeps text size core (acts_on core.pc core.regs instr)
+instr_keeps : (image : ImageValue) (size : ℕ) (core : Core) (instr : Option Instr) → Keeps size core (instr_next image size core instr)
+instr_keeps image size core None = trap_keeps size core 2
+instr_keeps image size core (Some instr) = effect_keeps image size core (acts_on core.pc core.regs instr)
 
-word_keeps : (text : List ℕ) (size : ℕ) (core : Core) (word : Option ℕ) → Keeps size core (word_next text size core word)
-word_keeps text size core None = trap_keeps size core 1
-word_keeps text size core (Some word) = instr_keeps text size core (decoded word)
+word_keeps : (image : ImageValue) (size : ℕ) (core : Core) (word : Option ℕ) → Keeps size core (word_next image size core word)
+word_keeps image size core None = trap_keeps size core 1
+word_keeps image size core (Some word) = instr_keeps image size core (decoded word)
 
-next_keeps : (text : List ℕ) (size budget : ℕ) (core : Core) → Keeps size core (next_at text size budget core)
+next_keeps : (image : ImageValue) (size budget : ℕ) (core : Core) → Keeps size core (next_at image size budget core)
 unfolding next_at
-next_keeps text size budget core =
-    either size core (nat_lt core.used budget) (word_next text size core (fetched text core.pc)) (traps core 17)
-    (λ _. word_keeps text size core (fetched text core.pc))
+next_keeps image size budget core =
+    either size core (nat_lt core.used budget) (word_next image size core (fetched image.text core.pc)) (traps core 17)
+    (λ _. word_keeps image size core (fetched image.text core.pc))
     (λ _. trap_keeps size core 17)
 
 -- a load or a store that stands next is aligned and lies wholly in the data
-pub next_at-inside : (text : List ℕ) (size budget : ℕ) (core : Core) (found : Stop) → next_at text size budget core ≡ Stops found → IsInside size found
-next_at-inside text size budget core found stands = (subst (Keeps size core) stands (next_keeps text size budget core)).0
+pub next_at-inside : (image : ImageValue) (size budget : ℕ) (core : Core) (found : Stop) → next_at image size budget core ≡ Stops found → IsInside size found
+next_at-inside image size budget core found stands = (subst (Keeps size core) stands (next_keeps image size budget core)).0
 
 -- the end of a quantum is nothing that stands at a core
-pub next_at-other : (text : List ℕ) (size budget : ℕ) (core : Core) (found : Stop) → next_at text size budget core ≡ Stops found → found ≢ stop.Quantum
-next_at-other text size budget core found stands = (subst (Keeps size core) stands (next_keeps text size budget core)).1
+pub next_at-other : (image : ImageValue) (size budget : ℕ) (core : Core) (found : Stop) → next_at image size budget core ≡ Stops found → found ≢ stop.Quantum
+next_at-other image size budget core found stands = (subst (Keeps size core) stands (next_keeps image size budget core)).1
 
 -- a plain instruction is counted
-pub PlainStep-counted : (text : List ℕ) (size budget : ℕ) (from to : Core) → PlainStep text size budget from to → to.used ≡ from.used + 1
-PlainStep-counted text size budget from to step = subst (Keeps size from) step (next_keeps text size budget from)
+pub PlainStep-counted : (image : ImageValue) (size budget : ℕ) (from to : Core) → PlainStep image size budget from to → to.used ≡ from.used + 1
+PlainStep-counted image size budget from to step = subst (Keeps size from) step (next_keeps image size budget from)
 
 goes_on : (test : Bool) (one : Next) (core to : Core) → (if test then one else traps core 17) ≡ Goes to → test ≡ true
 goes_on true one core to h = refl
 goes_on false one core to h = cc
 
 -- a plain instruction finds the budget not used up
-pub PlainStep-within : (text : List ℕ) (size budget : ℕ) (from to : Core) → PlainStep text size budget from to → from.used < budget
+pub PlainStep-within : (image : ImageValue) (size budget : ℕ) (from to : Core) → PlainStep image size budget from to → from.used < budget
 unfolding next_at
-PlainStep-within text size budget from to step = ltb-true _ _ (goes_on (nat_lt from.used budget) _ from to step)
+PlainStep-within image size budget from to step = ltb-true _ _ (goes_on (nat_lt from.used budget) _ from to step)
 
 -- n plain instructions are counted
-pub PlainSteps-counted : (text : List ℕ) (size budget n : ℕ) (from to : Core) → PlainSteps text size budget n from to → to.used ≡ from.used + n
-PlainSteps-counted text size budget zero from to same = rw same (omega arith)
-PlainSteps-counted text size budget (suc n) from to (mid, front, last) =
-    let first = PlainSteps-counted text size budget n from mid front in
-    let one = PlainStep-counted text size budget mid to last in
+pub PlainSteps-counted : (image : ImageValue) (size budget n : ℕ) (from to : Core) → PlainSteps image size budget n from to → to.used ≡ from.used + n
+PlainSteps-counted image size budget zero from to same = rw same (omega arith)
+PlainSteps-counted image size budget (suc n) from to (mid, front, last) =
+    let first = PlainSteps-counted image size budget n from mid front in
+    let one = PlainStep-counted image size budget mid to last in
     omega arith
 
 -- n plain instructions stay within the budget
-pub PlainSteps-within : (text : List ℕ) (size budget n : ℕ) (from to : Core) → PlainSteps text size budget n from to → from.used ≤ budget → to.used ≤ budget
-PlainSteps-within text size budget zero from to same used =
+pub PlainSteps-within : (image : ImageValue) (size budget n : ℕ) (from to : Core) → PlainSteps image size budget n from to → from.used ≤ budget → to.used ≤ budget
+PlainSteps-within image size budget zero from to same used =
     let Within : Core → Type 0 = λ core. core.used ≤ budget in
     subst Within same used
-PlainSteps-within text size budget (suc n) from to (mid, front, last) used =
-    let below = PlainStep-within text size budget mid to last in
-    let one = PlainStep-counted text size budget mid to last in
+PlainSteps-within image size budget (suc n) from to (mid, front, last) used =
+    let below = PlainStep-within image size budget mid to last in
+    let one = PlainStep-counted image size budget mid to last in
     omega arith
 
 -- n plain instructions after m ones are m + n plain instructions
-pub PlainSteps-append : (text : List ℕ) (size budget m n : ℕ) (from mid to : Core) → PlainSteps text size budget m from mid → PlainSteps text size budget n mid to → PlainSteps text size budget (m + n) from to
-PlainSteps-append text size budget m zero from mid to front same =
-    let Leads : Core → Type 0 = λ core. PlainSteps text size budget m from core in
+pub PlainSteps-append : (image : ImageValue) (size budget m n : ℕ) (from mid to : Core) → PlainSteps image size budget m from mid → PlainSteps image size budget n mid to → PlainSteps image size budget (m + n) from to
+PlainSteps-append image size budget m zero from mid to front same =
+    let Leads : Core → Type 0 = λ core. PlainSteps image size budget m from core in
     rw add-zero (subst Leads same front)
-PlainSteps-append text size budget m (suc n) from mid to front (late, more, last) =
-    rw add-suc (late, PlainSteps-append text size budget m n from mid late front more, last)
+PlainSteps-append image size budget m (suc n) from mid to front (late, more, last) =
+    rw add-suc (late, PlainSteps-append image size budget m n from mid late front more, last)
 
 pub ruleset step_facts = (next_at-inside, next_at-other, PlainStep-counted, PlainStep-within)

@@ -1,5 +1,6 @@
 -- A trap that stands at a core is one of the instruction there.
 use Rattle.std.proofs.Common.{◌≡◌, ℕ, ◌%◌, ◌==◌, not, Bool, true, false, List, Option, Some, None, refl, subst, nat_lt, if◌then◌else◌}
+use Rattle.guest_image.specs.ImageValue.{ImageValue}
 use Rattle.guest_image.specs.Fetch.{fetched, text_loaded}
 use Rattle.rv_table.specs.declared.instr.Effect.{Effect}
 use Rattle.rv_table.specs.declared.instr.Effect.TheVariants as does
@@ -36,31 +37,31 @@ load_here size core width rd addr (Some raw) = tt
 load_here size core width rd addr None =
     either_here core (is_within DATA_START size addr (load_bytes width)) (Stops (stop.Load width rd addr)) (traps core 5) tt refl
 
-effect_here : (text : List ℕ) (size : ℕ) (core : Core) (effect : Effect) → IsHere core (effect_next text size core effect)
-effect_here text size core (does.Plain pc rd value) = tt
-effect_here text size core (does.Load width rd addr) =
-    either_here core (not (addr % load_bytes width == 0)) (traps core 4) (load_next size core width rd addr (text_loaded text addr (load_bytes width)))
-    refl (load_here size core width rd addr (text_loaded text addr (load_bytes width)))
-effect_here text size core (does.Store width addr value) =
+effect_here : (image : ImageValue) (size : ℕ) (core : Core) (effect : Effect) → IsHere core (effect_next image size core effect)
+effect_here image size core (does.Plain pc rd value) = tt
+effect_here image size core (does.Load width rd addr) =
+    either_here core (not (addr % load_bytes width == 0)) (traps core 4) (load_next size core width rd addr (text_loaded image.text addr (load_bytes width)))
+    refl (load_here size core width rd addr (text_loaded image.text addr (load_bytes width)))
+effect_here image size core (does.Store width addr value) =
     either_here core (not (addr % store_bytes width == 0)) (traps core 6) _ refl
     (either_here core (is_within DATA_START size addr (store_bytes width)) (Stops (stop.Store width addr value)) (traps core 7) tt refl)
-effect_here text size core does.Call = tt
-effect_here text size core does.Break = refl
-effect_here text size core does.Misaligned = refl
+effect_here image size core does.Call = tt
+effect_here image size core does.Break = refl
+effect_here image size core does.Misaligned = refl
 
-instr_here : (text : List ℕ) (size : ℕ) (core : Core) (instr : Option Instr) → IsHere core (instr_next text size core instr)
-instr_here text size core None = refl
-instr_here text size core (Some instr) = effect_here text size core (acts_on core.pc core.regs instr)
+instr_here : (image : ImageValue) (size : ℕ) (core : Core) (instr : Option Instr) → IsHere core (instr_next image size core instr)
+instr_here image size core None = refl
+instr_here image size core (Some instr) = effect_here image size core (acts_on core.pc core.regs instr)
 
-word_here : (text : List ℕ) (size : ℕ) (core : Core) (word : Option ℕ) → IsHere core (word_next text size core word)
-word_here text size core None = refl
-word_here text size core (Some word) = instr_here text size core (decoded word)
+word_here : (image : ImageValue) (size : ℕ) (core : Core) (word : Option ℕ) → IsHere core (word_next image size core word)
+word_here image size core None = refl
+word_here image size core (Some word) = instr_here image size core (decoded word)
 
-next_here : (text : List ℕ) (size budget : ℕ) (core : Core) → IsHere core (next_at text size budget core)
+next_here : (image : ImageValue) (size budget : ℕ) (core : Core) → IsHere core (next_at image size budget core)
 unfolding next_at
-next_here text size budget core =
-    either_here core (nat_lt core.used budget) (word_next text size core (fetched text core.pc)) (traps core 17) (word_here text size core (fetched text core.pc)) refl
+next_here image size budget core =
+    either_here core (nat_lt core.used budget) (word_next image size core (fetched image.text core.pc)) (traps core 17) (word_here image size core (fetched image.text core.pc)) refl
 
 -- a trap that stands next at a core has its pc
-pub next_at-here : (text : List ℕ) (size budget : ℕ) (core : Core) (cause pc : ℕ) → next_at text size budget core ≡ Stops (stop.Trap cause pc) → pc ≡ core.pc
-next_at-here text size budget core cause pc stands = subst (IsHere core) stands (next_here text size budget core)
+pub next_at-here : (image : ImageValue) (size budget : ℕ) (core : Core) (cause pc : ℕ) → next_at image size budget core ≡ Stops (stop.Trap cause pc) → pc ≡ core.pc
+next_at-here image size budget core cause pc stands = subst (IsHere core) stands (next_here image size budget core)

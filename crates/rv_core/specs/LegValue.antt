@@ -1,5 +1,6 @@
 -- A leg as contracts see it.
 use Rattle.std.specs.Prelude.{ℕ, ◌+◌, List, ◌≡◌, ◌≢◌, ◌≤◌}
+use Rattle.guest_image.specs.ImageValue.{ImageValue}
 use Rattle.rv_core.specs.declared.state.Core.{Core}
 use Rattle.rv_core.specs.declared.state.Stop.{Stop}
 use Rattle.rv_core.specs.declared.state.Stop.TheVariants as stop
@@ -13,10 +14,10 @@ pub record LegValue : Type 0 where
   pub steps : ℕ
   pub stop : Stop
 
--- the leg is a run of plain instructions with this text, data size and budget, and it stopped at what stands next
-pub record IsRun (text : List ℕ) (size budget : ℕ) (leg : LegValue) : Type 0 where
-  pub run : PlainSteps text size budget leg.steps leg.from leg.to
-  pub next : leg.stop ≢ stop.Quantum → next_at text size budget leg.to ≡ Stops leg.stop
-  pub inside : IsInside size leg.stop
+-- the leg is a run of plain instructions of this image with this budget, and it stopped at what stands next
+pub record IsRun (image : ImageValue) (budget : ℕ) (leg : LegValue) : Type 0 where
+  pub run : PlainSteps image image.data_size budget leg.steps leg.from leg.to
+  pub next : leg.stop ≢ stop.Quantum → next_at image image.data_size budget leg.to ≡ Stops leg.stop
+  pub inside : IsInside image.data_size leg.stop
   pub counted : leg.to.used ≡ leg.from.used + leg.steps
   pub within : leg.to.used ≤ budget

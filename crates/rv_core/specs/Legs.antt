@@ -1,5 +1,6 @@
--- Plain instructions, and what stands at a core. The text, the size of the data and the task budget are given.
+-- Plain instructions, and what stands at a core. The image, how many bytes its data has, and the task budget are given.
 use Rattle.std.specs.Prelude.{ℕ, ◌+◌, ◌%◌, ◌==◌, not, nat_lt, List, slice_index, replicate, Option, Some, None, ◌≡◌, ◌≢◌, ◌<◌, ◌≤◌, zero, suc, if◌then◌else◌}
+use Rattle.guest_image.specs.ImageValue.{ImageValue}
 use Rattle.rv_table.specs.declared.instr.Effect.{Effect}
 use Rattle.rv_table.specs.declared.instr.Effect.TheVariants as does
 use Rattle.rv_table.specs.declared.instr.Instr.{Instr}
@@ -49,52 +50,52 @@ load_next size core width rd addr None =
     else traps core 5
 
 -- what comes of what an instruction does (trap 3: target misaligned, 4 and 6: access misaligned, 7: store range, 8: break)
-abbrev pub effect_next : List ℕ → ℕ → Core → Effect → Next
-effect_next text size core (does.Plain pc rd value) = Goes (moved core pc rd value)
-effect_next text size core (does.Load width rd addr) =
+abbrev pub effect_next : ImageValue → ℕ → Core → Effect → Next
+effect_next image size core (does.Plain pc rd value) = Goes (moved core pc rd value)
+effect_next image size core (does.Load width rd addr) =
     if not (addr % load_bytes width == 0) then traps core 4
-    else load_next size core width rd addr (text_loaded text addr (load_bytes width))
-effect_next text size core (does.Store width addr value) =
+    else load_next size core width rd addr (text_loaded image.text addr (load_bytes width))
+effect_next image size core (does.Store width addr value) =
     if not (addr % store_bytes width == 0) then traps core 6
     else if is_within DATA_START size addr (store_bytes width) then Stops (stop.Store width addr value)
     else traps core 7
-effect_next text size core does.Call = Stops stop.Call
-effect_next text size core does.Break = traps core 8
-effect_next text size core does.Misaligned = traps core 3
+effect_next image size core does.Call = Stops stop.Call
+effect_next image size core does.Break = traps core 8
+effect_next image size core does.Misaligned = traps core 3
 
 -- what comes of an instruction (trap 2: the word is none)
-abbrev pub instr_next : List ℕ → ℕ → Core → Option Instr → Next
-instr_next text size core None = traps core 2
-instr_next text size core (Some instr) = effect_next text size core (acts_on core.pc core.regs instr)
+abbrev pub instr_next : ImageValue → ℕ → Core → Option Instr → Next
+instr_next image size core None = traps core 2
+instr_next image size core (Some instr) = effect_next image size core (acts_on core.pc core.regs instr)
 
 -- what comes of a word (trap 1: the pc is misaligned or outside the text)
-abbrev pub word_next : List ℕ → ℕ → Core → Option ℕ → Next
-word_next text size core None = traps core 1
-word_next text size core (Some word) = instr_next text size core (decoded word)
+abbrev pub word_next : ImageValue → ℕ → Core → Option ℕ → Next
+word_next image size core None = traps core 1
+word_next image size core (Some word) = instr_next image size core (decoded word)
 
 -- what stands next at a core: the traps 17, 1 and 2 are tried in this order, then what the instruction itself does
 -- (trap 17: the whole budget is used)
-unfoldable pub next_at : List ℕ → ℕ → ℕ → Core → Next
-next_at text size budget core =
-    if nat_lt core.used budget then word_next text size core (fetched text core.pc)
+unfoldable pub next_at : ImageValue → ℕ → ℕ → Core → Next
+next_at image size budget core =
+    if nat_lt core.used budget then word_next image size core (fetched image.text core.pc)
     else traps core 17
 
 -- one plain instruction leads from a core to another
-abbrev pub PlainStep : List ℕ → ℕ → ℕ → Core → Core → Type 0
-PlainStep text size budget from to = next_at text size budget from ≡ Goes to
+abbrev pub PlainStep : ImageValue → ℕ → ℕ → Core → Core → Type 0
+PlainStep image size budget from to = next_at image size budget from ≡ Goes to
 
 -- n plain instructions lead from a core to another
-abbrev pub PlainSteps : List ℕ → ℕ → ℕ → ℕ → Core → Core → Type 0
-PlainSteps text size budget zero from to = from ≡ to
-PlainSteps text size budget (suc n) from to =
-    (mid : Core) × PlainSteps text size budget n from mid × PlainStep text size budget mid to
+abbrev pub PlainSteps : ImageValue → ℕ → ℕ → ℕ → Core → Core → Type 0
+PlainSteps image size budget zero from to = from ≡ to
+PlainSteps image size budget (suc n) from to =
+    (mid : Core) × PlainSteps image size budget n from mid × PlainStep image size budget mid to
 
 -- a run of at most quantum plain instructions, as long as nothing stops it, and what it stops at
-pub record IsLeg (text : List ℕ) (size budget quantum : ℕ) (from to : Core) (steps : ℕ) (found : Stop) : Type 0 where
-  pub run : PlainSteps text size budget steps from to
+pub record IsLeg (image : ImageValue) (size budget quantum : ℕ) (from to : Core) (steps : ℕ) (found : Stop) : Type 0 where
+  pub run : PlainSteps image size budget steps from to
   pub bound : steps ≤ quantum
   pub full : steps ≡ quantum → found ≡ stop.Quantum
-  pub next : steps < quantum → next_at text size budget to ≡ Stops found
+  pub next : steps < quantum → next_at image size budget to ≡ Stops found
   pub other : steps < quantum → found ≢ stop.Quantum
 
 -- a load or a store that stands next is aligned and lies wholly in data of this size

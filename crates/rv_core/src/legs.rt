@@ -97,7 +97,7 @@ fn load(
 #[inline(always)]
 fn obey(image: &Image, data_size: u32, core: &mut Core, effect: Effect) -> Option<Stop>
     requires room { core.old.used + 1 < 2 ^ 32 }
-    ensures next { given core.new result ≡ effect_next image.now.text data_size core.old effect }
+    ensures next { given core.new result ≡ effect_next image.now data_size core.old effect }
     ensures stopped { OnSome result (core.new ≡ core.old) }
 {
     match effect {
@@ -133,7 +133,7 @@ fn obey(image: &Image, data_size: u32, core: &mut Core, effect: Effect) -> Optio
 #[inline(always)]
 #[tactic(auto, unfolding(crate::specs::Legs::next_at))]
 fn step(image: &Image, data_size: u32, core: &mut Core, budget: u32) -> Option<Stop>
-    ensures next { given core.new result ≡ next_at image.now.text data_size budget core.old }
+    ensures next { given core.new result ≡ next_at image.now data_size budget core.old }
     ensures stopped { OnSome result (core.new ≡ core.old) }
 {
     if core.used >= budget {
@@ -160,7 +160,7 @@ pub fn run_plain_within(
 ) -> Plain
     requires quantum { (1 ≤ quantum) × (quantum ≤ 1024) }
     requires used { from.now.used ≤ budget }
-    ensures leg { IsLeg image.now.text data_size budget quantum from.now result.to result.steps result.stop }
+    ensures leg { IsLeg image.now data_size budget quantum from.now result.to result.steps result.stop }
     ensures inside { IsInside data_size result.stop }
     ensures used { (result.to.used ≡ from.now.used + result.steps) × (result.to.used ≤ budget) }
 {
@@ -187,7 +187,7 @@ pub fn run_plain_within(
 pub fn run_plain(image: &Image, from: &Core, quantum: u32, budget: u32) -> Plain
     requires quantum { (1 ≤ quantum) × (quantum ≤ 1024) }
     requires used { from.now.used ≤ budget }
-    ensures leg { IsLeg image.now.text image.now.data_size budget quantum from.now result.to result.steps result.stop }
+    ensures leg { IsLeg image.now image.now.data_size budget quantum from.now result.to result.steps result.stop }
     ensures inside { IsInside image.now.data_size result.stop }
     ensures used { (result.to.used ≡ from.now.used + result.steps) × (result.to.used ≤ budget) }
 {

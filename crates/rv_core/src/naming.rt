@@ -52,7 +52,7 @@ impl<N: Naming> Model for Leg<N> {
     ghost view = { λ l. record { from = l.from; to = l.to; steps = l.steps; stop = l.stop } };
 
     ghost invariant = { λ l.
-        IsRun N.image.text N.image.data_size N.budget
+        IsRun N.image N.budget
         (record { from = l.from; to = l.to; steps = l.steps; stop = l.stop }) };
 }
 
@@ -60,7 +60,7 @@ impl<N: Naming> Leg<N> {
     /// The core at which it begins.
     pub fn from(&self) -> &Core
         ensures value { result.now ≡ self.now.from }
-        ensures run { IsRun N.image.text N.image.data_size N.budget self.now }
+        ensures run { IsRun N.image N.budget self.now }
     {
         &self.from
     }
@@ -68,7 +68,7 @@ impl<N: Naming> Leg<N> {
     /// The core at which it ends.
     pub fn to(&self) -> &Core
         ensures value { result.now ≡ self.now.to }
-        ensures run { IsRun N.image.text N.image.data_size N.budget self.now }
+        ensures run { IsRun N.image N.budget self.now }
     {
         &self.to
     }
@@ -76,7 +76,7 @@ impl<N: Naming> Leg<N> {
     /// How many instructions it has.
     pub fn steps(&self) -> u32
         ensures value { result ≡ self.now.steps }
-        ensures run { IsRun N.image.text N.image.data_size N.budget self.now }
+        ensures run { IsRun N.image N.budget self.now }
     {
         self.steps
     }
@@ -84,7 +84,7 @@ impl<N: Naming> Leg<N> {
     /// What it stopped at.
     pub fn stop(&self) -> Stop
         ensures value { result ≡ self.now.stop }
-        ensures run { IsRun N.image.text N.image.data_size N.budget self.now }
+        ensures run { IsRun N.image N.budget self.now }
     {
         self.stop
     }
@@ -97,8 +97,8 @@ pub fn run_leg<N: Naming>(image: &Image, from: &Core, quantum: u32, budget: u32)
     requires quantum { (1 ≤ quantum) × (quantum ≤ 1024) }
     requires used { from.now.used ≤ budget }
     ensures from { result.from ≡ from.now }
-    ensures leg { IsLeg image.now.text image.now.data_size budget quantum from.now result.to result.steps result.stop }
-    ensures run { IsRun image.now.text image.now.data_size budget result }
+    ensures leg { IsLeg image.now image.now.data_size budget quantum from.now result.to result.steps result.stop }
+    ensures run { IsRun image.now budget result }
 {
     let plain = run_plain(image, from, quantum, budget);
     Leg {

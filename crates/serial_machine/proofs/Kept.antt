@@ -10,8 +10,7 @@ use Rattle.task_step.specs.declared.request.Request.TheVariants as request
 use Rattle.task_step.specs.Requests.{request_at}
 use Rattle.task_step.specs.TaskState.{TaskState}
 use Rattle.task_step.specs.Steps.{after_request}
-use Rattle.task_step.proofs.Asked.{AllowedBy, request_at-allowed, sub_allowed-room}
-use Rattle.task_step.proofs.Stepping.{HasSize, after_request-size}
+use Rattle.task_step.proofs.Proved.{after_request-size, AllowedBy, HasSize, request_at-allowed, sub_allowed-room}
 use Rattle.serial_machine.specs.Legs.{SubFits}
 use Rattle.serial_machine.specs.TaskRun.{context, begun, after_next, step, followed, steps, task_run, Stepped, Continues, Ends, Traps, TaskEnd, Done, Trapped}
 
@@ -44,7 +43,7 @@ module _ (Holds : TaskState → Type 0) where
     steps-hold zero task here = tt
     steps-hold (suc left) task here =
         followed-holds (steps image budget ctx left) (step image budget ctx task)
-        (step-holds task (next_at image.text (length task.memory) budget task.core) here) (steps-hold left)
+        (step-holds task (next_at image (length task.memory) budget task.core) here) (steps-hold left)
 
     -- so it holds of a task that is done, where it held of the task that had done nothing
     pub task_run-holds : (entry : ℕ) (args memory : List ℕ) → Holds (begun entry ctx.ts args memory) → EndHolds (task_run image budget ctx entry args memory)

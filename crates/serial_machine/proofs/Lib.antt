@@ -6,3 +6,4 @@ pub mod Naming
 pub mod Turns
 pub mod Refused
 pub mod WholeRuns
+pub mod Proved

@@ -8,7 +8,7 @@ use Rattle.rv_core.specs.declared.state.Stop.{Stop}
 use Rattle.rv_core.specs.declared.state.Stop.TheVariants as stop
 use Rattle.rv_core.specs.Next.{Stops}
 use Rattle.rv_core.specs.Legs.{next_at, PlainStep, PlainSteps, IsLeg, IsInside}
-use Rattle.rv_core.proofs.Runs.{PlainStep-within, PlainStep-counted}
+use Rattle.rv_core.proofs.Proved.{PlainStep-counted, PlainStep-within}
 use Rattle.task_desc.specs.declared.desc.Ctx.{Ctx}
 use Rattle.serial_machine.specs.declared.progress.Flow.{Flow}
 use Rattle.serial_machine.specs.declared.progress.Flow.TheVariants as flow
@@ -18,15 +18,14 @@ use Rattle.task_step.specs.declared.request.Request.{Request}
 use Rattle.task_step.specs.declared.request.Request.TheVariants as request
 use Rattle.task_step.specs.Conditions.{IsInData, HasRoom}
 use Rattle.task_step.specs.Requests.{request_at}
-use Rattle.task_step.proofs.Asked.{call_at-is}
-use Rattle.task_step.proofs.Stepping.{HasUsed, HasSize, after_request-size, after_stop-used}
+use Rattle.task_step.proofs.Proved.{after_request-size, after_stop-used, call_at-is, HasSize, HasUsed}
 use Rattle.serial_machine.specs.TaskRun.{context, steps, followed, after_stop, TaskEnd, Stepped, Continues, Ends, Traps}
 use Rattle.serial_machine.specs.Legs.{LegLeads, CanCount, StopCanCount, CanPerform, Leads, Finishes}
 
 -- where the budget is used up, trap 17 stands
-pub spent_traps : (text : List ℕ) (size budget : ℕ) (core : Core) (s : Stop) → next_at text size budget core ≡ Stops s → budget ≤ core.used → s ≡ stop.Trap 17 core.pc
+pub spent_traps : (image : ImageValue) (size budget : ℕ) (core : Core) (s : Stop) → next_at image size budget core ≡ Stops s → budget ≤ core.used → s ≡ stop.Trap 17 core.pc
 unfolding next_at
-spent_traps text size budget core s h ge = let e : nat_lt core.used budget ≡ false = grind (arith, nat_tests) in let k = rw e at h in cc
+spent_traps image size budget core s h ge = let e : nat_lt core.used budget ≡ false = grind (arith, nat_tests) in let k = rw e at h in cc
 
 -- what a step leads to is how the run is over, or what is followed
 pub followed-Continues : (rest : TaskState → TaskEnd) (x : Stepped) (new : TaskState) → Leads x flow.Continues new → followed rest x ≡ rest new
@@ -57,8 +56,8 @@ Leads-size size (Ends t) new leads has = absurd leads
 Leads-size size (Traps cause pc) new leads has = absurd leads
 
 -- what stands next, if it is no trap, stands within the budget, so it can be counted
-pub can_count : (text : List ℕ) (size budget : ℕ) (core : Core) (s : Stop) → next_at text size budget core ≡ Stops s → budget < 2 ^ 32 → StopCanCount core.used s
-can_count text size budget core s h fits = elim (cases_lt core.used budget) [ inl lt ↦ within s lt | inr ge ↦ (let P : Stop → Type 0 = StopCanCount core.used in subst P (sym (spent_traps text size budget core s h ge)) tt) ] where
+pub can_count : (image : ImageValue) (size budget : ℕ) (core : Core) (s : Stop) → next_at image size budget core ≡ Stops s → budget < 2 ^ 32 → StopCanCount core.used s
+can_count image size budget core s h fits = elim (cases_lt core.used budget) [ inl lt ↦ within s lt | inr ge ↦ (let P : Stop → Type 0 = StopCanCount core.used in subst P (sym (spent_traps image size budget core s h ge)) tt) ] where
   within : (s : Stop) → core.used < budget → StopCanCount core.used s
   within stop.Quantum lt = tt
   within (stop.Trap cause pc) lt = tt
@@ -102,21 +101,21 @@ can_perform ctx task s asked is count inside lies room =
     can_do ctx task asked (subst P (sym is) (request-can_count (context ctx task) task.core s count)) (lies (length task.memory) inside) room
 
 module _ (image : ImageValue) (budget : ℕ) (ctx : Ctx) where
-  pub steps-plain_step : (t : TaskState) (to : Core) → PlainStep image.text (length t.memory) budget t.core to
+  pub steps-plain_step : (t : TaskState) (to : Core) → PlainStep image (length t.memory) budget t.core to
       → steps image budget ctx (budget - t.core.used) t ≡ steps image budget ctx (budget - to.used) (record t { core = to })
   steps-plain_step t to h =
-      let within = PlainStep-within image.text (length t.memory) budget t.core to h in
-      let counted = PlainStep-counted image.text (length t.memory) budget t.core to h in
+      let within = PlainStep-within image (length t.memory) budget t.core to h in
+      let counted = PlainStep-counted image (length t.memory) budget t.core to h in
       let e : budget - t.core.used ≡ suc (budget - to.used) = omega arith in
       rw (e, h) refl
 
-  pub steps-plain_steps : (n : ℕ) (t : TaskState) (to : Core) → PlainSteps image.text (length t.memory) budget n t.core to
+  pub steps-plain_steps : (n : ℕ) (t : TaskState) (to : Core) → PlainSteps image (length t.memory) budget n t.core to
       → steps image budget ctx (budget - t.core.used) t ≡ steps image budget ctx (budget - to.used) (record t { core = to })
   steps-plain_steps zero t to e = rw (← e) refl
   steps-plain_steps (suc n) t to (mid, before, last) = steps-plain_steps n t mid before ∙ steps-plain_step (record t { core = mid }) to last
 
   -- what stands at the end of a leg is followed, also where the budget is used up
-  pub steps-stop : (t : TaskState) (s : Stop) → next_at image.text (length t.memory) budget t.core ≡ Stops s → t.core.used ≤ budget
+  pub steps-stop : (t : TaskState) (s : Stop) → next_at image (length t.memory) budget t.core ≡ Stops s → t.core.used ≤ budget
       → steps image budget ctx (budget - t.core.used) t ≡ followed (steps image budget ctx (budget - (t.core.used + 1))) (after_stop ctx t s)
   steps-stop t s h le = elim (cases_lt t.core.used budget) [ inl lt ↦ within lt | inr ge ↦ spent ge ] where
     within : t.core.used < budget → steps image budget ctx (budget - t.core.used) t ≡ followed (steps image budget ctx (budget - (t.core.used + 1))) (after_stop ctx t s)
@@ -125,19 +124,19 @@ module _ (image : ImageValue) (budget : ℕ) (ctx : Ctx) where
     spent : budget ≤ t.core.used → steps image budget ctx (budget - t.core.used) t ≡ followed (steps image budget ctx (budget - (t.core.used + 1))) (after_stop ctx t s)
     spent ge =
         let e : budget - t.core.used ≡ zero = omega arith in
-        let k : s ≡ stop.Trap 17 t.core.pc = spent_traps image.text (length t.memory) budget t.core s h ge in
+        let k : s ≡ stop.Trap 17 t.core.pc = spent_traps image (length t.memory) budget t.core s h ge in
         rw (e, k) refl
 
   -- where a stop is followed and goes on, the budget isn't used up
-  pub budget_left : (t : TaskState) (s : Stop) (new : TaskState) → next_at image.text (length t.memory) budget t.core ≡ Stops s → Leads (after_stop ctx t s) flow.Continues new → t.core.used < budget
+  pub budget_left : (t : TaskState) (s : Stop) (new : TaskState) → next_at image (length t.memory) budget t.core ≡ Stops s → Leads (after_stop ctx t s) flow.Continues new → t.core.used < budget
   budget_left t s new h leads = elim (cases_lt t.core.used budget) [ inl lt ↦ lt | inr ge ↦ absurd (spent ge) ] where
     spent : budget ≤ t.core.used → ⊥
-    spent ge = let P : Stop → Type 0 = λ x. Leads (after_stop ctx t x) flow.Continues new in subst P (spent_traps image.text (length t.memory) budget t.core s h ge) leads
+    spent ge = let P : Stop → Type 0 = λ x. Leads (after_stop ctx t x) flow.Continues new in subst P (spent_traps image (length t.memory) budget t.core s h ge) leads
 
   -- a leg that stopped before its quantum's end
   pub leg-stopped : (old : TaskState) (to : Core) (n : ℕ) (s : Stop) (f : Flow) (new : TaskState)
-      → PlainSteps image.text (length old.memory) budget n old.core to → to.used ≡ old.core.used + n → to.used ≤ budget
-      → next_at image.text (length old.memory) budget to ≡ Stops s → s ≢ stop.Quantum
+      → PlainSteps image (length old.memory) budget n old.core to → to.used ≡ old.core.used + n → to.used ≤ budget
+      → next_at image (length old.memory) budget to ≡ Stops s → s ≢ stop.Quantum
       → Leads (after_stop ctx (record old { core = to }) s) f new → LegLeads image budget ctx old f new
   leg-stopped old to n s flow.Continues new run used within next other leads =
       let mid : TaskState = record old { core = to } in
@@ -157,7 +156,7 @@ module _ (image : ImageValue) (budget : ℕ) (ctx : Ctx) where
 
   -- a leg that came to its quantum's end
   pub leg-full : (old : TaskState) (to : Core) (n : ℕ) (s : Stop) (f : Flow) (new : TaskState)
-      → PlainSteps image.text (length old.memory) budget n old.core to → to.used ≡ old.core.used + n → to.used ≤ budget → 0 < n → s ≡ stop.Quantum
+      → PlainSteps image (length old.memory) budget n old.core to → to.used ≡ old.core.used + n → to.used ≤ budget → 0 < n → s ≡ stop.Quantum
       → Leads (after_stop ctx (record old { core = to }) s) f new → LegLeads image budget ctx old f new
   leg-full old to n s f new run used within some e leads =
       let P : Stop → Type 0 = λ x. Leads (after_stop ctx (record old { core = to }) x) f new in
@@ -175,7 +174,7 @@ module _ (image : ImageValue) (budget : ℕ) (ctx : Ctx) where
 
   -- a leg of at most so many instructions, whatever it stopped for
   pub leg-leads : (quantum : ℕ) (old : TaskState) (to : Core) (n : ℕ) (s : Stop) (f : Flow) (new : TaskState)
-      → 0 < quantum → IsLeg image.text (length old.memory) budget quantum old.core to n s → to.used ≡ old.core.used + n → to.used ≤ budget
+      → 0 < quantum → IsLeg image (length old.memory) budget quantum old.core to n s → to.used ≡ old.core.used + n → to.used ≤ budget
       → Leads (after_stop ctx (record old { core = to }) s) f new → LegLeads image budget ctx old f new
   leg-leads quantum old to n s f new some leg used within leads = elim (cases_lt n quantum) [ inl lt ↦ before lt | inr ge ↦ full ge ] where
     before : n < quantum → LegLeads image budget ctx old f new
@@ -188,8 +187,8 @@ module _ (image : ImageValue) (budget : ℕ) (ctx : Ctx) where
         leg-full old to n s f new leg.run used within (omega arith) (leg.full e) leads
 
 -- after a leg that ended its quantum nothing is to be counted; else what stands next can be
-pub leg-can_count : (text : List ℕ) (size budget quantum : ℕ) (from to : Core) (n : ℕ) (s : Stop) → IsLeg text size budget quantum from to n s → budget < 2 ^ 32 → StopCanCount to.used s
-leg-can_count text size budget quantum from to n s leg fits = elim (cases_lt n quantum) [
-  | inl lt ↦ can_count text size budget to s (leg.next lt) fits
+pub leg-can_count : (image : ImageValue) (size budget quantum : ℕ) (from to : Core) (n : ℕ) (s : Stop) → IsLeg image size budget quantum from to n s → budget < 2 ^ 32 → StopCanCount to.used s
+leg-can_count image size budget quantum from to n s leg fits = elim (cases_lt n quantum) [
+  | inl lt ↦ can_count image size budget to s (leg.next lt) fits
   | inr ge ↦ (let b : n ≤ quantum = leg.bound in let e : n ≡ quantum = omega arith in let P : Stop → Type 0 = StopCanCount to.used in subst P (sym (leg.full e)) tt)
 ]

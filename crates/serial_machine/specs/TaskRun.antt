@@ -20,7 +20,7 @@ after_next ctx task (Stops found) = after_stop ctx task found
 
 -- one step of a task
 abbrev pub step : ImageValue → ℕ → Ctx → TaskState → Stepped
-step image budget ctx task = after_next ctx task (next_at image.text (length task.memory) budget task.core)
+step image budget ctx task = after_next ctx task (next_at image (length task.memory) budget task.core)
 
 -- where a task's run leads behind a step
 abbrev pub followed : (TaskState → TaskEnd) → Stepped → TaskEnd

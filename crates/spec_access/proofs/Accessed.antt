@@ -5,13 +5,13 @@ use Rattle.std.proofs.lemmas.Option.{same_Some}
 use Rattle.std.proofs.lemmas.List.Elements.{All-push}
 use Rattle.line_table.specs.Note.{Note}
 use Rattle.memory_law.specs.Notes.{notes_of}
-use Rattle.memory_law.proofs.Filters.{notes_of-append}
+use Rattle.memory_law.proofs.Proved.{notes_of-append}
 use Rattle.rv_core.specs.declared.state.Core.{Core}
 use Rattle.rv_core.specs.LegValue.{LegValue}
 use Rattle.rv_core.specs.Legs.{IsInside}
 use Rattle.task_step.specs.declared.request.Request.{Request}
 use Rattle.task_step.specs.Conditions.{IsInData}
-use Rattle.task_step.proofs.Reaching.{request_at-reaches}
+use Rattle.task_step.proofs.Proved.{request_at-reaches}
 use Rattle.undo_log.specs.declared.access.Access.{Access}
 use Rattle.undo_log.specs.Number.{IsAccessible}
 use Rattle.undo_log.specs.Undo.{Call, access_of, after_call, AllAccessible}

@@ -4,7 +4,7 @@ use Rattle.std.proofs.lemmas.Option.{same_Some}
 use Rattle.rv_core.specs.LegValue.{LegValue}
 use Rattle.task_step.specs.Conditions.{HasRoom}
 use Rattle.task_step.specs.declared.request.Request.{Request}
-use Rattle.task_step.proofs.Asked.{AllowedBy, request_at-allowed, allowed_by-room}
+use Rattle.task_step.proofs.Proved.{allowed_by-room, AllowedBy, request_at-allowed}
 use Rattle.spec_state.specs.declared.task.Task.{Task}
 use Rattle.spec_state.specs.View.{View, task_at}
 use Rattle.spec_state.specs.Tasks.{context_of}

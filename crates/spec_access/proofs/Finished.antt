@@ -18,7 +18,7 @@ use Rattle.spec_state.specs.Changes.{with_core, TakesLeg, Finishes}
 use Rattle.rv_core.specs.declared.state.Core.{Core}
 use Rattle.rv_core.specs.LegValue.{LegValue}
 use Rattle.rv_core.specs.Legs.{after_other_of}
-use Rattle.spec_state.proofs.Joined.{within_lists}
+use Rattle.spec_state.proofs.Proved.{within_lists}
 use Rattle.spec_access.specs.Asking.{HasCommitEntry}
 use Rattle.spec_access.proofs.Slots.{changed, others}
 use Rattle.spec_access.proofs.Kept.{place_forth, place_back, formed_all}

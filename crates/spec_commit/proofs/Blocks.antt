@@ -12,7 +12,7 @@ use Rattle.spec_state.specs.declared.task.Task.{Task}
 use Rattle.spec_state.specs.View.{View}
 use Rattle.spec_state.specs.Fits.{seen, entries_in}
 use Rattle.spec_state.specs.StateValue.{Spare, HasNoLessRoom}
-use Rattle.spec_state.proofs.Reserved.{spare_grows, spare_at, spare_before, same_entries}
+use Rattle.spec_state.proofs.Proved.{same_entries, spare_at, spare_before, spare_grows}
 use Rattle.spec_commit.specs.Spilling.{KeepsOtherRoom}
 
 -- what stands in the place of a block now

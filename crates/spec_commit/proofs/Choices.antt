@@ -11,8 +11,7 @@ use Rattle.spec_state.specs.Least.{IsHeir, Precedes}
 use Rattle.spec_state.specs.Fronts.{IsFirmBy}
 use Rattle.spec_state.specs.Room.{IsMovable, AreChosen, most_moved}
 use Rattle.spec_state.specs.Stored.{IsStored}
-use Rattle.spec_state.proofs.Entered.{held_at}
-use Rattle.spec_state.proofs.Heirs.{firm_by, by_firm}
+use Rattle.spec_state.proofs.Proved.{by_firm, firm_by, held_at}
 use Rattle.spec_commit.specs.Latest.{HasLessKey, MayMove, AreLatest, with_one}
 use Rattle.spec_commit.proofs.Latest.{in_take, in_drop, pairs_at, one_more}
 use Rattle.spec_commit.proofs.Places.{less_precedes, place_precedes, precedes_trans}

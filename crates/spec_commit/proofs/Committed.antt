@@ -23,8 +23,7 @@ use Rattle.spec_state.specs.Leaving.{Leaves}
 use Rattle.spec_state.specs.Stored.{IsStored, IsWellFormed, IsIndexed}
 use Rattle.spec_state.specs.Tasks.{depth_of, own_level}
 use Rattle.spec_state.specs.View.{View, task_at}
-use Rattle.spec_state.proofs.Kept.{KeepsPlace, KeepsKey, AreKept, same_place, kept_all, stored_kept, indexed_kept, slots_kept, formed_later}
-use Rattle.spec_state.proofs.Without.{keeps_none}
+use Rattle.spec_state.proofs.Proved.{AreKept, formed_later, indexed_kept, keeps_none, KeepsKey, KeepsPlace, kept_all, same_place, slots_kept, stored_kept}
 use Rattle.spec_commit.specs.Committing.{ChildrenAreMade, adopted}
 use Rattle.spec_commit.proofs.Moving.{cores_stay}
 

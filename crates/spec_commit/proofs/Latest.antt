@@ -6,8 +6,8 @@ use Rattle.std.proofs.lemmas.Bool.{cases_eq, cases_lt}
 use Rattle.std.proofs.lemmas.List.{take-append-drop}
 use Rattle.std.proofs.lemmas.List.Elements.{All-contains, All-contains_itself, Contains-append_left, Contains-append_right, Contains-append_cases}
 use Rattle.std.proofs.lemmas.List.Kept.{AllPairs-cons}
-use Rattle.fractal_vt.proofs.Sorted.{AllPairs-head, AllPairs-tail}
-use Rattle.spec_state.proofs.Entered.{head_or_tail, has_head, in_tail}
+use Rattle.fractal_vt.proofs.Proved.{AllPairs-head, AllPairs-tail}
+use Rattle.spec_state.proofs.Proved.{has_head, head_or_tail, in_tail}
 use Rattle.std.proofs.lemmas.Option.{slice_get_within, get_or_from_slice_get, slice_get-get_or}
 use Rattle.spec_state.specs.Room.{most_moved}
 use Rattle.spec_commit.specs.Latest.{AreLatest, with_one}

@@ -11,13 +11,13 @@ use Rattle.std.specs.Ordering.{nat_cmp, ordering_then}
 use Rattle.std.specs.declared.cmp.Ordering.TheVariants.{Less, Equal}
 use Rattle.std.proofs.lemmas.Cmp.{tied_itself}
 use Rattle.fractal_vt.specs.declared.key.Key.{Key}
-use Rattle.fractal_vt.proofs.KeyLaws.{key_cmp_total}
+use Rattle.fractal_vt.proofs.Proved.{key_cmp_total}
 use Rattle.run_journal.specs.declared.journal.Entry.{Entry}
-use Rattle.spec_state.proofs.Fronts.{same_tile}
+use Rattle.spec_state.proofs.Proved.{all_same, freed_other, has_head, head_or_tail, held_at, held_place, in_tail, keeps_none, same_tile}
 use Rattle.spill_store.specs.Entries.{Entry as Spilled, pushed}
 use Rattle.spill_store.specs.Pushing.{all_pushed}
 use Rattle.tile_queues.specs.Queue.{without}
-use Rattle.tile_queues.proofs.Ids.{without-absent}
+use Rattle.tile_queues.proofs.Proved.{without-absent}
 use Rattle.turn_law.specs.Room.{Waiting, queue_after, kept_by}
 use Rattle.spec_state.specs.declared.task.Status.TheVariants.{Idle, Finished}
 use Rattle.spec_state.specs.declared.task.Status.{Status}
@@ -30,8 +30,6 @@ use Rattle.spec_state.specs.Room.{IsMovable, AreChosen, IsSpilledAs, Coalesces, 
 use Rattle.spec_state.specs.Stored.{HasCore, IsStored}
 use Rattle.spec_state.specs.Tasks.{descriptor_of, spilled_as}
 use Rattle.spec_state.specs.View.{View, task_at, queue_at, finished_at, cores_at, block_at}
-use Rattle.spec_state.proofs.Entered.{head_or_tail, has_head, in_tail, held_at}
-use Rattle.spec_state.proofs.Without.{all_same, freed_other, held_place, keeps_none}
 use Rattle.spec_commit.specs.Spilling.{IsIdleTask, Spills}
 use Rattle.spec_commit.proofs.Latest.{pairs_at, in_take}
 

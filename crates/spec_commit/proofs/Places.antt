@@ -8,12 +8,12 @@ use Rattle.std.proofs.lemmas.Bool.Decides.{nat_tests}
 use Rattle.std.proofs.lemmas.Option.{slice_get_within, get_or_from_slice_get}
 use Rattle.fractal_vt.specs.declared.key.Key.{Key}
 use Rattle.fractal_vt.specs.Keys.{key_cmp}
-use Rattle.fractal_vt.proofs.KeyLaws.{key_cmp_total}
+use Rattle.fractal_vt.proofs.Proved.{key_cmp_total}
 use Rattle.tile_queues.specs.Queue.{AreDistinct}
 use Rattle.spec_state.specs.declared.task.Task.{Task}
 use Rattle.spec_state.specs.View.{View, queue_at}
 use Rattle.spec_state.specs.Least.{Queued, ranked_cmp, IsQueuedAt, Precedes}
-use Rattle.spec_state.proofs.Fronts.{less_then, same_tile}
+use Rattle.spec_state.proofs.Proved.{less_then, same_tile}
 use Rattle.spec_commit.specs.Latest.{HasLessKey}
 
 -- an id stands at one place

@@ -9,7 +9,7 @@ use Rattle.spec_state.specs.View.{View, task_at, queue_at}
 use Rattle.spec_state.specs.Least.{Precedes}
 use Rattle.spec_state.specs.Room.{Asker, Enqueuer, IsVictim}
 use Rattle.spec_state.specs.Stored.{IsStored}
-use Rattle.spec_state.proofs.Entered.{held_at}
+use Rattle.spec_state.proofs.Proved.{held_at}
 use Rattle.spec_commit.specs.Latest.{HasLessKey, IsAmong, IsLatestOther}
 use Rattle.spec_commit.proofs.Choices.{live_at}
 use Rattle.spec_commit.proofs.Places.{less_precedes, place_precedes, precedes_trans}

@@ -3,6 +3,8 @@
 //!
 //! Each call changes a state as its definition says and keeps what the state's type keeps. What takes memory takes it before its first
 //! change, so that a want of it leaves the state as it was. Whether an event is allowed is decided above.
+//! It stands on the state; `book_move` and `book_room` call it. A commit of a task with children costs a look at each
+//! slot of tasks.
 #![tactic(auto)]
 
 mod choosing;

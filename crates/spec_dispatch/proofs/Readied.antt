@@ -3,13 +3,13 @@ use Rattle.std.proofs.Common.{◌≡◌, ℕ, sym, ap, subst, ◌∙◌, slice_g
 use Rattle.std.specs.Prelude.{Contains}
 use Rattle.std.specs.Ordering.{ordering_then}
 use Rattle.fractal_vt.specs.Keys.{key_cmp}
-use Rattle.fractal_vt.proofs.Renumbered.{keeps_order}
+use Rattle.fractal_vt.proofs.Proved.{keeps_order}
 use Rattle.spec_state.specs.declared.task.Task.{Task}
 use Rattle.spec_state.specs.View.{View, queue_at}
 use Rattle.spec_state.specs.Least.{IsQueuedAt, Precedes, Queued, spot_cmp}
 use Rattle.spec_state.specs.Numbers.{FreesNumber, Renumbers, has_free, renumbers, renumbered_task}
 use Rattle.spec_state.specs.Queries.{IsIdle, IsLeastIdle, IsFreeCore}
-use Rattle.spec_state.proofs.HeldNumbers.{table_holds_task}
+use Rattle.spec_state.proofs.Proved.{table_holds_task}
 use Rattle.spec_dispatch.proofs.Renumbers.{now, was}
 
 module _ (old new : View) (r : Renumbers old new) where

@@ -7,11 +7,10 @@ use Rattle.std.proofs.lemmas.List.Sorted.{Contains-permutation, IsPermutation-sy
 use Rattle.commit_arbiter.specs.declared.entry.Entry.{Entry}
 use Rattle.commit_arbiter.specs.Indexed.{entry_cmp, without}
 use Rattle.fractal_vt.specs.Sorted.{inserted}
-use Rattle.fractal_vt.proofs.Sorted.{inserted-permutes}
+use Rattle.fractal_vt.proofs.Proved.{inserted-permutes}
 use Rattle.spec_state.specs.declared.task.Task.{Task}
 use Rattle.spec_state.specs.Stored.{IsIndexed, entry_of}
-use Rattle.spec_state.proofs.Entered.{head_or_tail, has_head, in_tail}
-use Rattle.spec_state.proofs.Moved.{in_without, from_without}
+use Rattle.spec_state.proofs.Proved.{from_without, has_head, head_or_tail, in_tail, in_without}
 
 module _ (tasks now : List (Option Task)) (lists : List (List ℕ)) (arrivals : List ℕ) (next id : ℕ) (entries : List Entry) (task : Task)
     (is : IsIndexed tasks lists arrivals next entries) (here : slice_index_or now id None ≡ Some task)

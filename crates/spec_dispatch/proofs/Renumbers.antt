@@ -24,7 +24,7 @@ use Rattle.spec_state.specs.Tasks.{depth_of}
 use Rattle.spec_state.specs.Fits.{seen, entries_in, queued_count, HasTiles, HasSlots}
 use Rattle.spec_state.specs.Numbers.{IsInUse, IsPathsOrTasks, IsNumberTable, Renumbers, renumbered_task, on_path, of_task}
 use Rattle.spec_state.specs.Stored.{HasCore, IsThere, IsWellFormed, IsStored, IsIndexed, entry_of}
-use Rattle.spec_state.proofs.HeldNumbers.{table_holds_spilled, table_holds_task}
+use Rattle.spec_state.proofs.Proved.{table_holds_spilled, table_holds_task}
 use Rattle.spec_dispatch.specs.Table.{held_numbers}
 use Rattle.spec_dispatch.proofs.Tabled.{held_are}
 

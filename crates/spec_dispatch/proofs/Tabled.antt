@@ -9,7 +9,7 @@ use Rattle.slab.proofs.SlabLemmas.{Contains-entries}
 use Rattle.spec_state.specs.declared.task.Task.{Task}
 use Rattle.spec_state.specs.View.{View}
 use Rattle.spec_state.specs.Numbers.{IsPathsOrTasks}
-use Rattle.spec_state.proofs.Entered.{head_or_tail, has_head, in_tail}
+use Rattle.spec_state.proofs.Proved.{has_head, head_or_tail, in_tail}
 use Rattle.spec_dispatch.specs.Table.{numbers_of, held_numbers}
 
 in_rest : (es : List (ℕ × Task)) (e : ℕ × Task) (n : ℕ) (tie : Option ℕ) → e.1.key.tb ≡ tie → Contains (numbers_of es) n → Contains (numbers_of (e ∷ es)) n

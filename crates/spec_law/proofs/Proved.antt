@@ -1,7 +1,8 @@
 -- What the proofs of this crate give to those above: nothing else of them is cited there.
 pub use Rattle.spec_law.proofs.Aborted.Cascades.{cascade_is_later, conflicts_spare_asker}
 pub use Rattle.spec_law.proofs.Aborted.KeptHeir.{abort_keeps_heir, upto_of}
-pub use Rattle.spec_law.proofs.Aborted.KeptSound.{abort_for_room_is_sound, abort_of_conflicts_is_sound, abort_of_later_is_sound, abort_of_one_is_sound}
+pub use Rattle.spec_law.proofs.Aborted.KeptSound.{abort_for_room_is_sound, abort_of_conflicts_is_sound, abort_of_later_is_sound}
+pub use Rattle.spec_law.proofs.Aborted.KeptSound.{abort_of_one_is_sound}
 pub use Rattle.spec_law.proofs.Aborted.KeptTasks.{each_now}
 pub use Rattle.spec_law.proofs.Aborted.Spared.{cascade_spares_heir, conflicts_spare_heir, least_key, not_below_least, queued_at}
 pub use Rattle.spec_law.proofs.Aborted.Taken.{abort_takes, marked_is_back, unmarked_stays}
@@ -17,7 +18,7 @@ pub use Rattle.spec_law.proofs.Dispatches.Below.{below_others, upto_queued, upto
 pub use Rattle.spec_law.proofs.Dispatches.One.{now, was_idle}
 pub use Rattle.spec_law.proofs.Dispatches.Sound.{dispatch_stays_sound}
 pub use Rattle.spec_law.proofs.Enqueues.Steps.{adds, enqueue_stays_sound, steps_one, without_child}
-pub use Rattle.spec_law.proofs.Moves.Added.{StandsAt, added_stands, all_added, pushes_each}
+pub use Rattle.spec_law.proofs.Moves.Added.{added_stands, all_added, pushes_each, StandsAt}
 pub use Rattle.spec_law.proofs.Moves.CoalesceBags.{coalesced_bags}
 pub use Rattle.spec_law.proofs.Moves.CoalesceMoves.{coalesce_moves, inside, queued_was}
 pub use Rattle.spec_law.proofs.Moves.CoalesceSizes.{coalesce_sizes}
@@ -25,7 +26,8 @@ pub use Rattle.spec_law.proofs.Moves.CoalesceSound.{coalesce_stays_sound}
 pub use Rattle.spec_law.proofs.Moves.MovingHeir.{moved_heir}
 pub use Rattle.spec_law.proofs.Moves.SplitSound.{split_stays_sound}
 pub use Rattle.spec_law.proofs.Renumbers.Few.{numbers_are_held, numbers_in_use_are_few}
-pub use Rattle.spec_law.proofs.Renumbers.One.{after as renumbered_to, each_now as each_renumbered, holds_placed, holds_task, is_after as is_renumbered, now as renumbered_now, same_order, spilled_was}
+pub use Rattle.spec_law.proofs.Renumbers.One.{after as renumbered_to, each_now as each_renumbered, holds_placed, holds_task}
+pub use Rattle.spec_law.proofs.Renumbers.One.{is_after as is_renumbered, now as renumbered_now, same_order, spilled_was}
 pub use Rattle.spec_law.proofs.Renumbers.Sound.{renumbering_leaves_numbers, renumbering_says_same, renumbering_stays_sound}
 pub use Rattle.spec_law.proofs.Rooms.Child.{child_is_above}
 pub use Rattle.spec_law.proofs.Rooms.Fit.{heirs_are_one}
@@ -40,6 +42,7 @@ pub use Rattle.spec_law.proofs.Tasks.Beside.{id_below, mapped_some, queued_stand
 pub use Rattle.spec_law.proofs.Tasks.Contained.{some_first}
 pub use Rattle.spec_law.proofs.Tasks.Distinct.{distinct_at, one_place}
 pub use Rattle.spec_law.proofs.Tasks.Filtered.{filter_leaves, list_mapped}
+pub use Rattle.spec_law.proofs.Tasks.Firm.{spilled_are_firm}
 pub use Rattle.spec_law.proofs.Tasks.Foremost.{Free, free_is_keyed}
 pub use Rattle.spec_law.proofs.Tasks.Leasts.{makes_least}
 pub use Rattle.spec_law.proofs.Tasks.Lowest.{lowest}

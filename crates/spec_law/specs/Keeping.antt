@@ -26,7 +26,7 @@ DispatchStaysSound =
 -- the leg is one of a running task: it begins at the task's core and is a run of plain instructions of the image
 pub record IsLegOf (image : ImageValue) (view : View) (tile core : ℕ) (leg : LegValue) (id : ℕ) (task : Task) : Type 0 where
   pub takes : TakesLeg view tile core leg id task
-  pub run : IsRun image.text image.data_size view.settings.budget leg
+  pub run : IsRun image view.settings.budget leg
 
 -- the leg is one of a running task, which asks for this at its end
 pub record AsksAt (image : ImageValue) (view : View) (tile core : ℕ) (leg : LegValue) (id : ℕ) (task : Task) (request : Request) : Type 0 where

@@ -13,7 +13,7 @@ use Rattle.spec_state.specs.View.{View, task_at, finished_at, cores_at}
 use Rattle.spec_state.specs.Stored.{IsStored, HasCore}
 use Rattle.spec_state.specs.Tasks.{is_dispatched, kept_core}
 use Rattle.spec_state.specs.Queries.{Conflicts, HasLine}
-use Rattle.spec_state.proofs.Joined.{within_lists}
+use Rattle.spec_state.proofs.Proved.{within_lists}
 use Rattle.spec_rollback.specs.Marking.{has_line, conflicts, conflicts_at, IsInTile, IsInTiles, IsFound, Finds}
 use Rattle.spec_rollback.specs.Marking.{FindsConflicts}
 use Rattle.spec_rollback.proofs.Pulled.{less_is}

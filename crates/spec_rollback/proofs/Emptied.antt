@@ -5,7 +5,7 @@ use Rattle.std.specs.Prelude.{Contains, All, IsSome, Bool, true, false, option_m
 use Rattle.std.proofs.lemmas.List.Elements.{All-tail, All-head, All-cons}
 use Rattle.std.proofs.lemmas.List.{length-map}
 use Rattle.memory_law.specs.Tasks.{Logged, IsByKey, undone_set}
-use Rattle.memory_law.proofs.Latest.{member_runs}
+use Rattle.memory_law.proofs.Proved.{member_runs}
 use Rattle.spill_store.specs.Entries.{Entry as Spilled}
 use Rattle.spec_state.specs.declared.task.Status.{Status}
 use Rattle.spec_state.specs.declared.task.Status.TheVariants.{Finished}

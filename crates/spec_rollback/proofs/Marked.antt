@@ -15,7 +15,7 @@ use Rattle.std.proofs.lemmas.List.Sums.{sum_by-le}
 use Rattle.std.proofs.Math.Nat.{mul-le-mul}
 use Rattle.std.proofs.Math.Seq.{take-append_seam}
 use Rattle.abort_cascade.specs.Cascade.{Marked}
-use Rattle.abort_cascade.proofs.Rounds.{count-mark}
+use Rattle.abort_cascade.proofs.Proved.{count-mark}
 use Rattle.tile_queues.specs.Queue.{QueueValue}
 use Rattle.spec_state.specs.declared.settings.Settings.{Settings}
 use Rattle.spec_state.specs.declared.task.Task.{Task}

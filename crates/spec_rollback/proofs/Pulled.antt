@@ -11,7 +11,7 @@ use Rattle.abort_cascade.specs.Cascade.{Reached, start, step, IsLeastClosed, Mar
 use Rattle.spec_rollback.proofs.Marked.{fewer}
 use Rattle.fractal_vt.specs.Keys.{key_cmp}
 use Rattle.line_table.specs.Signature.{meets_of}
-use Rattle.line_table.proofs.Signatures.{meets_of-Meet}
+use Rattle.line_table.proofs.Proved.{meets_of-Meet}
 use Rattle.spec_state.specs.declared.task.Task.{Task}
 use Rattle.spec_state.specs.View.{View, task_at}
 use Rattle.spec_state.specs.Tasks.{is_dispatched}

@@ -5,7 +5,7 @@ use Rattle.std.specs.Cmp.Lexicographic.{options_total}
 use Rattle.std.specs.List.Sorted.{IsSortedBy}
 use Rattle.std.specs.Ordering.{is_lt}
 use Rattle.std.proofs.lemmas.List.Sorted.{ranks_by, IsStrictWeakOrder-flip, sorted_far}
-use Rattle.fractal_vt.proofs.KeyLaws.{key_cmp_total}
+use Rattle.fractal_vt.proofs.Proved.{key_cmp_total}
 use Rattle.spec_state.specs.declared.task.Task.{Task}
 use Rattle.std.specs.Prelude.{Option}
 use Rattle.spec_rollback.specs.Undone.{key_in, ids_cmp, Falls}

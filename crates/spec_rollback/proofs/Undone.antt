@@ -8,7 +8,7 @@ use Rattle.std.proofs.lemmas.Bool.{cases_eq}
 use Rattle.std.proofs.lemmas.Bool.Decides.{nat_tests}
 use Rattle.memory_law.specs.Events.{IsLatest, without_one}
 use Rattle.memory_law.specs.Tasks.{Logged, log_of, Member, Earlier, Ascends, IsByKey, undone_set}
-use Rattle.memory_law.proofs.Latest.{not_self, member_runs, latest_first}
+use Rattle.memory_law.proofs.Proved.{latest_first, member_runs, not_self}
 use Rattle.undo_log.specs.Undo.{undone}
 use Rattle.spec_state.specs.declared.task.Task.{Task}
 use Rattle.spec_state.specs.Groups.{logged, logged_task}

@@ -10,7 +10,7 @@ use Rattle.std.proofs.lemmas.Option.{slice_get_within, get_or_from_slice_get}
 use Rattle.commit_arbiter.specs.declared.entry.Entry.{Entry}
 use Rattle.commit_arbiter.specs.Indexed.{entry_cmp, HasId}
 use Rattle.fractal_vt.specs.Sorted.{inserted}
-use Rattle.fractal_vt.proofs.Sorted.{inserted-permutes}
+use Rattle.fractal_vt.proofs.Proved.{inserted-permutes}
 use Rattle.spec_state.specs.declared.task.Task.{Task}
 use Rattle.spec_state.specs.Stored.{IsIndexed, entry_of}
 

@@ -13,8 +13,7 @@ use Rattle.std.proofs.Common.{option_map, length-take-le}
 use Rattle.fractal_vt.specs.declared.key.Key.{Key}
 use Rattle.fractal_vt.specs.Keys.{key_cmp}
 use Rattle.fractal_vt.specs.Least.{IsFirstLeast}
-use Rattle.fractal_vt.proofs.KeyLaws.{key_cmp_total}
-use Rattle.fractal_vt.proofs.Search.{least_at}
+use Rattle.fractal_vt.proofs.Proved.{key_cmp_total, least_at}
 use Rattle.spill_store.specs.Entries.{Entry as Spilled, BlockValue, open_key, IsLeastKey, IsLeastEntry}
 use Rattle.spec_state.specs.Least.{Queued, Spilled_at, ranked_cmp, place_cmp}
 use Rattle.spec_state.specs.Fronts.{IsFirstSpilled, HoldNone}

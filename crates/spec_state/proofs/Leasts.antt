@@ -16,12 +16,11 @@ use Rattle.std.proofs.lemmas.List.Elements.{All-contains}
 use Rattle.std.proofs.lemmas.Option.{slice_get-get_or}
 use Rattle.commit_arbiter.specs.declared.entry.Entry.{Entry}
 use Rattle.commit_arbiter.specs.Indexed.{entry_cmp, first_id}
-use Rattle.commit_arbiter.proofs.Places.{entry_cmp_total}
+use Rattle.commit_arbiter.proofs.Proved.{entry_cmp_total}
 use Rattle.fractal_vt.specs.declared.key.Key.{Key}
 use Rattle.fractal_vt.specs.Keys.{key_cmp}
 use Rattle.fractal_vt.specs.Sorted.{IsInOrder}
-use Rattle.fractal_vt.proofs.KeyLaws.{key_cmp_total}
-use Rattle.fractal_vt.proofs.Sorted.{AllPairs-head}
+use Rattle.fractal_vt.proofs.Proved.{AllPairs-head, key_cmp_total}
 use Rattle.spill_store.specs.Entries.{Entry as Spilled, BlockValue, open_key}
 use Rattle.spec_state.specs.declared.task.Task.{Task}
 use Rattle.spec_state.specs.declared.task.TaskId.{TaskId}
@@ -177,10 +176,10 @@ module _ (view : View) where
 
 -- the first of the spilled tasks, of the blocks as they are seen
 pub front_seen : (blocks : List BlockValue) (seen : List (List Spilled)) (front : Option Front) → map (λ b. b.entries) blocks ≡ seen
-    → IfSome front (λ f. IsFirstSpilled (map (λ b. b.entries) blocks) (length blocks) f.tile f.key) → IfSome front (λ f. IsFirstSpilled seen (length seen) f.tile f.key)
+    → IfSome front (λ f. IsFirstSpilled (map (λ b. b.entries) blocks) (length blocks) f.tile f.key.now) → IfSome front (λ f. IsFirstSpilled seen (length seen) f.tile f.key.now)
 front_seen blocks seen front same is =
-    subst (λ (bs : List (List Spilled)). IfSome front (λ f. IsFirstSpilled bs (length bs) f.tile f.key)) same
-    (subst (λ n. IfSome front (λ f. IsFirstSpilled (map (λ b. b.entries) blocks) n f.tile f.key)) (sym (length-map blocks (λ (b : BlockValue). b.entries))) is)
+    subst (λ (bs : List (List Spilled)). IfSome front (λ f. IsFirstSpilled bs (length bs) f.tile f.key.now)) same
+    (subst (λ n. IfSome front (λ f. IsFirstSpilled (map (λ b. b.entries) blocks) n f.tile f.key.now)) (sym (length-map blocks (λ (b : BlockValue). b.entries))) is)
 
 pub none_seen : (blocks : List BlockValue) (seen : List (List Spilled)) → map (λ b. b.entries) blocks ≡ seen → HoldNone (map (λ b. b.entries) blocks) (length blocks) → HoldNone seen (length seen)
 none_seen blocks seen same is =

@@ -20,3 +20,4 @@ pub mod Picks
 pub mod Dispatched
 pub mod Conflicting
 pub mod Idles
+pub mod Proved

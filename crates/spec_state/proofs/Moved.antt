@@ -9,9 +9,9 @@ use Rattle.std.proofs.lemmas.List.{get_or-set_same, get_or-set_other}
 use Rattle.std.proofs.lemmas.List.Sorted.{Contains-permutation, IsPermutation-sym}
 use Rattle.commit_arbiter.specs.declared.entry.Entry.{Entry}
 use Rattle.commit_arbiter.specs.Indexed.{entry_cmp, without, HasId}
-use Rattle.commit_arbiter.proofs.Places.{length-without}
+use Rattle.commit_arbiter.proofs.Proved.{length-without}
 use Rattle.fractal_vt.specs.Sorted.{inserted}
-use Rattle.fractal_vt.proofs.Sorted.{inserted-permutes, length-inserted}
+use Rattle.fractal_vt.proofs.Proved.{inserted-permutes, length-inserted}
 use Rattle.spec_state.specs.declared.task.Task.{Task}
 use Rattle.spec_state.specs.Stored.{IsIndexed, AreTheirs, entry_of}
 use Rattle.spec_state.proofs.Entered.{head_or_tail, has_head, in_tail, held_at}

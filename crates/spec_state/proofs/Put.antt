@@ -16,7 +16,7 @@ use Rattle.spec_state.specs.declared.task.Task.{Task}
 use Rattle.spec_state.specs.View.{View, task_at, queue_at}
 use Rattle.spec_state.specs.Fits.{seen, queued_count, HasTiles, HasSlots}
 use Rattle.spec_state.specs.Stored.{IsStored, IsIndexed, IsWellFormed}
-use Rattle.fractal_vt.proofs.Sorted.{length-inserted}
+use Rattle.fractal_vt.proofs.Proved.{length-inserted}
 use Rattle.task_desc.specs.declared.desc.Desc.{Desc}
 use Rattle.spec_state.specs.declared.task.Creator.TheVariants.{Committed}
 use Rattle.spec_state.specs.Tasks.{idle_task, root_descriptor}

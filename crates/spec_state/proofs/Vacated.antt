@@ -3,7 +3,7 @@ use Rattle.std.proofs.Common.{◌≡◌, ◌≢◌, ◌⊎◌, ℕ, [], length, 
 use Rattle.std.specs.Prelude.{Contains, ◌↔◌}
 use Rattle.std.proofs.lemmas.Bool.{cases_eq}
 use Rattle.tile_queues.specs.Queue.{without}
-use Rattle.tile_queues.proofs.Ids.{without-absent}
+use Rattle.tile_queues.proofs.Proved.{without-absent}
 use Rattle.spec_state.specs.declared.task.Status.{Status}
 use Rattle.spec_state.specs.declared.task.Status.TheVariants.{Idle, Finished}
 use Rattle.spec_state.specs.declared.task.Task.{Task}

@@ -13,27 +13,27 @@ use fractal_vt::{Key, cmp};
 use rv_core::Naming;
 use spill_store::Block;
 
-/// The key of a spilled task, and the tile in whose block it stands.
-#[derive(Drop)]
-struct Front {
+/// The key of a spilled task where it stands, and the tile in whose block that is.
+#[derive(Clone, Copy)]
+struct Front<'a> {
     tile: u32,
-    key: Key,
+    key: &'a Key,
 }
 
 /// The lesser of the first task of the earlier blocks and the first one of the next block.
-fn lesser(best: Option<Front>, blocks: &[Block], tile: u32) -> Option<Front>
+fn lesser<'a>(best: Option<Front<'a>>, blocks: &'a [Block], tile: u32) -> Option<Front<'a>>
     requires tile { tile < length blocks.now }
-    requires some { IfSome best (λ f. IsFirstSpilled (entries_in blocks.now) tile f.tile f.key) }
+    requires some { IfSome best (λ f. IsFirstSpilled (entries_in blocks.now) tile f.tile f.key.now) }
     requires none { IsNone best → HoldNone (entries_in blocks.now) tile }
-    ensures some { IfSome result (λ f. IsFirstSpilled (entries_in blocks.now) (tile + 1) f.tile f.key) }
+    ensures some { IfSome result (λ f. IsFirstSpilled (entries_in blocks.now) (tile + 1) f.tile f.key.now) }
     ensures none { IsNone result → HoldNone (entries_in blocks.now) (tile + 1) }
 {
-    match (best, blocks[tile as usize].least_key()) {
+    match (best, blocks[tile as usize].front_key()) {
         (None, None) => None,
         (Some(front), None) => Some(front),
         (None, Some(key)) => Some(Front { tile, key }),
         (Some(front), Some(key)) => {
-            if cmp(&key, &front.key).is_lt() {
+            if cmp(key, front.key).is_lt() {
                 Some(Front { tile, key })
             } else {
                 Some(front)
@@ -43,9 +43,9 @@ fn lesser(best: Option<Front>, blocks: &[Block], tile: u32) -> Option<Front>
 }
 
 /// The first of the spilled tasks: that of the least key, and on a tie that of the lowest tile.
-fn first_spilled(blocks: &[Block]) -> Option<Front>
+fn first_spilled(blocks: &[Block]) -> Option<Front<'_>>
     requires few { length blocks.now ≤ 16 }
-    ensures some { IfSome result (λ f. IsFirstSpilled (entries_in blocks.now) (length blocks.now) f.tile f.key) }
+    ensures some { IfSome result (λ f. IsFirstSpilled (entries_in blocks.now) (length blocks.now) f.tile f.key.now) }
     ensures none { IsNone result → HoldNone (entries_in blocks.now) (length blocks.now) }
 {
     let mut best = None;
@@ -81,9 +81,9 @@ impl<N: Naming> State<N> {
     }
 
     /// The first of the spilled tasks.
-    fn first_front(&self) -> Option<Front>
+    fn first_front(&self) -> Option<Front<'_>>
         ensures some { let blocks = self.now.view.blocks in
-            IfSome result (λ f. IsFirstSpilled blocks (length blocks) f.tile f.key) }
+            IfSome result (λ f. IsFirstSpilled blocks (length blocks) f.tile f.key.now) }
         ensures none { IsNone result → HoldNone self.now.view.blocks (length self.now.view.blocks) }
     {
         first_spilled(self.blocks.as_slice())
@@ -101,7 +101,7 @@ impl<N: Naming> State<N> {
             (None, Some(front)) => Some(Where::Spilled(front.tile)),
             (Some(id), Some(front)) => {
                 let task = self.task(id);
-                if cmp(&front.key, &task.key).is_lt() {
+                if cmp(front.key, &task.key).is_lt() {
                     Some(Where::Spilled(front.tile))
                 } else {
                     Some(standing(id, task))

@@ -4,6 +4,7 @@
 //! see of a state (`View`), the words that its readers promise, and what each change does to it, for the crates that change it. A task is
 //! found by its id in one step, and nothing is copied to look at one. When a view is sound is said in the crate of its laws, so that what
 //! changes a state stands on definitions alone.
+//! It stands on the parts of the machine: keys, index, queues, blocks, filters and logs.
 #![tactic(auto)]
 
 mod adding;

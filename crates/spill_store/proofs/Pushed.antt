@@ -14,9 +14,7 @@ use Rattle.std.specs.Option.{IfSome}
 use Rattle.fractal_vt.specs.Keys.{key_cmp}
 use Rattle.fractal_vt.specs.Sorted.{IsInOrder, place_for}
 use Rattle.fractal_vt.specs.Renumbered.{HoldsKey}
-use Rattle.fractal_vt.proofs.KeyLaws.{key_cmp_total}
-use Rattle.fractal_vt.proofs.Renumbered.{keeps_order}
-use Rattle.fractal_vt.proofs.Sorted.{place_upto, place_beyond, inserted_at, inserted-permutes, length-inserted, All-inserted, in_order-inserted, AllPairs-head, AllPairs-map, ties_behind}
+use Rattle.fractal_vt.proofs.Proved.{All-inserted, AllPairs-head, AllPairs-map, in_order-inserted, inserted-permutes, inserted_at, keeps_order, key_cmp_total, length-inserted, place_beyond, place_upto, ties_behind}
 use Rattle.spill_store.specs.Entries.{Entry, open_key, by_key, pushed, first_key, renumbered_entry, HoldsEntries, TakesLeast, IsLeastKey}
 use Rattle.spill_store.specs.Pushing.{all_pushed, PushesStandInOrder, PushGoesBehindTies}
 

@@ -1,5 +1,5 @@
 ghost use Rattle.std.specs.Prelude.{◌≡◌, ◌+◌, ◌-◌, ◌<◌, ◌≤◌, ◌↔◌, [], ◌∷◌, length, map, slice_get, Some, IfSome, IfNone};
-ghost use Rattle.std.specs.Prelude.{IsNone, IsOk, IsTrue, OnOk, OnSome};
+ghost use Rattle.std.specs.Prelude.{IsNone, IsOk, IsTrue, OnOk, OnSome, option_map};
 ghost use Rattle.std.specs.List.Sorted.{IsStrictlyIncreasing};
 ghost use Rattle.std.specs.VecDeque.{deque_capacity, deque_len};
 ghost use Rattle.fractal_vt.specs.Sorted.{IsInOrder, place_for};
@@ -87,14 +87,24 @@ impl Block {
         Some(first.into_parts())
     }
 
-    /// The open key of the task that `take_least` would take; None exactly where the block is empty.
+    /// The open key of the task that `take_least` would take, where it stands; None exactly where the block is empty.
+    pub fn front_key(&self) -> Option<&Key>
+        ensures first { option_map (λ key. key.now) result ≡ first_key self.now.entries }
+        ensures none { IsNone result ↔ (self.now.entries ≡ []) }
+        ensures least { IfSome result (λ key. IsLeastKey self.now.entries key.now) }
+    {
+        let first = self.kept.front()?;
+        Some(first.key())
+    }
+
+    /// A copy of that key.
     pub fn least_key(&self) -> Option<Key>
         ensures first { result ≡ first_key self.now.entries }
         ensures none { IsNone result ↔ (self.now.entries ≡ []) }
         ensures least { IfSome result (IsLeastKey self.now.entries) }
     {
-        let first = self.kept.front()?;
-        Some(first.key().copied())
+        let first = self.front_key()?;
+        Some(first.copied())
     }
 
     /// How many tasks it holds.

@@ -4,7 +4,7 @@ use Rattle.std.specs.Prelude.{filter, slice_index_or}
 use Rattle.std.specs.declared.cmp.Ordering.TheVariants.{Less}
 use Rattle.std.proofs.lemmas.Cmp.{tied_itself}
 use Rattle.fractal_vt.specs.Keys.{key_cmp}
-use Rattle.fractal_vt.proofs.KeyLaws.{key_cmp_total}
+use Rattle.fractal_vt.proofs.Proved.{key_cmp_total}
 use Rattle.guest_image.specs.ImageValue.{ImageValue}
 use Rattle.rv_core.specs.LegValue.{LegValue}
 use Rattle.spec_state.specs.declared.task.Task.{Task}
@@ -16,11 +16,7 @@ use Rattle.spec_law.specs.Sound.{Sound}
 use Rattle.spec_law.proofs.Proved.{abort_of_conflicts_is_sound, abort_of_later_is_sound, cascade_is_later, conflicts_spare_asker, list_mapped}
 use Rattle.book_event.specs.Events.{FreesCommit, TakesConflicts}
 use Rattle.book_event.specs.Events as events
-use Rattle.book_law.proofs.Keeps.Calls.{filter_fewer}
-use Rattle.book_law.proofs.Keeps.Forced.{spared_stays}
-use Rattle.book_law.proofs.Keeps.Steps.{unmarked}
-use Rattle.book_law.proofs.Lists.{at_each_place}
-use Rattle.book_law.proofs.Openings.Sized.{FitsQueue, none_fit}
+use Rattle.book_law.proofs.Proved.{at_each_place, filter_fewer, FitsQueue, none_fit, spared_stays, unmarked}
 use Rattle.step_law.specs.Forcing.{TakesStill}
 use Rattle.step_law.proofs.Forced.{abort_like, commit_like, takes_still}
 

@@ -5,7 +5,7 @@ use Rattle.std.specs.Ordering.{ordering_reverse}
 use Rattle.std.specs.declared.cmp.Ordering.TheVariants.{Less, Greater}
 use Rattle.std.proofs.lemmas.Bool.{cases_eq}
 use Rattle.fractal_vt.specs.Keys.{key_cmp}
-use Rattle.fractal_vt.proofs.KeyLaws.{key_cmp_total}
+use Rattle.fractal_vt.proofs.Proved.{key_cmp_total}
 use Rattle.guest_image.specs.ImageValue.{ImageValue}
 use Rattle.rv_core.specs.LegValue.{LegValue}
 use Rattle.task_desc.specs.declared.desc.Spawn.{Spawn}

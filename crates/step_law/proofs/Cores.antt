@@ -10,9 +10,9 @@ use Rattle.std.proofs.lemmas.Bool.Decides.{nat_tests}
 use Rattle.std.proofs.lemmas.Option.{slice_get-map}
 use Rattle.fractal_vt.specs.Keys.{key_cmp, levels}
 use Rattle.fractal_vt.specs.declared.key.Key.{Key}
-use Rattle.fractal_vt.proofs.KeyLaws.{equal_keys_tie, key_cmp_total}
+use Rattle.fractal_vt.proofs.Proved.{equal_keys_tie, key_cmp_total}
 use Rattle.guest_image.specs.ImageValue.{ImageValue}
-use Rattle.order_law.proofs.Aborted.{below_reopened}
+use Rattle.order_law.proofs.Proved.{below_reopened}
 use Rattle.spill_store.specs.Entries.{Entry as Spilled, open_key}
 use Rattle.turn_law.specs.Room.{Waiting, kept_by, queue_after}
 use Rattle.spec_state.specs.declared.task.Status.TheVariants.{Idle}
@@ -27,9 +27,7 @@ use Rattle.spec_law.specs.Sound.{Sound}
 use Rattle.spec_law.proofs.Proved.{abort_of_one_is_sound, abort_takes, cascade_is_later, distinct_at, get_contains, least_is_one, least_key, list_mapped, marked_is_back, not_below_least, one_place, queued_at, upto_queued}
 use Rattle.book_event.specs.Events.{FreesCore}
 use Rattle.book_event.specs.Events as events
-use Rattle.book_law.proofs.Ends.{one_least}
-use Rattle.book_law.proofs.Keeps.Forced.{heir_is, idle_is_open, spared_stays}
-use Rattle.book_law.proofs.Keeps.Steps.{unmarked}
+use Rattle.book_law.proofs.Proved.{heir_is, idle_is_open, one_least, spared_stays, unmarked}
 use Rattle.step_law.specs.Laws.{IdleStays}
 use Rattle.step_law.specs.Forcing.{LeavesCore, LeavesIdle}
 use Rattle.step_law.proofs.Forced.{abort_like, like_itself}

@@ -16,11 +16,7 @@ use Rattle.book_event.specs.Advancing.{IsLegFrom, IsNextEvent}
 use Rattle.book_event.specs.Book.{BookView}
 use Rattle.book_event.specs.Happens.{Happens}
 use Rattle.spec_law.specs.Sound.{Sound}
-use Rattle.book_law.proofs.Falls.Falls.{advances_fall}
-use Rattle.book_law.proofs.Given.{next_event_is_given}
-use Rattle.book_law.proofs.Keeps.Events.{event_stays_sound}
-use Rattle.book_law.proofs.Rests.Rest.{rest_is_bounded}
-use Rattle.book_law.proofs.Rests.RestThere.{rest_is_there}
+use Rattle.book_law.proofs.Proved.{advances_fall, event_stays_sound, next_event_is_given, rest_is_bounded, rest_is_there}
 use Rattle.step_law.specs.Falling.{IsWithin}
 use Rattle.step_law.specs.Laws.{BoundFalls}
 

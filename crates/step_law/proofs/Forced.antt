@@ -5,7 +5,7 @@ use Rattle.memory_law.specs.Tasks.{Logged, log_of, undone_set}
 use Rattle.rv_core.specs.LegValue.{LegValue}
 use Rattle.task_step.specs.Requests.{request_at}
 use Rattle.undo_log.specs.Undo.{undone}
-use Rattle.undo_log.proofs.Restores.{length-undone}
+use Rattle.undo_log.proofs.Proved.{length-undone}
 use Rattle.spec_state.specs.declared.task.Status.{Status}
 use Rattle.spec_state.specs.declared.task.Task.{Task}
 use Rattle.spec_state.specs.View.{View, task_at}

@@ -5,7 +5,7 @@ use Rattle.std.specs.declared.cmp.Ordering.{Ordering}
 use Rattle.std.specs.declared.cmp.Ordering.TheVariants.{Less, Equal, Greater}
 use Rattle.fractal_vt.specs.Keys.{key_cmp}
 use Rattle.fractal_vt.specs.declared.key.Key.{Key}
-use Rattle.fractal_vt.proofs.KeyLaws.{equal_keys_tie, key_cmp_total}
+use Rattle.fractal_vt.proofs.Proved.{equal_keys_tie, key_cmp_total}
 use Rattle.guest_image.specs.ImageValue.{ImageValue}
 use Rattle.spec_state.specs.declared.task.Status.{Status}
 use Rattle.spec_state.specs.declared.task.Status.TheVariants.{Idle, Running, Trapped, Finished}

@@ -14,7 +14,7 @@ use Rattle.spec_state.specs.Least.{Queued, IsQueuedAt, IsLeastTask, ranked_cmp, 
 use Rattle.spec_state.specs.Queries.{IsLeastIdle}
 use Rattle.spec_law.specs.Sound.{Sound, SoundSizes}
 use Rattle.spec_law.proofs.Proved.{contains_get, distinct_at, least_key, one_place, ranked_turned, same_spot}
-use Rattle.book_law.proofs.Granted.{is_idle}
+use Rattle.book_law.proofs.Proved.{is_idle}
 
 -- an order that isn't greater is less where ties are out
 pub less_of : (o : Ordering) → o ≢ Greater → o ≢ Equal → o ≡ Less

@@ -10,3 +10,4 @@ pub mod Comes
 pub mod Falling
 pub mod Holders
 pub mod Cores
+pub mod Proved

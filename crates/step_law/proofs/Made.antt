@@ -8,7 +8,7 @@ use Rattle.book_event.specs.declared.event.Event.{Event}
 use Rattle.book_event.specs.Book.{BookView}
 use Rattle.book_event.specs.Causes.{IsGranted}
 use Rattle.book_event.specs.Events.{IsGiven, Makes}
-use Rattle.book_law.proofs.Keeps.Events.{makes_leads}
+use Rattle.book_law.proofs.Proved.{makes_leads}
 use Rattle.step_law.specs.Laws.{MadeIsSound}
 
 -- a granted event that is made leaves a sound view

@@ -19,9 +19,7 @@ use Rattle.spec_state.specs.Least.{Spot, Queued, Spilled_at, HasName, IsAllCommi
 use Rattle.book_event.specs.End.{HasEnd, IsOver}
 use Rattle.spec_law.specs.Sound.{Sound}
 use Rattle.spec_law.proofs.Proved.{least_is_one}
-use Rattle.book_law.proofs.Ends.{not_all, one_least}
-use Rattle.book_law.proofs.Falls.Rest.{not_both}
-use Rattle.book_law.proofs.Rests.RestThere.{goes_on}
+use Rattle.book_law.proofs.Proved.{goes_on, not_all, not_both, one_least}
 use Rattle.step_law.specs.Readings.{IsUnfinished, IsUntrapped, queued_in, spilled_in}
 use Rattle.step_law.proofs.Views.{least_is_committed, trap_ends}
 

@@ -21,12 +21,7 @@ use Rattle.spec_state.specs.Room.{Asker, Enqueuer, Splitter, HasFreeEntry, IsLea
 use Rattle.spec_law.specs.RoomLaws.{AsksAsLeast, MayBeTaken}
 use Rattle.spec_law.specs.Sound.{Sound}
 use Rattle.spec_law.proofs.Proved.{abort_of_one_is_sound, cascade_spares_heir, heirs_are_one, not_below_least, victim_is_later}
-use Rattle.book_law.proofs.Falls.Heir.{abort_leaves_heir}
-use Rattle.book_law.proofs.Falls.Rest.{not_both}
-use Rattle.book_law.proofs.Falls.Spilled.{room_leaves_spilled}
-use Rattle.book_law.proofs.Keeps.Events.{spilled_asks, spilled_no_heir}
-use Rattle.book_law.proofs.Keeps.Forced.{least_is_heir, running_is_dispatched}
-use Rattle.book_law.proofs.Keeps.Room.{asker_is_there, room_follows, room_is_free}
+use Rattle.book_law.proofs.Proved.{abort_leaves_heir, asker_is_there, least_is_heir, not_both, room_follows, room_is_free, room_leaves_spilled, running_is_dispatched, spilled_asks, spilled_no_heir}
 use Rattle.step_law.specs.Forcing.{IsLike, RunsIfTask, TakesStill}
 use Rattle.step_law.specs.Laws.{VictimMoves, RoomIsLeft, AskerStays, conflicts, entry, room}
 use Rattle.step_law.proofs.Asker.{commit_leaves_asker, conflicts_leave_asker}

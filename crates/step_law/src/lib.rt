@@ -3,6 +3,7 @@
 //! An event finds the causes to refuse it, forces what stands in its way, and makes its one change. The proofs
 //! here say of a sound view what such code relies on at each step; the laws are the contracts of functions that
 //! do nothing and cost nothing.
+//! It stands on the laws of events and states; the crates of events cite it.
 #![tactic(auto)]
 
 mod laws;

@@ -4,7 +4,7 @@ use Rattle.rv_core.specs.declared.state.Core.{Core}
 use Rattle.rv_core.specs.declared.state.Stop.{Stop}
 use Rattle.rv_core.specs.declared.state.Stop.TheVariants as stop
 use Rattle.task_desc.specs.declared.desc.Ctx.{Ctx}
-use Rattle.undo_log.proofs.Numbers.{length-written}
+use Rattle.undo_log.proofs.Proved.{length-written}
 use Rattle.task_step.specs.declared.request.Request.{Request}
 use Rattle.task_step.specs.declared.request.Request.TheVariants.{Continue, Load, Store, Enqueue, MakeSub, Emit, End, Trap}
 use Rattle.task_step.specs.Requests.{request_at}

@@ -4,6 +4,7 @@
 //! the registers, and the rules of calls. What the answer then does to a task is one definition by cases; each machine does it on a
 //! state of its own, and goes on at the core that `rv_core` gives. A request is plain `Copy` data. To find it costs a few
 //! comparisons and no memory.
+//! It stands on `rv_core` and `task_desc`.
 #![tactic(auto)]
 
 mod request;

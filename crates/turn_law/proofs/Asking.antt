@@ -7,8 +7,8 @@ use Rattle.undo_log.specs.declared.access.Access.{Access}
 use Rattle.task_step.specs.declared.request.Request.{Request}
 use Rattle.task_step.specs.Steps.{after_request}
 use Rattle.task_step.specs.TaskState.{TaskState, context}
-use Rattle.task_step.proofs.Asked.{AllowedBy, request_at-allowed}
-use Rattle.serial_machine.proofs.Kept.{StepHolds}
+use Rattle.task_step.proofs.Proved.{AllowedBy, request_at-allowed}
+use Rattle.serial_machine.proofs.Proved.{StepHolds}
 use Rattle.turn_law.specs.Logged.{Asks, LoggedRun, none, plain, call, load, store}
 
 module _ (image : ImageValue) (budget size : ℕ) (ctx : Ctx) where

@@ -10,7 +10,7 @@ use Rattle.pending_list.specs.declared.task.PendingTask.{PendingTask}
 use Rattle.serial_machine.specs.BagValue.{BagValue}
 use Rattle.serial_machine.specs.State.{IsStack}
 use Rattle.serial_machine.specs.Turn.{inner, without, child, children, sub_bags, with_super, stack_after, kind_outside}
-use Rattle.serial_machine.proofs.Turns.{IsStack-inner}
+use Rattle.serial_machine.proofs.Proved.{IsStack-inner}
 use Rattle.turn_law.specs.Tasks.{In}
 use Rattle.turn_law.specs.Commit.{HasTurn, HaveDomains}
 use Rattle.turn_law.specs.Domains.{Domain, domain_of, FitsBags, first_kind, ContextFits, ChildDomains, TurnKeepsDomains}

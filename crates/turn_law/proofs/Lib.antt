@@ -14,3 +14,4 @@ pub mod Fitting
 pub mod Whole
 pub mod Subdomains
 pub mod Resized
+pub mod Proved

@@ -6,7 +6,7 @@ use Rattle.rv_core.specs.declared.state.Stop.{Stop}
 use Rattle.rv_core.specs.Next.{Goes, Stops}
 use Rattle.rv_core.specs.Legs.{next_at, after_load_of}
 use Rattle.rv_core.specs.Memory.{load_bytes}
-use Rattle.rv_core.proofs.Runs.{PlainStep-within, PlainStep-counted}
+use Rattle.rv_core.proofs.Proved.{PlainStep-counted, PlainStep-within}
 use Rattle.task_desc.specs.declared.desc.Ctx.{Ctx}
 use Rattle.undo_log.specs.declared.access.Access.{Access}
 use Rattle.undo_log.specs.Number.{number_at, written}
@@ -16,14 +16,12 @@ use Rattle.task_step.specs.declared.request.Request.TheVariants as ask
 use Rattle.task_step.specs.Conditions.{IsCall}
 use Rattle.task_step.specs.Steps.{after_request, passed}
 use Rattle.task_step.specs.TaskState.{TaskState}
-use Rattle.task_step.proofs.Stepping.{HasUsed, after_request-used}
+use Rattle.task_step.proofs.Proved.{after_request-used, HasUsed}
 use Rattle.serial_machine.specs.TaskRun.{followed, steps, begun, task_run, after_stop, Stepped, Continues, Ends, Traps, TaskEnd, Done, Trapped}
 use Rattle.serial_machine.specs.Turn.{context_of}
-use Rattle.serial_machine.proofs.Runs.{steps-plain_step, steps-stop, spent_traps}
-use Rattle.serial_machine.proofs.Turns.{steps-begun, turn-done}
+use Rattle.serial_machine.proofs.Proved.{spent_traps, steps-begun, steps-plain_step, steps-stop, turn-done}
 use Rattle.memory_law.specs.Accesses.{written_if, accessed, replayed, Replays}
-use Rattle.memory_law.proofs.Replays.{replayed-append, Replays-front, Replays-back}
-use Rattle.memory_law.proofs.Joins.{length-replayed}
+use Rattle.memory_law.proofs.Proved.{length-replayed, replayed-append, Replays-back, Replays-front}
 use Rattle.turn_law.specs.Logged.{Asks, LoggedRun, none, plain, call, load, store, IsFinished, IsTrapped, LoggedRunIsTurn, LoggedTrapIsSerial}
 
 -- a log's last access
@@ -63,18 +61,18 @@ module _ (image : ImageValue) (budget : ℕ) (ctx : Ctx) (memory : List ℕ) whe
   left t = steps image budget ctx (budget - t.core.used) t
 
   -- what stands next for the memory's size stands next on that memory after a log
-  sized : (log : List Access) (task : TaskState) → next_at image.text (length (replayed memory log)) budget task.core ≡ next_at image.text (length memory) budget task.core
-  sized log task = ap (λ n. next_at image.text n budget task.core) (length-replayed memory log)
+  sized : (log : List Access) (task : TaskState) → next_at image (length (replayed memory log)) budget task.core ≡ next_at image (length memory) budget task.core
+  sized log task = ap (λ n. next_at image n budget task.core) (length-replayed memory log)
 
   record Runs (start : TaskState) (log : List Access) (task : TaskState) : Type 0 where
     pub within : task.core.used ≤ budget
     pub same : left (on_memory memory start) ≡ left (on_memory (replayed memory log) task)
 
   -- where a stop goes on, the budget isn't used up
-  room_left : (t : TaskState) (s : Stop) (new : TaskState) → next_at image.text (length t.memory) budget t.core ≡ Stops s → after_stop ctx t s ≡ Continues new → t.core.used < budget
+  room_left : (t : TaskState) (s : Stop) (new : TaskState) → next_at image (length t.memory) budget t.core ≡ Stops s → after_stop ctx t s ≡ Continues new → t.core.used < budget
   room_left t s new at goes = elim (cases_lt t.core.used budget) [
     | inl lt ↦ lt
-    | inr ge ↦ (let traps : Traps 17 t.core.pc ≡ Continues new = sym (ap (after_stop ctx t) (spent_traps image.text (length t.memory) budget t.core s at ge)) ∙ goes in absurd (cc (traps)))
+    | inr ge ↦ (let traps : Traps 17 t.core.pc ≡ Continues new = sym (ap (after_stop ctx t) (spent_traps image (length t.memory) budget t.core s at ge)) ∙ goes in absurd (cc (traps)))
   ]
 
   -- one more request that goes on
@@ -85,7 +83,7 @@ module _ (image : ImageValue) (budget : ℕ) (ctx : Ctx) (memory : List ℕ) whe
   ask_on start log more task after request before asks goes counts =
       let t : TaskState = on_memory (replayed memory log) task in
       let new : TaskState = on_memory (replayed memory more) after in
-      let at : next_at image.text (length t.memory) budget t.core ≡ Stops asks.found = sized log task ∙ asks.stands in
+      let at : next_at image (length t.memory) budget t.core ≡ Stops asks.found = sized log task ∙ asks.stands in
       let goes_on : after_stop ctx t asks.found ≡ Continues new = ap (after_request t) asks.asks ∙ goes in
       let room : t.core.used < budget = room_left t asks.found new at goes_on in
       record {
@@ -100,9 +98,9 @@ module _ (image : ImageValue) (budget : ℕ) (ctx : Ctx) (memory : List ℕ) whe
   runs_so start (plain {log} {task} core run at) low chain =
       let before = runs_so start run low chain in
       let t : TaskState = on_memory (replayed memory log) task in
-      let step : next_at image.text (length t.memory) budget t.core ≡ Goes core = sized log task ∙ at in
-      let room = PlainStep-within image.text (length t.memory) budget t.core core step in
-      let counts = PlainStep-counted image.text (length t.memory) budget t.core core step in
+      let step : next_at image (length t.memory) budget t.core ≡ Goes core = sized log task ∙ at in
+      let room = PlainStep-within image (length t.memory) budget t.core core step in
+      let counts = PlainStep-counted image (length t.memory) budget t.core core step in
       record { within = omega (arith, room, counts); same = before.same ∙ steps-plain_step image budget ctx t core step }
   runs_so start (call {log} {task} request after run asks is_call goes) low chain =
       ask_on start log log task after request (runs_so start run low chain) asks
@@ -136,7 +134,7 @@ module _ (image : ImageValue) (budget : ℕ) (ctx : Ctx) (memory : List ℕ) whe
       let low : start.core.used ≤ budget = omega arith in
       let runs = runs_so start run low chain in
       let t : TaskState = on_memory (replayed memory log) before in
-      let at : next_at image.text (length t.memory) budget t.core ≡ Stops asks.found = sized log before ∙ asks.stands in
+      let at : next_at image (length t.memory) budget t.core ≡ Stops asks.found = sized log before ∙ asks.stands in
       sym (steps-begun image budget ctx task.entry ctx.ts task.args memory memory (on_memory memory start) refl refl refl)
       ∙ runs.same ∙ steps-stop image budget ctx t asks.found at runs.within
       ∙ ap (followed (steps image budget ctx (budget - (t.core.used + 1)))) (ap (after_request t) asks.asks ∙ leads)

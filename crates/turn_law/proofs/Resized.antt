@@ -5,8 +5,7 @@ use Rattle.std.proofs.lemmas.Grind.{common_steps}
 use Rattle.guest_image.specs.Fetch.{fetched, text_loaded}
 use Rattle.guest_image.specs.ImageValue.{ImageValue}
 use Rattle.memory_law.specs.Accesses.{Replays}
-use Rattle.memory_law.proofs.Joins.{length-replayed}
-use Rattle.memory_law.proofs.Replays.{Replays-front, Replays-back}
+use Rattle.memory_law.proofs.Proved.{length-replayed, Replays-back, Replays-front}
 use Rattle.rv_core.specs.declared.state.Core.{Core}
 use Rattle.rv_core.specs.declared.state.Stop.{Stop}
 use Rattle.rv_core.specs.declared.state.Stop.TheVariants as stop
@@ -24,7 +23,7 @@ use Rattle.task_step.specs.declared.request.Request.{Request}
 use Rattle.task_step.specs.declared.request.Request.TheVariants as ask
 use Rattle.task_step.specs.Conditions.{IsCall}
 use Rattle.task_step.specs.TaskState.{TaskState, context}
-use Rattle.task_step.proofs.Asked.{request_at-call, request_at-end, request_at-load, request_at-store}
+use Rattle.task_step.proofs.Proved.{request_at-call, request_at-end, request_at-load, request_at-store}
 use Rattle.task_desc.specs.declared.desc.Ctx.{Ctx}
 use Rattle.turn_law.specs.Logged.{Asks, LoggedRun, none, plain, call, load, store}
 use Rattle.undo_log.specs.declared.access.Access.{Access}
@@ -43,7 +42,7 @@ within_other : (start size other addr n : ℕ) → is_within start size addr n �
 within_other start size other addr n within ends = grind (arith, nat_tests, common_steps)
 
 -- what does not depend on the size of the data beyond its own access
-module _ (text : List ℕ) (size other budget : ℕ) (core : Core) where
+module _ (image : ImageValue) (size other budget : ℕ) (core : Core) where
   -- where an access within the one size ends within the other, the test of its range has one answer
   in_range : (start addr n : ℕ) (found : Next) (cause : ℕ) → (Reaches other found → addr + n ≤ start + other)
       → Reaches other (if is_within start size addr n then found else traps core cause)
@@ -68,12 +67,12 @@ module _ (text : List ℕ) (size other budget : ℕ) (core : Core) where
   either_same false cause one two same reaches = same reaches
 
   -- what an instruction does
-  effect_same : (effect : Effect) → Reaches other (effect_next text size core effect) → effect_next text other core effect ≡ effect_next text size core effect
+  effect_same : (effect : Effect) → Reaches other (effect_next image size core effect) → effect_next image other core effect ≡ effect_next image size core effect
   effect_same (does.Plain pc rd value) reaches = refl
   effect_same (does.Load width rd addr) reaches =
-      either_same (not (addr % load_bytes width == 0)) 4 (load_next other core width rd addr (text_loaded text addr (load_bytes width)))
-      (load_next size core width rd addr (text_loaded text addr (load_bytes width)))
-      (load_same width rd addr (text_loaded text addr (load_bytes width))) reaches
+      either_same (not (addr % load_bytes width == 0)) 4 (load_next other core width rd addr (text_loaded image.text addr (load_bytes width)))
+      (load_next size core width rd addr (text_loaded image.text addr (load_bytes width)))
+      (load_same width rd addr (text_loaded image.text addr (load_bytes width))) reaches
   effect_same (does.Store width addr value) reaches =
       either_same (not (addr % store_bytes width == 0)) 6
       (if is_within DATA_START other addr (store_bytes width) then Stops (stop.Store width addr value) else traps core 7)
@@ -84,27 +83,27 @@ module _ (text : List ℕ) (size other budget : ℕ) (core : Core) where
   effect_same does.Misaligned reaches = absurd reaches
 
   -- an instruction
-  instr_same : (instr : Option Instr) → Reaches other (instr_next text size core instr) → instr_next text other core instr ≡ instr_next text size core instr
+  instr_same : (instr : Option Instr) → Reaches other (instr_next image size core instr) → instr_next image other core instr ≡ instr_next image size core instr
   instr_same None reaches = absurd reaches
   instr_same (Some instr) reaches = effect_same (acts_on core.pc core.regs instr) reaches
 
   -- a word
-  word_same : (word : Option ℕ) → Reaches other (word_next text size core word) → word_next text other core word ≡ word_next text size core word
+  word_same : (word : Option ℕ) → Reaches other (word_next image size core word) → word_next image other core word ≡ word_next image size core word
   word_same None reaches = absurd reaches
   word_same (Some word) reaches = instr_same (decoded word) reaches
 
   -- what stands at the core
-  next_same : Reaches other (next_at text size budget core) → next_at text other budget core ≡ next_at text size budget core
+  next_same : Reaches other (next_at image size budget core) → next_at image other budget core ≡ next_at image size budget core
   unfolding next_at
   next_same reaches = by_test (nat_lt core.used budget) reaches
     where
-      by_test : (b : Bool) → Reaches other (if b then word_next text size core (fetched text core.pc) else traps core 17)
-          → (if b then word_next text other core (fetched text core.pc) else traps core 17) ≡ (if b then word_next text size core (fetched text core.pc) else traps core 17)
-      by_test true reach = word_same (fetched text core.pc) reach
+      by_test : (b : Bool) → Reaches other (if b then word_next image size core (fetched image.text core.pc) else traps core 17)
+          → (if b then word_next image other core (fetched image.text core.pc) else traps core 17) ≡ (if b then word_next image size core (fetched image.text core.pc) else traps core 17)
+      by_test true reach = word_same (fetched image.text core.pc) reach
       by_test false reach = absurd reach
 
   -- what stands next at one size, where it reaches no further than the other, stands next there too
-  pub stands_so : (found : Next) → next_at text size budget core ≡ found → Reaches other found → next_at text other budget core ≡ found
+  pub stands_so : (found : Next) → next_at image size budget core ≡ found → Reaches other found → next_at image other budget core ≡ found
   stands_so found at reaches = next_same (subst (Reaches other) (sym at) reaches) ∙ at
 
 -- an access that has room ends within so many bytes of data
@@ -123,7 +122,7 @@ module _ (image : ImageValue) (budget size : ℕ) (ctx : Ctx) (start : TaskState
       → Asks image budget (length memory) ctx task request
   asks_on {task} asks reaches = record {
     found = asks.found;
-    stands = stands_so image.text size (length memory) budget task.core (Stops asks.found) asks.stands reaches;
+    stands = stands_so image size (length memory) budget task.core (Stops asks.found) asks.stands reaches;
     asks = asks.asks;
   }
 
@@ -159,7 +158,7 @@ module _ (image : ImageValue) (budget size : ℕ) (ctx : Ctx) (start : TaskState
   pub logged_on : {log : List Access} {task : TaskState} → LoggedRun image budget size ctx start log task → Replays memory log
       → LoggedRun image budget (length memory) ctx start log task
   logged_on none chain = none
-  logged_on (plain {log} {task} core run at) chain = plain core (logged_on run chain) (stands_so image.text size (length memory) budget task.core (Goes core) at tt)
+  logged_on (plain {log} {task} core run at) chain = plain core (logged_on run chain) (stands_so image size (length memory) budget task.core (Goes core) at tt)
   logged_on (call {log} {task} request after run asks is_call goes) chain =
       call request after (logged_on run chain) (call_on asks is_call) is_call goes
   logged_on (load {log} {task} access width rd run asks is_width is_load) chain =

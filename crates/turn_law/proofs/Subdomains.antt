@@ -7,7 +7,7 @@ use Rattle.serial_machine.specs.State.{State}
 use Rattle.serial_machine.specs.Legs.{SubFits}
 use Rattle.serial_machine.specs.TaskRun.{Done}
 use Rattle.serial_machine.specs.Turn.{run_of, context_of}
-use Rattle.serial_machine.proofs.Kept.{EndHolds, task_run-sub_fits}
+use Rattle.serial_machine.proofs.Proved.{EndHolds, task_run-sub_fits}
 use Rattle.task_step.specs.TaskState.{TaskState}
 
 -- the subdomain of a task that is done

@@ -7,7 +7,7 @@ use Rattle.pending_list.specs.declared.task.PendingTask.{PendingTask}
 use Rattle.serial_machine.specs.BagValue.{BagValue}
 use Rattle.serial_machine.specs.State.{IsStack}
 use Rattle.serial_machine.specs.Turn.{is_named, find_named, is_least, inner}
-use Rattle.serial_machine.proofs.Turns.{IsStack-inner}
+use Rattle.serial_machine.proofs.Proved.{IsStack-inner}
 use Rattle.turn_law.specs.Tasks.{In, pending, IsFree, IsSpilled}
 use Rattle.turn_law.specs.Commit.{Stands, HasTurn, LeastHasTurn, HaveDomains, CommitIsTurn}
 use Rattle.turn_law.proofs.Bags.{Stands-inner, inner-Stands, shallow, Freed, after-stands, stands-after}

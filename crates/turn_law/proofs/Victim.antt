@@ -6,7 +6,7 @@ use Rattle.std.specs.declared.cmp.Ordering.{Ordering}
 use Rattle.std.specs.declared.cmp.Ordering.TheVariants.{Less, Equal, Greater}
 use Rattle.std.proofs.lemmas.Cmp.{upto, tied_itself}
 use Rattle.fractal_vt.specs.Levels.{levels_cmp}
-use Rattle.fractal_vt.proofs.Total.{levels_cmp_total}
+use Rattle.fractal_vt.proofs.Proved.{levels_cmp_total}
 use Rattle.turn_law.specs.Tasks.{In}
 use Rattle.turn_law.specs.Room.{Waiting, IsFirm, IsMovable, NoneMoves, IsVictim, IsFirst, Rule, Free, Coalesces, Stalls, Takes, AreApart, SomeRuleApplies, IsChosen, queue_after, CoalesceMakesRoom}
 use Rattle.turn_law.proofs.Rooms.{shorter}

@@ -9,8 +9,8 @@ use Rattle.serial_machine.specs.State.{State, IsStack}
 use Rattle.serial_machine.specs.TaskState.{TaskState}
 use Rattle.serial_machine.specs.TaskRun.{Done}
 use Rattle.serial_machine.specs.Turn.{context_of, kind_outside, stack_after, run_of}
-use Rattle.serial_machine.proofs.Turns.{IsStack-inner, IsStack-after}
-use Rattle.run_law.proofs.Placed.{HasDomain, HaveDomains as HavePlaces, done-placed}
+use Rattle.serial_machine.proofs.Proved.{IsStack-after, IsStack-inner}
+use Rattle.run_law.proofs.Proved.{done-placed, HasDomain, HaveDomains as HavePlaces}
 use Rattle.turn_law.specs.Tasks.{pending}
 use Rattle.turn_law.specs.Commit.{Matches, HasTurn, HaveDomains}
 use Rattle.turn_law.specs.Domains.{start_context}

@@ -25,14 +25,14 @@ module _ (image : ImageValue) (budget size : ℕ) (ctx : Ctx) where
   -- what stands next at the task's core, with data of this size, asks for this
   pub record Asks (task : TaskState) (request : Request) : Type 0 where
     pub found : Stop
-    pub stands : next_at image.text size budget task.core ≡ Stops found
+    pub stands : next_at image size budget task.core ≡ Stops found
     pub asks : request_at (context ctx task) task.core found ≡ request
 
   -- the steps of a task from its start on that led to a state and a log, for a memory of this size; the memory itself is not read
   pub data LoggedRun (start : TaskState) : List Access → TaskState → Type 0 where
     none : LoggedRun start [] start
     plain : {log : List Access} {task : TaskState} (core : Core) → LoggedRun start log task
-        → next_at image.text size budget task.core ≡ Goes core → LoggedRun start log (record task { core = core })
+        → next_at image size budget task.core ≡ Goes core → LoggedRun start log (record task { core = core })
     call : {log : List Access} {task : TaskState} (request : Request) (after : TaskState) → LoggedRun start log task
         → Asks task request → IsCall request → after_request task request ≡ Continues after → LoggedRun start log after
     load : {log : List Access} {task : TaskState} (access : Access) (width : LoadWidth) (rd : ℕ)

@@ -1,3 +1,4 @@
 pub mod Numbers
 pub mod Writes
 pub mod Restores
+pub mod Proved

@@ -10,9 +10,9 @@ use Rattle.fractal_vt.specs.Keys.{key_cmp, levels}
 use Rattle.fractal_vt.specs.Levels.{closed}
 use Rattle.fractal_vt.specs.declared.key.Key.{Key}
 use Rattle.fractal_vt.specs.Renumbered.{HoldsKey, renumbered_key}
-use Rattle.fractal_vt.proofs.KeyLaws.{equal_keys_tie, key_cmp_total}
+use Rattle.fractal_vt.proofs.Proved.{equal_keys_tie, key_cmp_total}
 use Rattle.guest_image.specs.ImageValue.{ImageValue}
-use Rattle.order_law.proofs.Aborted.{below_reopened, rises}
+use Rattle.order_law.proofs.Proved.{below_reopened, rises}
 use Rattle.spill_store.specs.Entries.{Entry as Spilled, open_key}
 use Rattle.spec_state.specs.declared.numbers.TheConstants.{DISPATCH_NUMBERS}
 use Rattle.spec_state.specs.declared.task.Status.{Status}
@@ -27,8 +27,7 @@ use Rattle.spec_state.specs.Least.{Queued, IsQueuedAt, IsLeastTask, spot_cmp, ra
 use Rattle.spec_state.specs.Queries.{IsIdle, IsLatestOnCore}
 use Rattle.spec_law.specs.Sound.{Sound, HoldsCore}
 use Rattle.spec_state.specs.Tasks.{idle_again}
-use Rattle.spec_law.proofs.Proved.{each_renumbered, holds_placed, holds_task, is_renumbered, renumbered_now, renumbered_to, same_order, spilled_was}
-use Rattle.spec_law.proofs.Proved.{upto_queued, upto_spilled, cascade_is_later, now, was_idle, dispatch_stays_sound, each_now, makes_least, first_not_greater, queued_at, not_below_least, abort_takes}
+use Rattle.spec_law.proofs.Proved.{abort_takes, cascade_is_later, dispatch_stays_sound, each_now, each_renumbered, first_not_greater, holds_placed, holds_task, is_renumbered, makes_least, not_below_least, now, queued_at, renumbered_now, renumbered_to, same_order, spilled_was, upto_queued, upto_spilled, was_idle}
 use Rattle.book_event.specs.Events.{FreesCore}
 use Rattle.book_event.specs.Events as events
 use Rattle.book_law.proofs.Granted.{is_idle}

@@ -19,7 +19,7 @@ use Rattle.spec_state.specs.Changes.{TakesLeg, request_of, passed}
 use Rattle.spec_law.specs.RoomLaws.{AsksAsLeast, child_of}
 use Rattle.spec_law.specs.Sound.{Sound}
 use Rattle.spec_law.specs.Keeping.{AsksAt, IsLegOf}
-use Rattle.spec_law.proofs.Proved.{add_keeps_heir, without_child, steps_one, adds, child_is_above, step_keeps_heir, StepsOne}
+use Rattle.spec_law.proofs.Proved.{add_keeps_heir, adds, child_is_above, step_keeps_heir, steps_one, StepsOne, without_child}
 use Rattle.book_event.specs.Advancing.{HasRest, IsLeastLeg}
 use Rattle.book_event.specs.Book.{BookView, picked}
 use Rattle.book_event.specs.End.{IsOver}

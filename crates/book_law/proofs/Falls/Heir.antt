@@ -3,7 +3,7 @@ use Rattle.std.proofs.Common.{ℕ, ◌≡◌, ◌≢◌, inr, Bool, Some, refl, 
 use Rattle.std.specs.declared.cmp.Ordering.TheVariants.{Less}
 use Rattle.std.proofs.lemmas.Cmp.{tied_itself}
 use Rattle.fractal_vt.specs.Keys.{key_cmp}
-use Rattle.fractal_vt.proofs.KeyLaws.{key_cmp_total}
+use Rattle.fractal_vt.proofs.Proved.{key_cmp_total}
 use Rattle.guest_image.specs.ImageValue.{ImageValue}
 use Rattle.spec_state.specs.declared.task.Task.{Task}
 use Rattle.spec_state.specs.View.{View, task_at}
@@ -12,7 +12,7 @@ use Rattle.spec_state.specs.Least.{IsHeir}
 use Rattle.spec_state.specs.Queries.{Conflicts, IsLater}
 use Rattle.spec_state.specs.Room.{Enqueuer, Coalesces, MakesRoom, has_free_entry, coalesces, aborts_victim, aborts_creator}
 use Rattle.spec_law.specs.Sound.{Sound}
-use Rattle.spec_law.proofs.Proved.{coalesce_moves, coalesce_sizes, abort_keeps_heir, abort_of_one_is_sound, moved_heir, heirs_are_one, victim_is_later, cascade_spares_heir, conflicts_spare_heir, abort_takes}
+use Rattle.spec_law.proofs.Proved.{abort_keeps_heir, abort_of_one_is_sound, abort_takes, cascade_spares_heir, coalesce_moves, coalesce_sizes, conflicts_spare_heir, heirs_are_one, moved_heir, victim_is_later}
 use Rattle.book_event.specs.Events.{FreesCommit}
 use Rattle.book_event.specs.Events as events
 use Rattle.book_law.proofs.Keeps.Forced.{spared_stays}

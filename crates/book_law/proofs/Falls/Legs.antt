@@ -7,8 +7,8 @@ use Rattle.rv_core.specs.declared.state.Stop.TheVariants as stop
 use Rattle.rv_core.specs.LegValue.{LegValue, IsRun}
 use Rattle.rv_core.specs.Legs.{IsLeg, PlainSteps, next_at}
 use Rattle.rv_core.specs.Next.{Stops}
-use Rattle.rv_core.proofs.Runs.{next_at-inside, PlainStep-within, PlainSteps-counted}
-use Rattle.serial_machine.proofs.Runs.{spent_traps}
+use Rattle.rv_core.proofs.Proved.{next_at-inside, PlainStep-within, PlainSteps-counted}
+use Rattle.serial_machine.proofs.Proved.{spent_traps}
 use Rattle.task_desc.specs.declared.desc.Ctx.{Ctx}
 use Rattle.task_step.specs.declared.request.Request.{Request}
 use Rattle.task_step.specs.declared.request.Request.TheVariants.{Continue, Trap}
@@ -21,20 +21,20 @@ IsExecuted (Trap cause) = ⊥
 IsExecuted other = Unit {0}
 
 -- plain instructions, one at least, begin within the budget
-begins_within : (text : List ℕ) (size budget n : ℕ) (from to : Core) → PlainSteps text size budget n from to → 1 ≤ n → from.used < budget
-begins_within text size budget zero from to run some = absurd (omega (arith, some))
-begins_within text size budget (suc n) from to run some =
-    let counted = PlainSteps-counted text size budget n from run.0 run.1 in
-    let within = PlainStep-within text size budget run.0 to run.2 in
+begins_within : (image : ImageValue) (size budget n : ℕ) (from to : Core) → PlainSteps image size budget n from to → 1 ≤ n → from.used < budget
+begins_within image size budget zero from to run some = absurd (omega (arith, some))
+begins_within image size budget (suc n) from to run some =
+    let counted = PlainSteps-counted image size budget n from run.0 run.1 in
+    let within = PlainStep-within image size budget run.0 to run.2 in
     omega (arith, counted, within)
 
-module _ (image : ImageValue) (budget quantum : ℕ) (leg : LegValue) (is : IsLeg image.text image.data_size budget quantum leg.from leg.to leg.steps leg.stop) where
+module _ (image : ImageValue) (budget quantum : ℕ) (leg : LegValue) (is : IsLeg image image.data_size budget quantum leg.from leg.to leg.steps leg.stop) where
   -- each instruction of the leg is counted
   pub counted : leg.to.used ≡ leg.from.used + leg.steps
-  counted = PlainSteps-counted image.text image.data_size budget leg.steps leg.from leg.to is.run
+  counted = PlainSteps-counted image image.data_size budget leg.steps leg.from leg.to is.run
 
   -- what stops the leg before its quantum stands at its end
-  pub stands : leg.stop ≢ stop.Quantum → next_at image.text image.data_size budget leg.to ≡ Stops leg.stop
+  pub stands : leg.stop ≢ stop.Quantum → next_at image image.data_size budget leg.to ≡ Stops leg.stop
   stands other = elim (cases_eq leg.steps quantum) [
     | inl all ↦ absurd (other (is.full all))
     | inr fewer ↦ let bound = is.bound in is.next (omega (arith, bound, fewer))
@@ -48,7 +48,7 @@ module _ (image : ImageValue) (budget quantum : ℕ) (leg : LegValue) (is : IsLe
         | inr fewer ↦ let bound = is.bound in absurd (is.other (omega (arith, bound, fewer)) full)
       ] in
       let one : 1 ≤ leg.steps = omega (arith, all, some) in
-      let within = begins_within image.text image.data_size budget leg.steps leg.from leg.to is.run one in
+      let within = begins_within image image.data_size budget leg.steps leg.from leg.to is.run one in
       let count = counted in
       omega (arith, one, within, count)
 
@@ -62,16 +62,16 @@ module _ (image : ImageValue) (budget quantum : ℕ) (leg : LegValue) (is : IsLe
     ends_within = elim (cases_lt leg.to.used budget) [
       | inl below ↦ below
       | inr spent ↦
-          let traps = spent_traps image.text image.data_size budget leg.to leg.stop (stands no_quantum) spent in
+          let traps = spent_traps image image.data_size budget leg.to leg.stop (stands no_quantum) spent in
           absurd (subst IsExecuted (sym asks ∙ ap (request_at ctx leg.to) traps) is_executed)
     ]
 
     -- so it is a run
-    pub is_run : IsRun image.text image.data_size budget leg
+    pub is_run : IsRun image budget leg
     is_run = record {
       run = is.run;
       next = stands;
-      inside = next_at-inside image.text image.data_size budget leg.to leg.stop (stands no_quantum);
+      inside = next_at-inside image image.data_size budget leg.to leg.stop (stands no_quantum);
       counted = counted;
       within = let within = ends_within in omega (arith, within);
     }

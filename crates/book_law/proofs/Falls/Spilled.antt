@@ -11,7 +11,7 @@ use Rattle.std.specs.declared.cmp.Ordering.TheVariants.{Less, Equal, Greater}
 use Rattle.fractal_vt.specs.Keys.{key_cmp, levels}
 use Rattle.fractal_vt.specs.declared.key.Key.{Key}
 use Rattle.guest_image.specs.ImageValue.{ImageValue}
-use Rattle.order_law.proofs.Aborted.{below_reopened}
+use Rattle.order_law.proofs.Proved.{below_reopened}
 use Rattle.spill_store.specs.Entries.{Entry as Spilled, open_key}
 use Rattle.spill_store.specs.Pushing.{all_pushed}
 use Rattle.spec_state.specs.declared.task.Task.{Task}
@@ -21,7 +21,7 @@ use Rattle.spec_state.specs.Groups.{keyed_task}
 use Rattle.spec_state.specs.Least.{Spot, Queued, Spilled_at, HasKey, IsLeastSpilled, place_cmp, spot_cmp, ranked_cmp}
 use Rattle.spec_state.specs.Room.{Splitter, Coalesces, IsSpilledAs, MakesRoom, has_free_entry, coalesces, aborts_victim, aborts_creator}
 use Rattle.spec_law.specs.Sound.{Sound, SoundSizes}
-use Rattle.spec_law.proofs.Proved.{StandsAt, added_stands, pushes_each, inside, queued_was, abort_of_one_is_sound, each_now, queued_at, abort_takes}
+use Rattle.spec_law.proofs.Proved.{abort_of_one_is_sound, abort_takes, added_stands, each_now, inside, pushes_each, queued_at, queued_was, StandsAt}
 use Rattle.book_law.proofs.Keeps.Events.{spilled_no_heir}
 
 -- an answer that is not greater, and then greater, is less

@@ -7,7 +7,7 @@ use Rattle.rv_table.specs.declared.instr.LoadWidth.{LoadWidth}
 use Rattle.guest_image.specs.declared.image.Kind.{Kind}
 use Rattle.task_step.specs.declared.request.Request.{Request}
 use Rattle.task_step.specs.declared.request.Request.TheVariants.{Continue, Load, Store, MakeSub, Emit}
-use Rattle.task_step.proofs.Asked.{request_at-continue}
+use Rattle.task_step.proofs.Proved.{request_at-continue}
 use Rattle.undo_log.specs.Undo.{Call, access_of}
 use Rattle.spec_state.specs.declared.task.Status.TheVariants.{Running, Trapped, Finished}
 use Rattle.spec_state.specs.declared.task.Task.{Task}
@@ -16,7 +16,7 @@ use Rattle.spec_state.specs.Tasks.{is_dispatched, context_of}
 use Rattle.spec_state.specs.Least.{IsHeir, IsLeastTask}
 use Rattle.spec_state.specs.Changes.{TakesLeg, request_of, passed, Keeps, GoesOn, KeepsTrap, MakesSub, Emits, Accesses, Finishes}
 use Rattle.spec_law.specs.Sound.{Sound}
-use Rattle.spec_law.proofs.Proved.{step_keeps_heir, StepsOne, worked, keeps_steps}
+use Rattle.spec_law.proofs.Proved.{keeps_steps, step_keeps_heir, StepsOne, worked}
 use Rattle.book_event.specs.Advancing.{HasRest, IsLeastLeg}
 use Rattle.book_event.specs.End.{IsOver}
 use Rattle.book_event.specs.Events.{TakesConflicts, LoadEvent, StoreEvent, EndEvent}

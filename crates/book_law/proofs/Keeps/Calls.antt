@@ -6,7 +6,7 @@ use Rattle.std.proofs.lemmas.Cmp.{tied_itself}
 use Rattle.std.proofs.lemmas.List.Filters.{length-filter_both}
 use Rattle.fractal_vt.specs.Keys.{key_cmp}
 use Rattle.fractal_vt.specs.declared.key.Key.{Key}
-use Rattle.fractal_vt.proofs.KeyLaws.{key_cmp_total}
+use Rattle.fractal_vt.proofs.Proved.{key_cmp_total}
 use Rattle.guest_image.specs.ImageValue.{ImageValue}
 use Rattle.place_policy.specs.Policy.{Policy}
 use Rattle.rv_core.specs.LegValue.{LegValue, IsRun}
@@ -24,7 +24,7 @@ use Rattle.spec_state.specs.Aborts.{Aborts, Only, is_marked}
 use Rattle.spec_law.specs.RoomLaws.{AsksAsLeast}
 use Rattle.spec_state.specs.Changes.{TakesLeg, request_of}
 use Rattle.spec_law.specs.Sound.{Sound}
-use Rattle.spec_law.proofs.Proved.{enqueue_stays_sound, abort_of_later_is_sound, end_stays_sound, cascade_is_later, filter_leaves, list_mapped}
+use Rattle.spec_law.proofs.Proved.{abort_of_later_is_sound, cascade_is_later, end_stays_sound, enqueue_stays_sound, filter_leaves, list_mapped}
 use Rattle.book_event.specs.Book.{BookView, picked}
 use Rattle.book_event.specs.Events.{EnqueueEvent, EndEvent, FreesCommit}
 use Rattle.book_event.specs.Events as events
@@ -46,7 +46,7 @@ filter_fewer p xs x has out =
     let some = left.1 in
     omega (arith, both, some)
 
-module _ (image : ImageValue) (book : BookView) (sound : Sound image book.view) (tile core : ℕ) (leg : LegValue) (run : IsRun image.text image.data_size book.view.settings.budget leg) (id : ℕ) (task : Task) (takes : TakesLeg book.view tile core leg id task) where
+module _ (image : ImageValue) (book : BookView) (sound : Sound image book.view) (tile core : ℕ) (leg : LegValue) (run : IsRun image book.view.settings.budget leg) (id : ℕ) (task : Task) (takes : TakesLeg book.view tile core leg id task) where
   -- a task that takes a leg, and is the least one, is dispatched
   least_runs : (x : Task) → IsLeastTask book.view id x → is_dispatched x ≡ true
   least_runs x least =

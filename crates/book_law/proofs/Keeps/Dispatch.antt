@@ -11,7 +11,7 @@ use Rattle.spec_state.specs.Numbers.{FreesNumber, has_free, renumbers}
 use Rattle.spec_state.specs.Changes.{Commits}
 use Rattle.spec_law.specs.Sound.{Sound}
 use Rattle.spec_state.specs.Aborts.{Only}
-use Rattle.spec_law.proofs.Proved.{commit_is_sound_turn, dispatch_stays_sound, renumbering_leaves_numbers, renumbering_stays_sound, abort_of_one_is_sound, least_is_one}
+use Rattle.spec_law.proofs.Proved.{abort_of_one_is_sound, commit_is_sound_turn, dispatch_stays_sound, least_is_one, renumbering_leaves_numbers, renumbering_stays_sound}
 use Rattle.book_event.specs.declared.event.Event.TheVariants as event
 use Rattle.book_event.specs.declared.event.Reply.TheVariants as reply
 use Rattle.book_event.specs.Book.{BookView}

@@ -12,7 +12,7 @@ use Rattle.spec_state.specs.Least.{Queued, Spilled_at, IsHeir, IsLeastSpilled}
 use Rattle.spec_state.specs.Room.{Splitter, asker_of}
 use Rattle.spec_law.specs.RoomLaws.{AsksAsLeast}
 use Rattle.spec_law.specs.Sound.{Sound}
-use Rattle.spec_law.proofs.Proved.{split_stays_sound, least_is_one}
+use Rattle.spec_law.proofs.Proved.{least_is_one, split_stays_sound}
 use Rattle.book_event.specs.declared.event.Event.{Event}
 use Rattle.book_event.specs.declared.event.Event.TheVariants as event
 use Rattle.book_event.specs.declared.event.Reply.{Reply}
@@ -54,7 +54,7 @@ split_leads image old sound tile aborted new inside made =
 
 module _ (image : ImageValue) (book : BookView) (sound : Sound image book.view) (aborted : ℕ) (new : View) (placers : List Policy) where
   -- a step, by what its task asks for
-  step_leads : (tile core : ℕ) (leg : LegValue) → IsRun image.text image.data_size book.view.settings.budget leg
+  step_leads : (tile core : ℕ) (leg : LegValue) → IsRun image book.view.settings.budget leg
       → StepEvent tile core leg book aborted new placers → Follows image book.view new
   step_leads tile core leg run step = by_request (request_of book.view step.task leg) refl step.comes
     where

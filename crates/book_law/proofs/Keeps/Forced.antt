@@ -11,7 +11,7 @@ use Rattle.spec_state.specs.Least.{IsHeir, IsLeastTask}
 use Rattle.spec_state.specs.Aborts.{Aborts, is_marked}
 use Rattle.spec_law.specs.Sound.{Sound, StandsAs, HoldsCore}
 use Rattle.spec_law.specs.Keeping.{IsLegOf}
-use Rattle.spec_law.proofs.Proved.{heirs_are_one, abort_takes, unmarked_stays}
+use Rattle.spec_law.proofs.Proved.{abort_takes, heirs_are_one, unmarked_stays}
 
 -- a sound view with the settings of another
 pub record Follows (image : ImageValue) (old mid : View) : Type 0 where
@@ -58,7 +58,7 @@ module _ (image : ImageValue) (old : View) (sound : Sound image old) where
           runs = record { on = record { held = (follows.now.sizes.held_are tile core id).1 (task, there, tile_is, holds); there = there }; running = runs.running };
           from = taken.takes.from;
         };
-        run = subst (λ s. IsRun image.text image.data_size s.budget leg) (sym follows.settings) taken.run;
+        run = subst (λ s. IsRun image s.budget leg) (sym follows.settings) taken.run;
       }
 
 -- what an abort leaves follows, where it is sound

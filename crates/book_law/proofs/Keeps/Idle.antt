@@ -10,7 +10,7 @@ use Rattle.std.proofs.lemmas.Option.{slice_get_within}
 use Rattle.std.specs.Cmp.{IsTotalOrder}
 use Rattle.fractal_vt.specs.declared.key.Key.{Key}
 use Rattle.fractal_vt.specs.Keys.{key_cmp}
-use Rattle.fractal_vt.proofs.KeyLaws.{key_cmp_total}
+use Rattle.fractal_vt.proofs.Proved.{key_cmp_total}
 use Rattle.spec_state.specs.declared.task.Status.{Status}
 use Rattle.spec_state.specs.declared.task.Status.TheVariants.{Idle, Running, Trapped, Finished}
 use Rattle.spec_state.specs.declared.task.Task.{Task}
@@ -18,7 +18,7 @@ use Rattle.spec_state.specs.View.{View, task_at, queue_at}
 use Rattle.spec_state.specs.Least.{Queued, IsQueuedAt, ranked_cmp, spot_cmp}
 use Rattle.spec_state.specs.Queries.{IsIdle, IsLeastIdle}
 use Rattle.spec_law.specs.Sound.{SoundSizes}
-use Rattle.spec_law.proofs.Proved.{distinct_at, one_place, ranked_turned, same_spot, contains_get, get_contains}
+use Rattle.spec_law.proofs.Proved.{contains_get, distinct_at, get_contains, one_place, ranked_turned, same_spot}
 
 -- a key at a place of a tile's queue
 record Ranked : Type 0 where

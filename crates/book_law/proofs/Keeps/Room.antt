@@ -9,7 +9,7 @@ use Rattle.spec_state.specs.Aborts.{Aborts, Only}
 use Rattle.spec_state.specs.Room.{Asker, Enqueuer, Coalesces, HasFreeEntry, IsLeastAsker, IsVictim, MakesRoom, asker_of, has_free_entry, coalesces, aborts_victim, aborts_creator}
 use Rattle.spec_law.specs.RoomLaws.{AsksAsLeast, MayBeTaken}
 use Rattle.spec_law.specs.Sound.{Sound}
-use Rattle.spec_law.proofs.Proved.{coalesce_stays_sound, abort_for_room_is_sound, victim_is_later, leaves_entry, cascade_spares_heir}
+use Rattle.spec_law.proofs.Proved.{abort_for_room_is_sound, cascade_spares_heir, coalesce_stays_sound, leaves_entry, victim_is_later}
 use Rattle.book_law.proofs.Keeps.Forced.{Follows, abort_follows, follows_itself, spared_stays}
 
 -- a task that isn't idle is not moved

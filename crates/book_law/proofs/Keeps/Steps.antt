@@ -14,7 +14,7 @@ use Rattle.spec_state.specs.Queries.{Conflicts, HasLine}
 use Rattle.spec_state.specs.Changes.{TakesLeg, request_of, GoesOn, KeepsTrap, MakesSub, Emits}
 use Rattle.spec_law.specs.Sound.{Sound}
 use Rattle.spec_law.specs.Keeping.{AsksAt, IsLegOf, NoneConflicts}
-use Rattle.spec_law.proofs.Proved.{load_stays_sound, store_stays_sound, quantum_stays_sound, trap_stays_sound, sub_stays_sound, byte_stays_sound, conflicts_spare_asker, abort_of_conflicts_is_sound, abort_takes, marked_is_back}
+use Rattle.spec_law.proofs.Proved.{abort_of_conflicts_is_sound, abort_takes, byte_stays_sound, conflicts_spare_asker, load_stays_sound, marked_is_back, quantum_stays_sound, store_stays_sound, sub_stays_sound, trap_stays_sound}
 use Rattle.book_event.specs.Events.{TakesConflicts, LoadEvent, StoreEvent}
 use Rattle.book_law.proofs.Keeps.Forced.{Follows, abort_follows, still_taken, spared_stays}
 
@@ -23,7 +23,7 @@ pub unmarked : (b : Bool) → (b ≡ true → ⊥) → b ≡ false
 unmarked true not_marked = absurd (not_marked refl)
 unmarked false not_marked = refl
 
-module _ (image : ImageValue) (old : View) (sound : Sound image old) (tile core : ℕ) (leg : LegValue) (run : IsRun image.text image.data_size old.settings.budget leg) (id : ℕ) (task : Task) (takes : TakesLeg old tile core leg id task) where
+module _ (image : ImageValue) (old : View) (sound : Sound image old) (tile core : ℕ) (leg : LegValue) (run : IsRun image old.settings.budget leg) (id : ℕ) (task : Task) (takes : TakesLeg old tile core leg id task) where
   -- the leg is one of a running task
   pub is_taken : IsLegOf image old tile core leg id task
   is_taken = record { takes = takes; run = run }

@@ -14,7 +14,7 @@ use Rattle.turn_law.specs.Tasks as bags
 use Rattle.turn_law.specs.Tasks.{In, IsFree, IsSpilled, Names, SpilledTask}
 use Rattle.turn_law.specs.Sound.{AreSound, SameFree}
 use Rattle.turn_law.specs.Grows as grow
-use Rattle.turn_law.proofs.Grown.{placements_keep, none_sound}
+use Rattle.turn_law.proofs.Proved.{none_sound, placements_keep}
 use Rattle.spec_state.specs.declared.settings.Settings.{Settings}
 use Rattle.spec_state.specs.declared.task.Creator.{Creator}
 use Rattle.spec_state.specs.declared.task.Creator.TheVariants.{Committed, Live}
@@ -31,7 +31,7 @@ use Rattle.book_law.proofs.Lists.{all_of_lists, from_option}
 use Rattle.book_law.proofs.Openings.Queued.{queue_within}
 use Rattle.book_law.proofs.Openings.Rooted.{IsImageSpilled, AreImageTasks, coalesces_keeps, places_keeps, none_are}
 use Rattle.book_law.proofs.Openings.Sized.{IsSized, coalesced_sized, room_sized, placed_sized, none_sized}
-use Rattle.spec_law.proofs.Proved.{some_first, coalesced_bags}
+use Rattle.spec_law.proofs.Proved.{coalesced_bags, some_first}
 
 -- what holds of each element holds of what stands among them
 each_in : {X : Type 0} (P : X → Type 0) (xs : List X) (x : X) → AllByRecursion P xs → In x xs → P x

@@ -16,7 +16,7 @@ use Rattle.order_law.specs.Opening.{IsRoot}
 use Rattle.order_law.specs.Ordered.{IsOrdered}
 use Rattle.order_law.specs.Tasks.{Keyed}
 use Rattle.order_law.specs.Events.{IsEntry, beside}
-use Rattle.order_law.proofs.Opening.{opening_law}
+use Rattle.order_law.proofs.Proved.{opening_law}
 use Rattle.pending_list.specs.declared.task.PendingTask.{PendingTask}
 use Rattle.turn_law.specs.Tasks.{In}
 use Rattle.serial_machine.specs.Run.{image_task, IsRun, opening, opening_memory}

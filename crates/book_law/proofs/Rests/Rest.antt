@@ -1,6 +1,6 @@
 -- What is left before the next commit or the end.
 use Rattle.std.proofs.Common.{◌+◌, ◌≤◌, subst, sym}
-use Rattle.turn_law.proofs.Advance.{rest_bounded}
+use Rattle.turn_law.proofs.Proved.{rest_bounded}
 use Rattle.book_law.specs.Laws.{RestIsBounded}
 
 -- it is what a standing leaves, which is bounded for each standing

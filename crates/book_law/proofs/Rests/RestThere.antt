@@ -13,7 +13,7 @@ use Rattle.spec_state.specs.declared.task.Task.{Task}
 use Rattle.spec_state.specs.View.{View, queue_at}
 use Rattle.spec_state.specs.Least.{Spot, Queued, Spilled_at, IsAllCommitted, IsLeastSpot, IsLeastTask, IsLeastSpilled, IsQueuedAt}
 use Rattle.spec_law.specs.Sound.{Sound}
-use Rattle.spec_law.proofs.Proved.{least_is_next, get_contains, least_is_one}
+use Rattle.spec_law.proofs.Proved.{get_contains, least_is_next, least_is_one}
 use Rattle.book_event.specs.Advancing.{StandsSo}
 use Rattle.book_event.specs.End.{HasEnd, IsOver, LeastIsTrapped}
 use Rattle.book_law.specs.Laws.{EndIsThere, RestIsThere}

@@ -6,14 +6,14 @@ use Rattle.fractal_vt.specs.Levels.{closed, levels_cmp}
 use Rattle.guest_image.specs.ImageValue.{ImageValue}
 use Rattle.order_law.specs.Events.{IsLeast}
 use Rattle.order_law.specs.Tasks.{Keyed, levels}
-use Rattle.order_law.proofs.Innermost.{innermost}
+use Rattle.order_law.proofs.Proved.{innermost}
 use Rattle.pending_list.specs.declared.task.PendingTask.{PendingTask}
 use Rattle.serial_machine.specs.Turn.{inner}
 use Rattle.spec_state.specs.Groups.{all_keyed, all_spilled, bag_creator, bag_spilled, bag_task, keyed, keyed_task}
 use Rattle.spec_state.specs.Least.{HasKey, IsAllCommitted, Queued, Spilled_at, Spot}
 use Rattle.spec_law.specs.Sound.{Sound}
 use Rattle.spec_state.specs.View.{View, task_at}
-use Rattle.spec_law.proofs.Proved.{id_below, mapped_some, queued_stands, spilled_key, spilled_stands, which, Free, free_is_keyed, upto_of, lowest, firm_is_committed, in_spilled, none_is_committed, spot_of, place_in_all, below_all}
+use Rattle.spec_law.proofs.Proved.{below_all, firm_is_committed, Free, free_is_keyed, id_below, in_spilled, lowest, mapped_some, none_is_committed, place_in_all, queued_stands, spilled_key, spilled_stands, spot_of, upto_of, which}
 use Rattle.turn_law.specs.Tasks.{pending}
 use Rattle.book_law.proofs.Serials.Stack.{none_stands, stands_nowhere}
 

@@ -4,8 +4,7 @@ use Rattle.pending_list.specs.declared.task.PendingTask.{PendingTask}
 use Rattle.serial_machine.specs.BagValue.{BagValue}
 use Rattle.serial_machine.specs.Turn.{inner}
 use Rattle.turn_law.specs.Commit.{Stands}
-use Rattle.turn_law.proofs.Bags.{Stands-inner, inner-Stands}
-use Rattle.turn_law.proofs.Turning.{head_has}
+use Rattle.turn_law.proofs.Proved.{head_has, inner-Stands, Stands-inner}
 
 -- where no task stands in a bag, no bag is left
 pub none_stands : (stack : List BagValue) → ((depth : ℕ) (p : PendingTask) → Stands stack depth p → ⊥) → inner stack ≡ []

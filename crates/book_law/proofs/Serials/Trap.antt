@@ -7,16 +7,15 @@ use Rattle.memory_law.specs.Accesses.{Replays}
 use Rattle.memory_law.specs.Events as memory
 use Rattle.memory_law.specs.Tasks.{Logged, Earlier}
 use Rattle.memory_law.proofs.Proved.{commit_keeps_chain}
-use Rattle.order_law.proofs.Least.{least_is_below}
-use Rattle.run_law.proofs.Sized.{run_sized}
+use Rattle.order_law.proofs.Proved.{least_is_below}
+use Rattle.run_law.proofs.Proved.{run_sized}
 use Rattle.pending_list.specs.declared.task.PendingTask.{PendingTask}
 use Rattle.serial_machine.specs.Turn.{TrapsSo, context_of}
 use Rattle.task_desc.specs.declared.desc.Name.{Name}
 use Rattle.turn_law.specs.Domains.{FitsBags}
 use Rattle.turn_law.specs.Logged.{IsTrapped}
 use Rattle.turn_law.specs.Tasks.{pending}
-use Rattle.turn_law.proofs.Fitting.{contexts_fit}
-use Rattle.turn_law.proofs.Logging.{logged_trap_is_serial}
+use Rattle.turn_law.proofs.Proved.{contexts_fit, logged_trap_is_serial}
 use Rattle.spec_state.specs.declared.task.Creator.TheVariants.{Committed}
 use Rattle.spec_state.specs.declared.task.Task.{Task}
 use Rattle.spec_state.specs.Groups.{all_keyed, bag_task, keyed_task, logged, logged_task}
@@ -25,7 +24,7 @@ use Rattle.spec_state.specs.Least.{IsLeastTask}
 use Rattle.spec_law.specs.Sound.{Sound, StandsAs, TrapsNext, done_so_far}
 use Rattle.spec_state.specs.Tasks.{depth_of, start_context}
 use Rattle.spec_state.specs.View.{View, task_at}
-use Rattle.spec_law.proofs.Proved.{mapped_some, queued_stands, starts_so, least_of_all, number_of, least_is_next, same_test, other_test, run_stack}
+use Rattle.spec_law.proofs.Proved.{least_is_next, least_of_all, mapped_some, number_of, other_test, queued_stands, run_stack, same_test, starts_so}
 use Rattle.book_event.specs.End.{LeastIsTrapped}
 
 -- the tasks without the one of this id

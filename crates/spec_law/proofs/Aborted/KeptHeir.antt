@@ -7,12 +7,10 @@ use Rattle.std.specs.declared.cmp.Ordering.TheVariants.{Less, Equal, Greater}
 use Rattle.fractal_vt.specs.declared.key.Key.{Key}
 use Rattle.fractal_vt.specs.Keys.{key_cmp}
 use Rattle.fractal_vt.specs.Levels.{closed, levels_cmp}
-use Rattle.fractal_vt.proofs.KeyLaws.{equal_keys_tie, key_cmp_total}
+use Rattle.fractal_vt.proofs.Proved.{equal_keys_tie, key_cmp_total}
 use Rattle.order_law.specs.Tasks.{Keyed, levels, HasNumber}
 use Rattle.order_law.specs.Events.{IsLeast}
-use Rattle.order_law.proofs.Aborted.{below_reopened}
-use Rattle.order_law.proofs.Innermost.{innermost}
-use Rattle.order_law.proofs.Least.{least_is_below}
+use Rattle.order_law.proofs.Proved.{below_reopened, innermost, least_is_below}
 use Rattle.spill_store.specs.Entries.{Entry as Spilled, open_key}
 use Rattle.spec_state.specs.declared.task.Task.{Task}
 use Rattle.spec_state.specs.View.{View, task_at, block_at}

@@ -5,7 +5,7 @@ use Rattle.serial_machine.specs.State.{State}
 use Rattle.turn_law.specs.Commit.{Matches}
 use Rattle.turn_law.specs.Domains.{FitsBags}
 use Rattle.turn_law.specs.Sound.{AreSound, SameFree}
-use Rattle.turn_law.proofs.Taken.{aborts_keep}
+use Rattle.turn_law.proofs.Proved.{aborts_keep}
 use Rattle.spec_state.specs.declared.task.Creator.TheVariants.{Committed, Live}
 use Rattle.spec_state.specs.declared.task.Task.{Task}
 use Rattle.spec_state.specs.declared.task.TaskId.{TaskId}

@@ -5,7 +5,7 @@ use Rattle.line_table.specs.Signature.{touched_of, wrote_of}
 use Rattle.line_table.specs.SignatureLaws.{is_signature_of_none, noted_touched, noted_wrote}
 use Rattle.memory_law.specs.Notes.{notes_of}
 use Rattle.memory_law.specs.Tasks.{AreNoted}
-use Rattle.memory_law.proofs.Filters.{noted_all}
+use Rattle.memory_law.proofs.Proved.{noted_all}
 use Rattle.undo_log.specs.declared.access.Access.{Access}
 use Rattle.undo_log.specs.Number.{IsAccessible}
 use Rattle.undo_log.specs.Undo.{AllAccessible}

@@ -6,12 +6,12 @@ use Rattle.rv_core.specs.Legs.{after_other_of, after_load_of}
 use Rattle.rv_core.specs.LegValue.{LegValue}
 use Rattle.rv_core.specs.Memory.{load_bytes}
 use Rattle.rv_table.specs.declared.instr.LoadWidth.{LoadWidth}
-use Rattle.run_law.proofs.Sized.{run_reaches}
+use Rattle.run_law.proofs.Proved.{run_reaches}
 use Rattle.task_step.specs.declared.request.Request.{Request}
 use Rattle.task_step.specs.declared.request.Request.TheVariants as request
 use Rattle.task_step.specs.Conditions.{IsInData}
 use Rattle.task_step.specs.TaskState.{begun}
-use Rattle.task_step.proofs.Reaching.{request_at-reaches}
+use Rattle.task_step.proofs.Proved.{request_at-reaches}
 use Rattle.turn_law.specs.Logged.{LoggedRun, load, store}
 use Rattle.undo_log.specs.declared.access.Access.{Access}
 use Rattle.undo_log.specs.Number.{number_at}

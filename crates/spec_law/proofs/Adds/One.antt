@@ -7,7 +7,7 @@ use Rattle.memory_law.specs.Notes.{notes_of}
 use Rattle.memory_law.specs.Tasks.{Logged}
 use Rattle.memory_law.proofs.Proved.{idle_tasks_keep_chain}
 use Rattle.serial_machine.specs.State.{State}
-use Rattle.turn_law.proofs.Grown.{get_front, get_cases}
+use Rattle.turn_law.proofs.Proved.{get_cases, get_front}
 use Rattle.spec_state.specs.declared.task.Status.{Status}
 use Rattle.spec_state.specs.declared.task.Status.TheVariants.{Idle, Running, Trapped, Finished}
 use Rattle.spec_state.specs.declared.task.Task.{Task}

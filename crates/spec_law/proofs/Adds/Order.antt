@@ -4,8 +4,7 @@ use Rattle.fractal_vt.specs.Levels.{closed}
 use Rattle.order_law.specs.Events.{beside, Changes, IsPlaced}
 use Rattle.order_law.specs.Ordered.{IsOrdered}
 use Rattle.order_law.specs.Tasks.{Keyed}
-use Rattle.order_law.proofs.Moved.{rename_keeps_order}
-use Rattle.order_law.proofs.Spawned.{spawn_law}
+use Rattle.order_law.proofs.Proved.{rename_keeps_order, spawn_law}
 use Rattle.spec_state.specs.declared.task.Task.{Task}
 use Rattle.spec_state.specs.View.{View, task_at}
 use Rattle.spec_state.specs.Groups.{all_keyed, all_spilled, keyed, keyed_spilled, keyed_task, live_creator}

@@ -7,7 +7,7 @@ use Rattle.fractal_vt.specs.Keys.{key_cmp}
 use Rattle.fractal_vt.specs.Levels.{closed, levels_cmp}
 use Rattle.order_law.specs.Tasks.{Keyed, levels}
 use Rattle.order_law.specs.Events.{IsLeast}
-use Rattle.order_law.proofs.Least.{least_is_below}
+use Rattle.order_law.proofs.Proved.{least_is_below}
 use Rattle.spill_store.specs.Entries.{Entry as Spilled, open_key}
 use Rattle.spec_state.specs.declared.task.Task.{Task}
 use Rattle.spec_state.specs.View.{View, task_at, block_at}

@@ -10,8 +10,7 @@ use Rattle.order_law.specs.Events as order
 use Rattle.order_law.specs.Events.{beside, freed, IsLeast, IsEntry}
 use Rattle.order_law.specs.Ordered.{IsOrdered}
 use Rattle.order_law.specs.Tasks.{Keyed, levels}
-use Rattle.order_law.proofs.Committed.{commit_law}
-use Rattle.order_law.proofs.Moved.{rename_keeps_order}
+use Rattle.order_law.proofs.Proved.{commit_law, rename_keeps_order}
 use Rattle.spill_store.specs.Entries.{Entry as Spilled}
 use Rattle.spec_state.specs.declared.task.Task.{Task}
 use Rattle.spec_state.specs.declared.numbers.TheConstants.{DISPATCH_NUMBERS}

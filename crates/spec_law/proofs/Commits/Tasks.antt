@@ -9,7 +9,7 @@ use Rattle.turn_law.specs.Commit.{Matches}
 use Rattle.turn_law.specs.Domains.{FitsBags}
 use Rattle.turn_law.specs.Sound.{AreSound}
 use Rattle.turn_law.specs.Tasks.{IsSpilled}
-use Rattle.turn_law.proofs.Freed.{commits_keep}
+use Rattle.turn_law.proofs.Proved.{commits_keep}
 use Rattle.spec_state.specs.declared.task.Creator.{Creator}
 use Rattle.spec_state.specs.declared.task.Creator.TheVariants.{Committed, Live}
 use Rattle.spec_state.specs.declared.task.Status.{Status}

@@ -6,24 +6,19 @@ use Rattle.fractal_vt.specs.Keys.{levels}
 use Rattle.fractal_vt.specs.Levels.{closed}
 use Rattle.guest_image.specs.ImageValue.{ImageValue}
 use Rattle.memory_law.specs.Accesses.{replayed, Replays}
-use Rattle.run_law.proofs.Counted.{count-run}
-use Rattle.run_law.proofs.Placed.{done-placed}
+use Rattle.run_law.proofs.Proved.{count-run, done-placed}
 use Rattle.pending_list.specs.declared.task.PendingTask.{PendingTask}
 use Rattle.serial_machine.specs.State.{State, IsStack}
 use Rattle.serial_machine.specs.TaskRun.{Done, begun}
 use Rattle.serial_machine.specs.TaskState.{TaskState}
 use Rattle.serial_machine.specs.Turn.{turn, stack_after, context_of, run_of}
-use Rattle.serial_machine.proofs.Turns.{IsStack-inner}
+use Rattle.serial_machine.proofs.Proved.{IsStack-inner}
 use Rattle.turn_law.specs.Commit.{Matches, HasTurn, HaveDomains, IsLeast, IsNextTurn}
 use Rattle.turn_law.specs.Domains.{FitsBags, KeepsDomains}
 use Rattle.turn_law.specs.Logged.{IsFinished}
 use Rattle.turn_law.specs.Sound.{AreSound}
 use Rattle.turn_law.specs.Tasks.{pending}
-use Rattle.turn_law.proofs.Fitting.{contexts_fit, turns_keep_domains}
-use Rattle.turn_law.proofs.Logging.{finished, logged_run_is_turn}
-use Rattle.turn_law.proofs.Resized.{end_on, logged_on}
-use Rattle.turn_law.proofs.Turning.{least_has_turn, commit_is_turn}
-use Rattle.turn_law.proofs.Whole.{have_domains}
+use Rattle.turn_law.proofs.Proved.{commit_is_turn, contexts_fit, end_on, finished, have_domains, least_has_turn, logged_on, logged_run_is_turn, turns_keep_domains}
 use Rattle.spec_state.specs.declared.task.Task.{Task}
 use Rattle.spec_state.specs.View.{View, queue_at}
 use Rattle.spec_state.specs.Tasks.{depth_of, start_context, is_dispatched}

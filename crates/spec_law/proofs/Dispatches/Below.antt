@@ -3,7 +3,7 @@ use Rattle.std.proofs.Common.{◌≡◌, ◌≢◌, ℕ, true, Option, Some, Non
 use Rattle.std.specs.declared.cmp.Ordering.TheVariants.{Less, Equal, Greater}
 use Rattle.fractal_vt.specs.declared.key.Key.{Key}
 use Rattle.fractal_vt.specs.Keys.{key_cmp}
-use Rattle.fractal_vt.proofs.KeyLaws.{equal_keys_tie}
+use Rattle.fractal_vt.proofs.Proved.{equal_keys_tie}
 use Rattle.spill_store.specs.Entries.{Entry as Spilled, open_key}
 use Rattle.spec_state.specs.declared.task.Task.{Task}
 use Rattle.spec_state.specs.View.{View, task_at, block_at}

@@ -8,11 +8,10 @@ use Rattle.std.specs.declared.cmp.Ordering.{Ordering}
 use Rattle.std.specs.declared.cmp.Ordering.TheVariants.{Less, Equal, Greater}
 use Rattle.fractal_vt.specs.Keys.{key_cmp}
 use Rattle.fractal_vt.specs.Levels.{closed, level_cmp, levels_cmp}
-use Rattle.fractal_vt.proofs.Total.{levels_cmp_total}
+use Rattle.fractal_vt.proofs.Proved.{levels_cmp_total}
 use Rattle.order_law.specs.Ordered.{TieBelow, LevelsBelow}
 use Rattle.order_law.specs.Tasks.{Keyed, levels}
-use Rattle.order_law.proofs.Dispatched.{cmp_alike, levels_alike}
-use Rattle.order_law.proofs.Numbers.{LevelsBelow-append}
+use Rattle.order_law.proofs.Proved.{cmp_alike, levels_alike, LevelsBelow-append}
 use Rattle.spec_state.specs.declared.task.Task.{Task}
 use Rattle.spec_state.specs.View.{View, task_at}
 use Rattle.spec_state.specs.Tasks.{is_dispatched}

@@ -4,8 +4,7 @@ use Rattle.fractal_vt.specs.Levels.{closed}
 use Rattle.order_law.specs.Events as order
 use Rattle.order_law.specs.Events.{beside}
 use Rattle.order_law.specs.Tasks.{Keyed}
-use Rattle.order_law.proofs.Dispatched.{dispatch_law}
-use Rattle.order_law.proofs.Moved.{rename_keeps_order}
+use Rattle.order_law.proofs.Proved.{dispatch_law, rename_keeps_order}
 use Rattle.spec_state.specs.declared.numbers.TheConstants.{DISPATCH_NUMBERS}
 use Rattle.spec_state.specs.View.{View, task_at}
 use Rattle.spec_state.specs.Groups.{all_keyed, all_spilled, keyed, keyed_spilled, keyed_task}

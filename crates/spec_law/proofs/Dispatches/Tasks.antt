@@ -9,7 +9,7 @@ use Rattle.turn_law.specs.Grows.{Starts}
 use Rattle.turn_law.specs.Logged.{none}
 use Rattle.turn_law.specs.Sound.{AreSound, SameFree}
 use Rattle.turn_law.specs.Tasks as bags
-use Rattle.turn_law.proofs.Grown.{dispatches_keep, idle_least}
+use Rattle.turn_law.proofs.Proved.{dispatches_keep, idle_least}
 use Rattle.spec_state.specs.declared.task.Creator.{Creator}
 use Rattle.spec_state.specs.declared.task.Creator.TheVariants.{Committed, Live}
 use Rattle.spec_state.specs.declared.task.Status.TheVariants.{Running}

@@ -4,12 +4,12 @@ use Rattle.std.proofs.lemmas.Bool.{cases_eq}
 use Rattle.std.proofs.lemmas.List.{get_or-set_same, get_or-set_other}
 use Rattle.guest_image.specs.ImageValue.{ImageValue}
 use Rattle.rv_core.specs.LegValue.{LegValue}
-use Rattle.run_law.proofs.Placed.{HasDomain, IsPlaced}
+use Rattle.run_law.proofs.Proved.{HasDomain, IsPlaced}
 use Rattle.task_step.specs.declared.request.Request.TheVariants.{Enqueue}
 use Rattle.task_step.specs.TaskState.{TaskState, begun}
 use Rattle.task_desc.specs.declared.desc.Spawn.{Spawn}
 use Rattle.turn_law.specs.Grows as grows
-use Rattle.turn_law.proofs.Grown.{get_front, get_last}
+use Rattle.turn_law.proofs.Proved.{get_front, get_last}
 use Rattle.spec_state.specs.declared.task.Task.{Task}
 use Rattle.spec_state.specs.View.{View, task_at}
 use Rattle.spec_state.specs.Tasks.{depth_of, progress_at, start_context}

@@ -12,7 +12,7 @@ use Rattle.turn_law.specs.Tasks as bags
 use Rattle.turn_law.specs.Tasks.{Names, SpilledTask}
 use Rattle.turn_law.specs.Sound.{AreSound, SameFree}
 use Rattle.turn_law.specs.Moves as move
-use Rattle.turn_law.proofs.Coalesce.{coalesces_keep}
+use Rattle.turn_law.proofs.Proved.{coalesces_keep}
 use Rattle.spec_state.specs.declared.task.Creator.{Creator}
 use Rattle.spec_state.specs.declared.task.Status.TheVariants.{Idle}
 use Rattle.spec_state.specs.declared.task.Task.{Task}

@@ -2,7 +2,7 @@
 use Rattle.std.proofs.Common.{◌≡◌, ℕ, true, Option, Some, sym, ap, ◌∙◌, inl, inr, is_some, map}
 use Rattle.fractal_vt.specs.Levels.{closed}
 use Rattle.order_law.specs.Tasks.{Keyed, HasNumber}
-use Rattle.order_law.proofs.Moved.{Renames, rename_keeps_order}
+use Rattle.order_law.proofs.Proved.{rename_keeps_order, Renames}
 use Rattle.spec_state.specs.declared.task.Task.{Task}
 use Rattle.spec_state.specs.View.{View, task_at}
 use Rattle.spec_state.specs.Tasks.{is_dispatched}

@@ -7,7 +7,7 @@ use Rattle.std.proofs.lemmas.List.Elements.{Contains-append_left, Contains-appen
 use Rattle.spill_store.specs.Entries.{Entry as Spilled}
 use Rattle.turn_law.specs.Moves.{SpillsOne}
 use Rattle.turn_law.specs.Sound.{AreSound, SameFree}
-use Rattle.turn_law.proofs.Coalesce.{splits_keep}
+use Rattle.turn_law.proofs.Proved.{splits_keep}
 use Rattle.spec_state.specs.declared.task.Task.{Task}
 use Rattle.spec_state.specs.View.{View, task_at}
 use Rattle.spec_state.specs.Tasks.{descriptor_of, idle_task, spilled_as, spilled_descriptor}

@@ -10,7 +10,7 @@ use Rattle.fractal_vt.specs.Levels.{closed}
 use Rattle.guest_image.specs.ImageValue.{ImageValue}
 use Rattle.order_law.specs.Ordered.{IsNumberOf}
 use Rattle.order_law.specs.Tasks.{Keyed, HasNumber}
-use Rattle.order_law.proofs.Held.{held_law}
+use Rattle.order_law.proofs.Proved.{held_law}
 use Rattle.spec_state.specs.declared.numbers.TheConstants.{MAX_NUMBERS_IN_USE}
 use Rattle.spec_state.specs.declared.task.Task.{Task}
 use Rattle.spec_state.specs.View.{View, task_at}

@@ -5,13 +5,13 @@ use Rattle.std.proofs.lemmas.List.{map-append}
 use Rattle.fractal_vt.specs.declared.key.Key.{Key}
 use Rattle.fractal_vt.specs.Keys.{key_cmp}
 use Rattle.fractal_vt.specs.Renumbered.{renumbered, renumbered_key, HoldsKey}
-use Rattle.fractal_vt.proofs.Renumbered.{keeps_order}
+use Rattle.fractal_vt.proofs.Proved.{keeps_order}
 use Rattle.spill_store.specs.Entries.{Entry as Spilled, open_key, renumbered_entry}
 use Rattle.spec_state.specs.declared.task.Task.{Task}
 use Rattle.spec_state.specs.View.{View, task_at, block_at}
 use Rattle.spec_state.specs.Groups.{all_spilled}
 use Rattle.spec_state.specs.Numbers.{Renumbers, renumbered_task}
-use Rattle.spec_state.proofs.HeldNumbers.{table_holds_spilled, table_holds_task}
+use Rattle.spec_state.proofs.Proved.{table_holds_spilled, table_holds_task}
 use Rattle.spec_law.proofs.Tasks.Beside.{mapped_some}
 use Rattle.spec_law.proofs.Tasks.Filtered.{list_mapped, get_mapped, got_mapped}
 use Rattle.spec_law.proofs.Tasks.Places.{place_in_all, get_contains}

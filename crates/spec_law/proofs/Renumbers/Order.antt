@@ -14,14 +14,14 @@ use Rattle.order_law.specs.Ordered.{IsOrdered}
 use Rattle.order_law.specs.Renumber as order
 use Rattle.order_law.specs.Renumber.{IsTableOf}
 use Rattle.order_law.specs.Tasks.{Keyed, levels}
-use Rattle.order_law.proofs.Renumbered.{renumber_law}
+use Rattle.order_law.proofs.Proved.{renumber_law}
 use Rattle.spill_store.specs.Entries.{Entry as Spilled, open_key, renumbered_entry}
 use Rattle.spec_state.specs.declared.task.Task.{Task}
 use Rattle.spec_state.specs.View.{View, task_at}
 use Rattle.spec_state.specs.Tasks.{ordered_to, is_ordered_at}
 use Rattle.spec_state.specs.Groups.{all_keyed, all_spilled, heir_unless, keyed, keyed_spilled, keyed_task, live_creator}
 use Rattle.spec_state.specs.Numbers.{Renumbers, renumbered_task}
-use Rattle.spec_state.proofs.HeldNumbers.{table_holds_path, table_holds_spilled, table_holds_task}
+use Rattle.spec_state.proofs.Proved.{table_holds_path, table_holds_spilled, table_holds_task}
 use Rattle.spec_law.proofs.Tasks.Beside.{which}
 use Rattle.spec_law.proofs.Tasks.Places.{get_contains}
 use Rattle.spec_law.proofs.Renumbers.One.{after, all_are, each}

@@ -12,16 +12,16 @@ use Rattle.guest_image.specs.declared.image.Kind.{Kind}
 use Rattle.guest_image.specs.declared.image.Kind.TheVariants.{Unordered, Ordered}
 use Rattle.order_law.specs.Events.{IsPlaced}
 use Rattle.order_law.specs.Tasks.{Keyed}
-use Rattle.order_law.proofs.Spawned.{stands}
+use Rattle.order_law.proofs.Proved.{stands}
 use Rattle.rv_core.specs.LegValue.{LegValue}
 use Rattle.serial_machine.specs.Legs.{SubFits}
-use Rattle.serial_machine.proofs.Kept.{request-sub_fits}
+use Rattle.serial_machine.proofs.Proved.{request-sub_fits}
 use Rattle.task_desc.specs.declared.calls.TheConstants.{MAX_DEPTH}
 use Rattle.task_desc.specs.Calls.{allowed_at, allowed_sub, allowed_super}
 use Rattle.task_step.specs.declared.request.Request.TheVariants.{Enqueue}
 use Rattle.task_step.specs.TaskState.{TaskState, begun, context}
-use Rattle.task_step.proofs.Asked.{AllowedBy, request_at-allowed}
-use Rattle.turn_law.proofs.Asking.{logged-holds}
+use Rattle.task_step.proofs.Proved.{AllowedBy, request_at-allowed}
+use Rattle.turn_law.proofs.Proved.{logged-holds}
 use Rattle.task_desc.specs.declared.desc.Place.{Place}
 use Rattle.task_desc.specs.declared.desc.Place.TheVariants.{Same, Sub, Super}
 use Rattle.task_desc.specs.declared.desc.Spawn.{Spawn}

@@ -8,10 +8,10 @@ use Rattle.guest_image.specs.ImageValue.{ImageValue}
 use Rattle.order_law.specs.Tasks.{Keyed}
 use Rattle.order_law.specs.Tasks as order
 use Rattle.order_law.specs.Events as events
-use Rattle.order_law.proofs.Least.{below_dispatched}
+use Rattle.order_law.proofs.Proved.{below_dispatched}
 use Rattle.turn_law.specs.Room as room
 use Rattle.turn_law.specs.Room.{Waiting}
-use Rattle.turn_law.proofs.Rooms.{victims_are_legal}
+use Rattle.turn_law.proofs.Proved.{victims_are_legal}
 use Rattle.spec_state.specs.declared.task.Task.{Task}
 use Rattle.spec_state.specs.View.{View, task_at, queue_at}
 use Rattle.spec_state.specs.Tasks.{is_dispatched}

@@ -6,11 +6,11 @@ use Rattle.std.proofs.lemmas.Cmp.{nat_cmp_total, tied_itself}
 use Rattle.std.proofs.lemmas.Option.{slice_get-map, slice_get_within, get_or_from_slice_get}
 use Rattle.std.specs.Ordering.{nat_cmp, ordering_then, ordering_reverse}
 use Rattle.std.specs.declared.cmp.Ordering.TheVariants.{Less, Equal, Greater}
-use Rattle.fractal_vt.proofs.KeyLaws.{key_cmp_total}
+use Rattle.fractal_vt.proofs.Proved.{key_cmp_total}
 use Rattle.fractal_vt.specs.Keys.{key_cmp}
 use Rattle.spill_store.specs.Entries.{Entry as Spilled, open_key, IsLeastEntry}
 use Rattle.turn_law.specs.Room.{Waiting, queue_after}
-use Rattle.turn_law.proofs.Rooms.{shorter_or_same, shorter}
+use Rattle.turn_law.proofs.Proved.{shorter, shorter_or_same}
 use Rattle.spec_state.specs.View.{View, queue_at, block_at}
 use Rattle.spec_state.specs.Tasks.{idle_task, spilled_descriptor}
 use Rattle.spec_state.specs.Groups.{waiting_task, waiting}

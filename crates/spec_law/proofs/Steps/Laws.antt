@@ -4,7 +4,7 @@ use Rattle.guest_image.specs.declared.image.Kind.{Kind}
 use Rattle.guest_image.specs.ImageValue.{ImageValue}
 use Rattle.rv_core.specs.Legs.{after_other_of}
 use Rattle.rv_core.specs.LegValue.{LegValue}
-use Rattle.run_law.proofs.Placed.{HasDomain, IsPlaced}
+use Rattle.run_law.proofs.Proved.{HasDomain, IsPlaced}
 use Rattle.task_desc.specs.declared.calls.TheConstants.{MAX_BYTES}
 use Rattle.task_desc.specs.declared.desc.Place.{Place}
 use Rattle.task_desc.specs.declared.desc.Place.TheVariants.{Same, Sub, Super}
@@ -13,9 +13,9 @@ use Rattle.task_step.specs.declared.request.Request.TheVariants as request
 use Rattle.task_step.specs.Conditions.{IsCall}
 use Rattle.task_step.specs.Steps.{Continues, after_request}
 use Rattle.task_step.specs.TaskState.{TaskState, begun}
-use Rattle.task_step.proofs.Asked.{AllowedBy, allowed_by-room, request_at-allowed}
+use Rattle.task_step.proofs.Proved.{allowed_by-room, AllowedBy, request_at-allowed}
 use Rattle.turn_law.specs.Logged.{call}
-use Rattle.turn_law.proofs.Logging.{on_memory}
+use Rattle.turn_law.proofs.Proved.{on_memory}
 use Rattle.spec_state.specs.declared.task.Status.TheVariants.{Trapped, Finished}
 use Rattle.spec_state.specs.declared.task.Task.{Task}
 use Rattle.spec_state.specs.View.{View}

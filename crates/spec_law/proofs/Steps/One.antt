@@ -7,7 +7,7 @@ use Rattle.memory_law.specs.Notes.{notes_of}
 use Rattle.order_law.specs.Tasks.{Keyed}
 use Rattle.order_law.specs.Events.{beside}
 use Rattle.order_law.specs.Ordered.{IsOrdered}
-use Rattle.order_law.proofs.Moved.{Renames, rename_keeps_order}
+use Rattle.order_law.proofs.Proved.{rename_keeps_order, Renames}
 use Rattle.serial_machine.specs.State.{State}
 use Rattle.spec_state.specs.declared.task.Task.{Task}
 use Rattle.spec_state.specs.View.{View, task_at, ChangesTask}

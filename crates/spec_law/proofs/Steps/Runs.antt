@@ -5,7 +5,7 @@ use Rattle.guest_image.specs.declared.image.Kind.{Kind}
 use Rattle.guest_image.specs.ImageValue.{ImageValue}
 use Rattle.rv_core.specs.declared.state.Core.{Core}
 use Rattle.rv_core.specs.Legs.{PlainSteps}
-use Rattle.run_law.proofs.Placed.{HasDomain, HaveDomains, IsPlaced, request-placed}
+use Rattle.run_law.proofs.Proved.{HasDomain, HaveDomains, IsPlaced, request-placed}
 use Rattle.task_desc.specs.declared.calls.TheConstants.{MAX_BYTES}
 use Rattle.task_desc.specs.declared.desc.Ctx.{Ctx}
 use Rattle.task_desc.specs.declared.desc.Spawn.{Spawn}
@@ -15,13 +15,13 @@ use Rattle.task_step.specs.Conditions.{HasRoom}
 use Rattle.task_step.specs.Steps.{Stepped, Continues, Ends, Traps, after_request}
 use Rattle.task_step.specs.TaskState.{TaskState, context}
 use Rattle.turn_law.specs.Logged.{LoggedRun, plain}
-use Rattle.turn_law.proofs.Asking.{logged-holds}
+use Rattle.turn_law.proofs.Proved.{logged-holds}
 use Rattle.undo_log.specs.declared.access.Access.{Access}
 
 module _ (image : ImageValue) (budget size : ℕ) (ctx : Ctx) (start : TaskState) where
   -- a logged run goes on by plain instructions
   pub run_on : (log : List Access) (task : TaskState) (n : ℕ) (to : Core) → LoggedRun image budget size ctx start log task
-      → PlainSteps image.text size budget n task.core to → LoggedRun image budget size ctx start log (record task { core = to })
+      → PlainSteps image size budget n task.core to → LoggedRun image budget size ctx start log (record task { core = to })
   run_on log task zero to run same = subst (λ core. LoggedRun image budget size ctx start log (record task { core = core })) same run
   run_on log task (suc n) to run (mid, front, last) =
       plain {log = log} {task = record task { core = mid }} to (run_on log task n mid run front) last

@@ -78,7 +78,7 @@ module _ (image : ImageValue) (old : View) (sound : Sound image old) (tile core 
   ran_leg =
       run_on image old.settings.budget image.data_size (start_context old.version task)
       (begun task.entry task.key.ts task.args []) task.log (progress_at [] task.core task) leg.steps leg.to stood.1
-      (subst (λ from. PlainSteps image.text image.data_size old.settings.budget leg.steps from leg.to) (sym taken.takes.from) taken.run.run)
+      (subst (λ from. PlainSteps image image.data_size old.settings.budget leg.steps from leg.to) (sym taken.takes.from) taken.run.run)
 
   -- what it asks for at the end of the leg it asks for next in its run
   pub asks_next : (request : Request) → request_of old task leg ≡ request → request ≢ Continue → AsksNext image old.settings.budget task (progress_at [] leg.to task) request

@@ -6,7 +6,7 @@ use Rattle.std.specs.Ordering.{is_gt, ordering_reverse}
 use Rattle.std.specs.declared.cmp.Ordering.{Ordering}
 use Rattle.std.specs.declared.cmp.Ordering.TheVariants.{Less, Equal, Greater}
 use Rattle.fractal_vt.specs.Levels.{levels_cmp}
-use Rattle.fractal_vt.proofs.Total.{levels_cmp_total}
+use Rattle.fractal_vt.proofs.Proved.{levels_cmp_total}
 use Rattle.order_law.specs.Tasks.{Keyed, levels}
 
 -- the first task is not above the second

@@ -11,11 +11,11 @@ use Rattle.guest_image.specs.ImageValue.{ImageValue}
 use Rattle.order_law.specs.Innermost.{IsInnermost}
 use Rattle.order_law.specs.Tasks.{Keyed}
 use Rattle.order_law.specs.Tasks as order
-use Rattle.order_law.proofs.Innermost.{innermost}
+use Rattle.order_law.proofs.Proved.{innermost}
 use Rattle.spill_store.specs.Entries.{Entry as Spilled, open_key}
 use Rattle.turn_law.specs.Tasks.{IsSpilled}
 use Rattle.turn_law.specs.Commit.{HasTurn}
-use Rattle.turn_law.proofs.Turning.{least_has_turn}
+use Rattle.turn_law.proofs.Proved.{least_has_turn}
 use Rattle.spec_state.specs.declared.task.Creator.{Creator}
 use Rattle.spec_state.specs.declared.task.Creator.TheVariants.{Committed, Live}
 use Rattle.spec_state.specs.declared.task.Task.{Task}

@@ -8,8 +8,7 @@ use Rattle.order_law.specs.Tasks.{Keyed}
 use Rattle.order_law.specs.Events as order
 use Rattle.order_law.specs.Events.{beside, IsEntry}
 use Rattle.order_law.specs.Ordered.{IsOrdered}
-use Rattle.order_law.proofs.Aborted.{abort_law}
-use Rattle.order_law.proofs.Moved.{Renames, rename_keeps_order}
+use Rattle.order_law.proofs.Proved.{abort_law, rename_keeps_order, Renames}
 use Rattle.spill_store.specs.Entries.{Entry as Spilled}
 use Rattle.spec_state.specs.declared.task.Task.{Task}
 use Rattle.spec_state.specs.View.{View, task_at}

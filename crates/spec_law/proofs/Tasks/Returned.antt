@@ -9,8 +9,7 @@ use Rattle.turn_law.specs.Commit.{Matches, HasTurn}
 use Rattle.turn_law.specs.Moves.{SpillsOne}
 use Rattle.turn_law.specs.Sound.{AreSound, SameFree}
 use Rattle.turn_law.specs.Tasks.{Task, Committed, IsFree, IsSpilled, SpilledTask}
-use Rattle.turn_law.proofs.Coalesce.{splits_keep}
-use Rattle.turn_law.proofs.Turning.{least_has_turn}
+use Rattle.turn_law.proofs.Proved.{least_has_turn, splits_keep}
 
 -- a number passes the test for itself
 pub same_test : (n : ℕ) → (n == n) ≡ true

@@ -1,12 +1,12 @@
 -- The depths of the bags after any run of the serial machine fall by one down to 1.
 use Rattle.std.proofs.Common.{ℕ, ◌+◌, List, [], ◌∷◌, refl, sym, subst, arith}
 use Rattle.guest_image.specs.ImageValue.{ImageValue}
-use Rattle.run_law.proofs.Turned.{Turned, turn-did}
+use Rattle.run_law.proofs.Proved.{turn-did, Turned}
 use Rattle.run_journal.specs.declared.journal.Entry.{Entry}
 use Rattle.serial_machine.specs.Run.{Runs, IsRun, opening}
 use Rattle.serial_machine.specs.State.{State, IsStack}
-use Rattle.serial_machine.proofs.Turns.{IsStack-inner, IsStack-after}
-use Rattle.turn_law.proofs.Subdomains.{done-fits}
+use Rattle.serial_machine.proofs.Proved.{IsStack-after, IsStack-inner}
+use Rattle.turn_law.proofs.Proved.{done-fits}
 
 -- a turn keeps them so
 turn_keeps_stack : (image : ImageValue) (budget : ℕ) (s mid : State) (e : Entry) → IsStack s.stack → Turned image budget s mid e.name e → IsStack mid.stack

@@ -1,4 +1,4 @@
-use Rattle.step_law.proofs.Views.{sound_by_key}
+use Rattle.step_law.proofs.Proved.{sound_by_key}
 use Rattle.book_move.proofs.Aborted.{aborted_latest}
 use Rattle.book_move.proofs.aborting.make_abort.Goals as goal
 

@@ -1,6 +1,6 @@
 use Rattle.std.proofs.Common.{ap}
 use Rattle.std.specs.Prelude.{is_some}
-use Rattle.step_law.proofs.Readings.{none_commits, none_is_least}
+use Rattle.step_law.proofs.Proved.{none_commits, none_is_least}
 use Rattle.book_move.proofs.committing.finished_least.Goals as goal
 
 pub returns-in-None-clause-none : goal.returns-in-None-clause-none

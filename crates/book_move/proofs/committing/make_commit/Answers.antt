@@ -1,7 +1,6 @@
 use Rattle.std.proofs.Common.{◌≡◌, subst}
 use Rattle.std.specs.Prelude.{IfSome}
-use Rattle.step_law.proofs.Readings.{below_limit}
-use Rattle.step_law.proofs.Views.{least_is_committed}
+use Rattle.step_law.proofs.Proved.{below_limit, least_is_committed}
 use Rattle.book_move.proofs.Committed.{children_are_made, commit_wants, committed}
 use Rattle.book_move.proofs.committing.make_commit.Goals as goal
 

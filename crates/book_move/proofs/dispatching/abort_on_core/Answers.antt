@@ -1,8 +1,7 @@
 use Rattle.std.proofs.Common.{ap}
 use Rattle.std.specs.Prelude.{is_some}
 use Rattle.book_event.specs.Events.{aborts_latest}
-use Rattle.step_law.proofs.Holders.{held_has_task}
-use Rattle.step_law.proofs.Views.{sound_by_key}
+use Rattle.step_law.proofs.Proved.{held_has_task, sound_by_key}
 use Rattle.book_move.proofs.dispatching.abort_on_core.Goals as goal
 
 pub unreachable-requires : goal.unreachable-requires

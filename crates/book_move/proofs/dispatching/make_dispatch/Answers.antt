@@ -1,7 +1,6 @@
 use Rattle.std.proofs.Common.{◌<◌, sym, subst}
 use Rattle.spec_state.specs.declared.settings.Settings.{Settings}
-use Rattle.step_law.proofs.Cores.{core_leaves_idle}
-use Rattle.step_law.proofs.Views.{sound_numbers}
+use Rattle.step_law.proofs.Proved.{core_leaves_idle, sound_numbers}
 use Rattle.book_move.proofs.Dispatched.{dispatched}
 use Rattle.book_move.proofs.dispatching.make_dispatch.Goals as goal
 

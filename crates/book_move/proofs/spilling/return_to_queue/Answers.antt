@@ -1,8 +1,7 @@
 use Rattle.std.proofs.Common.{◌<◌, sym, subst}
 use Rattle.spec_state.specs.declared.settings.Settings.{Settings}
 use Rattle.spec_state.specs.Room.{Splitter}
-use Rattle.step_law.proofs.Rooms.{room_leaves, room_leaves_block}
-use Rattle.step_law.proofs.Views.{sound_named}
+use Rattle.step_law.proofs.Proved.{room_leaves, room_leaves_block, sound_named}
 use Rattle.book_move.proofs.spilling.return_to_queue.Goals as goal
 
 pub split-requires-clause-tile : goal.split-requires-clause-tile

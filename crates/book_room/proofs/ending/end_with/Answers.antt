@@ -1,7 +1,7 @@
 use Rattle.std.proofs.Common.{ap, sym, subst, ◌∙◌}
 use Rattle.std.specs.Prelude.{IfSome, is_some}
 use Rattle.spec_state.specs.Least.{IsLeast}
-use Rattle.step_law.proofs.Readings.{limit_ends, untrapped_goes_on}
+use Rattle.step_law.proofs.Proved.{limit_ends, untrapped_goes_on}
 use Rattle.book_room.proofs.ending.end_with.Goals as goal
 
 pub returns-in-Some-clause-some : goal.returns-in-Some-clause-some

@@ -1,7 +1,7 @@
 use Rattle.std.proofs.Common.{ap, sym, subst, ◌∙◌}
 use Rattle.std.specs.Prelude.{◌↔◌, IfSome, IsSome, is_some}
 use Rattle.spec_state.specs.Least.{IsFirm}
-use Rattle.step_law.proofs.Readings.{least_is_firm}
+use Rattle.step_law.proofs.Proved.{least_is_firm}
 use Rattle.book_room.proofs.ending.least_name.Goals as goal
 
 pub unreachable-requires : goal.unreachable-requires

@@ -2,7 +2,7 @@ use Rattle.std.proofs.Common.{ap, sym, subst}
 use Rattle.std.specs.Prelude.{IfSome}
 use Rattle.spec_state.specs.Least.{HasName}
 use Rattle.spec_state.specs.Tasks.{trap_in}
-use Rattle.step_law.proofs.Readings.{read_trap_ends}
+use Rattle.step_law.proofs.Proved.{read_trap_ends}
 use Rattle.book_room.proofs.ending.trap_end.Goals as goal
 
 pub returns : goal.returns

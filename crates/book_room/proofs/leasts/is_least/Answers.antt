@@ -1,6 +1,6 @@
 use Rattle.std.proofs.Common.{ap}
 use Rattle.std.specs.Prelude.{is_some}
-use Rattle.step_law.proofs.Readings.{least_where, none_is_least}
+use Rattle.step_law.proofs.Proved.{least_where, none_is_least}
 use Rattle.book_room.proofs.leasts.is_least.Goals as goal
 
 pub returns-in-Some : goal.returns-in-Some

@@ -1,6 +1,6 @@
 use Rattle.std.proofs.Common.{ap}
 use Rattle.std.specs.Prelude.{is_some}
-use Rattle.step_law.proofs.Readings.{spilled_where, none_is_spilled}
+use Rattle.step_law.proofs.Proved.{none_is_spilled, spilled_where}
 use Rattle.book_room.proofs.leasts.is_least_spilled.Goals as goal
 
 pub returns-in-Some : goal.returns-in-Some

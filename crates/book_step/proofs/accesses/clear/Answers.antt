@@ -1,4 +1,4 @@
-use Rattle.step_law.proofs.Asker.{conflicts_leave_asker}
+use Rattle.step_law.proofs.Proved.{conflicts_leave_asker}
 use Rattle.book_step.proofs.Accessing.{conflicts_taken}
 use Rattle.book_step.proofs.accesses.clear.Goals as goal
 

@@ -2,7 +2,7 @@ use Rattle.std.proofs.Common.{refl, arith, ◌<◌, length}
 use Rattle.spec_state.specs.View.{finished_at}
 use Rattle.book_event.specs.Causes.{IsCommitFull}
 use Rattle.book_event.specs.Events.{has_free}
-use Rattle.step_law.proofs.Causes.{free_no_stall, later_no_stall}
+use Rattle.step_law.proofs.Proved.{free_no_stall, later_no_stall}
 use Rattle.book_step.specs.Coming.{book_of}
 use Rattle.book_step.proofs.Ending.{of_there, made_end, stalls_end}
 use Rattle.book_step.proofs.ends.end.Goals as goal

@@ -1,7 +1,7 @@
 use Rattle.std.proofs.Common.{[], List, arith, map, subst, sym}
 use Rattle.std.proofs.lemmas.List.{with_items_is}
 use Rattle.book_event.specs.Opening.{opened, IsOpening}
-use Rattle.book_law.proofs.Openings.Opened.{opening_is_sound}
+use Rattle.book_law.proofs.Proved.{opening_is_sound}
 use Rattle.conflict_book.proofs.opening.sound_opening.Goals as goal
 
 pub invariant_of-result : goal.invariant_of-result

@@ -1,6 +1,6 @@
 use Rattle.std.proofs.Common.{refl, rules}
 use Rattle.conflict_book.proofs.Cores.{held_is_there, held_runs}
-use Rattle.conflict_book.proofs.Used.{running_within}
+use Rattle.book_law.proofs.Proved.{running_within}
 use Rattle.conflict_book.proofs.reading.running_core.Goals as goal
 
 pub task-task-requires : goal.task-task-requires
@@ -25,5 +25,5 @@ returns-in-Running-clause-none g c = (
 
 pub returns-in-Running-clause-within : goal.returns-in-Running-clause-within
 returns-in-Running-clause-within g c =
-    running_within g.N.Naming.image c.args.state.now.view c.in_ok-id.id.0 c.in-Running.core c.task-task.result.now c.requires.sound
+    running_within g.N.Naming.image c.args.state.now.view c.requires.sound c.in_ok-id.id.0 c.in-Running.core c.task-task.result.now
     c.task-task.ensures c.in-Running.is

@@ -1,4 +1,4 @@
-use Rattle.memory_law.proofs.Proved.{abort_keeps_chain}
+use Rattle.memory_law.proofs.WholeChains.{abort_keeps_chain}
 use Rattle.memory_law.proofs.laws.abort_keeps_chain.Goals as goal
 
 pub returns : goal.returns

@@ -1,4 +1,4 @@
-use Rattle.memory_law.proofs.Proved.{all_undone_is_serial}
+use Rattle.memory_law.proofs.WholeChains.{all_undone_is_serial}
 use Rattle.memory_law.proofs.laws.all_undone_is_serial.Goals as goal
 
 pub returns : goal.returns

@@ -1,4 +1,4 @@
-use Rattle.memory_law.proofs.Proved.{chain_is_replay}
+use Rattle.memory_law.proofs.WholeChains.{chain_is_replay}
 use Rattle.memory_law.proofs.laws.chain_is_replay.Goals as goal
 
 pub returns : goal.returns

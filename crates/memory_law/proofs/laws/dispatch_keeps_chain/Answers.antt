@@ -1,4 +1,4 @@
-use Rattle.memory_law.proofs.Proved.{dispatch_keeps_chain}
+use Rattle.memory_law.proofs.WholeChains.{dispatch_keeps_chain}
 use Rattle.memory_law.proofs.laws.dispatch_keeps_chain.Goals as goal
 
 pub returns : goal.returns

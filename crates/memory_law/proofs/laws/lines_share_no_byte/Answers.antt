@@ -1,4 +1,4 @@
-use Rattle.memory_law.proofs.Proved.{lines_share_no_byte}
+use Rattle.memory_law.proofs.WholeChains.{lines_share_no_byte}
 use Rattle.memory_law.proofs.laws.lines_share_no_byte.Goals as goal
 
 pub returns : goal.returns

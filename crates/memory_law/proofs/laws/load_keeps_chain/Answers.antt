@@ -1,4 +1,4 @@
-use Rattle.memory_law.proofs.Proved.{load_keeps_chain}
+use Rattle.memory_law.proofs.WholeChains.{load_keeps_chain}
 use Rattle.memory_law.proofs.laws.load_keeps_chain.Goals as goal
 
 pub returns : goal.returns

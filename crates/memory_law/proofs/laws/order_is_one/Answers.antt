@@ -1,4 +1,4 @@
-use Rattle.memory_law.proofs.Proved.{order_is_one}
+use Rattle.memory_law.proofs.WholeChains.{order_is_one}
 use Rattle.memory_law.proofs.laws.order_is_one.Goals as goal
 
 pub returns : goal.returns

@@ -1,4 +1,4 @@
-use Rattle.memory_law.proofs.Proved.{store_keeps_chain}
+use Rattle.memory_law.proofs.WholeChains.{store_keeps_chain}
 use Rattle.memory_law.proofs.laws.store_keeps_chain.Goals as goal
 
 pub returns : goal.returns

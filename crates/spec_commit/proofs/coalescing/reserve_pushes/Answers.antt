@@ -1,6 +1,6 @@
 use Rattle.std.proofs.Common.{rules, ap}
 use Rattle.spec_state.specs.StateValue.{StateValue}
-use Rattle.spec_state.proofs.Reserved.{spare_at}
+use Rattle.spec_state.proofs.Proved.{spare_at}
 use Rattle.spec_commit.proofs.Blocks.{same_seen, covers_seen, other_room}
 use Rattle.spec_commit.proofs.coalescing.reserve_pushes.Goals as goal
 

@@ -1,7 +1,7 @@
 use Rattle.std.proofs.Common.{rules, ◌<◌, ◌∙◌, None, [], length, ap, sym, subst, refl, arith, slice_get, slice_index_or}
 use Rattle.spec_state.specs.Queries.{IsLeastIdle, IsLowestFree}
 use Rattle.spec_state.specs.StateValue.{StateValue}
-use Rattle.spec_state.proofs.Put.{few_indexed}
+use Rattle.spec_state.proofs.Proved.{few_indexed}
 use Rattle.spec_dispatch.proofs.Dispatched.{stored_dispatched}
 use Rattle.spec_dispatch.proofs.Placed.{as_many, cores_counted, core_within, dispatches_seen, indexed_placed, slot_within, slots_stay}
 use Rattle.spec_dispatch.proofs.placing.place.Goals as goal

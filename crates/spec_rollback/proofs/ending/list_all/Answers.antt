@@ -1,6 +1,6 @@
 use Rattle.std.proofs.Common.{rules, arith, ◌≤◌, ◌++◌, sym, subst, length, take, drop, ℕ, Bool, List}
 use Rattle.std.proofs.lemmas.List.Sums.{count_by-le-length}
-use Rattle.abort_cascade.proofs.Members.{listed_front}
+use Rattle.abort_cascade.proofs.Proved.{listed_front}
 use Rattle.spec_rollback.specs.Pulled.{ListsMarked}
 use Rattle.spec_rollback.proofs.Marked.{put_back}
 use Rattle.spec_rollback.proofs.ending.list_all.Goals as goal

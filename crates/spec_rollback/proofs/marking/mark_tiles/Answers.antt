@@ -1,7 +1,7 @@
 use Rattle.std.proofs.Common.{◌∙◌, ap, sym, ◌+◌, [], map, arith}
 use Rattle.tile_queues.specs.Queue.{QueueValue}
 use Rattle.spec_state.specs.View.{core_ids}
-use Rattle.spec_state.proofs.Without.{seen_at}
+use Rattle.spec_state.proofs.Proved.{seen_at}
 use Rattle.spec_rollback.specs.Marking.{IsInTiles}
 use Rattle.spec_rollback.proofs.Seen.{finds_more, tile_more}
 use Rattle.spec_rollback.proofs.marking.mark_tiles.Goals as goal

@@ -1,5 +1,5 @@
 use Rattle.std.proofs.Common.{sym}
-use Rattle.tile_queues.proofs.Ids.{without-absent}
+use Rattle.tile_queues.proofs.Proved.{without-absent}
 use Rattle.spec_state.proofs.leaving.leave_commits.Goals as goal
 
 pub returns-in_default : goal.returns-in_default

@@ -1,6 +1,6 @@
 use Rattle.std.proofs.Common.{◌≡◌, [], map, subst}
 use Rattle.book_event.specs.Book.{CountedView}
-use Rattle.step_law.proofs.Comes.{comes_stays_sound}
+use Rattle.step_law.proofs.Proved.{comes_stays_sound}
 use Rattle.conflict_book.specs.Seen.{going}
 use Rattle.conflict_book.proofs.Telling.{comes_keeps_settings}
 use Rattle.conflict_book.proofs.book.SoundState.come.Goals as goal

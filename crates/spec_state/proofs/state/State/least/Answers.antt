@@ -16,12 +16,12 @@ returns-in-None-None-clause-none g c =
 
 pub returns-in-None-Some-clause-some : goal.returns-in-None-Some-clause-some
 returns-in-None-Some-clause-some g c =
-    least_spilled c.args.self.now.view c.in-None-Some.front.tile c.in-None-Some.front.key c.in-None-Some.ensures.some
+    least_spilled c.args.self.now.view c.in-None-Some.front.tile c.in-None-Some.front.key.now c.in-None-Some.ensures.some
     (λ t p k x at. absurd (c.first_queued.ensures.none (ap is_some c.in-None-Some.is-0) t k (held_at (queue_at c.args.self.now.view t) p k at.queued)))
 
 pub returns-in-None-Some-clause-none : goal.returns-in-None-Some-clause-none
 returns-in-None-Some-clause-none g c =
-    (λ no. absurd (cc (no)), λ all. absurd (not_all_spilled c.args.self.now.view c.in-None-Some.front.tile c.in-None-Some.front.key c.in-None-Some.ensures.some all))
+    (λ no. absurd (cc (no)), λ all. absurd (not_all_spilled c.args.self.now.view c.in-None-Some.front.tile c.in-None-Some.front.key.now c.in-None-Some.ensures.some all))
 
 pub returns-in-Some-None-clause-some : goal.returns-in-Some-None-clause-some
 returns-in-Some-None-clause-some g c =
@@ -33,7 +33,7 @@ returns-in-Some-None-clause-none g c =
 
 pub returns-then-is_lt-clause-some : goal.returns-then-is_lt-clause-some
 returns-then-is_lt-clause-some g c =
-    spilled_before c.args.self.now.view c.in-Some-Some.id.0 c.in-Some-Some.ensures.some c.task-task.result.now c.task-task.ensures c.in-Some-Some.front.tile c.in-Some-Some.front.key
+    spilled_before c.args.self.now.view c.in-Some-Some.id.0 c.in-Some-Some.ensures.some c.task-task.result.now c.task-task.ensures c.in-Some-Some.front.tile c.in-Some-Some.front.key.now
     c.in-Some-Some.ensures'.some (search rules)
 
 pub returns-then-is_lt-clause-none : goal.returns-then-is_lt-clause-none
@@ -43,7 +43,7 @@ returns-then-is_lt-clause-none g c =
 pub returns-else-is_lt-clause-some : goal.returns-else-is_lt-clause-some
 returns-else-is_lt-clause-some g c =
     stands_before c.args.self.now.view c.standing-else-is_lt.result c.in-Some-Some.id c.in-Some-Some.ensures.some c.task-task.result.now c.task-task.ensures c.standing-else-is_lt.ensures
-    c.in-Some-Some.front.tile c.in-Some-Some.front.key c.in-Some-Some.ensures'.some (search rules)
+    c.in-Some-Some.front.tile c.in-Some-Some.front.key.now c.in-Some-Some.ensures'.some (search rules)
 
 pub returns-else-is_lt-clause-none : goal.returns-else-is_lt-clause-none
 returns-else-is_lt-clause-none g c =
