@@ -1,6 +1,5 @@
-pub mod Breaks
-pub mod Cuts
-pub mod Numbers
+pub mod Held
+pub mod Played
 pub mod Ranges
 pub mod Steps
 pub mod WrittenBack

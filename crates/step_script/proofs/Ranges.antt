@@ -5,8 +5,8 @@ use Rattle.std.specs.Str.{bytes_eq}
 use Rattle.std.proofs.lemmas.List.Elements.{All-cons}
 use Rattle.step_script.specs.declared.act.Act.{Act}
 use Rattle.step_script.specs.declared.act.Act.TheVariants as acts
-use Rattle.step_script.specs.Lines.{◌>>=◌, lines_of, cut}
-use Rattle.step_script.specs.Numerals.{number, number_below}
+use Rattle.text_lines.specs.Lines.{◌>>=◌, lines_of, cut}
+use Rattle.text_lines.specs.Numerals.{number, number_below}
 use Rattle.step_script.specs.Grammar.{core_in, on_tile, on_core, act_at, act_in, acts_at, acts_of, after_act}
 use Rattle.step_script.specs.Ranges.{IsWithin}
 

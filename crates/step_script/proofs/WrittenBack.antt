@@ -7,13 +7,12 @@ use Rattle.std.proofs.lemmas.Bool.{eqb-true}
 use Rattle.std.proofs.lemmas.Fmt.{digits_decimal, digits_value-decimal, decimal_nonempty, first_decimal, decimal_digit}
 use Rattle.step_script.specs.declared.act.Act.{Act}
 use Rattle.step_script.specs.declared.act.Act.TheVariants as acts
-use Rattle.step_script.specs.Lines.{cut, lines_of}
-use Rattle.step_script.specs.Numerals.{number, number_below}
+use Rattle.text_lines.specs.Lines.{cut, lines_of}
+use Rattle.text_lines.specs.Numerals.{number, number_below}
 use Rattle.step_script.specs.Grammar.{core_in, act_at, act_in, acts_at, onto_acts}
 use Rattle.step_script.specs.Ranges.{IsWithin}
 use Rattle.step_script.specs.Written.{line_of, place, script, ReadsBack}
-use Rattle.step_script.proofs.Numbers.{own}
-use Rattle.step_script.proofs.Breaks.{lines_cut}
+use Rattle.text_lines.proofs.Proved.{lines_cut, own}
 use Rattle.step_script.proofs.Steps.{act_step}
 
 -- ---- numbers

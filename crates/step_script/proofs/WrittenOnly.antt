@@ -10,11 +10,11 @@ use Rattle.std.proofs.lemmas.Bool.{eqb-true}
 use Rattle.std.proofs.lemmas.Fmt.{decimal-digits_value}
 use Rattle.step_script.specs.declared.act.Act.{Act}
 use Rattle.step_script.specs.declared.act.Act.TheVariants as acts
-use Rattle.step_script.specs.Lines.{◌>>=◌, cut, lines_of}
-use Rattle.step_script.specs.Numerals.{is_plain, number, number_below}
+use Rattle.text_lines.specs.Lines.{◌>>=◌, cut, lines_of}
+use Rattle.text_lines.specs.Numerals.{is_plain, number, number_below}
 use Rattle.step_script.specs.Grammar.{core_in, on_tile, on_core, act_at, act_in, acts_at, after_act}
 use Rattle.step_script.specs.Written.{line_of, place, ReadsOnly}
-use Rattle.step_script.proofs.Numbers.{own}
+use Rattle.text_lines.proofs.Proved.{own}
 use Rattle.step_script.proofs.WrittenBack.{and_two}
 
 -- ---- bytes

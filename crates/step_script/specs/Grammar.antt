@@ -6,8 +6,8 @@ use Rattle.step_script.specs.declared.act.Act.{Act}
 use Rattle.step_script.specs.declared.act.Act.TheVariants as acts
 use Rattle.step_script.specs.declared.fault.ScriptFault.{ScriptFault}
 use Rattle.step_script.specs.declared.fault.ScriptFault.TheVariants as faults
-use Rattle.step_script.specs.Lines.{◌>>=◌, lines_of, cut}
-use Rattle.step_script.specs.Numerals.{number_below}
+use Rattle.text_lines.specs.Lines.{◌>>=◌, lines_of, cut}
+use Rattle.text_lines.specs.Numerals.{number_below}
 
 -- a tile and one of its cores: `<tile> <core>`
 unfoldable pub core_in : ℕ → ℕ → List ℕ → Option (ℕ × ℕ)

@@ -1,5 +1,4 @@
 pub mod Grammar
-pub mod Lines
-pub mod Numerals
 pub mod Ranges
 pub mod Written
+pub mod Playing

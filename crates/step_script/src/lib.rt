@@ -4,13 +4,19 @@
 #![tactic(auto)]
 
 mod act;
-mod cutting;
 mod fault;
+mod holding;
 mod parsing;
+mod playing;
 mod reading;
+mod saying;
+#[cfg(test)]
+mod schedules;
 #[cfg(test)]
 mod tests;
 
 pub use act::Act;
 pub use fault::ScriptFault;
+pub use playing::play;
 pub use reading::{read_script, written_scripts_read_back};
+pub use saying::{Said, Word};

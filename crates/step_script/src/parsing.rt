@@ -4,7 +4,7 @@ ghost use Rattle.std.specs.Prelude.{◌≡◌};
 ghost use Rattle.step_script.specs.Grammar.{act_at, act_in, core_in};
 
 use crate::act::Act;
-use crate::cutting::{cut, number_below};
+use text_lines::{cut, number_below};
 
 /// The act that a line is.
 #[tactic(auto, unfolding(crate::specs::Grammar::act_in))]

@@ -6,10 +6,10 @@ ghost use Rattle.step_script.specs.Ranges.{IsWithin};
 ghost use Rattle.step_script.specs.Written.{ReadsBack, ReadsOnly};
 
 use crate::act::Act;
-use crate::cutting::next_line;
 use crate::fault::ScriptFault;
 use crate::parsing::act_in;
 use std::alloc::Global;
+use text_lines::next_line;
 
 /// The acts that a text is, for a machine of so many tiles with so many cores each. `Line` tells
 /// the first line outside the grammar.

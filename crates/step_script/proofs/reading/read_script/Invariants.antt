@@ -1,5 +1,5 @@
 use Rattle.std.proofs.Common.{◌≡◌, ◌≤◌, ◌+◌, length}
-use Rattle.step_script.specs.Lines.{lines_of}
+use Rattle.text_lines.specs.Lines.{lines_of}
 use Rattle.step_script.specs.Grammar.{acts_at, acts_of, onto_acts}
 use Rattle.step_script.proofs.reading.read_script.Given as goal
 

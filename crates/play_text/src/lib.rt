@@ -1,0 +1,12 @@
+//! The text of what was said of the acts of a script, and of what taps saw: written line by line without memory. Each line is one piece
+//! for the sink, with its newline.
+#![tactic(auto)]
+
+mod line;
+mod replies;
+#[cfg(test)]
+mod tests;
+mod traces;
+
+pub use replies::write_replies;
+pub use traces::write_trace;

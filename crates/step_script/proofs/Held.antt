@@ -1,0 +1,81 @@
+-- Legs that are held for cores.
+use Rattle.std.proofs.Common.{◌≡◌, ℕ, zero, suc, ◌<◌, ◌≤◌, Bool, true, false, cond, not, nat_lt, List, [], ◌∷◌, length, get_or, Some, None, refl, ap, sym, ◌∙◌, arith}
+use Rattle.std.specs.declared.option.Option.{Option}
+use Rattle.std.specs.List.{remove, position, position_or_len}
+use Rattle.std.proofs.lemmas.List.Quantifiers.{position-Some}
+use Rattle.std.proofs.lemmas.List.Sums.{fails_before_first}
+use Rattle.std.proofs.lemmas.Option.{none-some}
+use Rattle.std.proofs.lemmas.Bool.Decides.{nat_tests}
+use Rattle.rv_core.specs.LegValue.{LegValue}
+use Rattle.step_script.specs.Playing.{HeldLeg, is_held_for, held_for, without}
+
+-- the first leg that stands there for a core is what is held for it
+held_at : (tile core : ℕ) (held : List HeldLeg) (i : ℕ) (d : HeldLeg) → i < length held → is_held_for tile core (get_or held i d) ≡ true
+    → ((k : ℕ) → k < i → is_held_for tile core (get_or held k d) ≡ false)
+    → ◌≡◌ {A = Option LegValue} (held_for tile core held) (Some ((get_or held i d).leg))
+held_at tile core [] i d below is before = absurd (omega (arith, below))
+held_at tile core (h ∷ held) zero d below is before = ap (λ test. cond test (Some h.leg) (held_for tile core held)) is
+held_at tile core (h ∷ held) (suc i) d below is before =
+    ap (λ test. cond test (Some h.leg) (held_for tile core held)) (before 0 (omega arith))
+    ∙ held_at tile core held i d (omega (arith, below)) is (λ k lt. before (suc k) (omega (arith, lt)))
+
+-- where no leg stands there for a core, none is held for it
+held_none : (tile core : ℕ) (held : List HeldLeg)
+    → ((k : ℕ) (d : HeldLeg) → k < length held → is_held_for tile core (get_or held k d) ≡ false)
+    → ◌≡◌ {A = Option LegValue} (held_for tile core held) None
+held_none tile core [] fails = refl
+held_none tile core (h ∷ held) fails =
+    ap (λ test. cond test (Some h.leg) (held_for tile core held)) (fails 0 h (omega arith))
+    ∙ held_none tile core held (λ k d lt. fails (suc k) d (omega (arith, lt)))
+
+-- and nothing is given up for it
+pub without_unheld : (tile core : ℕ) (held : List HeldLeg) → ◌≡◌ {A = Option LegValue} (held_for tile core held) None
+    → without tile core held ≡ held
+without_unheld tile core [] none = refl
+without_unheld tile core (h ∷ held) none = go (is_held_for tile core h) refl none (without_unheld tile core held)
+  where
+    go : (test : Bool) → is_held_for tile core h ≡ test
+        → ◌≡◌ {A = Option LegValue} (cond test (Some h.leg) (held_for tile core held)) None
+        → (◌≡◌ {A = Option LegValue} (held_for tile core held) None → without tile core held ≡ held)
+        → without tile core (h ∷ held) ≡ h ∷ held
+    go true is none rest = absurd (none-some h.leg (sym none))
+    go false is none rest =
+        ap (λ test. cond (not test) (h ∷ without tile core held) (without tile core held)) is ∙ ap (λ others. h ∷ others) (rest none)
+
+-- a leg for the core that was taken out before makes no difference to what is left without it
+without_removed : (tile core : ℕ) (held : List HeldLeg) (i : ℕ) (d : HeldLeg) → i < length held
+    → is_held_for tile core (get_or held i d) ≡ true → without tile core (remove held i) ≡ without tile core held
+without_removed tile core [] i d below is = absurd (omega (arith, below))
+without_removed tile core (h ∷ held) zero d below is =
+    sym (ap (λ test. cond (not test) (h ∷ without tile core held) (without tile core held)) is)
+without_removed tile core (h ∷ held) (suc i) d below is =
+    ap (λ rest. cond (not (is_held_for tile core h)) (h ∷ rest) rest) (without_removed tile core held i d (omega (arith, below)) is)
+
+-- ---- by the place that was found
+
+no_place : (tile core : ℕ) (held : List HeldLeg) → position (is_held_for tile core) held ≡ None
+    → (k : ℕ) (d : HeldLeg) → k < length held → is_held_for tile core (get_or held k d) ≡ false
+no_place tile core held none k d lt =
+    let first = position_or_len (is_held_for tile core) held in
+    let past : length held ≤ first = go (nat_lt first (length held)) refl none in
+    fails_before_first (is_held_for tile core) held k d (omega (arith, past, lt))
+  where
+    go : (test : Bool) → nat_lt (position_or_len (is_held_for tile core) held) (length held) ≡ test
+        → ◌≡◌ {A = Option ℕ} (cond test (Some (position_or_len (is_held_for tile core) held)) None) None
+        → length held ≤ position_or_len (is_held_for tile core) held
+    go true is none = absurd (none-some (position_or_len (is_held_for tile core) held) (sym none))
+    go false is none = grind (arith, nat_tests, is)
+
+pub held-no_place : (tile core : ℕ) (held : List HeldLeg) → position (is_held_for tile core) held ≡ None
+    → ◌≡◌ {A = Option LegValue} (held_for tile core held) None
+held-no_place tile core held none = held_none tile core held (no_place tile core held none)
+
+pub held-at_place : (tile core : ℕ) (held : List HeldLeg) (i : ℕ) (d : HeldLeg) → position (is_held_for tile core) held ≡ Some i
+    → ◌≡◌ {A = Option LegValue} (held_for tile core held) (Some ((get_or held i d).leg))
+held-at_place tile core held i d found =
+    let at = position-Some (is_held_for tile core) held i d found in held_at tile core held i d at.0 at.1 at.2
+
+pub without-at_place : (tile core : ℕ) (held : List HeldLeg) (i : ℕ) (d : HeldLeg) → position (is_held_for tile core) held ≡ Some i
+    → without tile core (remove held i) ≡ without tile core held
+without-at_place tile core held i d found =
+    let at = position-Some (is_held_for tile core) held i d found in without_removed tile core held i d at.0 at.1

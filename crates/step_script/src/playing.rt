@@ -1,0 +1,240 @@
+//! A script that is played on a book.
+
+ghost use Rattle.std.specs.Prelude.{◌≡◌, ◌<◌, All, IfOk, IfSome, IsNone, List, OnErr};
+ghost use Rattle.book_event.specs.declared.event.Reply.{Reply};
+ghost use Rattle.conflict_book.specs.Ranges.{IsInRange};
+ghost use Rattle.conflict_book.specs.Seen.{view_of};
+ghost use Rattle.step_script.specs.Playing.{Does, DoesAdvance, Gives, HandsIn, HasLegAt, HeldLeg, NoneRuns, Plays, PlaysSome};
+ghost use Rattle.step_script.specs.Playing.{Steps, Takes, plainly};
+ghost use Rattle.step_script.specs.Ranges.{IsWithin};
+
+use crate::act::Act;
+use crate::holding::{Held, forget, hand_out, hold};
+use crate::saying::{Said, Word};
+use book_event::{Advance, Event, Reply};
+use conflict_book::Book;
+use guest_image::Image;
+use place_policy::Placer;
+use rv_core::{Leg, Naming, run_leg};
+use std::alloc::{AllocError, Global};
+use trace_tap::Tap;
+
+/// What is said where this word stands in place of an event's reply.
+fn plainly(reply: Reply) -> Said
+    ensures { result ≡ plainly reply }
+{
+    Said {
+        word: Word::Plain(reply),
+        aborted: 0,
+    }
+}
+
+/// Hands an event in.
+fn hand_in<N: Naming, P: Placer, T: Tap>(
+    book: &mut Book<N, P, T>,
+    event: Event<N>,
+) -> Result<Said, AllocError>
+    requires given { let old = view_of P.policy T.reading book.old in
+        IsInRange old.view.settings event }
+    ensures hands_in { let old = view_of P.policy T.reading book.old in
+        let new = view_of P.policy T.reading book.new in
+        IfOk result (λ said. HandsIn event old said new) }
+    ensures wanting { OnErr result (view_of P.policy T.reading book.new ≡ view_of P.policy T.reading book.old) }
+    ensures settings { let old = view_of P.policy T.reading book.old in
+        (view_of P.policy T.reading book.new).view.settings ≡ old.view.settings }
+{
+    let applied = book.apply(event);
+    match applied.reply {
+        Reply::Memory => Err(AllocError),
+        reply => Ok(Said {
+            word: Word::Plain(reply),
+            aborted: applied.aborted,
+        }),
+    }
+}
+
+/// The leg of the running task on a core, from the core that it has, with the quantum of the settings; None where no task runs there.
+fn leg_at<N: Naming, P: Placer, T: Tap>(
+    image: &Image,
+    book: &Book<N, P, T>,
+    tile: u32,
+    core: u32,
+) -> Option<Leg<N>>
+    requires image { image.now ≡ N.image }
+    requires tile { tile < (view_of P.policy T.reading book.now).view.settings.tiles }
+    requires core { core < (view_of P.policy T.reading book.now).view.settings.cores }
+    ensures some { let book = view_of P.policy T.reading book.now in
+        IfSome result (HasLegAt N.image book.view tile core) }
+    ensures none { let book = view_of P.policy T.reading book.now in
+        IsNone result → NoneRuns book.view tile core }
+{
+    let (quantum, budget) = (book.settings().quantum, book.settings().budget);
+    let from = book.core_at(tile, core)?;
+    Some(run_leg(image, from, quantum, budget))
+}
+
+/// `step`: a leg of the running task on a core is run and handed in.
+fn step<N: Naming, P: Placer, T: Tap>(
+    image: &Image,
+    book: &mut Book<N, P, T>,
+    tile: u32,
+    core: u32,
+) -> Result<Said, AllocError>
+    requires image { image.now ≡ N.image }
+    requires tile { tile < (view_of P.policy T.reading book.old).view.settings.tiles }
+    requires core { core < (view_of P.policy T.reading book.old).view.settings.cores }
+    ensures steps { let old = view_of P.policy T.reading book.old in
+        let new = view_of P.policy T.reading book.new in
+        IfOk result (λ said. (held : List HeldLeg) → Steps N N.image tile core
+        (record { book = old; held = held }) said (record { book = new; held = held })) }
+    ensures wanting { OnErr result (view_of P.policy T.reading book.new ≡ view_of P.policy T.reading book.old) }
+    ensures settings { let old = view_of P.policy T.reading book.old in
+        (view_of P.policy T.reading book.new).view.settings ≡ old.view.settings }
+{
+    if book.end().is_some() {
+        return Ok(plainly(Reply::Ended));
+    }
+    match leg_at(image, book, tile, core) {
+        Some(leg) => hand_in(book, Event::Step { tile, core, leg }),
+        None => Ok(plainly(Reply::Stale)),
+    }
+}
+
+/// `take`: a leg of the running task on a core is run and held; where no task runs there, nothing is held for that core.
+fn take<N: Naming, P: Placer, T: Tap>(
+    image: &Image,
+    book: &Book<N, P, T>,
+    held: &mut Vec<Held<N>>,
+    tile: u32,
+    core: u32,
+) -> Result<Said, AllocError>
+    requires image { image.now ≡ N.image }
+    requires tile { tile < (view_of P.policy T.reading book.now).view.settings.tiles }
+    requires core { core < (view_of P.policy T.reading book.now).view.settings.cores }
+    ensures { let book = view_of P.policy T.reading book.now in
+        IfOk result (λ said. Takes N.image tile core (record { book = book; held = held.old.items }) said
+        (record { book = book; held = held.new.items })) }
+{
+    match leg_at(image, book, tile, core) {
+        Some(leg) => {
+            hold(held, tile, core, leg)?;
+            Ok(plainly(Reply::Ok))
+        }
+        None => {
+            forget(held, tile, core);
+            Ok(plainly(Reply::Stale))
+        }
+    }
+}
+
+/// `give`: the leg that is held for a core is handed in.
+fn give<N: Naming, P: Placer, T: Tap>(
+    book: &mut Book<N, P, T>,
+    held: &mut Vec<Held<N>>,
+    tile: u32,
+    core: u32,
+) -> Result<Said, AllocError>
+    requires tile { tile < (view_of P.policy T.reading book.old).view.settings.tiles }
+    requires core { core < (view_of P.policy T.reading book.old).view.settings.cores }
+    ensures gives { let old = view_of P.policy T.reading book.old in
+        let new = view_of P.policy T.reading book.new in
+        IfOk result (λ said. Gives N tile core (record { book = old; held = held.old.items }) said
+        (record { book = new; held = held.new.items })) }
+    ensures wanting { OnErr result (view_of P.policy T.reading book.new ≡ view_of P.policy T.reading book.old) }
+    ensures settings { let old = view_of P.policy T.reading book.old in
+        (view_of P.policy T.reading book.new).view.settings ≡ old.view.settings }
+{
+    if book.end().is_some() {
+        return Ok(plainly(Reply::Ended));
+    }
+    match hand_out(held, tile, core) {
+        Some(leg) => hand_in(book, Event::Step { tile, core, leg }),
+        None => Ok(plainly(Reply::Stale)),
+    }
+}
+
+/// `advance`: the event for the least task is made.
+fn advance<N: Naming, P: Placer, T: Tap>(
+    image: &Image,
+    book: &mut Book<N, P, T>,
+) -> Result<Said, AllocError>
+    requires image { image.now ≡ N.image }
+    ensures advances { let old = view_of P.policy T.reading book.old in
+        let new = view_of P.policy T.reading book.new in
+        IfOk result (λ said. (held : List HeldLeg) → DoesAdvance N N.image
+        (record { book = old; held = held }) said (record { book = new; held = held })) }
+    ensures wanting { OnErr result (view_of P.policy T.reading book.new ≡ view_of P.policy T.reading book.old) }
+    ensures settings { let old = view_of P.policy T.reading book.old in
+        (view_of P.policy T.reading book.new).view.settings ≡ old.view.settings }
+{
+    match book.advance(image) {
+        Advance::Moved { aborted } => Ok(Said {
+            word: Word::Moved,
+            aborted,
+        }),
+        Advance::Committed => Ok(Said {
+            word: Word::Committed,
+            aborted: 0,
+        }),
+        Advance::Ended(_) => Ok(plainly(Reply::Ended)),
+        Advance::Memory => Err(AllocError),
+    }
+}
+
+/// Plays one act, and says what came of it.
+fn play_act<N: Naming, P: Placer, T: Tap>(
+    image: &Image,
+    book: &mut Book<N, P, T>,
+    held: &mut Vec<Held<N>>,
+    act: Act,
+) -> Result<Said, AllocError>
+    requires image { image.now ≡ N.image }
+    requires within { let settings = (view_of P.policy T.reading book.old).view.settings in
+        IsWithin settings.tiles settings.cores act }
+    ensures does { let old = view_of P.policy T.reading book.old in
+        let new = view_of P.policy T.reading book.new in
+        IfOk result (λ said. Does N N.image act (record { book = old; held = held.old.items }) said
+        (record { book = new; held = held.new.items })) }
+    ensures wanting { OnErr result (view_of P.policy T.reading book.new ≡ view_of P.policy T.reading book.old) }
+    ensures settings { let old = view_of P.policy T.reading book.old in
+        (view_of P.policy T.reading book.new).view.settings ≡ old.view.settings }
+{
+    match act {
+        Act::Dispatch(tile) => hand_in(book, Event::Dispatch { tile }),
+        Act::Step(tile, core) => step(image, book, tile, core),
+        Act::Take(tile, core) => take(image, book, held, tile, core),
+        Act::Give(tile, core) => give(book, held, tile, core),
+        Act::Abort(tile) => hand_in(book, Event::Abort { tile }),
+        Act::Commit => hand_in(book, Event::Commit),
+        Act::Coalesce(tile) => hand_in(book, Event::Coalesce { tile }),
+        Act::Split(tile) => hand_in(book, Event::Split { tile }),
+        Act::Advance => advance(image, book),
+    }
+}
+
+/// Plays acts one after another; tells what is said of each. Where memory is wanting the book stands as the acts before left it.
+pub fn play<N: Naming, P: Placer, T: Tap>(
+    alloc: Global,
+    image: &Image,
+    book: &mut Book<N, P, T>,
+    acts: &[Act],
+) -> Result<Vec<Said>, AllocError>
+    requires image { image.now ≡ N.image }
+    requires within { let settings = (view_of P.policy T.reading book.old).view.settings in
+        All (IsWithin settings.tiles settings.cores) acts.now }
+    ensures plays { let old = view_of P.policy T.reading book.old in
+        let new = view_of P.policy T.reading book.new in
+        IfOk result (λ said. Plays N N.image acts.now old said.items new) }
+    ensures wanting { let old = view_of P.policy T.reading book.old in
+        let new = view_of P.policy T.reading book.new in
+        OnErr result (PlaysSome N N.image acts.now old new) }
+{
+    // All room for the words comes first, so that no act is made whose word finds none.
+    let mut said = Vec::with_capacity(alloc, acts.len())?;
+    let mut held = Vec::new(alloc);
+    for act in acts {
+        let one = play_act(image, book, &mut held, *act)?;
+        said.push(one)?;
+    }
+    Ok(said)
+}
