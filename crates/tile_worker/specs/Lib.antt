@@ -1,0 +1,3 @@
+pub mod Halts
+pub mod Counts
+pub mod Founds

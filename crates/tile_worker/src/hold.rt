@@ -1,0 +1,217 @@
+//! What a worker does with the book in one hold of the lock: at most one event, and a look for the core of its next leg.
+
+ghost use Rattle.std.specs.Prelude.{◌≡◌, ◌<◌, ◌≤◌, ◌+◌, ◌^◌, ℕ, IfSome};
+ghost use Rattle.conflict_book.specs.Ranges.{IsInRange};
+ghost use Rattle.conflict_book.specs.Seen.{view_of};
+ghost use Rattle.tile_worker.specs.Counts.{CountsSo};
+ghost use Rattle.tile_worker.specs.Founds.{IsWithin};
+
+use crate::round::{Place, Round};
+use conflict_book::{Advance, Book, Event, Reply};
+use guest_image::Image;
+use place_policy::Placer;
+use rv_core::{Core, Leg, Naming};
+use trace_tap::Tap;
+
+/// A leg that was computed, and the core from which it was.
+#[derive(Drop)]
+pub(crate) struct Handed<N: Naming> {
+    pub(crate) place: Place,
+    pub(crate) leg: Leg<N>,
+}
+
+/// A copy of a running core.
+#[derive(Clone, Copy)]
+pub(crate) struct Running {
+    pub(crate) place: Place,
+    pub(crate) from: Core,
+}
+
+/// What a worker has found in a hold.
+pub(crate) enum Found {
+    /// The core of its next leg.
+    Core(Running),
+    /// None of its cores has a leg to be computed.
+    Nothing,
+    /// It has nothing more to do: the run is over, memory is wanting, or as many events were made as may be.
+    Done,
+}
+
+/// What came of an event that was tried.
+#[derive(Clone, Copy)]
+pub(crate) enum Tried {
+    /// It was made.
+    Made,
+    /// It was refused, and is to be tried again later.
+    Waits,
+    /// It was refused, as there is nothing for it any more.
+    Missed,
+    /// The run is over, or memory is wanting.
+    Over,
+}
+
+/// Hands in an event on a tile and a core that are there. Where memory is wanting the book is stopped.
+fn try_event<N: Naming, P: Placer, T: Tap>(book: &mut Book<N, P, T>, event: Event<N>) -> Tried
+    requires given { IsInRange (view_of P.policy T.reading book.old).view.settings event }
+    ensures { let old = view_of P.policy T.reading book.old in
+        CountsSo old result (view_of P.policy T.reading book.new) }
+{
+    match book.apply(event).reply {
+        Reply::Ok => Tried::Made,
+        Reply::Empty | Reply::Busy | Reply::Stall => Tried::Waits,
+        Reply::Stale | Reply::Firm => Tried::Missed,
+        Reply::Ended => Tried::Over,
+        Reply::Memory => {
+            book.stop();
+            Tried::Over
+        }
+    }
+}
+
+/// Makes the event for the least task. Where memory is wanting the book is stopped.
+fn try_advance<N: Naming, P: Placer, T: Tap>(book: &mut Book<N, P, T>, image: &Image) -> Tried
+    requires image { image.now ≡ N.image }
+    ensures { let old = view_of P.policy T.reading book.old in
+        CountsSo old result (view_of P.policy T.reading book.new) }
+{
+    match book.advance(image) {
+        Advance::Moved { .. } | Advance::Committed => Tried::Made,
+        Advance::Ended(_) => Tried::Over,
+        Advance::Memory => {
+            book.stop();
+            Tried::Over
+        }
+    }
+}
+
+/// Hands in a leg, and lets the core be for a while where it stalls.
+fn hand_in<N: Naming, P: Placer, T: Tap>(
+    book: &mut Book<N, P, T>,
+    round: &mut Round,
+    handed: Handed<N>,
+) -> Tried
+    ensures { let old = view_of P.policy T.reading book.old in
+        CountsSo old result (view_of P.policy T.reading book.new) }
+{
+    let Handed { place, leg } = handed;
+    let Place { tile, core } = place;
+    let settings = book.settings();
+    // No type tells that the settings are still those of the hold in which the core was found.
+    if tile >= settings.tiles || core >= settings.cores {
+        return Tried::Missed;
+    }
+    let tried = try_event(book, Event::Step { tile, core, leg });
+    if let Tried::Waits = tried {
+        round.rest_core(place, book.steps());
+    }
+    tried
+}
+
+/// Whether a core of the tile may be free: no running task is there.
+fn may_have_free_core<N: Naming, P: Placer, T: Tap>(book: &Book<N, P, T>, tile: u32) -> bool
+    requires { tile < (view_of P.policy T.reading book.now).view.settings.tiles }
+{
+    for core in 0..book.settings().cores {
+        if book.core_at(tile, core).is_none() {
+            return true;
+        }
+    }
+    false
+}
+
+/// Dispatches in the first of the worker's own tiles that is ready.
+fn dispatch_own<N: Naming, P: Placer, T: Tap>(book: &mut Book<N, P, T>, round: &mut Round) -> Tried
+    ensures { let old = view_of P.policy T.reading book.old in
+        CountsSo old result (view_of P.policy T.reading book.new) }
+{
+    for tile in 0..book.settings().tiles {
+        if round.tries_tile(tile, book.steps()) && may_have_free_core(book, tile) {
+            match try_event(book, Event::Dispatch { tile }) {
+                Tried::Made => return Tried::Made,
+                Tried::Over => return Tried::Over,
+                Tried::Waits | Tried::Missed => round.rest_tile(tile, book.steps()),
+            }
+        }
+    }
+    Tried::Missed
+}
+
+/// The next of the worker's own cores on which a task runs, and which isn't let be.
+fn next_running<N: Naming, P: Placer, T: Tap>(
+    book: &Book<N, P, T>,
+    round: &mut Round,
+) -> Option<Running>
+    ensures { IfSome result (λ running. running.from.used ≤ N.budget) }
+{
+    let settings = book.settings();
+    let steps = book.steps();
+    for _ in 0..round.own_cores(settings.tiles, settings.cores) {
+        let place = round.next_core(settings.tiles, settings.cores)?;
+        if round.tries_core(place, steps) {
+            if let Some(core) = book.core_at(place.tile, place.core) {
+                return Some(Running { place, from: *core });
+            }
+        }
+    }
+    None
+}
+
+/// Hands in the leg, if there is one, or else dispatches.
+fn serve_own<N: Naming, P: Placer, T: Tap>(
+    book: &mut Book<N, P, T>,
+    round: &mut Round,
+    handed: Option<Handed<N>>,
+) -> Tried
+    ensures { let old = view_of P.policy T.reading book.old in
+        CountsSo old result (view_of P.policy T.reading book.new) }
+{
+    match handed {
+        None => dispatch_own(book, round),
+        Some(leg) => match hand_in(book, round, leg) {
+            Tried::Made => Tried::Made,
+            Tried::Over => Tried::Over,
+            Tried::Waits | Tried::Missed => dispatch_own(book, round),
+        },
+    }
+}
+
+/// Tells the core that was found.
+fn found_of(running: Option<Running>) -> Found
+    ensures { (budget : ℕ) → IfSome running (λ r. r.from.used ≤ budget) → IsWithin budget result }
+{
+    match running {
+        Some(running) => Found::Core(running),
+        None => Found::Nothing,
+    }
+}
+
+/// One hold of the lock: the leg that is handed in, or a dispatch, or, where the worker has none of both, the event for the least task; and
+/// then a look for the core of its next leg. No more than one of these events is made.
+pub(crate) fn serve<N: Naming, P: Placer, T: Tap>(
+    book: &mut Book<N, P, T>,
+    image: &Image,
+    round: &mut Round,
+    handed: Option<Handed<N>>,
+) -> Found
+    requires image { image.now ≡ N.image }
+    requires few { (view_of P.policy T.reading book.old).steps < 2 ^ 63 }
+    ensures at_least { let old = view_of P.policy T.reading book.old in
+        old.steps ≤ (view_of P.policy T.reading book.new).steps }
+    ensures at_most { let old = view_of P.policy T.reading book.old in
+        (view_of P.policy T.reading book.new).steps ≤ old.steps + 1 }
+    ensures found { IsWithin N.budget result }
+{
+    let made = match serve_own(book, round, handed) {
+        Tried::Made => true,
+        Tried::Over => return Found::Done,
+        Tried::Waits | Tried::Missed => false,
+    };
+    let next = next_running(book, round);
+    if made || next.is_some() {
+        return found_of(next);
+    }
+    match try_advance(book, image) {
+        Tried::Over => Found::Done,
+        Tried::Made | Tried::Waits | Tried::Missed => found_of(next_running(book, round)),
+    }
+}

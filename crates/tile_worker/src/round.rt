@@ -1,0 +1,135 @@
+//! What a worker keeps for itself between its holds of the lock.
+
+ghost use Rattle.std.specs.Prelude.{◌≡◌, ◌<◌, ◌≤◌, ◌%◌, IfSome, IsTrue};
+
+/// How many events are made before a core that stalled, or a tile that had nothing to dispatch, is tried again. In so many events for the
+/// least tasks all that a commit queue may hold can commit, so that what stalled doesn't stall again at once.
+const PATIENCE: u64 = 64;
+
+/// A core of a tile.
+#[derive(Clone, Copy)]
+pub(crate) struct Place {
+    /// The tile.
+    pub(crate) tile: u32,
+    /// The core, among those of the tile.
+    pub(crate) core: u32,
+}
+
+/// Which tiles are a worker's own, on which core it looked last, and up to which count of events it lets be what refused it.
+#[derive(Drop)]
+pub(crate) struct Round {
+    worker: u32,
+    workers: u32,
+    last: Place,
+    tiles: [u64; 16],
+    cores: [u64; 64],
+    ghost is_worker: { worker < workers },
+    ghost few: { workers ≤ 16 },
+    ghost is_own: { last.tile % workers ≡ worker },
+}
+
+/// Where a core stands in the list of all cores of all tiles.
+fn index_of(place: Place) -> usize
+    requires tile { place.tile < 16 }
+    requires core { place.core < 4 }
+    ensures { result < 64 }
+{
+    (place.tile * 4 + place.core) as usize
+}
+
+impl Round {
+    /// The round of a worker before its first hold.
+    #[tactic(auto, using(crate::proofs::Tiles::own_first))]
+    pub(crate) fn new(worker: u32, workers: u32) -> Round
+        requires { (worker < workers) × (workers ≤ 16) }
+        ensures worker { result.worker ≡ worker }
+        ensures workers { result.workers ≡ workers }
+    {
+        Round {
+            worker,
+            workers,
+            last: Place {
+                tile: worker,
+                core: 0,
+            },
+            tiles: [0; 16],
+            cores: [0; 64],
+        }
+    }
+
+    /// Whether the tile is the worker's own, and is to be tried at this count of events.
+    pub(crate) fn tries_tile(&self, tile: u32, steps: u64) -> bool
+        requires { tile < 16 }
+        ensures own { IsTrue result → tile % self.now.workers ≡ self.now.worker }
+    {
+        tile % self.workers == self.worker && self.tiles[tile as usize] <= steps
+    }
+
+    /// Lets a tile be for a while.
+    pub(crate) fn rest_tile(&mut self, tile: u32, steps: u64)
+        requires { tile < 16 }
+    {
+        self.tiles[tile as usize] = steps.saturating_add(PATIENCE);
+    }
+
+    /// Whether the core is to be tried at this count of events.
+    pub(crate) fn tries_core(&self, place: Place, steps: u64) -> bool
+        requires tile { place.tile < 16 }
+        requires core { place.core < 4 }
+    {
+        self.cores[index_of(place)] <= steps
+    }
+
+    /// Lets a core be for a while.
+    pub(crate) fn rest_core(&mut self, place: Place, steps: u64)
+        requires tile { place.tile < 16 }
+        requires core { place.core < 4 }
+    {
+        self.cores[index_of(place)] = steps.saturating_add(PATIENCE);
+    }
+
+    /// How many cores the worker's own tiles have.
+    pub(crate) fn own_cores(&self, tiles: u32, cores: u32) -> u32
+        requires tiles { tiles ≤ 16 }
+        requires cores { cores ≤ 4 }
+    {
+        if self.worker < tiles {
+            ((tiles - 1 - self.worker) / self.workers + 1) * cores
+        } else {
+            0
+        }
+    }
+
+    /// The next core of the worker's own tiles, where it looks then, and after the last one the first; None where no tile is its own.
+    #[tactic(auto, using(crate::proofs::Tiles::own_first, crate::proofs::Tiles::own_next))]
+    pub(crate) fn next_core(&mut self, tiles: u32, cores: u32) -> Option<Place>
+        requires tiles { tiles ≤ 16 }
+        requires cores { 1 ≤ cores }
+        ensures tile { IfSome result (λ place. place.tile < tiles) }
+        ensures core { IfSome result (λ place. place.core < cores) }
+        ensures own { IfSome result (λ place. place.tile % self.old.workers ≡ self.old.worker) }
+    {
+        if self.worker >= tiles {
+            return None;
+        }
+        let Place { tile, core } = self.last;
+        let next = if tile < tiles && core < cores - 1 {
+            Place {
+                tile,
+                core: core + 1,
+            }
+        } else if tile < tiles && tile + self.workers < tiles {
+            Place {
+                tile: tile + self.workers,
+                core: 0,
+            }
+        } else {
+            Place {
+                tile: self.worker,
+                core: 0,
+            }
+        };
+        self.last = next;
+        Some(next)
+    }
+}

@@ -1,0 +1,150 @@
+//! Workers run a book to its end.
+
+ghost use Rattle.std.specs.Prelude.{◌≡◌, ◌≤◌, ◌<◌, ◌+◌, ◌^◌, length, sum};
+ghost use Rattle.conflict_book.specs.Seen.{view_of};
+ghost use Rattle.tile_worker.specs.Halts.{HaltsAt};
+
+use crate::fanning::{Gathered, fan};
+use crate::gate::Gate;
+use crate::shares::Shares;
+use crate::tally::Tallied;
+use conflict_book::{Book, Halt};
+use guest_image::Image;
+use place_policy::Placer;
+use rv_core::Naming;
+use std::marker::Brand;
+use std::sync::ledger::{Blank, Ledger};
+use std::sync::{Mutex, Wait};
+use std::thread::Threads;
+use trace_tap::Tap;
+
+/// A book that workers ran, how many events each of them made, and why they stopped.
+#[derive(Drop)]
+pub struct Drained<N: Naming, P: Placer = Box<dyn Placer + Send>, T: Tap = Box<dyn Tap + Send>> {
+    /// The book.
+    pub book: Book<N, P, T>,
+    /// How many events each worker made; what was made after they stopped counts to the first one.
+    pub shares: Shares,
+    /// Why they stopped.
+    pub halt: Halt,
+}
+
+/// A book that workers have left, and how many events each of them made.
+struct Worked<N: Naming, P: Placer, T: Tap> {
+    book: Book<N, P, T>,
+    shares: Shares,
+}
+
+/// Runs the workers on a book, with a ledger that has a part for each of them and one for the events before.
+fn work_all<
+    N: Naming + Send + Sync,
+    L: Ledger + Send + Sync,
+    P: Placer + Send,
+    T: Tap + Send,
+    G: Gate + Sync,
+    R: Threads + Wait + Sync,
+>(
+    rt: &R,
+    blank: Blank,
+    image: &Image,
+    book: Book<N, P, T>,
+    workers: u32,
+    gate: &G,
+) -> Worked<N, P, T>
+    requires name { blank.name ≡ L.name }
+    requires parts { blank.parts ≡ L.parts }
+    requires one_more { blank.parts ≡ workers + 1 }
+    requires image { image.now ≡ N.image }
+    requires workers { (1 ≤ workers) × (workers ≤ 16) }
+    requires steps { (view_of P.policy T.reading book).steps ≤ 2 ^ 63 }
+    ensures workers { length result.shares ≡ workers }
+    ensures shares { let before = (view_of P.policy T.reading book).steps in
+        sum result.shares + before ≡ (view_of P.policy T.reading result.book).steps }
+{
+    let (mut total, mut all) = blank.open::<L>();
+    total.add(&mut all, book.steps());
+    let share = all.split_off(u64::from(workers), 0);
+    let lock = Mutex::new(Tallied::new(book, total));
+    let Gathered {
+        shares,
+        ledger_share,
+    } = fan(rt, image, &lock, share, 0, workers, workers, gate);
+    let Tallied { book, mut total } = lock.into_inner();
+    all.merge(ledger_share);
+    total.audit(&mut all);
+    Worked { book, shares }
+}
+
+/// Why a book stands where it does: its end, or want of memory.
+fn halt_of<N: Naming, P: Placer, T: Tap>(book: &Book<N, P, T>) -> Halt
+    ensures { HaltsAt (view_of P.policy T.reading book.now).view result }
+{
+    match book.end() {
+        Some(end) => Halt::Ended(end),
+        None => Halt::Memory,
+    }
+}
+
+/// Makes the events of the least tasks until the run is over or memory is wanting, and tells how many they are.
+fn run_out<N: Naming, P: Placer, T: Tap>(book: &mut Book<N, P, T>, image: &Image) -> u64
+    requires image { image.now ≡ N.image }
+    ensures rise { let before = (view_of P.policy T.reading book.old).steps in
+        result + before ≡ (view_of P.policy T.reading book.new).steps }
+    ensures bounded { (view_of P.policy T.reading book.new).steps < 2 ^ 64 }
+{
+    let before = book.steps();
+    let _halt = book.run_least(image);
+    book.steps() - before
+}
+
+/// Runs a book on, after its workers, by the events of the least tasks, which count to the first worker.
+fn run_rest<N: Naming, P: Placer, T: Tap>(
+    image: &Image,
+    worked: Worked<N, P, T>,
+) -> Drained<N, P, T>
+    requires image { image.now ≡ N.image }
+    requires some { 1 ≤ length worked.shares }
+    requires fits { sum worked.shares ≤ (view_of P.policy T.reading worked.book).steps }
+    ensures halt { HaltsAt (view_of P.policy T.reading result.book).view result.halt }
+    ensures workers { length result.shares ≡ length worked.shares }
+    ensures shares { let before = (view_of P.policy T.reading worked.book).steps in
+        sum result.shares + before ≡ sum worked.shares + (view_of P.policy T.reading result.book).steps }
+{
+    let Worked {
+        mut book,
+        mut shares,
+    } = worked;
+    match book.end() {
+        Some(end) => Drained {
+            book,
+            shares,
+            halt: Halt::Ended(end),
+        },
+        None => {
+            shares.add_to_first(run_out(&mut book, image));
+            let halt = halt_of(&book);
+            Drained { book, shares, halt }
+        }
+    }
+}
+
+/// Runs a book by 1 to 16 workers up to the end of the run, or as far as memory goes.
+pub fn run_tiles<
+    N: Naming + Send + Sync,
+    P: Placer + Send,
+    T: Tap + Send,
+    G: Gate + Sync,
+    R: Threads + Wait + Sync,
+>(rt: &R, image: &Image, book: Book<N, P, T>, workers: u32, gate: &G) -> Drained<N, P, T>
+    requires image { image.now ≡ N.image }
+    requires workers { (1 ≤ workers) × (workers ≤ 16) }
+    requires steps { (view_of P.policy T.reading book).steps ≤ 2 ^ 63 }
+    ensures halt { HaltsAt (view_of P.policy T.reading result.book).view result.halt }
+    ensures workers { length result.shares ≡ workers }
+    ensures shares { let before = (view_of P.policy T.reading book).steps in
+        sum result.shares + before ≡ (view_of P.policy T.reading result.book).steps }
+{
+    let blank = Blank::new(u64::from(workers) + 1);
+    let worked = work_all::<N, Brand, P, T, G, R>(rt, blank, image, book, workers, gate);
+    run_rest(image, worked)
+}

@@ -1,0 +1,107 @@
+//! A book under a lock, with a ledger of the events that each worker made.
+
+ghost use Rattle.std.specs.Prelude.{◌≡◌, ◌≤◌, ◌+◌, ◌^◌};
+ghost use Rattle.spec_state.specs.Settings.{IsValid};
+ghost use Rattle.conflict_book.specs.Seen.{view_of};
+ghost use Rattle.tile_worker.specs.Founds.{IsWithin};
+
+use crate::hold::{Found, Handed, serve};
+use crate::round::Round;
+use conflict_book::Book;
+use guest_image::Image;
+use place_policy::Placer;
+use rv_core::Naming;
+use spec_state::Settings;
+use std::sync::ledger;
+use std::sync::ledger::{Ledger, Share};
+use trace_tap::Tap;
+
+/// At so many events workers stop.
+const MOST_STEPS: u64 = 1 << 63;
+
+/// What stands in the lock: a book, and the total of what is counted to the parts, which is the number of the book's events.
+#[derive(Drop)]
+pub struct Tallied<
+    N: Naming,
+    L: Ledger,
+    P: Placer = Box<dyn Placer + Send>,
+    T: Tap = Box<dyn Tap + Send>,
+> {
+    pub(crate) book: Book<N, P, T>,
+    pub(crate) total: ledger::Book<L>,
+    ghost counted: { total.total ≡ book.sound.steps },
+    ghost most: { book.sound.steps ≤ 2 ^ 63 },
+}
+
+/// One worker's part of the events: how many it made, and its share of the ledger, which says the same.
+#[derive(Drop)]
+pub struct Part<L: Ledger> {
+    pub(crate) amount: u64,
+    pub(crate) share: Share<L>,
+    ghost is_amount: { share.amount ≡ amount },
+    ghost one_part: { share.parts ≡ 1 },
+}
+
+impl<L: Ledger> Part<L> {
+    /// A part that has no event yet.
+    pub(crate) fn new(share: Share<L>) -> Part<L>
+        requires parts { share.parts ≡ 1 }
+        requires amount { share.amount ≡ 0 }
+        ensures { result.amount ≡ 0 }
+    {
+        Part { amount: 0, share }
+    }
+
+    /// How many events the worker made.
+    pub fn amount(&self) -> u64
+        ensures { result ≡ self.now.amount }
+    {
+        self.amount
+    }
+}
+
+impl<N: Naming, L: Ledger, P: Placer, T: Tap> Tallied<N, L, P, T> {
+    /// A book whose events so far are counted to a share of its own.
+    pub(crate) fn new(book: Book<N, P, T>, total: ledger::Book<L>) -> Tallied<N, L, P, T>
+        requires counted { total.total ≡ (view_of P.policy T.reading book).steps }
+        requires most { (view_of P.policy T.reading book).steps ≤ 2 ^ 63 }
+    {
+        Tallied { book, total }
+    }
+
+    /// The settings of the book.
+    pub(crate) fn settings(&self) -> Settings
+        ensures valid { IsValid result }
+        ensures budget { result.budget ≡ N.budget }
+    {
+        *self.book.settings()
+    }
+
+    /// One hold of a worker: makes at most one event of the book, and counts it to the worker's part.
+    pub(crate) fn hold(
+        &mut self,
+        image: &Image,
+        part: &mut Part<L>,
+        round: &mut Round,
+        handed: Option<Handed<N>>,
+    ) -> Found
+        requires image { image.now ≡ N.image }
+        ensures amount { part.old.amount ≤ part.new.amount }
+        ensures booked { let old = view_of P.policy T.reading self.old.book in
+            part.new.amount + old.steps ≡ part.old.amount + (view_of P.policy T.reading self.new.book).steps }
+        ensures found { IsWithin N.budget result }
+    {
+        let Tallied { book, total } = self;
+        let Part { amount, share } = part;
+        total.audit(share);
+        let before = book.steps();
+        if before >= MOST_STEPS {
+            return Found::Done;
+        }
+        let found = serve(book, image, round, handed);
+        let rise = book.steps() - before;
+        total.add(share, rise);
+        *amount += rise;
+        found
+    }
+}

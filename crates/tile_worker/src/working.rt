@@ -1,0 +1,70 @@
+//! One worker.
+
+ghost use Rattle.std.specs.Prelude.{◌≡◌, ◌<◌, ◌≤◌};
+ghost use Rattle.spec_state.specs.Settings.{IsValid};
+
+use crate::gate::Gate;
+use crate::hold::{Found, Handed, Running};
+use crate::round::Round;
+use crate::tally::{Part, Tallied};
+use guest_image::Image;
+use place_policy::Placer;
+use rv_core::{Naming, run_leg};
+use spec_state::Settings;
+use std::sync::ledger::Ledger;
+use std::sync::{Mutex, Wait};
+use trace_tap::Tap;
+
+/// Computes the leg of a core that was found.
+fn compute<N: Naming>(image: &Image, settings: &Settings, running: &Running) -> Handed<N>
+    requires image { image.now ≡ N.image }
+    requires valid { IsValid settings.now }
+    requires budget { settings.now.budget ≡ N.budget }
+    requires within { running.now.from.used ≤ N.budget }
+{
+    Handed {
+        place: running.place,
+        leg: run_leg(image, &running.from, settings.quantum, settings.budget),
+    }
+}
+
+/// Drives the tiles `t` with `t % workers == worker`, one event in each hold of the lock, until the run is over, memory is wanting, or the
+/// book has 2^63 events; and gives back its part, to which each event that it made is counted.
+///
+/// It hands in legs of its running cores, each after it passed the gate, and dispatches where an own tile has an idle task and a free core.
+/// Only where it has neither, or all of these were refused, it makes the event for the least task. A hold costs one event and a look at each
+/// core of its own tiles; a leg is computed outside the lock.
+pub fn work<N: Naming, L: Ledger, P: Placer, T: Tap, G: Gate + Sync, R: Wait>(
+    rt: &R,
+    image: &Image,
+    lock: &Mutex<Tallied<N, L, P, T>>,
+    part: Part<L>,
+    worker: u32,
+    workers: u32,
+    gate: &G,
+) -> Part<L>
+    requires image { image.now ≡ N.image }
+    requires workers { (worker < workers) × (workers ≤ 16) }
+    ensures { part.amount ≤ result.amount }
+{
+    let mut part = part;
+    let settings = lock.lock(rt).settings();
+    let mut round = Round::new(worker, workers);
+    let mut legs = 0u64;
+    let mut handed = None;
+    for _ in rt.forever() {
+        // The guard is dropped here, so that the leg is computed outside the lock.
+        let found = lock.lock(rt).hold(image, &mut part, &mut round, handed);
+        handed = match found {
+            Found::Done => break,
+            Found::Nothing => None,
+            Found::Core(running) => {
+                let leg = compute(image, &settings, &running);
+                legs = legs.saturating_add(1);
+                gate.pass(worker, legs);
+                Some(leg)
+            }
+        };
+    }
+    part
+}
