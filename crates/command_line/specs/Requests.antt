@@ -97,6 +97,7 @@ unfoldable pub command_by : List ℕ → Texts → Option Command
 command_by word text =
     if bytes_eq word (codes "run") then alone commands.Run text
     else if bytes_eq word (codes "steps") then alone commands.Steps text
+    else if bytes_eq word (codes "trace") then alone commands.Trace text
     else if bytes_eq word (codes "check") then alone commands.Check text
     else if bytes_eq word (codes "load") then load_by text
     else None
@@ -116,6 +117,7 @@ request_of (word ∷ words) = given_in words >>= λ given. request_by word (text
 abbrev pub HasSize : Command → Type 0
 HasSize commands.Run = Unit {0}
 HasSize commands.Steps = Unit {0}
+HasSize commands.Trace = Unit {0}
 HasSize commands.Check = Unit {0}
 HasSize (commands.Load load drawn_from large) = (1 ≤ large) × (large ≤ greatest_size load)
 

@@ -52,6 +52,8 @@ fn command(word: &str, matches: &ArgMatches<'_>) -> Option<Command>
         alone(Command::Run, matches)
     } else if word == b"steps".as_slice() {
         alone(Command::Steps, matches)
+    } else if word == b"trace".as_slice() {
+        alone(Command::Trace, matches)
     } else if word == b"check".as_slice() {
         alone(Command::Check, matches)
     } else if word == b"load".as_slice() {

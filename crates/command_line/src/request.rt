@@ -11,6 +11,8 @@ pub enum Command {
     Run,
     /// Make the events of a script.
     Steps,
+    /// Make the events of a script, and tell what the taps saw.
+    Trace,
     /// Check a report of a run.
     Check,
     /// Run a generated image.

@@ -53,6 +53,7 @@ fn options_stand_anywhere_in_both_spellings(rt: HostRuntime) -> Result<(), Fail>
     };
     let line = "steps --commit-queue=1 --tiles 1 --cores=2";
     assert!(rt; read(alloc, line)? == asks(Command::Steps, small));
+    assert!(rt; read(alloc, "trace --tiles=1 --commit-queue 1")? == asks(Command::Trace, small));
     Ok(())
 }
 
@@ -96,7 +97,7 @@ fn a_load_has_three_further_words(rt: HostRuntime) -> Result<(), Fail> {
     Ok(())
 }
 
-static REFUSED: [&str; 30] = [
+static REFUSED: [&str; 31] = [
     "",
     "walk",
     "--tiles 2 run",
@@ -120,6 +121,7 @@ static REFUSED: [&str; 30] = [
     "run --version",
     "run -h",
     "run twice",
+    "trace twice",
     "load walk 7",
     "load walk 7 20 1",
     "load hop 7 20",

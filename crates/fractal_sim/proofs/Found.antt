@@ -1,28 +1,57 @@
--- What is found behind an image is found, and can be written.
-use Rattle.std.proofs.Common.{◌≡◌, ℕ, ◌≤◌, List, length, refl, sym, ap, ◌∙◌, subst, arith, Result, Ok, Err, Bool, true, false, nat_lt, if◌then◌else◌}
+-- What is found behind an image, or with a generated one, is found.
+use Rattle.std.proofs.Common.{◌≡◌, ℕ, ◌≤◌, List, length, refl, sym, ap, subst, arith, Result, Ok, Err, Bool, true, false, nat_lt, if◌then◌else◌, [], Some, None}
 use Rattle.std.proofs.lemmas.Bool.Decides.{nat_tests}
 use Rattle.std.proofs.lemmas.Grind.{common_steps}
-use Rattle.guest_image.specs.ImageValue.{ImageValue, IsImage}
+use Rattle.std.specs.Io.KnownBytes.{Consumes}
+use Rattle.std.specs.declared.option.Option.{Option}
+use Rattle.sim_io.specs.Parts.{ReadsAll, ReadsSome}
+use Rattle.sim_io.specs.Streams.{SourceState}
+use Rattle.guest_image.specs.ImageValue.{ImageValue}
 use Rattle.guest_image.specs.Reading.{image_of, after_header, header_fault, whole_length, value_of}
 use Rattle.guest_image.specs.declared.fault.ImageFault.{ImageFault}
 use Rattle.guest_image.specs.declared.fault.ImageFault.TheVariants as faults
-use Rattle.place_policy.specs.Policy.{Policy}
-use Rattle.trace_tap.specs.Reading.{Reading}
+use Rattle.load_gen.specs.declared.making.Load.{Load}
 use Rattle.serial_machine.specs.Run.{IsRun}
-use Rattle.run_law.proofs.Sized.{run_sized}
+use Rattle.serial_machine.specs.WholeRun.{IsRunOf}
+use Rattle.serial_machine.specs.declared.whole_run.SerialRun.{SerialRun}
 use Rattle.report_text.specs.declared.report.Report.{Report}
 use Rattle.report_text.specs.Check.{IsReportOf}
+use Rattle.command_line.specs.declared.request.Command.{Command}
+use Rattle.command_line.specs.declared.request.Command.TheVariants as commands
 use Rattle.command_line.specs.declared.request.Request.{Request}
-use Rattle.serial_machine.specs.declared.whole_run.SerialRun.{SerialRun}
+use Rattle.command_line.specs.Requests.{request_of}
 use Rattle.fractal_sim.specs.declared.finding.Finding.{Finding}
 use Rattle.fractal_sim.specs.declared.finding.Finding.TheVariants as finding
+use Rattle.fractal_sim.specs.declared.finding.Loading.{Loading}
 use Rattle.fractal_sim.specs.Call.{Input}
-use Rattle.serial_machine.specs.WholeRun.{IsRunOf}
-use Rattle.fractal_sim.specs.Top.{ReadsImage, input_limit}
-use Rattle.fractal_sim.specs.Finding.{IsFound, IsMadeSo, IsRan}
-use Rattle.fractal_sim.specs.Deciding.{IsFoundBehind, IsMadeBehind, IsClosedReport}
-use Rattle.fractal_sim.proofs.Answering.{read-some}
+use Rattle.fractal_sim.specs.Given.{Reads, ReadsImage, input_limit}
+use Rattle.fractal_sim.specs.Finding.{IsFound, IsLoaded, IsPlayed, IsRan}
+use Rattle.fractal_sim.specs.Deciding.{IsFoundBehind, IsLoadedSo, IsClosedReport}
 
+-- ---- reading
+
+-- bytes that were read to the end are some bytes
+pub read_some : (old new : SourceState) (limit : ℕ) (found : List ℕ) → ReadsAll old new limit found → ReadsSome old new limit
+read_some old new limit found h = record { found = found; taken = h.taken; within = h.within }
+
+-- of a source that was left alone no byte was read
+pub read_none : (old new : SourceState) (limit : ℕ) → new ≡ old → ReadsSome old new limit
+read_none old new limit same = subst (λ after. ReadsSome old after limit) (sym same) (record { found = []; taken = go old.left; within = omega arith }) where
+  go : (left : Option (List ℕ)) → Consumes left left []
+  go None = tt
+  go (Some bytes) = refl
+
+-- what isn't `load` reads the source
+pub reads_else : (command : Command) → ((load : Load) (seed size : ℕ) → command ≡ commands.Load load seed size → ⊥) → Reads command
+reads_else commands.Run other = tt
+reads_else commands.Steps other = tt
+reads_else commands.Trace other = tt
+reads_else commands.Check other = tt
+reads_else (commands.Load load seed size) other = other load seed size refl
+
+-- ---- reports
+
+-- an accepted report's run is one of the serial machine
 holds-report : (image : ImageValue) (commits budget : ℕ) (report : Report) (closed : SerialRun) (accepted : IsReportOf image commits budget report) → IsClosedReport accepted.state report closed
     → IsRunOf image commits budget closed
 holds-report image commits budget report closed a k = record {
@@ -34,33 +63,64 @@ holds-report image commits budget report closed a k = record {
   end_is = rw (k.journal_is, k.end_is) a.end;
 }
 
-pub found-given : (input : Input) (request : Request) (image : ImageValue) (rest : List ℕ) (f : Finding) → ReadsImage input request image rest → IsFoundBehind request image rest f → IsFound input f
-found-given input request image rest finding.Usage g h = absurd h
-found-given input request image rest finding.Memory g h = read-some input.source_before input.source_after input_limit g.bytes g.read.read
-found-given input request image rest finding.Unread g h = absurd h
-found-given input request image rest finding.Long g h = absurd h
-found-given input request image rest (finding.NoImage fault) g h = absurd h
-found-given input request image rest (finding.Refused line) g h = record { request = request; image = image; rest = rest; given = g; command = h.0; wrong = h.1 }
-found-given input request image rest (finding.Accepted closed) g h = record {
+-- ---- findings
+
+-- what is found behind the image that was read is found
+pub found_given : (input : Input) (request : Request) (image : ImageValue) (rest : List ℕ) (f : Finding) → ReadsImage input request image rest
+    → IsFoundBehind request image rest input.placers input.taps f → IsFound input f
+found_given input request image rest finding.Usage g h = absurd h
+found_given input request image rest finding.Memory g h = read_some input.source_before input.source_after input_limit g.bytes g.read.read
+found_given input request image rest finding.Unread g h = absurd h
+found_given input request image rest finding.Long g h = absurd h
+found_given input request image rest (finding.NoImage fault) g h = absurd h
+found_given input request image rest (finding.Refused line) g h = record { request = request; image = image; rest = rest; given = g; command = h.0; wrong = h.1 }
+found_given input request image rest (finding.NoScript line) g h = record { request = request; image = image; rest = rest; given = g; command = h.0; wrong = h.1 }
+found_given input request image rest (finding.Accepted closed) g h = record {
   request = request;
   image = image;
   rest = rest;
-  report = h.report;
+  report = h.1.report;
   given = g;
-  command = h.command;
-  report_is = h.report_is;
-  accepted = h.accepted;
-  run = holds-report image request.settings.commits request.settings.budget h.report closed h.accepted h.kept;
-  journal_is = h.kept.journal_is;
-  end_is = h.kept.end_is;
+  command = h.0;
+  report_is = h.1.report_is;
+  accepted = h.1.accepted;
+  run = holds-report image request.settings.commits request.settings.budget h.1.report closed h.1.accepted h.1.kept;
+  journal_is = h.1.kept.journal_is;
+  end_is = h.1.kept.end_is;
 }
-found-given input request image rest (finding.Ran image' closed steps) g h =
-    let same : IsRan input image closed = record { request = request; rest = rest; given = g; command = h.command; run = h.run; over = h.over } in
-    subst (λ i. IsRan input i closed) (sym h.same) same
+found_given input request image rest (finding.Ran image' ran steps) g h =
+    let same : IsRan input image ran steps = record { request = request; rest = rest; given = g; command = h.0; made = h.2 } in
+    subst (λ i. IsRan input i ran steps) (sym h.1) same
+found_given input request image rest (finding.Loaded load image' ran steps) g h = absurd h
+found_given input request image rest (finding.Played image' played) g h =
+    let same : IsPlayed input image played = record { request = request; rest = rest; given = g; command = h.0; made = h.2 } in
+    subst (λ i. IsPlayed input i played) (sym h.1) same
+found_given input request image rest (finding.Traced traced) g h = record { request = request; image = image; rest = rest; given = g; command = h.0; made = h.1 }
 
--- the memory is as long as the image's data
-pub holds-writable : (image : ImageValue) (commits budget : ℕ) (closed : SerialRun) → IsImage image → IsRunOf image commits budget closed → length closed.memory ≡ image.data_size
-holds-writable image commits budget closed fits h = ap length h.memory_is ∙ run_sized image budget closed.journal h.state fits h.is_run
+-- what is found where a generated image is asked for is found, as the source is left alone
+pub found_loaded : (input : Input) (request : Request) (load : Loading) (f : Finding) → request_of input.words ≡ Some request
+    → request.command ≡ commands.Load load.load load.seed load.size → input.source_after ≡ input.source_before
+    → IsLoadedSo load request.settings input.placers input.taps f → IsFound input f
+found_loaded input request load finding.Usage asked command untouched h = absurd h
+found_loaded input request load finding.Memory asked command untouched h = read_none input.source_before input.source_after input_limit untouched
+found_loaded input request load finding.Unread asked command untouched h = absurd h
+found_loaded input request load finding.Long asked command untouched h = absurd h
+found_loaded input request load (finding.NoImage fault) asked command untouched h = absurd h
+found_loaded input request load (finding.Refused line) asked command untouched h = absurd h
+found_loaded input request load (finding.NoScript line) asked command untouched h = absurd h
+found_loaded input request load (finding.Accepted closed) asked command untouched h = absurd h
+found_loaded input request load (finding.Ran image ran steps) asked command untouched h = absurd h
+found_loaded input request load (finding.Loaded load' image ran steps) asked command untouched h =
+    let same : IsLoaded input load image ran steps = record {
+      request = request;
+      given = record { asked = asked; command = command; image_is = h.1; untouched = untouched };
+      made = h.2;
+    } in
+    subst (λ l. IsLoaded input l image ran steps) (sym h.0) same
+found_loaded input request load (finding.Played image played) asked command untouched h = absurd h
+found_loaded input request load (finding.Traced traced) asked command untouched h = absurd h
+
+-- ---- sizes
 
 abbrev size_in : Result (ImageValue × ℕ) ImageFault → ℕ
 size_in (Ok x) = x.1
@@ -81,16 +141,3 @@ size-within bytes image size is = short (nat_lt (length bytes) 32) is where
   short : (b : Bool) → (if b then Err (faults.Short 32 (length bytes)) else after_header bytes (header_fault bytes)) ≡ Ok (image, size) → size ≤ length bytes
   short true h = cc
   short false h = behind (header_fault bytes) h
-
--- where a run was made behind the image that was read, so many events made it
-pub made_given : (N : Type 0) (input : Input) (request : Request) (image : ImageValue) (rest : List ℕ) (placers : List Policy) (taps : List Reading) (f : Finding)
-    → ReadsImage input request image rest → IsMadeBehind N request image placers taps f → IsMadeSo N input placers taps f
-made_given N input request image rest placers taps (finding.Ran image' closed steps) g h =
-    record { request = request; image = image; rest = rest; given = g; command = h.0; least = h.1 }
-made_given N input request image rest placers taps finding.Usage g h = tt
-made_given N input request image rest placers taps finding.Memory g h = tt
-made_given N input request image rest placers taps finding.Unread g h = tt
-made_given N input request image rest placers taps finding.Long g h = tt
-made_given N input request image rest placers taps (finding.NoImage fault) g h = tt
-made_given N input request image rest placers taps (finding.Refused line) g h = tt
-made_given N input request image rest placers taps (finding.Accepted closed) g h = tt

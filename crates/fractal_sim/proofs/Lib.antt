@@ -1,3 +1,4 @@
 pub mod Answering
+pub mod Completing
+pub mod Counting
 pub mod Found
-pub mod Least

@@ -1,11 +1,15 @@
 -- A call of the program, as its contract sees it.
 use denote.Ref.{Bor}
 use Rattle.std.specs.Prelude.{ℕ, List, map}
+use Rattle.place_policy.specs.Policy.{Policy}
+use Rattle.trace_tap.specs.Reading.{Reading}
 use Rattle.sim_io.specs.Streams.{SinkState, SourceState}
 
--- what a call was given: its words, and the source before and after it
+-- what a call was given: its words, its placers and its taps, and the source before and after it
 pub record Input : Type 0 where
   pub words : List (List ℕ)
+  pub placers : List Policy
+  pub taps : List Reading
   pub source_before : SourceState
   pub source_after : SourceState
 
@@ -16,9 +20,15 @@ pub record Call : Type 0 where
   pub sink_after : SinkState
 
 -- an input with these words behind their references
-abbrev pub input_of : List (Bor (List ℕ)) → (source_before source_after : SourceState) → Input
-input_of words source_before source_after =
-    record { words = map (λ w. w.now) words; source_before = source_before; source_after = source_after }
+abbrev pub input_of : List (Bor (List ℕ)) → List Policy → List Reading
+    → (source_before source_after : SourceState) → Input
+input_of words placers taps source_before source_after = record {
+  words = map (λ w. w.now) words;
+  placers = placers;
+  taps = taps;
+  source_before = source_before;
+  source_after = source_after;
+}
 
 -- a call on this input
 abbrev pub call_on : Input → (sink_before sink_after : SinkState) → Call

@@ -1,21 +1,80 @@
--- What is found with an image and the bytes behind it.
-use Rattle.std.specs.Prelude.{◌≡◌, ◌≢◌, ℕ, List, Ok, Some}
+-- What is found with an image: runs that are made of it, and texts behind it.
+use Rattle.std.specs.Prelude.{◌≡◌, ◌≢◌, ◌==◌, ℕ, List, map, Ok, Some, None, IfSome, if◌then◌else◌}
+use Rattle.std.specs.declared.marker.Brand.{Brand}
+use Rattle.std.specs.declared.option.Option.{Option}
 use Rattle.guest_image.specs.ImageValue.{ImageValue}
-use Rattle.run_journal.specs.declared.end.End.TheVariants as ends
 use Rattle.place_policy.specs.Policy.{Policy}
 use Rattle.trace_tap.specs.Reading.{Reading}
+use Rattle.run_journal.specs.declared.end.End.TheVariants as ends
 use Rattle.serial_machine.specs.State.{State}
+use Rattle.serial_machine.specs.WholeRun.{IsRunOf}
+use Rattle.serial_machine.specs.declared.whole_run.SerialRun.{SerialRun}
+use Rattle.spec_state.specs.declared.settings.Settings.{Settings}
 use Rattle.report_text.specs.declared.report.Report.{Report}
 use Rattle.report_text.specs.Grammar.{report_of}
 use Rattle.report_text.specs.Check.{IsReportOf}
-use Rattle.command_line.specs.declared.request.Command.TheVariants.{Run, Check}
+use Rattle.step_script.specs.declared.act.Act.{Act}
+use Rattle.step_script.specs.declared.fault.ScriptFault.{ScriptFault}
+use Rattle.step_script.specs.declared.fault.ScriptFault.TheVariants as faults
+use Rattle.machine_run.specs.Least.{IsLeastRun, run_of}
+use Rattle.machine_run.specs.Played.{IsPlayedRun, IsTracedRun}
+use Rattle.machine_run.specs.declared.left.Ran.{Ran}
+use Rattle.machine_run.specs.declared.playing.Played.{Played}
+use Rattle.machine_run.specs.declared.playing.Traced.{Traced}
+use Rattle.command_line.specs.declared.request.Command.TheVariants as commands
 use Rattle.command_line.specs.declared.request.Request.{Request}
-use Rattle.serial_machine.specs.declared.whole_run.SerialRun.{SerialRun}
+use Rattle.load_gen.specs.Generated.{generated}
 use Rattle.fractal_sim.specs.declared.finding.Finding.{Finding}
+use Rattle.fractal_sim.specs.declared.finding.Loading.{Loading}
 use Rattle.fractal_sim.specs.declared.finding.Finding.TheVariants as finding
-use Rattle.serial_machine.specs.WholeRun.{IsRunOf}
-use Rattle.fractal_sim.specs.Least.{IsLeastRun}
-use Rattle.fractal_sim.specs.Top.{IsWrongLine}
+use Rattle.fractal_sim.specs.Checks.{IsNoScriptAt, IsWrongLine}
+use Rattle.fractal_sim.specs.Runs.{IsScript, PlaysScript}
+
+-- the run that was left, with its end
+abbrev pub whole : Ran → SerialRun
+whole ran = run_of ran.closed ran.end
+
+-- the numbers of the taps
+abbrev pub lists_of : Traced → List (List ℕ)
+lists_of t = map (λ list. list.items) t.lists.items
+
+-- a count of events is told where no workers made them
+abbrev pub told_steps : (workers events : ℕ) → Option ℕ
+told_steps workers events = if workers == 0 then Some events else None
+
+-- the image was run to its end, or as far as memory went
+pub record IsRunSo (image : ImageValue) (settings : Settings) (placers : List Policy) (taps : List Reading)
+    (ran : Ran) (steps : Option ℕ) : Type 0 where
+  pub least : settings.workers ≡ 0 → IsLeastRun Brand image settings placers taps ran.closed.steps (whole ran)
+  pub run : IsRunOf image settings.commits settings.budget (whole ran)
+  pub steps_is : steps ≡ told_steps settings.workers ran.closed.steps
+  pub over : ran.end ≢ Some ends.Unfinished
+
+-- why something is found where the words ask for the run of a generated image
+abbrev pub IsLoadedSo : Loading → Settings → List Policy → List Reading → Finding → Type 0
+IsLoadedSo load settings placers taps finding.Memory = Unit {0}
+IsLoadedSo load settings placers taps (finding.Loaded load' image ran steps) =
+    (load' ≡ load) × (image ≡ generated load.load load.seed load.size) × IsRunSo image settings placers taps ran steps
+IsLoadedSo load settings placers taps other = ⊥
+
+-- the text behind the image was played as a script, or as much of it as memory was there for
+pub record IsPlayedSo (request : Request) (image : ImageValue) (rest : List ℕ)
+    (placers : List Policy) (taps : List Reading) (p : Played) : Type 0 where
+  pub script : List Act
+  pub script_is : IsScript request rest script
+  pub run : IsRunOf image request.settings.commits request.settings.budget (whole p.ran)
+  pub played : IfSome p.ran.end (λ end. IsPlayedRun Brand image request.settings script placers taps
+      p.said.items p.ran.closed.steps end (whole p.ran))
+
+-- the text behind the image was played as a script, or as much of it as memory was there for, and the taps have these
+-- lists
+pub record IsTracedSo (request : Request) (image : ImageValue) (rest : List ℕ)
+    (placers : List Policy) (taps : List Reading) (t : Traced) : Type 0 where
+  pub script : List Act
+  pub script_is : IsScript request rest script
+  pub run : IsRunOf image request.settings.commits request.settings.budget (whole t.ran)
+  pub traced : IfSome t.ran.end (λ end. IsTracedRun Brand image request.settings script placers taps
+      (lists_of t) t.ran.closed.steps end (whole t.ran))
 
 -- the run of a report, which led to this state
 pub record IsClosedReport (state : State) (report : Report) (closed : SerialRun) : Type 0 where
@@ -24,35 +83,31 @@ pub record IsClosedReport (state : State) (report : Report) (closed : SerialRun)
   pub output_is : closed.output ≡ state.output
   pub end_is : closed.end ≡ Some report.end
 
--- the image was run
-pub record IsRanSo (request : Request) (image image' : ImageValue) (closed : SerialRun) : Type 0 where
-  pub command : request.command ≡ Run
-  pub same : image' ≡ image
-  pub run : IsRunOf image request.settings.commits request.settings.budget closed
-  pub over : closed.end ≢ Some ends.Unfinished
-
 -- the report is accepted
 pub record IsAcceptedSo (request : Request) (image : ImageValue) (rest : List ℕ) (closed : SerialRun) : Type 0 where
-  pub command : request.command ≡ Check
   pub report : Report
   pub report_is : report_of rest ≡ Ok report
   pub accepted : IsReportOf image request.settings.commits request.settings.budget report
   pub kept : IsClosedReport accepted.state report closed
 
--- why something is found with an image and the bytes behind it
-abbrev pub IsFoundBehind : Request → ImageValue → List ℕ → Finding → Type 0
-IsFoundBehind request image rest finding.Usage = ⊥
-IsFoundBehind request image rest finding.Memory = Unit {0}
-IsFoundBehind request image rest finding.Unread = ⊥
-IsFoundBehind request image rest finding.Long = ⊥
-IsFoundBehind request image rest (finding.NoImage fault) = ⊥
-IsFoundBehind request image rest (finding.Refused line) =
-    (request.command ≡ Check) × IsWrongLine image request rest line
-IsFoundBehind request image rest (finding.Accepted closed) = IsAcceptedSo request image rest closed
-IsFoundBehind request image rest (finding.Ran image' closed steps) = IsRanSo request image image' closed
+-- what is found where a text is no script
+abbrev pub unscripted : ScriptFault → Finding
+unscripted (faults.Line line) = finding.NoScript line
+unscripted faults.Memory = finding.Memory
 
--- where an image was run, so many events made the run
-abbrev pub IsMadeBehind : Type 0 → Request → ImageValue → List Policy → List Reading → Finding → Type 0
-IsMadeBehind N request image placers taps (finding.Ran image' closed steps) =
-    (request.command ≡ Run) × IsLeastRun N image request.settings placers taps steps closed
-IsMadeBehind N request image placers taps other = Unit {0}
+-- why something is found with an image and the bytes behind it
+abbrev pub IsFoundBehind : Request → ImageValue → List ℕ → List Policy → List Reading → Finding → Type 0
+IsFoundBehind request image rest placers taps finding.Memory = Unit {0}
+IsFoundBehind request image rest placers taps (finding.Refused line) =
+    (request.command ≡ commands.Check) × IsWrongLine image request rest line
+IsFoundBehind request image rest placers taps (finding.NoScript line) =
+    PlaysScript request.command × IsNoScriptAt request rest line
+IsFoundBehind request image rest placers taps (finding.Accepted closed) =
+    (request.command ≡ commands.Check) × IsAcceptedSo request image rest closed
+IsFoundBehind request image rest placers taps (finding.Ran image' ran steps) =
+    (request.command ≡ commands.Run) × (image' ≡ image) × IsRunSo image request.settings placers taps ran steps
+IsFoundBehind request image rest placers taps (finding.Played image' played) =
+    (request.command ≡ commands.Steps) × (image' ≡ image) × IsPlayedSo request image rest placers taps played
+IsFoundBehind request image rest placers taps (finding.Traced traced) =
+    (request.command ≡ commands.Trace) × IsTracedSo request image rest placers taps traced
+IsFoundBehind request image rest placers taps other = ⊥

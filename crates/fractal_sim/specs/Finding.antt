@@ -5,31 +5,58 @@ use Rattle.sim_io.specs.Causes.{Rose}
 use Rattle.sim_io.specs.Parts.{ReadsSome, Takes, TakesFront}
 use Rattle.sim_io.specs.Streams.{SinkState}
 use Rattle.guest_image.specs.ImageValue.{ImageValue}
-use Rattle.place_policy.specs.Policy.{Policy}
-use Rattle.trace_tap.specs.Reading.{Reading}
 use Rattle.run_journal.specs.declared.end.End.{End}
-use Rattle.run_journal.specs.declared.end.End.TheVariants as ends
-use Rattle.report_text.specs.Report.{report}
-use Rattle.command_line.specs.declared.request.Command.TheVariants.{Run}
-use Rattle.command_line.specs.declared.request.Request.{Request}
 use Rattle.serial_machine.specs.declared.whole_run.SerialRun.{SerialRun}
+use Rattle.machine_run.specs.declared.left.Ran.{Ran}
+use Rattle.machine_run.specs.declared.playing.Played.{Played}
+use Rattle.machine_run.specs.declared.playing.Traced.{Traced}
+use Rattle.command_line.specs.declared.request.Command.TheVariants.{Run, Steps, Trace}
+use Rattle.command_line.specs.declared.request.Request.{Request}
+use Rattle.play_text.specs.Traces.{trace_text}
 use Rattle.fractal_sim.specs.declared.finding.Finding.{Finding}
+use Rattle.fractal_sim.specs.declared.finding.Loading.{Loading}
 use Rattle.fractal_sim.specs.declared.finding.Finding.TheVariants as finding
 use Rattle.fractal_sim.specs.declared.outcome.Outcome.{Outcome}
 use Rattle.fractal_sim.specs.Call.{Input}
-use Rattle.serial_machine.specs.WholeRun.{IsRunOf}
-use Rattle.fractal_sim.specs.Top.{input_limit, ReadsImage, IsUsage, IsUnread, IsLong, IsNoImage, MakesRun, closed_of, IsEmpty}
-use Rattle.fractal_sim.specs.Top.{IsAccepted, IsRefused, end_status, accepted_line}
-use Rattle.fractal_sim.specs.Top.{image_fault_line, journal_fault_line}
+use Rattle.fractal_sim.specs.Given.{input_limit, ReadsImage, Generates, IsUsage, IsUnread, IsLong, IsNoImage}
+use Rattle.fractal_sim.specs.Runs.{closed_of, IsEmpty}
+use Rattle.fractal_sim.specs.Checks.{IsAccepted, IsRefused, IsNoScript}
+use Rattle.fractal_sim.specs.Texts.{end_status, played_status, image_fault_line, journal_fault_line, script_fault_line}
+use Rattle.fractal_sim.specs.Texts.{accepted_line, run_text, load_text, played_text}
+use Rattle.fractal_sim.specs.Deciding.{whole, lists_of, IsRunSo, IsPlayedSo, IsTracedSo}
 
--- the words ask for a run, and this is one of the image that was read, as far as memory went
-pub record IsRan (input : Input) (image : ImageValue) (closed : SerialRun) : Type 0 where
+-- ---- why something was found
+
+-- the words ask for a run, and this is one of the image that was read
+pub record IsRan (input : Input) (image : ImageValue) (ran : Ran) (steps : Option ℕ) : Type 0 where
   pub request : Request
   pub rest : List ℕ
   pub given : ReadsImage input request image rest
   pub command : request.command ≡ Run
-  pub run : IsRunOf image request.settings.commits request.settings.budget closed
-  pub over : closed.end ≢ Some ends.Unfinished
+  pub made : IsRunSo image request.settings input.placers input.taps ran steps
+
+-- the words ask for the run of a generated image, and this is one
+pub record IsLoaded (input : Input) (load : Loading) (image : ImageValue) (ran : Ran) (steps : Option ℕ) : Type 0 where
+  pub request : Request
+  pub given : Generates input request load.load load.seed load.size image
+  pub made : IsRunSo image request.settings input.placers input.taps ran steps
+
+-- the words ask for a script to be played, and the one behind the image that was read was played so
+pub record IsPlayed (input : Input) (image : ImageValue) (played : Played) : Type 0 where
+  pub request : Request
+  pub rest : List ℕ
+  pub given : ReadsImage input request image rest
+  pub command : request.command ≡ Steps
+  pub made : IsPlayedSo request image rest input.placers input.taps played
+
+-- the words ask what the taps see, and the script behind the image that was read was played so
+pub record IsTraced (input : Input) (traced : Traced) : Type 0 where
+  pub request : Request
+  pub image : ImageValue
+  pub rest : List ℕ
+  pub given : ReadsImage input request image rest
+  pub command : request.command ≡ Trace
+  pub made : IsTracedSo request image rest input.placers input.taps traced
 
 -- why something was found
 abbrev pub IsFound : Input → Finding → Type 0
@@ -39,18 +66,19 @@ IsFound input finding.Unread = IsUnread input
 IsFound input finding.Long = IsLong input
 IsFound input (finding.NoImage fault) = IsNoImage input fault
 IsFound input (finding.Refused line) = IsRefused input line
+IsFound input (finding.NoScript line) = IsNoScript input line
 IsFound input (finding.Accepted closed) = IsAccepted input closed
-IsFound input (finding.Ran image closed steps) = IsRan input image closed
+IsFound input (finding.Ran image ran steps) = IsRan input image ran steps
+IsFound input (finding.Loaded load image ran steps) = IsLoaded input load image ran steps
+IsFound input (finding.Played image played) = IsPlayed input image played
+IsFound input (finding.Traced traced) = IsTraced input traced
 
--- where the image was run, so many events made the run
-abbrev pub IsMadeSo : Type 0 → Input → List Policy → List Reading → Finding → Type 0
-IsMadeSo N input placers taps (finding.Ran image closed steps) = MakesRun N input placers taps steps closed
-IsMadeSo N input placers taps other = Unit {0}
+-- ---- how it is told
 
 -- the status of a run: 5 where it has no end
-abbrev pub run_status : Option End → ℕ
-run_status None = 5
-run_status (Some end) = end_status end
+abbrev pub status_by : (End → ℕ) → Option End → ℕ
+status_by status None = 5
+status_by status (Some end) = status end
 
 -- the status that tells what was found
 abbrev pub status_of : Finding → ℕ
@@ -60,8 +88,12 @@ status_of finding.Unread = 6
 status_of finding.Long = 10
 status_of (finding.NoImage fault) = 2
 status_of (finding.Refused line) = 8
+status_of (finding.NoScript line) = 9
 status_of (finding.Accepted closed) = 0
-status_of (finding.Ran image closed steps) = run_status closed.end
+status_of (finding.Ran image ran steps) = status_by end_status ran.end
+status_of (finding.Loaded load image ran steps) = status_by end_status ran.end
+status_of (finding.Played image played) = status_by played_status played.ran.end
+status_of (finding.Traced traced) = status_by (λ end. 0) traced.ran.end
 
 -- the text that tells what was found; none where memory was wanting or the source failed
 abbrev pub text_of : Finding → Option (List ℕ)
@@ -71,8 +103,14 @@ text_of finding.Unread = None
 text_of finding.Long = Some (codes "fault long\n")
 text_of (finding.NoImage fault) = Some (image_fault_line fault)
 text_of (finding.Refused line) = Some (journal_fault_line line)
+text_of (finding.NoScript line) = Some (script_fault_line line)
 text_of (finding.Accepted closed) = Some (accepted_line (length closed.journal))
-text_of (finding.Ran image closed steps) = option_map (report image closed.journal closed.memory closed.output) closed.end
+text_of (finding.Ran image ran steps) = option_map (run_text image (whole ran)) ran.end
+text_of (finding.Loaded load image ran steps) =
+    option_map (load_text load.load load.seed load.size image (whole ran)) ran.end
+text_of (finding.Played image played) =
+    option_map (played_text played.said.items image (whole played.ran)) played.ran.end
+text_of (finding.Traced traced) = option_map (λ end. trace_text (lists_of traced)) traced.ran.end
 
 -- the outcome holds this run, and this count of the events that made it
 pub record HoldsRun (run : SerialRun) (steps : Option ℕ) (o : Outcome) : Type 0 where
@@ -81,25 +119,23 @@ pub record HoldsRun (run : SerialRun) (steps : Option ℕ) (o : Outcome) : Type 
 
 -- what an outcome keeps of what was found
 abbrev pub Keeps : Finding → Outcome → Type 0
-Keeps finding.Usage o = IsEmpty o
-Keeps finding.Memory o = IsEmpty o
-Keeps finding.Unread o = IsEmpty o
-Keeps finding.Long o = IsEmpty o
-Keeps (finding.NoImage fault) o = IsEmpty o
-Keeps (finding.Refused line) o = IsEmpty o
 Keeps (finding.Accepted closed) o = HoldsRun closed None o
-Keeps (finding.Ran image closed steps) o = HoldsRun closed (Some steps) o
+Keeps (finding.Ran image ran steps) o = HoldsRun (whole ran) steps o
+Keeps (finding.Loaded load image ran steps) o = HoldsRun (whole ran) steps o
+Keeps (finding.Played image played) o = HoldsRun (whole played.ran) (Some played.ran.closed.steps) o
+Keeps (finding.Traced traced) o = HoldsRun (whole traced.ran) (Some traced.ran.closed.steps) o
+Keeps other o = IsEmpty o
+
+-- the image's window lies in the memory that the run left
+abbrev pub HasWindow : ImageValue → Ran → Type 0
+HasWindow image ran = length ran.closed.memory ≡ image.data_size
 
 -- what was found can be written: the window lies in the memory
 abbrev pub IsWritable : Finding → Type 0
-IsWritable finding.Usage = Unit {0}
-IsWritable finding.Memory = Unit {0}
-IsWritable finding.Unread = Unit {0}
-IsWritable finding.Long = Unit {0}
-IsWritable (finding.NoImage fault) = Unit {0}
-IsWritable (finding.Refused line) = Unit {0}
-IsWritable (finding.Accepted closed) = Unit {0}
-IsWritable (finding.Ran image closed steps) = length closed.memory ≡ image.data_size
+IsWritable (finding.Ran image ran steps) = HasWindow image ran
+IsWritable (finding.Loaded load image ran steps) = HasWindow image ran
+IsWritable (finding.Played image played) = HasWindow image played.ran
+IsWritable other = Unit {0}
 
 -- the sink took this text, or was left alone where there is none
 abbrev pub TakesText : SinkState → SinkState → Option (List ℕ) → Type 0

@@ -1,6 +1,9 @@
-pub mod Asked
-pub mod Least
 pub mod Call
-pub mod Top
+pub mod Given
+pub mod Runs
+pub mod Checks
+pub mod Texts
+pub mod Answers
+pub mod Complete
 pub mod Finding
 pub mod Deciding

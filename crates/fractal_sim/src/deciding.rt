@@ -2,49 +2,59 @@
 
 ghost use Rattle.std.specs.Prelude.{◌≡◌, ◌≤◌, ◌<◌, ◌-◌, ◌^◌, length, map, true};
 ghost use Rattle.guest_image.specs.Reading.{image_of};
-ghost use Rattle.report_text.specs.Check.{IsReportOf};
 ghost use Rattle.command_line.specs.Requests.{IsLimited};
-ghost use Rattle.fractal_sim.specs.Asked.{is_built};
 ghost use Rattle.fractal_sim.specs.Call.{input_of};
-ghost use Rattle.fractal_sim.specs.Deciding.{IsFoundBehind, IsMadeBehind, IsClosedReport};
-ghost use Rattle.fractal_sim.specs.Finding.{IsFound, IsMadeSo, IsWritable};
+ghost use Rattle.fractal_sim.specs.Deciding.{IsFoundBehind};
+ghost use Rattle.fractal_sim.specs.Finding.{IsFound, IsWritable};
+ghost use Rattle.fractal_sim.specs.Given.{Reads};
 
-use crate::asking::ask;
-use crate::finding::Finding;
-use crate::running::run;
-use command_line::{Command, Refusal, Request};
+use crate::checking::check_report;
+use crate::finding::{Finding, Loading};
+use crate::playing::{play_behind, trace_behind};
+use crate::running::{run_image, run_load};
+use command_line::{Command, Refusal, Request, read_words};
 use guest_image::{Image, ImageFault, read_image};
 use place_policy::Placer;
-use report_text::{Examined, JournalFault, Report, examine, read_journal};
-use serial_machine::{Serial, SerialRun};
 use sim_io::{ReadEnd, Source, read_all};
-use spec_state::Settings;
 use std::alloc::Global;
-use std::marker::Brand;
+use std::sync::Wait;
+use std::thread::Threads;
+use tile_worker::Gate;
 use trace_tap::Tap;
 
 /// How many bytes are read at most: 64 MiB.
 const INPUT_LIMIT: usize = 67_108_864;
 
 /// Reads the words and the input, and does what they ask for.
-pub(crate) fn find<S: Source, P: Placer, T: Tap>(
+pub(crate) fn find<
+    R: Threads + Wait + Sync,
+    S: Source,
+    G: Gate + Sync,
+    P: Placer + Send,
+    T: Tap + Send,
+>(
+    rt: &R,
     alloc: Global,
     words: &[&str],
     source: &mut S,
+    gate: &G,
     placers: Vec<P>,
     taps: Vec<T>,
 ) -> Finding
-    ensures found { IsFound (input_of words.now (S.state source.old) (S.state source.new)) result }
-    ensures made { let input = input_of words.now (S.state source.old) (S.state source.new) in
-        IsMadeSo Brand input (map P.policy placers.items) (map T.reading taps.items) result }
-    ensures later { (S.state source.old).faults ≤ (S.state source.new).faults }
+    ensures found { let serving = map P.policy placers.items in
+        let noting = map T.reading taps.items in
+        IsFound (input_of words.now serving noting (S.state source.old) (S.state source.new)) result }
     ensures writable { IsWritable result }
 {
-    let request = match ask(alloc, words) {
+    let request = match read_words(alloc, words) {
         Ok(request) => request,
         Err(Refusal::Usage) => return Finding::Usage,
         Err(Refusal::Memory) => return Finding::Memory,
     };
+    if let Command::Load { load, seed, size } = request.command {
+        let load = Loading { load, seed, size };
+        return run_load(rt, alloc, load, request.settings, gate, placers, taps);
+    }
     let bytes = match read_all(alloc, source, INPUT_LIMIT) {
         Ok(bytes) => bytes,
         Err(ReadEnd::Failed) => return Finding::Unread,
@@ -57,69 +67,36 @@ pub(crate) fn find<S: Source, P: Placer, T: Tap>(
         Err(fault) => return Finding::NoImage(fault),
     };
     let (_, rest) = bytes.split_at(size);
-    act(alloc, request, image, rest, placers, taps)
+    act(rt, alloc, request, image, rest, gate, placers, taps)
 }
 
 /// Does what is asked for with an image and the bytes behind it.
-fn act<P: Placer, T: Tap>(
+fn act<R: Threads + Wait + Sync, G: Gate + Sync, P: Placer + Send, T: Tap + Send>(
+    rt: &R,
     alloc: Global,
     request: Request,
     image: Image,
     rest: &[u8],
+    gate: &G,
     placers: Vec<P>,
     taps: Vec<T>,
 ) -> Finding
-    requires built { is_built request ≡ true }
+    requires reads { Reads request.command }
     requires limits { IsLimited request }
     requires short { length rest.now ≤ 67108864 }
-    ensures found { IsFoundBehind request image rest.now result }
-    ensures made { IsMadeBehind Brand request image (map P.policy placers.items) (map T.reading taps.items) result }
+    ensures found { let serving = map P.policy placers.items in
+        let noting = map T.reading taps.items in
+        IsFoundBehind request image rest.now serving noting result }
     ensures writable { IsWritable result }
 {
     match request.command {
-        Command::Run => match run::<Brand, P, T>(alloc, &image, request.settings, placers, taps) {
-            Ok((run, steps)) => Finding::Ran(image, run, steps),
+        Command::Run => match run_image(rt, alloc, &image, request.settings, gate, placers, taps) {
+            Ok((ran, steps)) => Finding::Ran(image, ran, steps),
             Err(_) => Finding::Memory,
         },
+        Command::Steps => play_behind(alloc, request, image, rest, placers, taps),
+        Command::Trace => trace_behind(alloc, request, &image, rest, placers, taps),
         Command::Check => check_report(alloc, request, &image, rest),
-        Command::Steps | Command::Load { .. } => unreachable!(),
-    }
-}
-
-/// Checks the report behind an image.
-fn check_report(alloc: Global, request: Request, image: &Image, rest: &[u8]) -> Finding
-    requires command { request.command ≡ Command.Check }
-    requires limits { IsLimited request }
-    requires short { length rest.now ≤ 67108864 }
-    ensures found { IsFoundBehind request image.now rest.now result }
-    ensures writable { IsWritable result }
-{
-    let report = match read_journal(alloc, rest) {
-        Ok(report) => report,
-        Err(JournalFault::Line { line }) => return Finding::Refused(line),
-        Err(JournalFault::Memory) => return Finding::Memory,
-    };
-    let Settings {
-        commits,
-        budget,
-        ..
-    } = request.settings;
-    match examine(alloc, image, commits, budget, &report) {
-        Examined::Yes(serial) => Finding::Accepted(close(serial, report)),
-        Examined::Illegal { line, .. } => Finding::Refused(line),
-        Examined::Memory => Finding::Memory,
-    }
-}
-
-/// The run of a report, which led to this machine.
-fn close(serial: Serial, report: Report) -> SerialRun
-    ensures { IsClosedReport serial.state report result }
-{
-    let (memory, output) = serial.into_parts();
-    SerialRun {
-        journal: report.journal,
-        memory,
-        output,
-        end: Some(report.end),
+        Command::Load { .. } => unreachable!(),
     }
 }

@@ -1,13 +1,17 @@
-//! Runs a guest program on the machine of tiles, or checks the report of a run: the image comes from standard input, and
-//! the report, or a line that says what is wrong, goes to standard output. Everything is found before anything is
-//! written; a run takes memory for its tasks, its journal and its output, and one copy of the data memory.
+//! Runs a guest program on the machine of tiles, plays a script on it, or checks the report of a run: the image comes
+//! from standard input or is generated, and the report, or a line that says what is wrong, goes to standard output.
+//! Everything is found before anything is written; a run takes memory for its tasks, its journal and its output, and one
+//! copy of the data memory.
 #![tactic(auto)]
 
-mod asking;
+mod checking;
 mod deciding;
 mod finding;
+mod lines;
 mod outcome;
+mod playing;
 mod program;
+mod publishing;
 mod running;
 mod telling;
 #[cfg(test)]
@@ -16,10 +20,13 @@ mod tests;
 use place_policy::{ByHint, LeastLoaded, Placer, RoundRobin};
 use program::top;
 use sim_io::{StdSink, StdSource};
-use std::alloc::AllocError;
+use std::alloc::{AllocError, Global};
 use std::env;
-use std::io::ErrorKind;
+use std::io::{ErrorKind, Read};
 use std::process::ExitCode;
+use std::sync::Wait;
+use std::thread::Threads;
+use tile_worker::OpenGate;
 use trace_tap::{LastN, LineProfile, Tap};
 
 /// The exit status where memory was wanting.
@@ -60,7 +67,10 @@ fn status(answered: Result<u8, AllocError>) -> ExitCode {
 }
 
 /// Does what the words ask for, on the standard streams, and tells the exit status.
-fn answer(rt: &HostRuntime, words: &[&str]) -> Result<u8, AllocError> {
+fn answer<I: Read + Drop, R: Threads + Wait + Sync + Alloc<A = Global> + Input<Reader = I> + Print>(
+    rt: &R,
+    words: &[&str],
+) -> Result<u8, AllocError> {
     let alloc = rt.alloc();
     let mut placers: Vec<Box<dyn Placer + Send>> = Vec::new(alloc);
     placers.push(Box::new(alloc, ByHint::new())?)?;
@@ -71,6 +81,15 @@ fn answer(rt: &HostRuntime, words: &[&str]) -> Result<u8, AllocError> {
     taps.push(Box::new(alloc, LineProfile::new(alloc, KEPT)?)?)?;
     let mut source = StdSource::new(rt);
     let mut sink = StdSink::new(rt);
-    let outcome = top(rt, alloc, words, &mut source, &mut sink, placers, taps);
+    let outcome = top(
+        rt,
+        alloc,
+        words,
+        &mut source,
+        &mut sink,
+        &OpenGate,
+        placers,
+        taps,
+    );
     Ok(outcome.status)
 }

@@ -16,6 +16,6 @@ pub struct Outcome {
     /// The end of the run, or of the report that was accepted; None where there is neither, and where memory was
     /// wanting.
     pub end: Option<End>,
-    /// How many events made the run, up to 2^64 - 1; None where no image was run.
+    /// How many events made the run, up to 2^64 - 1; None where no image was run, and where workers ran it.
     pub steps: Option<u64>,
 }

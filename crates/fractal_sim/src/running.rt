@@ -1,67 +1,76 @@
-//! An image is run by the machine of tiles, one event for its least task after another.
+//! An image is run: one that was read, or a generated one.
 
-ghost use Rattle.std.specs.Prelude.{◌≡◌, ◌≢◌, length, map, IfOk, Some};
+ghost use Rattle.std.specs.Prelude.{◌≡◌, map, IfOk};
 ghost use Rattle.guest_image.specs.ImageValue.{IsImage};
-ghost use Rattle.serial_machine.specs.WholeRun.{IsRunOf};
 ghost use Rattle.spec_state.specs.Settings.{IsValid};
-ghost use Rattle.conflict_book.specs.Seen.{view_of};
-ghost use Rattle.fractal_sim.specs.Least.{IsLeastRun, RunsTo, run_of};
+ghost use Rattle.load_gen.specs.Generated.{IsSize};
+ghost use Rattle.fractal_sim.specs.Deciding.{IsRunSo, IsLoadedSo, told_steps};
+ghost use Rattle.fractal_sim.specs.Finding.{HasWindow, IsWritable};
 
-use conflict_book::{Book, Closed, Halt};
+use crate::finding::{Finding, Loading};
 use guest_image::Image;
+use load_gen::make;
+use machine_run::{Ran, run};
 use place_policy::Placer;
-use rv_core::Naming;
-use serial_machine::{End, SerialRun};
 use spec_state::Settings;
 use std::alloc::{AllocError, Global};
+use std::marker::Brand;
+use std::sync::Wait;
+use std::thread::Threads;
+use tile_worker::Gate;
 use trace_tap::Tap;
 
-/// Runs an image up to its end, or as far as memory goes; tells how many events the run had.
-pub(crate) fn run<N: Naming, P: Placer, T: Tap>(
+/// Runs an image up to its end, or as far as memory goes; tells how many events the run had where no workers made them.
+pub(crate) fn run_image<R: Threads + Wait + Sync, G: Gate + Sync, P: Placer + Send, T: Tap + Send>(
+    rt: &R,
     alloc: Global,
     image: &Image,
     settings: Settings,
+    gate: &G,
     placers: Vec<P>,
     taps: Vec<T>,
-) -> Result<(SerialRun, u64), AllocError>
+) -> Result<(Ran, Option<u64>), AllocError>
     requires fits { IsImage image.now }
     requires valid { IsValid settings }
-    requires image { image.now ≡ N.image }
-    requires budget { settings.budget ≡ N.budget }
-    requires commits { settings.commits ≡ N.commits }
-    ensures least { IfOk result (λ made.
-        IsLeastRun N image.now settings (map P.policy placers.items) (map T.reading taps.items) made.1 made.0) }
-    ensures run { IfOk result (λ made. IsRunOf image.now settings.commits settings.budget made.0) }
-    ensures writable { IfOk result (λ made. length made.0.memory ≡ image.now.data_size) }
-    ensures over { IfOk result (λ made. made.0.end ≢ Some End.Unfinished) }
+    ensures made { let serving = map P.policy placers.items in
+        let noting = map T.reading taps.items in
+        IfOk result (λ made. IsRunSo image.now settings serving noting made.0 made.1) }
+    ensures window { IfOk result (λ made. HasWindow image.now made.0) }
 {
-    let mut book = Book::<N, P, T>::begin(alloc, image, settings, placers, taps)?;
-    let end = run_to_end(&mut book, image);
-    Ok(made(book.close(), end))
+    let ran = run::<Brand, P, T, G, R>(rt, alloc, image, settings, gate, placers, taps)?;
+    let steps = told_steps(settings.workers, ran.closed.steps);
+    Ok((ran, steps))
 }
 
-/// Makes events for the least tasks up to the end of the run, which it tells; None where memory is wanting.
-#[tactic(auto, using(crate::proofs::Least::ended, crate::proofs::Least::wanting))]
-fn run_to_end<N: Naming, P: Placer, T: Tap>(book: &mut Book<N, P, T>, image: &Image) -> Option<End>
-    requires { image.now ≡ N.image }
-    ensures { RunsTo N N.image (view_of P.policy T.reading book.old) result (view_of P.policy T.reading book.new) }
+/// How many events are told.
+fn told_steps(workers: u32, events: u64) -> Option<u64>
+    ensures { result ≡ told_steps workers events }
 {
-    match book.run_least(image) {
-        Halt::Ended(end) => Some(end),
-        Halt::Memory => None,
-    }
+    if workers == 0 { Some(events) } else { None }
 }
 
-/// The run that a closed book leaves, with its end, and how many events it had.
-fn made(closed: Closed, end: Option<End>) -> (SerialRun, u64)
-    ensures run { result.0 ≡ run_of closed end }
-    ensures events { result.1 ≡ closed.steps }
+/// Generates an image and runs it.
+pub(crate) fn run_load<R: Threads + Wait + Sync, G: Gate + Sync, P: Placer + Send, T: Tap + Send>(
+    rt: &R,
+    alloc: Global,
+    load: Loading,
+    settings: Settings,
+    gate: &G,
+    placers: Vec<P>,
+    taps: Vec<T>,
+) -> Finding
+    requires size { IsSize load.load load.size }
+    requires valid { IsValid settings }
+    ensures found { let serving = map P.policy placers.items in
+        let noting = map T.reading taps.items in
+        IsLoadedSo load settings serving noting result }
+    ensures writable { IsWritable result }
 {
-    let run = SerialRun {
-        journal: closed.journal,
-        memory: closed.memory,
-        output: closed.output,
-        end,
+    let Ok(image) = make(alloc, load.load, load.seed, load.size) else {
+        return Finding::Memory;
     };
-    (run, closed.steps)
+    match run_image(rt, alloc, &image, settings, gate, placers, taps) {
+        Ok((ran, steps)) => Finding::Loaded(load, image, ran, steps),
+        Err(_) => Finding::Memory,
+    }
 }

@@ -1,6 +1,6 @@
 use Rattle.std.proofs.Common.{◌≡◌, rules, subst}
 use Rattle.sim_io.specs.Parts.{Takes, TakesFront}
-use Rattle.fractal_sim.specs.Top.{journal_fault_line}
+use Rattle.fractal_sim.specs.Texts.{journal_fault_line}
 use Rattle.fractal_sim.proofs.telling.tell_journal_fault.Goals as goal
 
 pub returns : goal.returns

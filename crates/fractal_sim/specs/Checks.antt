@@ -1,0 +1,62 @@
+-- Texts behind an image: reports that are checked, and scripts that are no scripts.
+use Rattle.std.specs.Prelude.{◌≡◌, ℕ, List, Some, Ok, Err}
+use Rattle.std.specs.declared.option.Option.{Option}
+use Rattle.guest_image.specs.ImageValue.{ImageValue}
+use Rattle.serial_machine.specs.declared.fault.TurnFault.{TurnFault}
+use Rattle.serial_machine.specs.declared.whole_run.SerialRun.{SerialRun}
+use Rattle.serial_machine.specs.WholeRun.{IsRunOf}
+use Rattle.report_text.specs.declared.report.Report.{Report}
+use Rattle.report_text.specs.declared.verdict.Verdict.TheVariants as verdicts
+use Rattle.report_text.specs.Grammar.{report_of}
+use Rattle.report_text.specs.Check.{IsReportOf, IsVerdict}
+use Rattle.step_script.specs.Grammar.{acts_of}
+use Rattle.command_line.specs.declared.request.Command.TheVariants.{Check}
+use Rattle.command_line.specs.declared.request.Request.{Request}
+use Rattle.fractal_sim.specs.Call.{Input}
+use Rattle.fractal_sim.specs.Given.{ReadsImage}
+use Rattle.fractal_sim.specs.Runs.{PlaysScript}
+
+-- the first wrong line of a report behind the image: the first outside the grammar, or else the first that isn't the
+-- run's
+pub data IsWrongLine (image : ImageValue) (request : Request) (rest : List ℕ) : ℕ → Type 0 where
+  Outside : {line : ℕ} → report_of rest ≡ Err line → IsWrongLine image request rest line
+  Illegal : {line : ℕ} → (report : Report) (why : Option TurnFault) → report_of rest ≡ Ok report
+      → IsVerdict image request.settings.commits request.settings.budget report (verdicts.Illegal line why)
+      → IsWrongLine image request rest line
+
+-- the words ask for a check, and the report behind the image is accepted; this is its run
+pub record IsAccepted (input : Input) (closed : SerialRun) : Type 0 where
+  pub request : Request
+  pub image : ImageValue
+  pub rest : List ℕ
+  pub report : Report
+  pub given : ReadsImage input request image rest
+  pub command : request.command ≡ Check
+  pub report_is : report_of rest ≡ Ok report
+  pub accepted : IsReportOf image request.settings.commits request.settings.budget report
+  pub run : IsRunOf image request.settings.commits request.settings.budget closed
+  pub journal_is : closed.journal ≡ report.journal
+  pub end_is : closed.end ≡ Some report.end
+
+-- the words ask for a check, and the report behind the image is refused at a line
+pub record IsRefused (input : Input) (line : ℕ) : Type 0 where
+  pub request : Request
+  pub image : ImageValue
+  pub rest : List ℕ
+  pub given : ReadsImage input request image rest
+  pub command : request.command ≡ Check
+  pub wrong : IsWrongLine image request rest line
+
+-- this is the first line of the text behind the image that is outside the grammar of scripts, for the machine of these
+-- settings
+abbrev pub IsNoScriptAt : Request → List ℕ → ℕ → Type 0
+IsNoScriptAt request rest line = acts_of rest request.settings.tiles request.settings.cores ≡ Err line
+
+-- the words ask for a script to be played, and the text behind the image is none, from this line on
+pub record IsNoScript (input : Input) (line : ℕ) : Type 0 where
+  pub request : Request
+  pub image : ImageValue
+  pub rest : List ℕ
+  pub given : ReadsImage input request image rest
+  pub command : PlaysScript request.command
+  pub wrong : IsNoScriptAt request rest line

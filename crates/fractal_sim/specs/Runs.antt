@@ -1,0 +1,154 @@
+-- The runs that an outcome holds.
+use Rattle.std.specs.Prelude.{◌≡◌, ◌≢◌, ◌⊎◌, ℕ, List, [], Some, None, Ok, IfSome}
+use Rattle.std.specs.declared.marker.Brand.{Brand}
+use Rattle.guest_image.specs.ImageValue.{ImageValue}
+use Rattle.run_journal.specs.declared.end.End.{End}
+use Rattle.run_journal.specs.declared.end.End.TheVariants as ends
+use Rattle.serial_machine.specs.WholeRun.{IsRunOf}
+use Rattle.serial_machine.specs.declared.whole_run.SerialRun.{SerialRun}
+use Rattle.run_law.specs.Laws.{AreLawful}
+use Rattle.load_gen.specs.declared.making.Load.{Load}
+use Rattle.step_script.specs.declared.act.Act.{Act}
+use Rattle.step_script.specs.declared.saying.Said.{Said}
+use Rattle.step_script.specs.Grammar.{acts_of}
+use Rattle.machine_run.specs.Least.{IsLeastRun}
+use Rattle.machine_run.specs.Played.{IsPlayedRun, IsTracedRun}
+use Rattle.command_line.specs.declared.request.Command.{Command}
+use Rattle.command_line.specs.declared.request.Command.TheVariants as commands
+use Rattle.command_line.specs.declared.request.Request.{Request}
+use Rattle.command_line.specs.Requests.{request_of}
+use Rattle.fractal_sim.specs.declared.outcome.Outcome.{Outcome}
+use Rattle.fractal_sim.specs.Call.{Input}
+use Rattle.fractal_sim.specs.Given.{ReadsImage, Generates, HasImage}
+
+-- the run that an outcome holds
+abbrev pub closed_of : Outcome → SerialRun
+closed_of o = record { journal = o.journal; memory = o.memory; output = o.output; end = o.end }
+
+-- no run was made: journal, memory and output are empty, and there is no end and no count of events
+pub record IsEmpty (o : Outcome) : Type 0 where
+  pub journal : o.journal ≡ []
+  pub memory : o.memory ≡ []
+  pub output : o.output ≡ []
+  pub end : o.end ≡ None
+  pub steps : o.steps ≡ None
+
+-- the outcome holds a run of the image that the words ask for, with their limits
+pub record HoldsRunOfInput (input : Input) (o : Outcome) : Type 0 where
+  pub request : Request
+  pub image : ImageValue
+  pub given : HasImage input request image
+  pub run : IsRunOf image request.settings.commits request.settings.budget (closed_of o)
+
+-- the outcome is empty, or holds a run of the image that the words ask for
+abbrev pub HoldsRunOrNothing : Input → Outcome → Type 0
+HoldsRunOrNothing input o = IsEmpty o ⊎ HoldsRunOfInput input o
+
+-- whatever run the outcome holds, it meets the laws of runs
+abbrev pub HoldsLawfulRun : Input → Outcome → Type 0
+HoldsLawfulRun input o =
+    (h : HoldsRunOfInput input o) → AreLawful h.image h.request.settings.budget o.journal h.run.state
+
+-- ---- commands
+
+-- the command runs an image to its end
+abbrev pub RunsImage : Command → Type 0
+RunsImage commands.Run = Unit {0}
+RunsImage (commands.Load load seed size) = Unit {0}
+RunsImage other = ⊥
+
+-- the command plays a script
+abbrev pub PlaysScript : Command → Type 0
+PlaysScript commands.Steps = Unit {0}
+PlaysScript commands.Trace = Unit {0}
+PlaysScript other = ⊥
+
+-- a run is told with the count of its events: of a script always, and of an image without workers
+abbrev pub Counts : (workers : ℕ) → Command → Type 0
+Counts workers commands.Run = workers ≡ 0
+Counts workers (commands.Load load seed size) = workers ≡ 0
+Counts workers commands.Steps = Unit {0}
+Counts workers commands.Trace = Unit {0}
+Counts workers commands.Check = ⊥
+
+-- ---- runs to an end
+
+-- the words ask for a run, and the image that was read was run to this end
+pub record RunsToEnd (input : Input) (image : ImageValue) (end : End) (run : SerialRun) : Type 0 where
+  pub request : Request
+  pub rest : List ℕ
+  pub given : ReadsImage input request image rest
+  pub command : request.command ≡ commands.Run
+  pub is_run : IsRunOf image request.settings.commits request.settings.budget run
+  pub end_is : run.end ≡ Some end
+  pub over : end ≢ ends.Unfinished
+
+-- the words ask for the run of a generated image, which was run to this end
+pub record LoadsToEnd (input : Input) (load : Load) (seed size : ℕ) (image : ImageValue) (end : End) (run : SerialRun)
+    : Type 0 where
+  pub request : Request
+  pub given : Generates input request load seed size image
+  pub is_run : IsRunOf image request.settings.commits request.settings.budget run
+  pub end_is : run.end ≡ Some end
+  pub over : end ≢ ends.Unfinished
+
+-- the text behind the image is this script, for the machine of these settings
+abbrev pub IsScript : Request → List ℕ → List Act → Type 0
+IsScript request rest script = acts_of rest request.settings.tiles request.settings.cores ≡ Ok script
+
+-- the words ask for a script to be played, and the one behind the image that was read was played so, up to this end
+pub record PlaysToEnd (input : Input) (image : ImageValue) (said : List Said) (end : End) (o : Outcome) : Type 0 where
+  pub request : Request
+  pub rest : List ℕ
+  pub given : ReadsImage input request image rest
+  pub command : request.command ≡ commands.Steps
+  pub script : List Act
+  pub script_is : IsScript request rest script
+  pub events : ℕ
+  pub steps_is : o.steps ≡ Some events
+  pub played : IsPlayedRun Brand image request.settings script input.placers input.taps said events end (closed_of o)
+  pub is_run : IsRunOf image request.settings.commits request.settings.budget (closed_of o)
+
+-- the words ask what the taps see, and the script behind the image that was read was played so, after which the taps
+-- have these lists
+pub record TracesToEnd (input : Input) (image : ImageValue) (lists : List (List ℕ)) (end : End) (o : Outcome)
+    : Type 0 where
+  pub request : Request
+  pub rest : List ℕ
+  pub given : ReadsImage input request image rest
+  pub command : request.command ≡ commands.Trace
+  pub script : List Act
+  pub script_is : IsScript request rest script
+  pub events : ℕ
+  pub steps_is : o.steps ≡ Some events
+  pub traced : IsTracedRun Brand image request.settings script input.placers input.taps lists events end (closed_of o)
+  pub is_run : IsRunOf image request.settings.commits request.settings.budget (closed_of o)
+
+-- ---- events
+
+-- so many events made the run: those of the least tasks of an image that is run without workers, or those of the script
+-- behind an image; of a script that memory did not suffice for nothing is said
+pub data IsMadeBy (input : Input) (request : Request) (image : ImageValue) (events : ℕ) (run : SerialRun) : Type 0 where
+  ByLeast : RunsImage request.command → request.settings.workers ≡ 0 → HasImage input request image
+      → IsLeastRun Brand image request.settings input.placers input.taps events run
+      → IsMadeBy input request image events run
+  ByScript : (rest : List ℕ) (script : List Act) (said : List Said) (end : End) → PlaysScript request.command
+      → ReadsImage input request image rest → IsScript request rest script
+      → IsPlayedRun Brand image request.settings script input.placers input.taps said events end run
+      → IsMadeBy input request image events run
+  ByPart : PlaysScript request.command → run.end ≡ None → IsMadeBy input request image events run
+
+-- so many events made the run of the image that the words ask for, with the placers and taps that were handed in
+pub record MakesRun (input : Input) (events : ℕ) (run : SerialRun) : Type 0 where
+  pub request : Request
+  pub asked : request_of input.words ≡ Some request
+  pub image : ImageValue
+  pub made : IsMadeBy input request image events run
+
+-- where a count is told, so many events made the run that the outcome holds; it is told of each run with an end for
+-- which the words ask, unless workers make it
+pub record TellsSteps (input : Input) (o : Outcome) : Type 0 where
+  pub made : IfSome o.steps (λ events. MakesRun input events (closed_of o))
+  pub told : (request : Request) → request_of input.words ≡ Some request
+      → Counts request.settings.workers request.command
+      → o.end ≢ None → o.steps ≢ None

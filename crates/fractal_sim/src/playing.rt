@@ -1,0 +1,84 @@
+//! A script behind an image is played.
+
+ghost use Rattle.std.specs.Prelude.{◌≡◌, ◌≤◌, length, map};
+ghost use Rattle.guest_image.specs.ImageValue.{IsImage};
+ghost use Rattle.command_line.specs.Requests.{IsLimited};
+ghost use Rattle.fractal_sim.specs.Deciding.{IsFoundBehind, unscripted};
+ghost use Rattle.fractal_sim.specs.Finding.{IsWritable};
+
+use crate::finding::Finding;
+use command_line::{Command, Request};
+use guest_image::Image;
+use machine_run::{play_script, trace_script};
+use place_policy::Placer;
+use std::alloc::Global;
+use std::marker::Brand;
+use step_script::{ScriptFault, read_script};
+use trace_tap::Tap;
+
+/// Plays the script behind an image.
+pub(crate) fn play_behind<P: Placer, T: Tap>(
+    alloc: Global,
+    request: Request,
+    image: Image,
+    rest: &[u8],
+    placers: Vec<P>,
+    taps: Vec<T>,
+) -> Finding
+    requires command { request.command ≡ Command.Steps }
+    requires limits { IsLimited request }
+    requires short { length rest.now ≤ 67108864 }
+    ensures found { let serving = map P.policy placers.items in
+        let noting = map T.reading taps.items in
+        IsFoundBehind request image rest.now serving noting result }
+    ensures writable { IsWritable result }
+{
+    let settings = request.settings;
+    let script = match read_script(alloc, rest, settings.tiles, settings.cores) {
+        Ok(script) => script,
+        Err(fault) => return unscripted(fault),
+    };
+    match play_script::<Brand, P, T>(alloc, &image, settings, &script, placers, taps) {
+        Ok(played) => Finding::Played(image, played),
+        Err(_) => Finding::Memory,
+    }
+}
+
+/// Plays the script behind an image for what its taps see.
+pub(crate) fn trace_behind<P: Placer, T: Tap>(
+    alloc: Global,
+    request: Request,
+    image: &Image,
+    rest: &[u8],
+    placers: Vec<P>,
+    taps: Vec<T>,
+) -> Finding
+    requires fits { IsImage image.now }
+    requires command { request.command ≡ Command.Trace }
+    requires limits { IsLimited request }
+    requires short { length rest.now ≤ 67108864 }
+    ensures found { let serving = map P.policy placers.items in
+        let noting = map T.reading taps.items in
+        IsFoundBehind request image.now rest.now serving noting result }
+    ensures writable { IsWritable result }
+{
+    let settings = request.settings;
+    let script = match read_script(alloc, rest, settings.tiles, settings.cores) {
+        Ok(script) => script,
+        Err(fault) => return unscripted(fault),
+    };
+    match trace_script::<Brand, P, T>(alloc, image, settings, &script, placers, taps) {
+        Ok(traced) => Finding::Traced(traced),
+        Err(_) => Finding::Memory,
+    }
+}
+
+/// What is found where the text is no script.
+fn unscripted(fault: ScriptFault) -> Finding
+    ensures { result ≡ unscripted fault }
+{
+    match fault {
+        ScriptFault::Line { line } => Finding::NoScript(line),
+        ScriptFault::Memory => Finding::Memory,
+    }
+}

@@ -1,0 +1,228 @@
+//! A run is published: its text is written, and it is handed out with the status that tells its end.
+
+ghost use Rattle.std.specs.Prelude.{◌≡◌, ◌≢◌, ◌++◌, Some, None, length, map, OnOk};
+ghost use Rattle.sim_io.specs.Parts.{Writes};
+ghost use Rattle.report_text.specs.Report.{body_lines, end_line};
+ghost use Rattle.play_text.specs.Traces.{trace_text};
+ghost use Rattle.machine_run.specs.Least.{run_of};
+ghost use Rattle.fractal_sim.specs.Deciding.{whole};
+ghost use Rattle.fractal_sim.specs.Finding.{HasWindow, HoldsRun, TellsFinding};
+ghost use Rattle.fractal_sim.specs.Texts.{commits_line, end_status, load_line, load_text, played_status, played_text};
+
+use crate::finding::{Finding, Loading};
+use crate::lines::{accept_line, commits_line, load_line};
+use crate::outcome::Outcome;
+use guest_image::Image;
+use machine_run::{Played, Ran, Traced};
+use play_text::{write_replies, write_trace};
+use report_text::{write_body, write_end, write_report};
+use run_journal::Closed;
+use serial_machine::{End, SerialRun};
+use sim_io::{Failed, Sink, write_all};
+use step_script::Said;
+
+/// What is answered with a run, and with the count of events that made it.
+fn outcome(status: u8, run: SerialRun, steps: Option<u64>) -> Outcome
+    ensures status { result.status ≡ status }
+    ensures kept { HoldsRun run steps result }
+{
+    Outcome {
+        status,
+        journal: run.journal,
+        memory: run.memory,
+        output: run.output,
+        end: run.end,
+        steps,
+    }
+}
+
+/// What is answered with what a closed book left.
+fn left(status: u8, ran: Ran, steps: Option<u64>) -> Outcome
+    ensures status { result.status ≡ status }
+    ensures kept { HoldsRun (whole ran) steps result }
+{
+    let run = SerialRun {
+        journal: ran.closed.journal,
+        memory: ran.closed.memory,
+        output: ran.closed.output,
+        end: ran.end,
+    };
+    outcome(status, run, steps)
+}
+
+/// Writes that a report is accepted, with the number of its entries.
+pub(crate) fn accept<K: Sink>(sink: &mut K, run: SerialRun) -> Outcome
+    ensures { TellsFinding (Finding.Accepted run) (K.state sink.old) (K.state sink.new) result }
+{
+    let line = accept_line(run.journal.as_slice().len() as u64);
+    match write_all(sink, line.as_slice()) {
+        Ok(()) => outcome(0, run, None),
+        Err(_) => outcome(7, run, None),
+    }
+}
+
+/// Writes the report of a run; none where memory was wanting.
+pub(crate) fn publish<K: Sink>(sink: &mut K, image: &Image, ran: Ran, steps: Option<u64>) -> Outcome
+    requires { HasWindow image.now ran }
+    ensures { TellsFinding (Finding.Ran image.now ran steps) (K.state sink.old) (K.state sink.new) result }
+{
+    let Some(end) = ran.end else {
+        return left(5, ran, steps);
+    };
+    match write_report(sink, image, &ran.closed, &end) {
+        Ok(()) => left(end_status(&end), ran, steps),
+        Err(_) => left(7, ran, steps),
+    }
+}
+
+/// Writes the report of a generated image's run; none where memory was wanting.
+pub(crate) fn publish_load<K: Sink>(
+    sink: &mut K,
+    load: Loading,
+    image: &Image,
+    ran: Ran,
+    steps: Option<u64>,
+) -> Outcome
+    requires { HasWindow image.now ran }
+    ensures { TellsFinding (Finding.Loaded load image.now ran steps) (K.state sink.old) (K.state sink.new) result }
+{
+    let Some(end) = ran.end else {
+        return left(5, ran, steps);
+    };
+    match write_load(sink, load, image, &ran.closed, &end) {
+        Ok(()) => left(end_status(&end), ran, steps),
+        Err(_) => left(7, ran, steps),
+    }
+}
+
+/// Writes the replies to a script's acts and the report behind them; nothing where memory was wanting.
+pub(crate) fn publish_played<K: Sink>(sink: &mut K, image: &Image, played: Played) -> Outcome
+    requires { HasWindow image.now played.ran }
+    ensures { TellsFinding (Finding.Played image.now played) (K.state sink.old) (K.state sink.new) result }
+{
+    let Played { ran, said } = played;
+    let steps = Some(ran.closed.steps);
+    let Some(end) = ran.end else {
+        return left(5, ran, steps);
+    };
+    match write_played(sink, &said, image, &ran.closed, &end) {
+        Ok(()) => left(played_status(&end), ran, steps),
+        Err(_) => left(7, ran, steps),
+    }
+}
+
+/// Writes what the taps saw; nothing where memory was wanting.
+pub(crate) fn publish_trace<K: Sink>(sink: &mut K, traced: Traced) -> Outcome
+    ensures { TellsFinding (Finding.Traced traced) (K.state sink.old) (K.state sink.new) result }
+{
+    let Traced { ran, lists } = traced;
+    let steps = Some(ran.closed.steps);
+    if ran.end.is_none() {
+        return left(5, ran, steps);
+    }
+    match write_trace(sink, &lists) {
+        Ok(()) => left(0, ran, steps),
+        Err(_) => left(7, ran, steps),
+    }
+}
+
+/// Writes which image was generated, how many tasks committed, and what is left of the report.
+fn write_load<K: Sink>(
+    sink: &mut K,
+    load: Loading,
+    image: &Image,
+    closed: &Closed,
+    end: &End,
+) -> Result<(), Failed>
+    requires { length closed.now.memory ≡ image.now.data_size }
+    ensures { Writes (K.state sink.old) (K.state sink.new) result
+        (load_text load.load load.seed load.size image.now (run_of closed.now None) end.now) }
+{
+    match write_load_front(sink, load, image, closed) {
+        Ok(()) => write_end(sink, end),
+        Err(failed) => Err(failed),
+    }
+}
+
+// All lines but the last.
+fn write_load_front<K: Sink>(
+    sink: &mut K,
+    load: Loading,
+    image: &Image,
+    closed: &Closed,
+) -> Result<(), Failed>
+    requires { length closed.now.memory ≡ image.now.data_size }
+    ensures { Writes (K.state sink.old) (K.state sink.new) result
+        (load_line load.load load.seed load.size ++ commits_line (length closed.now.journal)
+        ++ body_lines image.now closed.now.memory closed.now.output) }
+{
+    match write_load_lines(sink, load, closed.journal.as_slice().len() as u64) {
+        Ok(()) => write_body(
+            sink,
+            image,
+            closed.memory.as_slice(),
+            closed.output.as_slice(),
+        ),
+        Err(failed) => Err(failed),
+    }
+}
+
+fn write_load_lines<K: Sink>(sink: &mut K, load: Loading, commits: u64) -> Result<(), Failed>
+    ensures { Writes (K.state sink.old) (K.state sink.new) result
+        (load_line load.load load.seed load.size ++ commits_line commits) }
+{
+    let line = load_line(load);
+    match write_all(sink, line.as_slice()) {
+        Ok(()) => write_commits(sink, commits),
+        Err(failed) => Err(failed),
+    }
+}
+
+fn write_commits<K: Sink>(sink: &mut K, commits: u64) -> Result<(), Failed>
+    ensures { Writes (K.state sink.old) (K.state sink.new) result (commits_line commits) }
+{
+    let line = commits_line(commits);
+    write_all(sink, line.as_slice())
+}
+
+/// Writes what was said of each act, and the report of the run that this led to.
+fn write_played<K: Sink>(
+    sink: &mut K,
+    said: &[Said],
+    image: &Image,
+    closed: &Closed,
+    end: &End,
+) -> Result<(), Failed>
+    requires { length closed.now.memory ≡ image.now.data_size }
+    ensures { Writes (K.state sink.old) (K.state sink.new) result
+        (played_text said.now image.now (run_of closed.now None) end.now) }
+{
+    match write_replies(sink, said) {
+        Ok(()) => write_report(sink, image, closed, end),
+        Err(failed) => Err(failed),
+    }
+}
+
+/// The status of a run to its end.
+fn end_status(end: &End) -> u8
+    ensures value { result ≡ end_status end.now }
+    ensures small { result ≢ 7 }
+{
+    match end {
+        End::Normal => 0,
+        End::Trap { .. } => 3,
+        End::Limit => 4,
+        End::Unfinished => 5,
+    }
+}
+
+/// The status of a script that was played: it may leave a run that isn't over.
+fn played_status(end: &End) -> u8
+    ensures value { result ≡ played_status end.now }
+    ensures small { result ≢ 7 }
+{
+    match end {
+        End::Unfinished => 0,
+        other => end_status(other),
+    }
+}

@@ -1,0 +1,5 @@
+pub mod Standing
+pub mod Leaving
+pub mod Least
+pub mod Scripts
+pub mod Readings

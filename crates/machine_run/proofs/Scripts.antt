@@ -1,0 +1,57 @@
+-- What a book leaves on which a script was played.
+use Rattle.std.proofs.Common.{List, Option, Some, None, refl, ℕ, sym, subst}
+use Rattle.std.specs.Prelude.{All, IfSome}
+use Rattle.guest_image.specs.ImageValue.{ImageValue}
+use Rattle.place_policy.specs.Policy.{Policy}
+use Rattle.trace_tap.specs.Reading.{Reading}
+use Rattle.run_journal.specs.declared.closed.Closed.{Closed}
+use Rattle.run_journal.specs.declared.end.End.{End}
+use Rattle.spec_state.specs.declared.settings.Settings.{Settings}
+use Rattle.book_event.specs.Book.{BookView}
+use Rattle.book_event.specs.Closing.{Closes}
+use Rattle.book_event.specs.Opening.{IsOpening}
+use Rattle.step_script.specs.declared.act.Act.{Act}
+use Rattle.step_script.specs.declared.saying.Said.{Said}
+use Rattle.step_script.specs.Playing.{Plays}
+use Rattle.step_script.specs.Ranges.{IsWithin}
+use Rattle.machine_run.specs.Least.{run_of}
+use Rattle.machine_run.specs.Played.{IsPlayedRun, IsTold, IsTracedRun, StandsAt}
+use Rattle.machine_run.proofs.Least.{opening_settings}
+use Rattle.machine_run.proofs.Leaving.{journal_left, output_left, memory_left}
+
+-- a script that is within the settings is within those of the opening
+pub stays_within : (image : ImageValue) (settings : Settings) (script : List Act) (placers : List Policy) (taps : List Reading) (opening : BookView)
+    → IsOpening image settings placers taps opening → All (IsWithin settings.tiles settings.cores) script
+    → All (IsWithin opening.view.settings.tiles opening.view.settings.cores) script
+stays_within image settings script placers taps opening is_opening within =
+    subst (λ (s : Settings). All (IsWithin s.tiles s.cores) script) (sym (opening_settings image settings placers taps opening is_opening)) within
+
+module _ (N : Type 0) (image : ImageValue) (settings : Settings) (script : List Act) (placers : List Policy) (taps : List Reading)
+    (opening : BookView) (is_opening : IsOpening image settings placers taps opening) (last : BookView) (closed : Closed) (closes : Closes last closed) where
+  -- closed at the end at which it stands, it leaves the run of this script
+  abbrev played_at : (said : List Said) (end : End) → Plays N image script opening said last → StandsAt last.view end
+      → IsPlayedRun N image settings script placers taps said closed.steps end (run_of closed (Some end))
+  played_at said end plays stands = record {
+    opening = opening;
+    is_opening = is_opening;
+    last = last;
+    plays = plays;
+    journal_is = journal_left last closed closes;
+    output_is = output_left last closed closes;
+    memory_is = memory_left last closed closes;
+    events_are = closes.steps;
+    stands = stands;
+    end_is = refl;
+  }
+
+  -- wherever an end is told
+  pub left_is_played : (said : List Said) (told : Option End) → Plays N image script opening said last → IfSome told (StandsAt last.view)
+      → IfSome told (λ end. IsPlayedRun N image settings script placers taps said closed.steps end (run_of closed told))
+  left_is_played said None plays stands = tt
+  left_is_played said (Some end) plays stands = played_at said end plays stands
+
+  -- and so where its taps were read before
+  pub left_is_traced : (lists : List (List ℕ)) (told : Option End) → IsTold N image script opening lists last → IfSome told (StandsAt last.view)
+      → IfSome told (λ end. IsTracedRun N image settings script placers taps lists closed.steps end (run_of closed told))
+  left_is_traced lists None seen stands = tt
+  left_is_traced lists (Some end) seen stands = record { said = seen.said; played = played_at seen.said end seen.plays stands; lists_are = seen.lists_are }

@@ -1,0 +1,39 @@
+-- Runs that are made by events of the least tasks.
+use Rattle.std.specs.Prelude.{◌≡◌, ℕ, true, List, Some, None, IfSome}
+use Rattle.std.specs.declared.option.Option.{Option}
+use Rattle.guest_image.specs.ImageValue.{ImageValue}
+use Rattle.place_policy.specs.Policy.{Policy}
+use Rattle.trace_tap.specs.Reading.{Reading}
+use Rattle.run_journal.specs.declared.end.End.{End}
+use Rattle.serial_machine.specs.declared.whole_run.SerialRun.{SerialRun}
+use Rattle.spec_state.specs.declared.settings.Settings.{Settings}
+use Rattle.spec_state.specs.Aborts.{IsUndone}
+use Rattle.run_journal.specs.declared.closed.Closed.{Closed}
+use Rattle.book_event.specs.declared.event.Halt.{Halt}
+use Rattle.book_event.specs.declared.event.Halt.TheVariants as halts
+use Rattle.book_event.specs.Book.{BookView}
+use Rattle.book_event.specs.Opening.{IsOpening}
+use Rattle.book_event.specs.Advancing.{AdvancesBy}
+use Rattle.book_event.specs.End.{HasEnd}
+
+-- so many events of the least tasks lead from an opening, with these placers and taps, to a book of this journal and this
+-- output, of which this memory is left where all uncommitted tasks are taken back, and which ends so if the run has an end
+pub record IsLeastRun (N : Type 0) (image : ImageValue) (settings : Settings)
+    (placers : List Policy) (taps : List Reading) (events : ℕ) (run : SerialRun) : Type 0 where
+  pub opening : BookView
+  pub is_opening : IsOpening image settings placers taps opening
+  pub last : BookView
+  pub advances : AdvancesBy N image events opening last
+  pub journal_is : run.journal ≡ last.view.history
+  pub output_is : run.output ≡ last.view.output
+  pub memory_is : IsUndone last.view (λ id. true) run.memory
+  pub end_is : IfSome run.end (HasEnd last.view)
+
+-- the run that a closed book leaves, with this end
+abbrev pub run_of : Closed → Option End → SerialRun
+run_of closed end = record { journal = closed.journal; memory = closed.memory; output = closed.output; end = end }
+
+-- the end of a run that halted so; none where memory was wanting
+abbrev pub end_of : Halt → Option End
+end_of (halts.Ended end) = Some end
+end_of halts.Memory = None

@@ -1,0 +1,54 @@
+-- Runs that are made by a written script.
+use Rattle.std.specs.Prelude.{◌≡◌, ℕ, true, List, map, Some}
+use Rattle.guest_image.specs.ImageValue.{ImageValue}
+use Rattle.place_policy.specs.Policy.{Policy}
+use Rattle.trace_tap.specs.Reading.{Reading}
+use Rattle.run_journal.specs.declared.end.End.{End}
+use Rattle.run_journal.specs.declared.end.End.TheVariants as ends
+use Rattle.serial_machine.specs.declared.whole_run.SerialRun.{SerialRun}
+use Rattle.spec_state.specs.declared.settings.Settings.{Settings}
+use Rattle.spec_state.specs.Aborts.{IsUndone}
+use Rattle.spec_state.specs.View.{View}
+use Rattle.book_event.specs.Book.{BookView}
+use Rattle.book_event.specs.Opening.{IsOpening}
+use Rattle.book_event.specs.End.{HasEnd, IsOver}
+use Rattle.step_script.specs.declared.act.Act.{Act}
+use Rattle.step_script.specs.declared.saying.Said.{Said}
+use Rattle.step_script.specs.Playing.{Plays}
+
+-- the run is over and ended so, or it isn't over and stands open
+abbrev pub StandsAt : View → End → Type 0
+StandsAt view ends.Unfinished = IsOver view → ⊥
+StandsAt view end = HasEnd view end
+
+-- the script, played from an opening with these placers and taps, of which this is said, leads to a book of this journal, this output and
+-- this count of events, of which this memory is left where all uncommitted tasks are taken back, and which stands at this end
+pub record IsPlayedRun (N : Type 0) (image : ImageValue) (settings : Settings) (script : List Act)
+    (placers : List Policy) (taps : List Reading) (said : List Said) (events : ℕ) (end : End) (run : SerialRun) : Type 0 where
+  pub opening : BookView
+  pub is_opening : IsOpening image settings placers taps opening
+  pub last : BookView
+  pub plays : Plays N image script opening said last
+  pub journal_is : run.journal ≡ last.view.history
+  pub output_is : run.output ≡ last.view.output
+  pub memory_is : IsUndone last.view (λ id. true) run.memory
+  pub events_are : events ≡ last.steps
+  pub stands : StandsAt last.view end
+  pub end_is : run.end ≡ Some end
+
+-- the lists of a book's taps
+abbrev pub tap_lists : BookView → List (List ℕ)
+tap_lists book = map (λ reading. reading.list) book.taps
+
+-- the script, played from one book on, leads to another, whose taps have these lists
+pub record IsTold (N : Type 0) (image : ImageValue) (script : List Act) (old : BookView) (lists : List (List ℕ)) (new : BookView) : Type 0 where
+  pub said : List Said
+  pub plays : Plays N image script old said new
+  pub lists_are : lists ≡ tap_lists new
+
+-- a script was played so, and its taps have these lists then
+pub record IsTracedRun (N : Type 0) (image : ImageValue) (settings : Settings) (script : List Act)
+    (placers : List Policy) (taps : List Reading) (lists : List (List ℕ)) (events : ℕ) (end : End) (run : SerialRun) : Type 0 where
+  pub said : List Said
+  pub played : IsPlayedRun N image settings script placers taps said events end run
+  pub lists_are : lists ≡ tap_lists played.last

@@ -1,0 +1,155 @@
+//! A script is played from the opening on.
+
+ghost use Rattle.std.specs.Prelude.{◌≡◌, All, length, map, IfOk, IfSome, IsSomeAnd};
+ghost use Rattle.guest_image.specs.ImageValue.{IsImage};
+ghost use Rattle.serial_machine.specs.WholeRun.{IsRunOf};
+ghost use Rattle.spec_state.specs.Settings.{IsValid};
+ghost use Rattle.book_event.specs.Closing.{Closes};
+ghost use Rattle.conflict_book.specs.Seen.{view_of};
+ghost use Rattle.step_script.specs.Ranges.{IsWithin};
+ghost use Rattle.machine_run.specs.Least.{run_of};
+ghost use Rattle.machine_run.specs.Played.{IsPlayedRun, IsTold, IsTracedRun, StandsAt};
+
+use crate::left::{Ran, leave};
+use crate::lists::lists_of;
+use conflict_book::Book;
+use guest_image::Image;
+use place_policy::Placer;
+use rv_core::Naming;
+use serial_machine::End;
+use spec_state::Settings;
+use std::alloc::{AllocError, Global};
+use step_script::{Act, Said, play};
+use trace_tap::Tap;
+
+/// A script that was played: the run that it left, and what was said of each act; the end is None where memory was wanting on the way.
+#[derive(Drop)]
+pub struct Played {
+    /// The run.
+    pub ran: Ran,
+    /// What was said of each act.
+    pub said: Vec<Said>,
+}
+
+/// A script that was played: the run that it left, and the numbers of each tap's list; the end is None where memory was wanting on the way.
+#[derive(Drop)]
+pub struct Traced {
+    /// The run.
+    pub ran: Ran,
+    /// The numbers of each tap.
+    pub lists: Vec<Vec<u64>>,
+}
+
+/// Plays a script on the machine of these settings, from its opening with an image, these placers and these taps. `AllocError` where
+/// memory is wanting before the first act.
+pub fn play_script<N: Naming, P: Placer, T: Tap>(
+    alloc: Global,
+    image: &Image,
+    settings: Settings,
+    script: &[Act],
+    placers: Vec<P>,
+    taps: Vec<T>,
+) -> Result<Played, AllocError>
+    requires fits { IsImage image.now }
+    requires valid { IsValid settings }
+    requires image { image.now ≡ N.image }
+    requires budget { settings.budget ≡ N.budget }
+    requires commits { settings.commits ≡ N.commits }
+    requires within { All (IsWithin settings.tiles settings.cores) script.now }
+    ensures played { let serving = map P.policy placers.items in
+        let noting = map T.reading taps.items in
+        IfOk result (λ p. IfSome p.ran.end (λ end. IsPlayedRun N image.now settings script.now serving noting
+        p.said.items p.ran.closed.steps end (run_of p.ran.closed p.ran.end))) }
+    ensures run { IfOk result (λ p.
+        IsRunOf image.now settings.commits settings.budget (run_of p.ran.closed p.ran.end)) }
+    ensures writable { IfOk result (λ p. length p.ran.closed.memory ≡ image.now.data_size) }
+{
+    let mut book = Book::<N, P, T>::begin(alloc, image, settings, placers, taps)?;
+    match play(alloc, image, &mut book, script) {
+        Ok(said) => Ok(Played {
+            ran: leave_standing(book),
+            said,
+        }),
+        Err(AllocError) => Ok(Played {
+            ran: leave(book, None),
+            said: Vec::new(alloc),
+        }),
+    }
+}
+
+/// Plays a script in the same way, and tells what its taps saw.
+pub fn trace_script<N: Naming, P: Placer, T: Tap>(
+    alloc: Global,
+    image: &Image,
+    settings: Settings,
+    script: &[Act],
+    placers: Vec<P>,
+    taps: Vec<T>,
+) -> Result<Traced, AllocError>
+    requires fits { IsImage image.now }
+    requires valid { IsValid settings }
+    requires image { image.now ≡ N.image }
+    requires budget { settings.budget ≡ N.budget }
+    requires commits { settings.commits ≡ N.commits }
+    requires within { All (IsWithin settings.tiles settings.cores) script.now }
+    ensures traced { let serving = map P.policy placers.items in
+        let noting = map T.reading taps.items in
+        IfOk result (λ t. IfSome t.ran.end (λ end. IsTracedRun N image.now settings script.now serving noting
+        (map (λ list. list.items) t.lists.items) t.ran.closed.steps end (run_of t.ran.closed t.ran.end))) }
+    ensures run { IfOk result (λ t.
+        IsRunOf image.now settings.commits settings.budget (run_of t.ran.closed t.ran.end)) }
+    ensures writable { IfOk result (λ t. length t.ran.closed.memory ≡ image.now.data_size) }
+{
+    let mut book = Book::<N, P, T>::begin(alloc, image, settings, placers, taps)?;
+    match play_and_tell(alloc, image, &mut book, script) {
+        Ok(lists) => Ok(Traced {
+            ran: leave_standing(book),
+            lists,
+        }),
+        Err(AllocError) => Ok(Traced {
+            ran: leave(book, None),
+            lists: Vec::new(alloc),
+        }),
+    }
+}
+
+/// Plays a script on a book, and tells the lists of its taps then.
+fn play_and_tell<N: Naming, P: Placer, T: Tap>(
+    alloc: Global,
+    image: &Image,
+    book: &mut Book<N, P, T>,
+    script: &[Act],
+) -> Result<Vec<Vec<u64>>, AllocError>
+    requires image { image.now ≡ N.image }
+    requires within { let settings = (view_of P.policy T.reading book.old).view.settings in
+        All (IsWithin settings.tiles settings.cores) script.now }
+    ensures { let old = view_of P.policy T.reading book.old in
+        let new = view_of P.policy T.reading book.new in
+        IfOk result (λ lists. IsTold N N.image script.now old (map (λ list. list.items) lists.items) new) }
+{
+    play(alloc, image, book, script)?;
+    lists_of(alloc, book)
+}
+
+/// Closes a book, at the end of its run or, where that isn't over, as unfinished.
+fn leave_standing<N: Naming, P: Placer, T: Tap>(book: Book<N, P, T>) -> Ran
+    requires fits { IsImage N.image }
+    ensures closes { Closes (view_of P.policy T.reading book) result.closed }
+    ensures stands { let view = (view_of P.policy T.reading book).view in
+        IsSomeAnd result.end (StandsAt view) }
+    ensures run { IsRunOf N.image N.commits N.budget (run_of result.closed result.end) }
+    ensures writable { length result.closed.memory ≡ N.image.data_size }
+{
+    let end = stand(&book);
+    leave(book, Some(end))
+}
+
+/// How the run of a book stands: its end, or unfinished where it isn't over.
+fn stand<N: Naming, P: Placer, T: Tap>(book: &Book<N, P, T>) -> End
+    ensures { StandsAt (view_of P.policy T.reading book.now).view result }
+{
+    match book.end() {
+        Some(end) => end,
+        None => End::Unfinished,
+    }
+}
