@@ -81,6 +81,11 @@ def read_bytes(path):
     return sys.stdin.buffer.read() if str(path) == "-" else pathlib.Path(path).read_bytes()
 
 
+def read_text(path):
+    """The whole of a file as text; bytes that are no text are told apart by nothing."""
+    return read_bytes(path).decode("utf-8", "replace")
+
+
 def write_whole(files):
     """Writes bytes to paths, given as a dictionary: each file is there whole, or as it was before."""
     with contextlib.ExitStack() as cleanup:
@@ -124,6 +129,42 @@ def number_in(word, least, most):
         return None
     number = int(digits, base)
     return number if least <= number <= most else None
+
+
+def need_number(what, word, least, most):
+    """The number that a word is; else a refusal that tells what may stand there."""
+    number = number_in(word, least, most)
+    if number is None:
+        raise Refused(f"{what} takes a number from {least} to {most}, and not `{word}`.")
+    return number
+
+
+def take_option(words, name):
+    """The value of an option that may stand once, as `NAME VALUE` or `NAME=VALUE`, and the other words."""
+    rest, values = [], []
+    remaining = iter(words)
+    for word in remaining:
+        if word == name:
+            values.append(next(remaining, None))
+        elif word.startswith(f"{name}="):
+            values.append(word.partition("=")[2])
+        else:
+            rest.append(word)
+    if len(values) > 1:
+        raise Refused(f"`{name}` stands twice.")
+    if values == [None]:
+        raise Refused(f"a value is missing behind `{name}`.")
+    return (values or [None])[0], rest
+
+
+def need_words(words, count, script, what):
+    """Words of which there are to be so many, none of them an option."""
+    option = next((word for word in words if word.startswith("--")), None)
+    if option is not None:
+        raise Refused(f"`{option}` isn't known; examples/{script} --help tells the words.")
+    if len(words) != count:
+        raise Refused(f"it wants {what}; examples/{script} --help tells more.")
+    return words
 
 
 def printable(data):

@@ -1,4 +1,4 @@
-"""Images as files: docs/FORMATS.md."""
+"""Images as files: docs/guest/FORMATS.md."""
 import dataclasses
 import struct
 

@@ -1,7 +1,7 @@
 """Runs the tasks of a report again, in its order, to know what the report doesn't tell: where each task enters.
 
 This is no second judge: `./fractal check` says whether a report is that of a run. Here is the plain reading of RV32I
-(RISC-V Unprivileged ISA 20191213, chapter 2), and of the six calls of docs/TASKS.md.
+(RISC-V Unprivileged ISA 20191213, chapter 2), and of the six calls of docs/guest/TASKS.md.
 """
 import dataclasses
 

@@ -7,6 +7,13 @@ from tools.examples import HERE
 
 LAUNCHER = HERE.parent / "fractal"
 PROGRAM = HERE.parent / "crates" / "fractal_sim" / "out" / "fractal_sim"
+# The status that belongs to the end of a report.
+STATUSES = {"normal": 0, "trap": 3, "limit": 4, "open": 0}
+
+
+def end_of(report):
+    """The word behind `end` of a report's bytes, or nothing."""
+    return report.rpartition(b"\nend ")[2].partition(b" ")[0].strip().decode("ascii", "replace")
 
 
 @dataclasses.dataclass

@@ -1,4 +1,4 @@
-"""Reports as files: docs/FORMATS.md."""
+"""Reports as files: docs/guest/FORMATS.md."""
 import dataclasses
 import re
 
@@ -63,9 +63,9 @@ class Lines:
         raise Refused(f"{self.name}:{self.taken + 1}: this is no report: {why}.")
 
 
-def read_report(text, name):
-    """The report that a text is."""
-    lines = Lines(name, text.removesuffix("\n").split("\n"))
+def read_report(text, name, start=0):
+    """The report that a text is, behind so many lines of something else."""
+    lines = Lines(name, text.removesuffix("\n").split("\n"), start)
     lines.need("fractal 1", "the line `fractal 1`")
     entries = []
     while found := lines.take(rf"{NUMBER} {NUMBER}\.{NUMBER} ([1-8]) {NUMBER}"):

@@ -8,10 +8,37 @@ import sys
 import threading
 import time
 
+from tools.command import Refused, number_in
+
 # What a shell tells of a program that it can't start.
 NOT_STARTED = 126
+MOST_RUNS = 100_000
+MOST_VALUE = 2 ** 32 - 1
 # The end of a report: the output, the words of the window, and the last line.
 REPORT = re.compile(rb"\noutput (-|(?:[0-9a-f]{2})+)\n((?:window [0-9a-f]{8} [0-9a-f]{8}\n)*)end [^\n]+\n\Z")
+
+
+def values_of(option, text):
+    """The values of a list such as `1,5..9,10..100..10`, each once."""
+    values = [value for piece in text.split(",") for value in values_in(option, piece)]
+    wrong = next((value for value in values if value not in option.values), None)
+    if wrong is not None or not values:
+        raise Refused(f"--{option.name} takes {option.told()}, and not `{text if wrong is None else wrong}`.")
+    return list(dict.fromkeys(values))
+
+
+def values_in(option, piece):
+    """The values of a number, FROM..TO or FROM..TO..STEP."""
+    numbers = [number_in(part, 0, MOST_VALUE) for part in piece.split("..")]
+    if None in numbers or len(numbers) > 3 or numbers[2:] == [0]:
+        raise Refused(f"--{option.name}: `{piece}` is no number, FROM..TO or FROM..TO..STEP.")
+    if len(numbers) == 1:
+        return numbers
+    first, last, step = [*numbers, 1][:3]
+    values = range(first, last + 1, step)
+    if len(values) > MOST_RUNS:
+        raise Refused(f"--{option.name}: `{piece}` has {len(values):,} values, and {MOST_RUNS:,} are the most.")
+    return values
 
 
 def cells_of(table, values):
@@ -20,24 +47,25 @@ def cells_of(table, values):
     return [dict(zip(table.options, choice)) for choice in itertools.product(*lists)]
 
 
-class Runner:
-    """Runs one command on one input with different options."""
+def built(program):
+    """The absolute path of a built program; a refusal where there is none."""
+    if not program.is_file():
+        raise Refused(f"{program}: the program isn't built; ./fractal build builds it.")
+    return program.absolute()
 
-    def __init__(self, program, command, data, wants_check, shows_progress):
-        self.program, self.command, self.data = program.absolute(), command, data
-        self.wants_check, self.shows_progress = wants_check, shows_progress
+
+class Calls:
+    """Calls of a built program, all of which can be ended."""
+
+    def __init__(self, program):
+        self.program = built(program)
         self.lock, self.running, self.is_stopped = threading.Lock(), set(), False
 
-    def run_all(self, cells, jobs):
-        """Each cell with its result, in order. When it is left early, by an interrupt too, all runs are ended."""
+    def each(self, function, items, jobs):
+        """Each item with its result, in order. When it is left early, by an interrupt too, all calls are ended."""
         pool = concurrent.futures.ThreadPoolExecutor(jobs)
         try:
-            failed = 0
-            for done, (cell, result) in enumerate(zip(cells, pool.map(self.result, cells)), 1):
-                failed += result["status"] != 0
-                if self.shows_progress:
-                    show_progress(done, len(cells), failed)
-                yield cell, result
+            yield from zip(items, pool.map(function, items))
         finally:
             self.stop()
             pool.shutdown(cancel_futures=True)
@@ -62,6 +90,25 @@ class Runner:
         with self.lock:
             self.running.discard(process)
         return process.returncode if process.returncode >= 0 else 128 - process.returncode, written
+
+
+class Runner(Calls):
+    """Runs one command on one input with different options."""
+
+    def __init__(self, program, command, data, wants_check, shows_progress):
+        super().__init__(program)
+        self.command, self.data = command, data
+        self.wants_check, self.shows_progress = wants_check, shows_progress
+
+    def run_all(self, cells, jobs):
+        """Each cell with its result, in order."""
+        failed = 0
+        for done, (cell, result) in enumerate(self.each(self.result, cells, jobs), 1):
+            failed += result["status"] != 0
+            if self.shows_progress:
+                told_failed = f", {failed} with a status other than 0" if failed else ""
+                show_progress("sweep", done, len(cells), told_failed)
+            yield cell, result
 
     def result(self, cell):
         """The columns of one run."""
@@ -92,8 +139,7 @@ def digest(data):
     return hashlib.sha256(data).hexdigest()[:16]
 
 
-def show_progress(done, total, failed):
+def show_progress(name, done, total, more=""):
     """One line on the terminal, which is written again and again."""
     end = "\n" if done == total else ""
-    told_failed = f", {failed} with a status other than 0" if failed else ""
-    print(f"\r\x1b[Ksweep: {done} of {total} runs{told_failed}", end=end, file=sys.stderr, flush=True)
+    print(f"\r\x1b[K{name}: {done} of {total} runs{more}", end=end, file=sys.stderr, flush=True)

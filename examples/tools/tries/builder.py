@@ -1,7 +1,7 @@
 """Tries of examples/build."""
 import signal
 
-from tools.examples import EXAMPLES
+from tools.examples import EXAMPLES, SCHEDULES, with_sources
 from tools.tries.place import expect, one_sentence_each
 
 # A task that ends, and the line that describes it.
@@ -56,11 +56,13 @@ def nothing_is_written(folder):
 
 
 def examples_are_rebuilt(place):
-    """the project's examples come out byte for byte, by name or all, with their listings"""
+    """the project's examples and schedules come out byte for byte, by name or all, with their listings"""
     answer = place.call("examples/build")
-    expect(answer.status == 0 and answer.output.count(b"image.bin\n") == len(EXAMPLES), "all examples", answer)
+    built = len(with_sources(EXAMPLES + SCHEDULES))
+    expect(answer.status == 0 and answer.output.count(b"image.bin\n") == built, "all examples and schedules", answer)
     place.is_clean()
-    expect(place.call("examples/build", "hello").status == 0, "an example by its name")
+    for name in ("hello", "schedules/stall"):
+        expect(place.call("examples/build", name).status == 0, f"{name} by its name")
     place.is_clean()
 
 

@@ -5,8 +5,7 @@ import pathlib
 import shutil
 import xml.etree.ElementTree
 
-from tools.examples import EXAMPLES
-from tools.program import Table
+from tools.examples import EXAMPLES, SCHEDULES
 from tools.tries.launcher import TRAP, image_of
 from tools.tries.place import Answer, expect, one_sentence_each
 
@@ -68,7 +67,8 @@ def faults_are_explained(place):
     """what the program writes in a report's place is told in words"""
     image = files_of(place, "hello")[0]
     for line, part in (("check ok 8", "8 tasks took their turns"), ("fault image 5 8", "above its limit"),
-                       ("fault journal 3", "line 3"), ("fault usage", "words are refused"), ("fault long", "67108864")):
+                       ("fault journal 3", "line 3"), ("fault script 2", "line 2 is the first outside"),
+                       ("fault usage", "words are refused"), ("fault long", "67108864")):
         answer = place.call("examples/explain", image, "-", stdin=line.encode() + b"\n")
         expect(answer.status == 0 and part in answer.output.decode(), f"`{part}`", answer)
 
@@ -118,10 +118,10 @@ def closed_pipes_are_borne(place):
 
 
 def accepted_examples_are_named(place):
-    """each accepted example is named, in an unwritable clone, from another folder, and with a folder beside them"""
+    """each accepted example and schedule is named, in an unwritable clone, from another folder, with a folder beside"""
     place.needs_program()
     (place.clone / "examples" / "mine").mkdir()
-    wanted = "".join(f"{name}: accepted\n" for name in EXAMPLES).encode()
+    wanted = "".join(f"{name}: accepted\n" for name in EXAMPLES + SCHEDULES).encode()
     expect(place.call("examples/check", cwd="/") == Answer(0, wanted, ""), "all examples")
     place.make_unwritable()
     expect(place.call("examples/check") == Answer(0, wanted, ""), "all examples where nothing can be written")
@@ -133,8 +133,12 @@ def other_reports_fail(place):
     report = place.clone / "examples" / "hello" / "report"
     report.write_bytes(report.read_bytes().replace(b"output 48", b"output 49"))
     answer = place.call("examples/check")
-    expect(answer.status == 1 and b"hello: its run writes another report" in answer.output, "a failure", answer)
+    expect(answer.status == 1 and b"hello: its run writes something else" in answer.output, "a failure", answer)
     expect(b"trap: accepted" in answer.output, "the others", answer)
+    said = place.clone / "examples" / "schedules" / "stall" / "said"
+    said.write_bytes(said.read_bytes().replace(b"stall 0", b"stale 0"))
+    answer = place.call("examples/check", "schedules/stall")
+    expect(b"its steps writes something else than what is stored, from line 5 on" in answer.output, "a failure", answer)
     report.unlink()
     place.call("examples/check", "hello").sentence("report", "no such file")
     place.call("examples/check", "mine").sentence("none of the project's examples")
@@ -218,15 +222,11 @@ def shards_are_joined(place):
 
 
 def loads_are_swept(place):
-    """a generated load is swept where the program has the command, and refused where it hasn't"""
-    if "load" not in Table().commands:
-        place.call("examples/sweep", "--load", "walk,7,100").sentence("no command `load`")
-        launcher = place.clone / "fractal"
-        grown = "command|load|KIND SEED SIZE||runs a load\ncommand|run|"
-        launcher.write_text(launcher.read_text().replace("command|run|", grown))
+    """a generated load is swept, its words are counted, and its text, which has no journal, isn't checked"""
     place.stub(place.program, LOAD)
     answer = place.call("examples/sweep", "--load", "walk,7,100", "--budget", "1..3")
     place.call("examples/sweep", "--load", "walk,7").sentence("KIND,SEED,SIZE")
+    place.call("examples/sweep", "--load", "walk,7,100", "--check").sentence("examples/generate")
     cells = [(row["input"], row["status"], row["commits"]) for row in rows_in(answer.output)]
     expect(cells == [("load walk 7 100", "0", "200")] * 3, "three rows", answer)
 

@@ -1,0 +1,92 @@
+"""A played schedule in numbers."""
+import collections
+
+from tools.schedules import DONE, NUMBERS, REFUSALS, is_commit
+
+# The curve of commits has so many points at most.
+MOST_POINTS = 60
+
+
+class Tally:
+    """The acts of a played schedule by answer, the tasks that they took back, and the commits over acts. What was asked
+    after the end of the run, and answered `ended`, is counted apart."""
+
+    def __init__(self, played):
+        self.replies = {}
+        self.taken_back = collections.Counter()
+        self.end = played.report.end
+        self.acts = self.commits = 0
+        step, self.curve = -(-len(played.acts) // MOST_POINTS), [(0, 0)]
+        for act, said in played.pairs():
+            self.replies.setdefault(act.word, collections.Counter())[said.reply] += 1
+            self.taken_back[act.word] += said.taken_back
+            if said.reply == "ended":
+                continue
+            self.acts += 1
+            self.commits += is_commit(act, said)
+            if self.acts % step == 0:
+                self.curve.append((self.acts, self.commits))
+        if self.curve[-1] != (self.acts, self.commits):
+            self.curve.append((self.acts, self.commits))
+
+    def count(self, word, reply):
+        return self.replies[word][reply] if word in self.replies else 0
+
+    def dispatches(self):
+        return self.count("dispatch", "ok")
+
+    def all_taken_back(self):
+        return sum(self.taken_back.values())
+
+    def stalls(self):
+        return {word: self.count(word, "stall") for word in NUMBERS if self.count(word, "stall")}
+
+    def words(self):
+        """The acts that stand in the script, in the order in which documents list them."""
+        return [word for word in NUMBERS if word in self.replies]
+
+    def answers(self):
+        """The answers that were given."""
+        return [reply for reply in DONE + REFUSALS if any(counts[reply] for counts in self.replies.values())]
+
+
+def ratio(count, whole):
+    """A count for each of another, or a dash where there is none of that."""
+    return f"{count / whole:.2f}" if whole else "-"
+
+
+def by_act(counts):
+    """Counts by act, as `step 12, split 3`; a dash where all are 0."""
+    return ", ".join(f"{word} {count:,}" for word, count in counts.items() if count) or "-"
+
+
+ROWS = (
+    ("Acts before the end", lambda it: f"{it.acts:,}"),
+    ("Commits", lambda it: f"{it.commits:,}"),
+    ("Commits in 1,000 acts", lambda it: ratio(1_000 * it.commits, it.acts)),
+    ("Dispatches", lambda it: f"{it.dispatches():,}"),
+    ("Dispatches a commit", lambda it: ratio(it.dispatches(), it.commits)),
+    ("Tasks taken back", lambda it: f"{it.all_taken_back():,}"),
+    ("by which act", lambda it: by_act(it.taken_back)),
+    ("Tasks taken back a commit", lambda it: ratio(it.all_taken_back(), it.commits)),
+    ("Stalls", lambda it: by_act(it.stalls())),
+    ("End", lambda it: it.end),
+)
+
+
+def table(head, rows):
+    """A table in Markdown."""
+    return [f"| {' | '.join(cells)} |" for cells in (head, ["---"] * len(head), *rows)]
+
+
+def summary(tallies):
+    """The tallies of a dictionary by name, a column each."""
+    return table(["", *tallies], ([name, *(cell(it) for it in tallies.values())] for name, cell in ROWS))
+
+
+def acts_by_reply(tally):
+    """How often each act had each answer."""
+    answers = tally.answers()
+    rows = [[word, *(f"{tally.count(word, reply):,}" for reply in answers),
+             f"{sum(tally.replies[word].values()):,}", f"{tally.taken_back[word]:,}"] for word in tally.words()]
+    return table(["Act", *answers, "all", "tasks taken back"], rows)

@@ -1,0 +1,211 @@
+"""Tries of schedules, pictures and sums of them, generated images, studies, and runs with host threads."""
+import re
+import xml.etree.ElementTree
+
+from tools.examples import SCHEDULES
+from tools.tries.others import files_of, picture_in
+from tools.tries.place import Answer, expect, one_sentence_each
+
+# A program that answers each act of any script, and commits nothing.
+OPEN_REPORT = b"fractal 1\noutput -\nend open\n"
+
+
+def schedule(place, name):
+    folder = place.clone / "examples" / "schedules" / name
+    return str(folder / "script"), str(folder / "said")
+
+
+def written(place, name, data):
+    path = place.root / name
+    path.write_bytes(data)
+    return str(path)
+
+
+# ---- draw and tally
+
+
+def schedules_are_drawn(place):
+    """each schedule of the project is drawn, with its words, answers and numbers, and commits by their names"""
+    for name in SCHEDULES:
+        answer = place.call("examples/draw", *schedule(place, name.partition("/")[2]))
+        expect((answer.status, answer.errors) == (0, ""), f"a picture of {name}", answer)
+        picture_in(answer.output)
+    texts = picture_in(place.call("examples/draw", *schedule(place, "conflict")).output)
+    for part in ("tile 1", "dispatch", "2 back", "task 2.0", "ts 2", "17",
+                 "17 acts; 3 commits; 2 tasks taken back; end normal"):
+        expect(part in texts, f"`{part}`", texts)
+    expect("6: step 1 0: ok, 2 tasks taken back" in texts, "what a mark tells when pointed at", texts)
+
+
+def long_schedules_are_drawn(place):
+    """a long schedule has small marks, and of one that is too long the first acts are drawn, which the picture tells"""
+    for rounds, acts, told in (("60", 1_200, "1,200 acts; "), ("200", 4_000, "The first 2,400 of 4,000 acts; ")):
+        script = written(place, "script", place.call("examples/lockstep", "4", "2", rounds).output)
+        answer = place.call("examples/draw", script, "-", stdin=b"empty 0\n" * acts + OPEN_REPORT)
+        root = xml.etree.ElementTree.fromstring(answer.output)
+        titles = [element for element in root.iter() if element.tag.endswith("title")]
+        expect(len(titles) == min(acts, 2_400), "a mark for each act", len(titles))
+        expect(any(text.startswith(told) for text in picture_in(answer.output)), f"`{told}`")
+
+
+def schedules_are_summed_up(place):
+    """a played schedule is summed up by act and answer, and several outputs stand side by side and in one plot"""
+    script, said = schedule(place, "stall")
+    answer = place.call("examples/tally", script, said)
+    for line in ("| Stalls | step 1 |", "| Dispatches a commit | 2.00 |", "| End | open |",
+                 "| coalesce | 1 | 1 | 0 | 0 | 0 | 2 | 0 |"):
+        expect(line in answer.output.decode(), f"`{line}`", answer.output.decode())
+    script, said = schedule(place, "two_lines")
+    apart = schedule(place, "two_lines_apart")[1]
+    answer = place.call("examples/tally", script, said, apart, "--plot", "a plot.svg")
+    expect("| Tasks taken back | 1 | 0 |" in answer.output.decode(), "both outputs", answer)
+    expect("commits" in picture_in((place.root / "a plot.svg").read_bytes()), "the axis's name")
+
+
+def other_outputs_are_refused(place):
+    """an output that isn't a script's, a script that is none, bad words and missing files are told in a sentence"""
+    script, said = schedule(place, "conflict")
+    for name in ("examples/draw", "examples/tally"):
+        one_sentence_each([
+            (place.call(name), ["SCRIPT", "OUTPUT"]),
+            (place.call(name, script), ["SCRIPT", "OUTPUT"]),
+            (place.call(name, script, said, "--fast"), ["--fast"]),
+            (place.call(name, "nowhere", said), ["nowhere", "no such file"]),
+            (place.call(name, script, "nowhere"), ["nowhere", "no such file"]),
+            (place.call(name, said, said), ["said:1:", "`ok 0`", "no line of a script"]),
+            (place.call(name, script, script), ["script:1:", "`dispatch 0`", "no answer"]),
+            (place.call(name, script, schedule(place, "kept_trap")[1]), ["said:16:", "no answer"]),
+            (place.call(name, script, "-", stdin=b"fault script 3\n"), ["played nothing", "fault script 3"]),
+            (place.call(name, script, "-", stdin=b"ok 0\n" * 17 + OPEN_REPORT), ["3 commits", "0 tasks"]),
+            (place.call(name, script, "-", stdin=b"ok 0\n" * 17), ["-:18:", "fractal 1"]),
+            (place.call(name, "-", said, stdin=b"dispatch 16\n"), ["-:1:", "16 tiles"]),
+            (place.call(name, "-", said, stdin=b"dispatch 00\n"), ["-:1:", "`dispatch 00`"]),
+            (place.call(name, "-", said, stdin=b"commit\n\ncommit\n"), ["-:2:"]),
+        ])
+    one_sentence_each([
+        (place.call("examples/draw", script, said, said), ["SCRIPT", "OUTPUT"]),
+        (place.call("examples/tally", script, said, said), ["twice"]),
+        (place.call("examples/tally", script, said, "--plot", "nowhere/x.svg"), ["nowhere", "no such folder"]),
+        (place.call("examples/tally", script, said, "--plot"), ["value is missing"]),
+        (place.call("examples/tally", "-", said), ["no act"]),
+    ])
+    place.is_clean()
+
+
+# ---- lockstep and generate
+
+
+def lockstep_is_written(place):
+    """a lockstep schedule has its rounds, and with a seed the same acts in an order of that seed"""
+    answer = place.call("examples/lockstep", "2", "1", "2")
+    plain = b"dispatch 0\nstep 0 0\ndispatch 1\nstep 1 0\ncommit\ncommit\nsplit 0\nsplit 1\n"
+    expect(answer == Answer(0, plain * 2, ""), "two rounds", answer)
+    one, again, other = (place.call("examples/lockstep", "2", "1", "2", "--seed", seed).output for seed in "775")
+    expect(one == again != other, "an order for each seed", (one, again, other))
+    for text in (one, other):
+        rounds = [text.splitlines()[:8], text.splitlines()[8:]]
+        expect(all(sorted(acts) == sorted(plain.splitlines()) for acts in rounds), "the acts of each round", rounds)
+    one_sentence_each([
+        (place.call("examples/lockstep"), ["TILES, CORES and ROUNDS"]),
+        (place.call("examples/lockstep", "2", "5", "1"), ["CORES", "1 to 4", "`5`"]),
+        (place.call("examples/lockstep", "17", "1", "1"), ["TILES", "1 to 16"]),
+        (place.call("examples/lockstep", "1", "1", "0"), ["ROUNDS"]),
+        (place.call("examples/lockstep", "16", "4", "1000000"), ["67108864 bytes"]),
+        (place.call("examples/lockstep", "1", "1", "1", "--seed", "x"), ["--seed", "`x`"]),
+        (place.call("examples/lockstep", "1", "1", "1", "--seed", "1", "--seed=2"), ["twice"]),
+    ])
+
+
+def images_are_generated(place):
+    """a generated image runs as the load of the same words does, and other words are refused"""
+    place.needs_program()
+    for words in (("walk", "7", "200"), ("nest", "0", "8"), ("walk", "1", "1")):
+        image = place.call("examples/generate", *words).output
+        run, load = (place.call("fractal", *call, stdin=data).output for call, data in
+                     ((["run"], image), (["load", *words], b"")))
+        expect(run[run.index(b"output "):] == load[load.index(b"output "):] != b"", f"one end of {words}", (run, load))
+    one_sentence_each([
+        (place.call("examples/generate", "walk", "7"), ["SEED and a SIZE"]),
+        (place.call("examples/generate", "run", "7", "1"), ["walk and nest", "`run`"]),
+        (place.call("examples/generate", "walk", "4294967296", "1"), ["SEED"]),
+        (place.call("examples/generate", "nest", "0", "10001"), ["SIZE", "1 to 10000"]),
+    ])
+
+
+# ---- study, workers and the bench
+
+
+def studies_are_made(place):
+    """a study has a line for each choice of options, whose schedules end, and the same with several at once"""
+    place.needs_program()
+    image = written(place, "image", place.call("examples/generate", "walk", "7", "150").output)
+    words = ["examples/study", image, "--tiles", "1,2", "--line", "4,64"]
+    answer, again = place.call(*words), place.call(*words, "--jobs", "3")
+    lines = answer.output.decode().splitlines()
+    expect((answer.status, answer.errors, len(lines)) == (0, "", 6), "four lines and their heads", answer)
+    expect(answer == again, "the same lines", again)
+    expect([re.findall(r"\d+", line)[:2] for line in lines[2:]] == [["1", "4"], ["1", "64"], ["2", "4"], ["2", "64"]],
+           "each choice", lines)
+    one_sentence_each([
+        (place.call("examples/study"), ["one IMAGE"]),
+        (place.call("examples/study", "nowhere"), ["nowhere", "no such file"]),
+        (place.call("examples/study", image, "--towers", "1"), ["--towers"]),
+        (place.call("examples/study", image, "--line", "5"), ["--line", "`5`"]),
+        (place.call("examples/study", image, "--program", "nowhere"), ["nowhere", "isn't built"]),
+        (place.call("examples/study", str(place.clone / "README.md")), ["fault image 2 0"]),
+    ])
+
+
+def threads_are_checked(place):
+    """runs with host threads are checked, a report that isn't a run's fails, and so does another status"""
+    place.needs_program()
+    wanted = "".join(f"hello with {workers} workers: 3 runs accepted, one report\n" for workers in (2, 4, 16))
+    answer = place.call("examples/workers", "hello", "--runs", "3", "--jobs", "2")
+    expect(answer == Answer(0, wanted.encode(), ""), "nine runs", answer)
+    for text, part in (("exit 3", "status 3"), ("[ $1 = run ] || { echo 'fault journal 2'; exit 8; }", "fault journal 2")):
+        stub = place.stub(place.root / "stub", f"cat >/dev/null; {text}; printf '\\nend normal\\n'\n")
+        answer = place.call("examples/workers", "hello", "--runs", "2", "--program", str(stub))
+        expect(answer.status == 1 and "2 of 2 " in answer.output.decode(), "a failure", answer)
+        expect(part in answer.output.decode(), f"`{part}`", answer)
+    one_sentence_each([
+        (place.call("examples/workers", "mine"), ["none of the project's examples"]),
+        (place.call("examples/workers", "--runs", "0"), ["--runs"]),
+        (place.call("examples/workers", "--program", "nowhere"), ["nowhere", "isn't built"]),
+    ])
+
+
+def swept_threads_are_checked(place):
+    """a sweep over host threads has each report checked for itself"""
+    place.needs_program()
+    answer = place.call("examples/sweep", files_of(place, "nested")[0], "--workers", "0,2,16", "--check")
+    lines = answer.output.decode().splitlines()
+    expect(len(lines) == 4 and all(line.endswith(",0") for line in lines[1:]), "three accepted reports", answer)
+
+
+def benches_are_told(place):
+    """the bench tells its words, refuses others, and wants the built program"""
+    expect(b"--lockstep" in place.call("bench/run", "--help").output, "a help page")
+    one_sentence_each([
+        (place.call("bench/run", "--fast"), ["--lockstep"]),
+        (place.call("bench/run", "--loads", "--workers"), ["one word"]),
+        (place.call("bench/run", "--loads"), ["isn't built"]),
+    ])
+
+
+def interrupted_plays_leave_nothing(place):
+    """a study, runs with host threads and a bench that are interrupted say so, and end their programs"""
+    mark = place.root / "started"
+    place.stub(place.program, f"touch '{mark}'; exec sleep 100\n")
+    image = files_of(place, "hello")[0]
+    for words in (["examples/study", image, "--jobs", "2", "--line", "4,8"], ["examples/workers", "hello"],
+                  ["bench/run", "--workers"]):
+        mark.unlink(missing_ok=True)
+        place.interrupted(*words, ready=mark.exists).sentence("interrupted", status=130)
+    place.is_clean()
+
+
+TRIES = (
+    schedules_are_drawn, long_schedules_are_drawn, schedules_are_summed_up, other_outputs_are_refused,
+    lockstep_is_written, images_are_generated, studies_are_made, threads_are_checked, swept_threads_are_checked,
+    benches_are_told, interrupted_plays_leave_nothing,
+)
