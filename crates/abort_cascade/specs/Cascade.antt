@@ -1,4 +1,5 @@
--- Sets of nodes that are closed under a relation. The nodes are the numbers below a count, and a set of them is a list of marks.
+-- Sets of nodes that are closed under a relation. The nodes are the numbers below a count, and a set of them is a
+-- list of marks.
 use Rattle.std.specs.Prelude.{◌≡◌, ℕ, ◌<◌, ◌↔◌, Bool, true, false, List, slice_index_or}
 
 -- the node is marked
@@ -12,7 +13,8 @@ IsClosed count pull set = (a b : ℕ) → a < count → b < count → pull a b �
 -- the node is one of the first ones, or is pulled from one of them in some steps
 pub data Reached (count : ℕ) (pull : ℕ → ℕ → Bool) (firsts : ℕ → Type 0) : ℕ → Type 0 where
   start : (a : ℕ) → firsts a → Reached count pull firsts a
-  step : {a : ℕ} (b : ℕ) → Reached count pull firsts a → a < count → b < count → pull a b ≡ true → Reached count pull firsts b
+  step : {a : ℕ} (b : ℕ) → Reached count pull firsts a → a < count → b < count → pull a b ≡ true
+      → Reached count pull firsts b
 
 -- the marks are the least closed set that holds the first nodes
 pub record IsLeastClosed (count : ℕ) (pull : ℕ → ℕ → Bool) (firsts : ℕ → Type 0) (marks : List Bool) : Type 0 where
@@ -34,5 +36,6 @@ ClosesToUnion =
 abbrev pub ClosesToLeast : Type 0
 ClosesToLeast =
     (count : ℕ) (pull : ℕ → ℕ → Bool) (firsts marks : List Bool) → IsLeastClosed count pull (Marked firsts) marks
-    → (set : ℕ → Bool) → ((node : ℕ) → Marked firsts node → set node ≡ true) → IsClosed count pull (λ node. set node ≡ true)
+    → (set : ℕ → Bool) → ((node : ℕ) → Marked firsts node → set node ≡ true)
+    → IsClosed count pull (λ node. set node ≡ true)
     → (node : ℕ) → Marked marks node → set node ≡ true

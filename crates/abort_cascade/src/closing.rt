@@ -8,8 +8,8 @@ use crate::Pulls;
 
 /// Grows the marks to exactly the least set that holds them and with each node all that it pulls, and tells its size.
 ///
-/// Its nodes then stand at the front of `members`, each once, in the order in which they were found. `pulls` is called at
-/// most once for each of them and each node.
+/// Its nodes then stand at the front of `members`, each once, in the order in which they were found. `pulls` is
+/// called at most once for each of them and each node.
 pub fn close<P: Pulls>(relation: &P, marks: &mut [bool], members: &mut [usize]) -> usize
     requires marks { length marks.old ≡ P.count relation.now }
     requires members { length members.old ≡ P.count relation.now }
@@ -26,8 +26,8 @@ pub fn close<P: Pulls>(relation: &P, marks: &mut [bool], members: &mut [usize]) 
     found
 }
 
-/// Two laws. The closed set of several nodes is the union of the closed sets of each, and each closed set that holds those
-/// nodes holds it.
+/// Two laws. The closed set of several nodes is the union of the closed sets of each, and each closed set that
+/// holds those nodes holds it.
 pub fn closed_sets()
     ensures union { ClosesToUnion }
     ensures least { ClosesToLeast }

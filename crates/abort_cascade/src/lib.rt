@@ -1,9 +1,9 @@
 //! The least set of nodes that holds some of them, and with each node all that it pulls.
 //!
-//! A set is a slice of marks, one for each node. `close` grows any set in one walk and lists its members: it calls `pulls`
-//! at most once for each member and each node, and wants a slice for the members beside the marks. `mark` finds the set of
-//! one node with the marks alone, in rounds over the marked nodes until one marks nothing new. No call takes memory.
-//! It stands on nothing; what takes tasks back in the machine of tiles calls it.
+//! A set is a slice of marks, one for each node. `close` grows any set in one walk and lists its members: it calls
+//! `pulls` at most once for each member and each node, and wants a slice for the members beside the marks. `mark`
+//! finds the set of one node with the marks alone, in rounds over the marked nodes until one marks nothing new. No
+//! call takes memory. It stands on nothing; what takes tasks back in the machine of tiles calls it.
 #![tactic(auto)]
 
 mod closing;

@@ -33,11 +33,12 @@ pub record IsLeastLeg (image : ImageValue) (view : View) (tile core : ℕ) (leg 
   pub there : task.tile ≡ tile
   pub runs_on : IsLegFrom image view task leg
 
--- the event for the least task: a split where it is spilled, a dispatch where it is idle, a leg where it runs, and a commit where it is
--- finished
+-- the event for the least task: a split where it is spilled, a dispatch where it is idle, a leg where it runs, and
+-- a commit where it is finished
 abbrev pub IsLeastEvent : {N : Type 0} → ImageValue → View → Event N → Type 0
 IsLeastEvent image view (event.Split tile) = IsLeastSpilled view tile
-IsLeastEvent image view (event.Dispatch tile) = (id : ℕ) × (task : Task) × IsLeastTask view id task × (task.status ≡ Idle) × (task.tile ≡ tile)
+IsLeastEvent image view (event.Dispatch tile) = (id : ℕ) × (task : Task) × IsLeastTask view id task
+    × (task.status ≡ Idle) × (task.tile ≡ tile)
 IsLeastEvent image view (event.Step tile core leg) = IsLeastLeg image view tile core leg
 IsLeastEvent image view event.Commit = (id : ℕ) × (task : Task) × IsLeastTask view id task × (task.status ≡ Finished)
 IsLeastEvent image view (event.Abort tile) = ⊥
@@ -53,8 +54,8 @@ abbrev pub IsNoCommit : {N : Type 0} → Event N → Type 0
 IsNoCommit event.Commit = ⊥
 IsNoCommit other = Unit {0}
 
--- what an advance is answered: the end of a run that is over; else, by the event for the least task, that it committed, that another event
--- was made, and how many tasks that took back, or how it was refused
+-- what an advance is answered: the end of a run that is over; else, by the event for the least task, that it
+-- committed, that another event was made, and how many tasks that took back, or how it was refused
 abbrev pub AdvanceAnswers : Type 0 → ImageValue → BookView → Advance → BookView → Type 0
 AdvanceAnswers N image old (answers.Ended end) new = (old.stopped ≡ false) × HasEnd old.view end × (new ≡ old)
 AdvanceAnswers N image old answers.Committed new =
@@ -62,7 +63,8 @@ AdvanceAnswers N image old answers.Committed new =
 AdvanceAnswers N image old (answers.Moved aborted) new =
     (event : Event N) × IsNextEvent image old.view event × IsNoCommit event × Happens old event reply.Ok aborted new
 AdvanceAnswers N image old answers.Memory new =
-    ((old.stopped ≡ true) × (new ≡ old)) ⊎ ((event : Event N) × IsNextEvent image old.view event × Happens old event reply.Memory 0 new)
+    ((old.stopped ≡ true) × (new ≡ old))
+    ⊎ ((event : Event N) × IsNextEvent image old.view event × Happens old event reply.Memory 0 new)
 
 -- one event for the least task is made, of a book that isn't at its end
 pub record Advances (N : Type 0) (image : ImageValue) (old : BookView) (aborted : ℕ) (new : BookView) : Type 0 where
@@ -73,18 +75,23 @@ pub record Advances (N : Type 0) (image : ImageValue) (old : BookView) (aborted 
 -- so many events for the least tasks, one after another
 abbrev pub AdvancesBy : Type 0 → ImageValue → ℕ → BookView → BookView → Type 0
 AdvancesBy N image zero old new = old ≡ new
-AdvancesBy N image (suc n) old new = (mid : BookView) × (aborted : ℕ) × AdvancesBy N image n old mid × Advances N image mid aborted new
+AdvancesBy N image (suc n) old new = (mid : BookView) × (aborted : ℕ) × AdvancesBy N image n old mid
+    × Advances N image mid aborted new
 
 -- how the least task stands, or that the run is over
 abbrev pub StandsSo : View → Standing → Type 0
 StandsSo view standing.Over = IsOver view
-StandsSo view standing.Finished = (IsOver view → ⊥) × (id : ℕ) × (task : Task) × IsLeastTask view id task × (task.status ≡ Finished)
+StandsSo view standing.Finished = (IsOver view → ⊥) × (id : ℕ) × (task : Task) × IsLeastTask view id task
+    × (task.status ≡ Finished)
 StandsSo view (standing.Running used) =
-    (IsOver view → ⊥) × (id : ℕ) × (task : Task) × (core : ℕ) × IsLeastTask view id task × (task.status ≡ Running core) × (task.core.used ≡ used)
-StandsSo view standing.Idle = (IsOver view → ⊥) × (id : ℕ) × (task : Task) × IsLeastTask view id task × (task.status ≡ Idle)
+    (IsOver view → ⊥) × (id : ℕ) × (task : Task) × (core : ℕ) × IsLeastTask view id task
+    × (task.status ≡ Running core) × (task.core.used ≡ used)
+StandsSo view standing.Idle = (IsOver view → ⊥) × (id : ℕ) × (task : Task) × IsLeastTask view id task
+    × (task.status ≡ Idle)
 StandsSo view standing.Spilled = (IsOver view → ⊥) × (tile : ℕ) × IsLeastSpilled view tile
 
--- the number that stands for what is left of the least task's way, up to and with its commit, or 1 where the run is over
+-- the number that stands for what is left of the least task's way, up to and with its commit, or 1 where the run is
+-- over
 pub record HasRest (view : View) (left : ℕ) : Type 0 where
   pub stands : Standing
   pub so : StandsSo view stands

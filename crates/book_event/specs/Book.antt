@@ -5,7 +5,8 @@ use Rattle.place_policy.specs.Serving.{serving_tile}
 use Rattle.trace_tap.specs.Reading.{Reading}
 use Rattle.spec_state.specs.View.{View, loads}
 
--- a view, the placers that are left, of which the first serves, the taps, how many events have been made, and whether the book was stopped
+-- a view, the placers that are left, of which the first serves, the taps, how many events have been made, and
+-- whether the book was stopped
 pub record BookView : Type 0 where
   pub view : View
   pub placers : List Policy
@@ -13,7 +14,8 @@ pub record BookView : Type 0 where
   pub steps : ℕ
   pub stopped : Bool
 
--- a view, and how many events have been made on it: what a type can keep of a book, since placers and taps are functions
+-- a view, and how many events have been made on it: what a type can keep of a book, since placers and taps are
+-- functions
 pub record CountedView : Type 0 where
   pub view : View
   pub steps : ℕ
@@ -32,6 +34,7 @@ without_first [] = []
 without_first (placer ∷ []) = placer ∷ []
 without_first (placer ∷ next ∷ placers) = next ∷ placers
 
--- the placers after the commit that reached this number of commits: each serves for one phase of them, and the last one serves on
+-- the placers after the commit that reached this number of commits: each serves for one phase of them, and the last
+-- one serves on
 abbrev pub placers_after_commit : ℕ → ℕ → List Policy → List Policy
 placers_after_commit phase commits placers = if commits % phase == 0 then without_first placers else placers

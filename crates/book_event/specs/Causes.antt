@@ -8,7 +8,8 @@ use Rattle.spec_state.specs.declared.task.Status.TheVariants.{Finished}
 use Rattle.spec_state.specs.declared.task.Task.{Task}
 use Rattle.spec_state.specs.View.{View, finished_at, block_at}
 use Rattle.spec_state.specs.Least.{IsLeastTask, IsLeastSpilled, IsTheLeast}
-use Rattle.spec_state.specs.Queries.{IsIdle, IsLeastIdle, IsDispatched, IsLatestDispatched, IsFreeCore, IsFinished, IsLater}
+use Rattle.spec_state.specs.Queries.{IsIdle, IsLeastIdle, IsDispatched, IsLatestDispatched, IsFreeCore, IsFinished}
+use Rattle.spec_state.specs.Queries.{IsLater}
 use Rattle.spec_state.specs.Room.{Enqueuer, IsMovable, IsFull, Stalls}
 use Rattle.spec_state.specs.Changes.{TakesLeg, request_of}
 use Rattle.book_event.specs.declared.event.Event.{Event}
@@ -69,13 +70,15 @@ pub record StallsAtSplit (view : View) (tile : ℕ) : Type 0 where
   pub full : IsFull view tile
   pub not_least : IsLeastSpilled view tile → ⊥
 
--- a cause for which an event is refused with a reply, before the order of the causes is looked at; that the run is over is a cause for each event
+-- a cause for which an event is refused with a reply, before the order of the causes is looked at; that the run is
+-- over is a cause for each event
 abbrev pub Cause : {N : Type 0} → BookView → Event N → Reply → Type 0
 Cause book event reply.Ended = IsOver book.view
 Cause book (event.Dispatch tile) reply.Empty = (id : ℕ) (task : Task) → IsIdle book.view tile id task → ⊥
 Cause book (event.Dispatch tile) reply.Busy = IsBusy book.view tile
 Cause book (event.Step tile core leg) reply.Stale = IsStale book.view tile core leg
-Cause book (event.Step tile core leg) reply.Stall = StallsAtEnqueue book tile core leg ⊎ StallsAtEnd book.view tile core leg
+Cause book (event.Step tile core leg) reply.Stall = StallsAtEnqueue book tile core leg
+    ⊎ StallsAtEnd book.view tile core leg
 Cause book (event.Abort tile) reply.Empty = (id : ℕ) (task : Task) → IsDispatched book.view tile id task → ⊥
 Cause book (event.Abort tile) reply.Firm = LatestIsLeast book.view tile
 Cause book event.Commit reply.Empty = (id : ℕ) (task : Task) → IsLeastTask book.view id task → task.status ≢ Finished

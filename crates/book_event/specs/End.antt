@@ -19,11 +19,13 @@ pub record LeastIsTrapped (view : View) (name : Name) (cause pc : ℕ) : Type 0 
   pub named : task.creator ≡ Committed name.creator name.index
   pub at : task.core.pc ≡ pc
 
--- the run is over, and ended so, in this order: no task is uncommitted; as many have committed as may; the least task is trapped
+-- the run is over, and ended so, in this order: no task is uncommitted; as many have committed as may; the least
+-- task is trapped
 abbrev pub HasEnd : View → End → Type 0
 HasEnd view ends.Normal = IsAllCommitted view
 HasEnd view ends.Limit = (IsAllCommitted view → ⊥) × (length view.history ≡ view.settings.commits)
-HasEnd view (ends.Trap name cause pc) = (length view.history ≢ view.settings.commits) × LeastIsTrapped view name cause pc
+HasEnd view (ends.Trap name cause pc) = (length view.history ≢ view.settings.commits)
+    × LeastIsTrapped view name cause pc
 HasEnd view ends.Unfinished = ⊥
 
 -- the run is over

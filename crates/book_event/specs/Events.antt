@@ -7,12 +7,14 @@ use Rattle.rv_core.specs.LegValue.{LegValue, IsRun}
 use Rattle.rv_table.specs.declared.instr.LoadWidth.{LoadWidth}
 use Rattle.task_desc.specs.declared.desc.Spawn.{Spawn}
 use Rattle.task_step.specs.declared.request.Request.{Request}
-use Rattle.task_step.specs.declared.request.Request.TheVariants.{Continue, Load, Store, Enqueue, MakeSub, Emit, End, Trap}
+use Rattle.task_step.specs.declared.request.Request.TheVariants.{Continue, Load, Store, Enqueue, MakeSub, Emit, End}
+use Rattle.task_step.specs.declared.request.Request.TheVariants.{Trap}
 use Rattle.spec_state.specs.declared.settings.Settings.{Settings}
 use Rattle.spec_state.specs.declared.task.Task.{Task}
 use Rattle.spec_state.specs.View.{View, finished_at}
 use Rattle.spec_state.specs.Least.{IsLeastSpilled}
-use Rattle.spec_state.specs.Queries.{IsFreeCore, IsLatestOnCore, IsLatestDispatched, IsLatestFinished, IsLater, Conflicts}
+use Rattle.spec_state.specs.Queries.{IsFreeCore, IsLatestOnCore, IsLatestDispatched, IsLatestFinished, IsLater}
+use Rattle.spec_state.specs.Queries.{Conflicts}
 use Rattle.spec_state.specs.Aborts.{Aborts, Only}
 use Rattle.spec_state.specs.Room.{Enqueuer, Splitter, MakesRoom, HasFreeEntry, Coalesces, Splits}
 use Rattle.spec_state.specs.Numbers.{FreesNumber}
@@ -26,10 +28,12 @@ use Rattle.book_event.specs.Causes.{AllCoresHeld, IsCommitFull}
 -- a core of the tile is free, or else the latest task on one is taken back
 pub data FreesCore (tile : ℕ) (old : View) : ℕ → View → Type 0 where
   has_free : (core : ℕ) → IsFreeCore old tile core → FreesCore tile old 0 old
-  aborts_latest : (aborted v : ℕ) (task : Task) (new : View) → AllCoresHeld old tile → IsLatestOnCore old tile v task → Aborts (Only v) old aborted new
+  aborts_latest : (aborted v : ℕ) (task : Task) (new : View) → AllCoresHeld old tile
+      → IsLatestOnCore old tile v task → Aborts (Only v) old aborted new
       → FreesCore tile old aborted new
 
--- a core is freed where none is free, the numbers in use are renumbered where none is left, and then the least idle task is dispatched
+-- a core is freed where none is free, the numbers in use are renumbered where none is left, and then the least idle
+-- task is dispatched
 pub record DispatchEvent (tile : ℕ) (old : View) (aborted : ℕ) (new : View) : Type 0 where
   pub mid : View
   pub forced : FreesCore tile old aborted mid
@@ -37,10 +41,12 @@ pub record DispatchEvent (tile : ℕ) (old : View) (aborted : ℕ) (new : View) 
   pub number : FreesNumber mid ready
   pub change : change.Dispatches tile ready new
 
--- the commit queue of the tile has a free entry, or else the latest task in it, which is later than this one, is taken back
+-- the commit queue of the tile has a free entry, or else the latest task in it, which is later than this one, is
+-- taken back
 pub data FreesCommit (tile : ℕ) (task : Task) (old : View) : ℕ → View → Type 0 where
   has_free : length (finished_at old tile) < old.settings.commit_queue → FreesCommit tile task old 0 old
-  aborts_latest : (aborted v : ℕ) (x : Task) (new : View) → IsCommitFull old tile → IsLatestFinished old tile v x → IsLater old task v x
+  aborts_latest : (aborted v : ℕ) (x : Task) (new : View) → IsCommitFull old tile → IsLatestFinished old tile v x
+      → IsLater old task v x
       → Aborts (Only v) old aborted new → FreesCommit tile task old aborted new
 
 -- none is taken back and no placer is told
@@ -114,7 +120,8 @@ pub record AbortEvent (tile : ℕ) (old : View) (aborted : ℕ) (new : View) : T
   pub latest : IsLatestDispatched old tile id task
   pub aborts : Aborts (Only id) old aborted new
 
--- the least spilled task of the tile comes back: the tile's task queue has a free entry, or makes room where that task is the least one
+-- the least spilled task of the tile comes back: the tile's task queue has a free entry, or makes room where that
+-- task is the least one
 pub record SplitEvent (tile : ℕ) (old : View) (aborted : ℕ) (new : View) : Type 0 where
   pub mid : View
   pub tried : HasFreeEntry old tile ⊎ IsLeastSpilled old tile
@@ -123,16 +130,19 @@ pub record SplitEvent (tile : ℕ) (old : View) (aborted : ℕ) (new : View) : T
 
 -- the event leads from a book to this view and these placers, and takes so many tasks back
 abbrev pub Makes : {N : Type 0} → BookView → Event N → ℕ → View → List Policy → Type 0
-Makes book (event.Dispatch tile) aborted new placers = DispatchEvent tile book.view aborted new × (placers ≡ book.placers)
+Makes book (event.Dispatch tile) aborted new placers = DispatchEvent tile book.view aborted new
+    × (placers ≡ book.placers)
 Makes book (event.Step tile core leg) aborted new placers = StepEvent tile core leg book aborted new placers
 Makes book (event.Abort tile) aborted new placers = AbortEvent tile book.view aborted new × (placers ≡ book.placers)
 Makes book event.Commit aborted new placers =
-    change.Commits book.view new × (aborted ≡ 0) × (placers ≡ placers_after_commit book.view.settings.phase (length new.history) book.placers)
-Makes book (event.Coalesce tile) aborted new placers = Coalesces tile book.view new × IsQuiet aborted book.placers placers
+    change.Commits book.view new × (aborted ≡ 0)
+    × (placers ≡ placers_after_commit book.view.settings.phase (length new.history) book.placers)
+Makes book (event.Coalesce tile) aborted new placers = Coalesces tile book.view new
+    × IsQuiet aborted book.placers placers
 Makes book (event.Split tile) aborted new placers = SplitEvent tile book.view aborted new × (placers ≡ book.placers)
 
--- an event that may be handed to a book of these settings: its tile and its core are there, and its leg is a run of plain instructions of
--- the image, which the type of a leg keeps
+-- an event that may be handed to a book of these settings: its tile and its core are there, and its leg is a run of
+-- plain instructions of the image, which the type of a leg keeps
 abbrev pub IsGiven : {N : Type 0} → ImageValue → Settings → Event N → Type 0
 IsGiven image settings (event.Dispatch tile) = tile < settings.tiles
 IsGiven image settings (event.Step tile core leg) =

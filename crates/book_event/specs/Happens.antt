@@ -27,12 +27,14 @@ pub record IsUnchanged (old : BookView) (aborted : ℕ) (new : BookView) : Type 
   pub none : aborted ≡ 0
   pub same : new ≡ old
 
--- memory is wanting: in a stopped book always, and else at most where the event takes memory and nothing else refuses it
+-- memory is wanting: in a stopped book always, and else at most where the event takes memory and nothing else
+-- refuses it
 abbrev pub MayWantMemory : {N : Type 0} → BookView → Event N → Type 0
 MayWantMemory book event = (book.stopped ≡ true) ⊎ (IsGranted book event × TakesMemory book event)
 
 -- the event is refused with this reply
-pub record Refuses {N : Type 0} (old : BookView) (event : Event N) (answer : Reply) (aborted : ℕ) (new : BookView) : Type 0 where
+pub record Refuses {N : Type 0} (old : BookView) (event : Event N) (answer : Reply) (aborted : ℕ)
+    (new : BookView) : Type 0 where
   pub goes_on : old.stopped ≡ false
   pub refused : IsRefused old event answer
   pub unchanged : IsUnchanged old aborted new

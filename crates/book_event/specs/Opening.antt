@@ -24,14 +24,22 @@ root_kinds Ordered = 1
 
 -- the descriptor of an image task, whose hint is its place
 abbrev pub image_descriptor : Kind → ℕ → ImageTask → Descriptor
-image_descriptor kind index task = record { entry = task.entry; args = task.args; hint = index; ts = domain_ts kind task.ts; domain = []; kinds = root_kinds kind }
+image_descriptor kind index task = record {
+  entry = task.entry;
+  args = task.args;
+  hint = index;
+  ts = domain_ts kind task.ts;
+  domain = [];
+  kinds = root_kinds kind;
+}
 
--- an image task is placed as a child is: the serving placer picks its tile, which coalesces first where its task queue is full; the task
--- stands there as the last one, and that placer is told
+-- an image task is placed as a child is: the serving placer picks its tile, which coalesces first where its task
+-- queue is full; the task stands there as the last one, and that placer is told
 pub record Places (kind : Kind) (index : ℕ) (task : ImageTask) (old new : BookView) : Type 0 where
   pub inside : picked old index < old.view.settings.tiles
   pub mid : View
-  pub room : (HasFreeEntry old.view (picked old index) × (mid ≡ old.view)) ⊎ (IsFull old.view (picked old index) × Coalesces (picked old index) old.view mid)
+  pub room : (HasFreeEntry old.view (picked old index) × (mid ≡ old.view))
+      ⊎ (IsFull old.view (picked old index) × Coalesces (picked old index) old.view mid)
   pub id : ℕ
   pub vacant : task_at mid id ≡ None
   pub changes : ChangesTask mid new.view id
@@ -51,7 +59,8 @@ abbrev pub opened : View → List Policy → List Reading → BookView
 opened view placers taps = record { view = view; placers = placers; taps = taps; steps = 0; stopped = false }
 
 -- the opening: from the view without a task the image's tasks are placed
-pub record IsOpening (image : ImageValue) (settings : Settings) (placers : List Policy) (taps : List Reading) (book : BookView) : Type 0 where
+pub record IsOpening (image : ImageValue) (settings : Settings) (placers : List Policy) (taps : List Reading)
+    (book : BookView) : Type 0 where
   pub empty : View
   pub is_empty : IsEmptyView image settings empty
   pub placed : PlacesAll image.kind (enumerate_from 0 image.tasks) (opened empty placers taps) book

@@ -1,7 +1,8 @@
 -- What the taps are told of an event.
 use Rattle.std.specs.Prelude.{◌≡◌, ◌/◌, ℕ, length, Option, Some, None}
 use Rattle.task_step.specs.declared.request.Request.{Request}
-use Rattle.task_step.specs.declared.request.Request.TheVariants.{Continue, Load, Store, Enqueue, MakeSub, Emit, End, Trap}
+use Rattle.task_step.specs.declared.request.Request.TheVariants.{Continue, Load, Store, Enqueue, MakeSub, Emit, End}
+use Rattle.task_step.specs.declared.request.Request.TheVariants.{Trap}
 use Rattle.trace_tap.specs.declared.record.Deed.{Deed}
 use Rattle.trace_tap.specs.declared.record.Deed.TheVariants as deed
 use Rattle.trace_tap.specs.declared.record.Record.{Record}
@@ -31,7 +32,13 @@ line_of size other = None
 
 -- the record of a deed in a tile that took so many tasks back and left this view
 abbrev pub record_of : Deed → ℕ → Option ℕ → ℕ → View → Record
-record_of deed tile line aborted new = record { deed = deed; tile = tile; line = line; aborted = aborted; commits = length new.history }
+record_of deed tile line aborted new = record {
+  deed = deed;
+  tile = tile;
+  line = line;
+  aborted = aborted;
+  commits = length new.history;
+}
 
 -- the record of an event that was made: the tile is that of its task, and the named one where it has none
 abbrev pub IsRecord : {N : Type 0} → View → Event N → ℕ → View → Record → Type 0

@@ -38,18 +38,20 @@ pub enum Event<N: Naming> {
     },
 }
 
-/// What an event is answered. Of several causes the first decides: `Ended`, then `Empty`, `Busy`, `Stale`, `Firm`, `Stall`.
+/// What an event is answered. Of several causes the first decides: `Ended`, then `Empty`, `Busy`, `Stale`, `Firm`,
+/// `Stall`.
 #[derive(Clone, Copy, Debug, PartialEq, Eq)]
 pub enum Reply {
     /// The event was made.
     Ok,
-    /// There is nothing to make it of: no idle task (dispatch), no dispatched task (abort), no finished least task (commit), no idle firm
-    /// task (coalesce), no spilled task (split).
+    /// There is nothing to make it of: no idle task (dispatch), no dispatched task (abort), no finished least task
+    /// (commit), no idle firm task (coalesce), no spilled task (split).
     Empty,
     /// All cores of the tile hold tasks, and its least idle task isn't the least task.
     Busy,
-    /// A queue is full for a task that isn't the least one: the task queue that a child was to stand in, where no idle firm task moves;
-    /// the task queue that a spilled task was to come back to; or the commit queue, where no task in it is later.
+    /// A queue is full for a task that isn't the least one: the task queue that a child was to stand in, where no
+    /// idle firm task moves; the task queue that a spilled task was to come back to; or the commit queue, where no
+    /// task in it is later.
     Stall,
     /// No task runs on that core, or the leg doesn't begin at the core that it has.
     Stale,

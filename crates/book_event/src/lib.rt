@@ -1,8 +1,9 @@
 //! The events of the speculative machine: their types, which reply each gets and what it changes.
 //!
-//! Here stand, as definitions, what contracts see of a book of events (`BookView`), why an event is refused (`Cause`), what it does where it
-//! is granted (`Happens`), the opening, the events of the least task, how a run ends and what a closed book leaves. Nothing here is a call.
-//! It stands on the state's words, placers and taps; the laws of events and all code of events cite it.
+//! Here stand, as definitions, what contracts see of a book of events (`BookView`), why an event is refused
+//! (`Cause`), what it does where it is granted (`Happens`), the opening, the events of the least task, how a run
+//! ends and what a closed book leaves. Nothing here is a call. It stands on the state's words, placers and taps;
+//! the laws of events and all code of events cite it.
 #![tactic(auto)]
 
 mod event;

@@ -28,14 +28,16 @@ use Rattle.spec_law.specs.Sound.{Sound}
 -- an event that is not answered Ok changes nothing and takes no task back
 abbrev pub RefusalsChangeNothing : Type 0 → Type 0
 RefusalsChangeNothing N =
-    (old new : BookView) (event : Event N) (answer : Reply) (aborted : ℕ) → Happens old event answer aborted new → answer ≢ reply.Ok
+    (old new : BookView) (event : Event N) (answer : Reply) (aborted : ℕ)
+    → Happens old event answer aborted new → answer ≢ reply.Ok
     → (aborted ≡ 0) × (new ≡ old)
 
 -- want of memory aside, an event has one reply at most, whatever it leads to
 abbrev pub ReplyIsOne : Type 0 → Type 0
 ReplyIsOne N =
     (old new other_new : BookView) (event : Event N) (answer other : Reply) (aborted other_aborted : ℕ)
-    → Happens old event answer aborted new → Happens old event other other_aborted other_new → answer ≢ reply.Memory → other ≢ reply.Memory
+    → Happens old event answer aborted new → Happens old event other other_aborted other_new
+    → answer ≢ reply.Memory → other ≢ reply.Memory
     → answer ≡ other
 
 -- a run ends in one way at most
@@ -46,7 +48,8 @@ EndIsOne = (view : View) (end other : End) → HasEnd view end → HasEnd view o
 abbrev pub RestIsBounded : Type 0
 RestIsBounded = (view : View) (left : ℕ) → HasRest view left → left ≤ view.settings.budget + 4
 
--- the opening of an image within its limits is sound: its initial data has to be bytes, since of memory it is kept that each number is one
+-- the opening of an image within its limits is sound: its initial data has to be bytes, since of memory it is kept
+-- that each number is one
 abbrev pub OpeningIsSound : Type 0
 OpeningIsSound =
     (image : ImageValue) (settings : Settings) (placers : List Policy) (taps : List Reading) (book : BookView)
@@ -59,8 +62,8 @@ EventStaysSound N =
     → IsGiven image old.view.settings event → Sound image old.view → Happens old event answer aborted new
     → Sound image new.view
 
--- what a book's history means: it is a run of the serial machine from the image, the output is that run's, and its memory is what is
--- left where all uncommitted tasks are taken back, and nothing else is left then
+-- what a book's history means: it is a run of the serial machine from the image, the output is that run's, and its
+-- memory is what is left where all uncommitted tasks are taken back, and nothing else is left then
 pub record IsSerialRun (image : ImageValue) (budget : ℕ) (view : View) : Type 0 where
   pub serial : State
   pub is_run : IsRun image budget view.history serial
@@ -71,8 +74,10 @@ pub record IsSerialRun (image : ImageValue) (budget : ℕ) (view : View) : Type 
 -- from the opening on, whatever events are made and in whatever order, the history is a run of the serial machine
 abbrev pub HistoriesAreRuns : Type 0 → Type 0
 HistoriesAreRuns N =
-    (image : ImageValue) (settings : Settings) (placers : List Policy) (taps : List Reading) (opened book : BookView) (events : List (Event N)) (answers : List Applied)
-    → IsImage image → IsValid settings → IsOpening image settings placers taps opened → All (IsGiven image settings) events → HappenAll opened events answers book
+    (image : ImageValue) (settings : Settings) (placers : List Policy) (taps : List Reading)
+    (opened book : BookView) (events : List (Event N)) (answers : List Applied)
+    → IsImage image → IsValid settings → IsOpening image settings placers taps opened
+    → All (IsGiven image settings) events → HappenAll opened events answers book
     → IsSerialRun image settings.budget book.view
 
 -- what a closed book leaves is a run of the serial machine, whose memory and output these are
@@ -82,8 +87,8 @@ CloseIsSerial =
     → (serial : State) × IsRun image book.view.settings.budget closed.journal serial
     × (closed.memory ≡ serial.memory) × (closed.output ≡ serial.output)
 
--- a run that is over ends as the serial machine's run does: nothing is pending there, as many turns were taken as may be, or its next task
--- traps so
+-- a run that is over ends as the serial machine's run does: nothing is pending there, as many turns were taken as
+-- may be, or its next task traps so
 abbrev pub EndIsSerial : Type 0
 EndIsSerial =
     (image : ImageValue) (view : View) (end : End) → IsImage image → (sound : Sound image view) → HasEnd view end
@@ -99,7 +104,8 @@ LeastEventIsGranted N =
 abbrev pub AdvancesFall : Type 0 → Type 0
 AdvancesFall N =
     (image : ImageValue) (old new : BookView) (event : Event N) (aborted before after : ℕ)
-    → Sound image old.view → IsNextEvent image old.view event → IsNoCommit event → Happens old event reply.Ok aborted new
+    → Sound image old.view → IsNextEvent image old.view event → IsNoCommit event
+    → Happens old event reply.Ok aborted new
     → HasRest old.view before → HasRest new.view after → after < before
 
 -- a sound view has a rest: its run is over, or its least task stands in one of the ways that are told apart
@@ -117,7 +123,8 @@ pub record IsTheEnd (view : View) (end : End) : Type 0 where
 
 -- of each sound view it is decided whether its run is over, and where it is there is exactly one end
 abbrev pub EndIsThere : Type 0
-EndIsThere = (image : ImageValue) (view : View) → Sound image view → ((end : End) × IsTheEnd view end) ⊎ (IsOver view → ⊥)
+EndIsThere = (image : ImageValue) (view : View) → Sound image view
+    → ((end : End) × IsTheEnd view end) ⊎ (IsOver view → ⊥)
 
 -- an event leaves the count of events, or raises it by one, up to where it stands still
 abbrev pub EventsCountOne : Type 0 → Type 0
@@ -129,7 +136,8 @@ EventsCountOne N =
 abbrev pub HistoriesJoin : Type 0 → Type 0
 HistoriesJoin N =
     (old mid new : BookView) (first second : List (Event N)) (answers others : List Applied)
-    → HappenAll old first answers mid → HappenAll mid second others new → HappenAll old (first ++ second) (answers ++ others) new
+    → HappenAll old first answers mid → HappenAll mid second others new
+    → HappenAll old (first ++ second) (answers ++ others) new
 
 -- the event for the least task may be handed in
 abbrev pub NextEventIsGiven : Type 0 → Type 0
@@ -137,8 +145,8 @@ NextEventIsGiven N =
     (image : ImageValue) (view : View) (event : Event N) → Sound image view → IsNextEvent image view event
     → IsGiven image view.settings event
 
--- so many events for the least tasks leave a sound view with a longer history, and there are not many of them: with what is left up to the
--- next commit, at most the budget and 4 for each commit and one more
+-- so many events for the least tasks leave a sound view with a longer history, and there are not many of them: with
+-- what is left up to the next commit, at most the budget and 4 for each commit and one more
 pub record AreFew (image : ImageValue) (old : View) (n : ℕ) (new : View) : Type 0 where
   pub now : Sound image new
   pub settings : new.settings ≡ old.settings
@@ -148,4 +156,5 @@ pub record AreFew (image : ImageValue) (old : View) (n : ℕ) (new : View) : Typ
 
 abbrev pub LeastEventsAreFew : Type 0 → Type 0
 LeastEventsAreFew N =
-    (image : ImageValue) (n : ℕ) (old new : BookView) → Sound image old.view → AdvancesBy N image n old new → AreFew image old.view n new.view
+    (image : ImageValue) (n : ℕ) (old new : BookView) → Sound image old.view → AdvancesBy N image n old new
+    → AreFew image old.view n new.view

@@ -1,6 +1,9 @@
 //! Laws of events. Each is the contract of a function that does nothing.
 
-ghost use Rattle.book_law.specs.Laws.{AdvancesFall, CloseIsSerial, EndIsOne, EndIsSerial, EndIsThere, EventStaysSound, EventsCountOne, HistoriesAreRuns, HistoriesJoin, LeastEventIsGranted, LeastEventsAreFew, NextEventIsGiven, OpeningIsSound, RefusalsChangeNothing, ReplyIsOne, RestIsBounded, RestIsOne, RestIsThere};
+ghost use Rattle.book_law.specs.Laws.{AdvancesFall, CloseIsSerial, EndIsOne, EndIsSerial, EndIsThere};
+ghost use Rattle.book_law.specs.Laws.{EventStaysSound, EventsCountOne, HistoriesAreRuns, HistoriesJoin};
+ghost use Rattle.book_law.specs.Laws.{LeastEventIsGranted, LeastEventsAreFew, NextEventIsGiven, OpeningIsSound};
+ghost use Rattle.book_law.specs.Laws.{RefusalsChangeNothing, ReplyIsOne, RestIsBounded, RestIsOne, RestIsThere};
 
 use rv_core::Naming;
 
@@ -9,7 +12,8 @@ pub fn refusals_change_nothing<N: Naming>()
     ensures { RefusalsChangeNothing N }
 {}
 
-/// Want of memory aside, an event has one reply at most: no two causes to refuse it are first, and it is made only where there is none.
+/// Want of memory aside, an event has one reply at most: no two causes to refuse it are first, and it is made only
+/// where there is none.
 pub fn reply_is_one<N: Naming>()
     ensures { ReplyIsOne N }
 {}
@@ -29,14 +33,15 @@ pub fn opening_is_sound()
     ensures { OpeningIsSound }
 {}
 
-/// Each event keeps a book's view sound, whatever it is answered: one whose tile and core are there, and whose leg is a run of plain
-/// instructions of the image.
+/// Each event keeps a book's view sound, whatever it is answered: one whose tile and core are there, and whose leg
+/// is a run of plain instructions of the image.
 pub fn event_stays_sound<N: Naming>()
     ensures { EventStaysSound N }
 {}
 
-/// From the opening on, of an image within its limits and with valid settings, whatever such events are made and in whatever order, the history is a run of the serial machine, the output is that
-/// run's, and its memory is what is left where all uncommitted tasks are taken back.
+/// From the opening on, of an image within its limits and with valid settings, whatever such events are made and in
+/// whatever order, the history is a run of the serial machine, the output is that run's, and its memory is what is
+/// left where all uncommitted tasks are taken back.
 pub fn histories_are_runs<N: Naming>()
     ensures { HistoriesAreRuns N }
 {}
@@ -46,7 +51,8 @@ pub fn close_is_serial()
     ensures { CloseIsSerial }
 {}
 
-/// A run that is over ends as the serial machine's run does: nothing is pending, as many tasks took turns as may, or the next task traps so.
+/// A run that is over ends as the serial machine's run does: nothing is pending, as many tasks took turns as may,
+/// or the next task traps so.
 pub fn end_is_serial()
     ensures { EndIsSerial }
 {}
@@ -61,7 +67,8 @@ pub fn advances_fall<N: Naming>()
     ensures { AdvancesFall N }
 {}
 
-/// A sound view has a number that stands for what is left: its run is over, or its least task is spilled, idle, running or finished.
+/// A sound view has a number that stands for what is left: its run is over, or its least task is spilled, idle,
+/// running or finished.
 pub fn rest_is_there()
     ensures { RestIsThere }
 {}
@@ -91,8 +98,8 @@ pub fn next_event_is_given<N: Naming>()
     ensures { NextEventIsGiven N }
 {}
 
-/// So many events for the least tasks, with what is left up to the next commit, are at most the task budget and 4 for each commit among them
-/// and one more.
+/// So many events for the least tasks, with what is left up to the next commit, are at most the task budget and 4
+/// for each commit among them and one more.
 pub fn least_events_are_few<N: Naming>()
     ensures { LeastEventsAreFew N }
 {}

@@ -32,7 +32,8 @@ fn finished_in(least: Where) -> Option<TaskId>
 /// The least task, where it is finished.
 fn finished_least<N: Naming>(state: &State<N>) -> Option<TaskId>
     ensures some { IfSome result (λ id. IsLeast state.now.view (Finished id)) }
-    ensures none { IsNone result → (id : ℕ) (task : Task) → IsLeastTask state.now.view id task → task.status ≢ status.Finished }
+    ensures none { IsNone result → (id : ℕ) (task : Task) → IsLeastTask state.now.view id task
+        → task.status ≢ status.Finished }
 {
     match state.least() {
         None => None,

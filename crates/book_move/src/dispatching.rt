@@ -59,8 +59,8 @@ fn clear_core<N: Naming>(state: &mut State<N>, tile: u32) -> u32
     }
 }
 
-/// Dispatches the least idle task of a tile, which is the least task where the tile has no free core, and the run isn't over. It takes no
-/// memory.
+/// Dispatches the least idle task of a tile, which is the least task where the tile has no free core, and the run
+/// isn't over. It takes no memory.
 pub fn make_dispatch<N: Naming>(state: &mut State<N>, tile: u32, id: TaskId) -> Record
     requires sound { Sound N.image state.old.view }
     requires tile { tile < state.old.view.settings.tiles }
@@ -74,8 +74,8 @@ pub fn make_dispatch<N: Naming>(state: &mut State<N>, tile: u32, id: TaskId) -> 
     record_of(state, Deed::Dispatch, tile, aborted)
 }
 
-/// The event `Dispatch`: the least idle task of a tile goes to its lowest free core. Where none is free and it is the least task, the latest
-/// task on one is taken back first. Refused with `Ended`, `Empty` or `Busy`.
+/// The event `Dispatch`: the least idle task of a tile goes to its lowest free core. Where none is free and it is
+/// the least task, the latest task on one is taken back first. Refused with `Ended`, `Empty` or `Busy`.
 pub fn dispatch<N: Naming>(state: &mut State<N>, tile: u32) -> Came
     requires sound { Sound N.image state.old.view }
     requires tile { tile < state.old.view.settings.tiles }

@@ -1,10 +1,10 @@
 //! The events that move tasks between queues, cores and blocks: dispatch, abort, commit, coalescing and split.
 //!
-//! Each call first finds the causes to refuse its event, in their order, then makes room for what it takes, takes back what stands in its
-//! way, and makes its one change. It answers with the record that taps are told, or with the reply that refuses the event, and then nothing
-//! has changed. A call `make_..` makes an event that is granted already.
-//! It stands on the crates that change a state, and on `book_room`; the book calls it. A call costs what its change
-//! does.
+//! Each call first finds the causes to refuse its event, in their order, then makes room for what it takes, takes
+//! back what stands in its way, and makes its one change. It answers with the record that taps are told, or with
+//! the reply that refuses the event, and then nothing has changed. A call `make_..` makes an event that is granted
+//! already. It stands on the crates that change a state, and on `book_room`; the book calls it. A call costs what
+//! its change does.
 #![tactic(auto)]
 
 mod aborting;

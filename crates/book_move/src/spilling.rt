@@ -19,7 +19,8 @@ use spec_commit::{coalesce as spill, split as return_least};
 use spec_state::State;
 use trace_tap::{Deed, Record};
 
-/// Moves idle firm tasks of a tile, which has one, into its block, where the run isn't over. Refused with `Memory` at most.
+/// Moves idle firm tasks of a tile, which has one, into its block, where the run isn't over. Refused with `Memory`
+/// at most.
 fn make_coalesce<N: Naming>(state: &mut State<N>, tile: u32) -> Came
     requires tile { tile < state.old.view.settings.tiles }
     requires goes_on { IsOver state.old.view → ⊥ }
@@ -32,7 +33,8 @@ fn make_coalesce<N: Naming>(state: &mut State<N>, tile: u32) -> Came
     }
 }
 
-/// The event `Coalesce`: the latest idle firm tasks of a tile, at most eight, are spilled. Refused with `Ended`, `Empty` or `Memory`.
+/// The event `Coalesce`: the latest idle firm tasks of a tile, at most eight, are spilled. Refused with `Ended`,
+/// `Empty` or `Memory`.
 pub fn coalesce<N: Naming>(state: &mut State<N>, tile: u32) -> Came
     requires sound { Sound N.image state.old.view }
     requires tile { tile < state.old.view.settings.tiles }
@@ -62,8 +64,8 @@ fn return_to_queue<N: Naming>(state: &mut State<N>, tile: u32) -> Record
     record_of(state, Deed::Split, tile, aborted)
 }
 
-/// Brings the least task of a tile's block, which has one, back to its task queue, where that has a free entry or the task is the least
-/// one, and the run isn't over. Refused with `Memory` at most.
+/// Brings the least task of a tile's block, which has one, back to its task queue, where that has a free entry or
+/// the task is the least one, and the run isn't over. Refused with `Memory` at most.
 pub fn make_split<N: Naming>(state: &mut State<N>, tile: u32) -> Came
     requires sound { Sound N.image state.old.view }
     requires tile { tile < state.old.view.settings.tiles }
@@ -86,8 +88,8 @@ fn may_return<N: Naming>(state: &State<N>, tile: u32) -> bool
     state.has_free_entry(tile) || is_least_spilled(state, tile)
 }
 
-/// The event `Split`: the least spilled task of a tile comes back to its task queue. Where that is full and the task is the least one, the
-/// queue makes room. Refused with `Ended`, `Empty`, `Stall` or `Memory`.
+/// The event `Split`: the least spilled task of a tile comes back to its task queue. Where that is full and the
+/// task is the least one, the queue makes room. Refused with `Ended`, `Empty`, `Stall` or `Memory`.
 pub fn split<N: Naming>(state: &mut State<N>, tile: u32) -> Came
     requires sound { Sound N.image state.old.view }
     requires tile { tile < state.old.view.settings.tiles }

@@ -80,8 +80,8 @@ pub fn end_with<N: Naming>(state: &State<N>, least: Option<Where>) -> Option<End
     }
 }
 
-/// How the run ended: with no task uncommitted, with as many committed as may, or at a trap of the least task; None exactly where it
-/// goes on. It costs what `least` does.
+/// How the run ended: with no task uncommitted, with as many committed as may, or at a trap of the least task; None
+/// exactly where it goes on. It costs what `least` does.
 pub fn end_of<N: Naming>(state: &State<N>) -> Option<End>
     requires sound { Sound N.image state.now.view }
     ensures some { IfSome result (HasEnd state.now.view) }

@@ -7,7 +7,8 @@ ghost use Rattle.spec_state.specs.StateValue.{CoversPushes};
 ghost use Rattle.spec_state.specs.View.{task_at};
 ghost use Rattle.spec_state.specs.Groups.{live_creator};
 ghost use Rattle.spec_state.specs.Least.{IsFirm};
-ghost use Rattle.spec_state.specs.Room.{IsFull, IsMovable, NoneMoves, IsLeastAsker, Stalls, Coalesces, MakesRoom, asker_of};
+ghost use Rattle.spec_state.specs.Room.{IsFull, IsMovable, NoneMoves, IsLeastAsker, Stalls, Coalesces, MakesRoom};
+ghost use Rattle.spec_state.specs.Room.{asker_of};
 ghost use Rattle.step_law.specs.Forcing.{RunsIfTask};
 ghost use Rattle.book_room.specs.Entering.{MayEnter};
 
@@ -28,8 +29,8 @@ fn asks_as_least<N: Naming>(state: &State<N>, tile: u32, asker: Option<TaskId>) 
     }
 }
 
-/// Whether an entry of a tile's task queue is refused to who asks, a task for its child or else the splitter: the queue is full, none of
-/// its tasks moves, and who asks doesn't ask as the least task. No memory.
+/// Whether an entry of a tile's task queue is refused to who asks, a task for its child or else the splitter: the
+/// queue is full, none of its tasks moves, and who asks doesn't ask as the least task. No memory.
 pub fn stalls<N: Naming>(state: &State<N>, tile: u32, asker: Option<TaskId>) -> bool
     requires tile { tile < state.now.view.settings.tiles }
     ensures stalls { let who = asker_of (option_map (λ id. id.0) asker) in
@@ -71,7 +72,8 @@ fn creator_of<N: Naming>(state: &State<N>, id: TaskId) -> TaskId
     }
 }
 
-/// Takes the latest task of a full queue back, which is then idle and moves, or its creator where it isn't firm, so that it leaves.
+/// Takes the latest task of a full queue back, which is then idle and moves, or its creator where it isn't firm, so
+/// that it leaves.
 fn take_victim<N: Naming>(state: &mut State<N>, tile: u32, asker: Option<TaskId>) -> u32
     requires sound { Sound N.image state.old.view }
     requires tile { tile < state.old.view.settings.tiles }
@@ -95,8 +97,9 @@ fn take_victim<N: Naming>(state: &mut State<N>, tile: u32, asker: Option<TaskId>
     }
 }
 
-/// Makes a free entry in a tile's task queue for who asks, a running task for its child or else the splitter, which doesn't stall. It tells
-/// how many tasks were taken back for it. The tile's block has room for what moves, so it takes no memory.
+/// Makes a free entry in a tile's task queue for who asks, a running task for its child or else the splitter, which
+/// doesn't stall. It tells how many tasks were taken back for it. The tile's block has room for what moves, so it
+/// takes no memory.
 pub fn make_room<N: Naming>(state: &mut State<N>, tile: u32, asker: Option<TaskId>) -> u32
     requires sound { Sound N.image state.old.view }
     requires tile { tile < state.old.view.settings.tiles }

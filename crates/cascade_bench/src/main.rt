@@ -1,7 +1,7 @@
 //! Closes a set of nodes again and again, so that what that costs can be measured from outside.
 //!
-//! The words are the number of nodes, the shape of the relation (`rising`, `falling` or `star`) and how often to close the
-//! set of one node, as in `1024 falling 100`. It prints the size of the closed set. `bench/run` calls it.
+//! The words are the number of nodes, the shape of the relation (`rising`, `falling` or `star`) and how often to
+//! close the set of one node, as in `1024 falling 100`. It prints the size of the closed set. `bench/run` calls it.
 #![tactic(auto)]
 
 mod shape;

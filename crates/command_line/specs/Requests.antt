@@ -1,5 +1,6 @@
 -- What words ask for: a command with its settings.
-use Rattle.std.specs.Prelude.{ℕ, ◌^◌, ◌-◌, ◌≤◌, ◌&&◌, Bool, nat_le, List, [], ◌∷◌, length, codes, is_none, if◌then◌else◌}
+use Rattle.std.specs.Prelude.{ℕ, ◌^◌, ◌-◌, ◌≤◌, ◌&&◌, Bool, nat_le, List, [], ◌∷◌, length, codes, is_none}
+use Rattle.std.specs.Prelude.{if◌then◌else◌}
 use Rattle.std.specs.Prelude.{Some, None, option_and_then}
 use Rattle.std.specs.declared.option.Option.{Option}
 use Rattle.std.specs.List.{list_all}
@@ -86,7 +87,8 @@ load_of text =
 unfoldable pub load_by : Texts → Option Command
 load_by text =
     text kind >>= load_of >>= λ load. text seed >>= number_in (between 0 greatest_seed) >>= λ seed_number.
-    text size >>= number_in (between 1 (greatest_size load)) >>= λ size_number. Some (commands.Load load seed_number size_number)
+    text size >>= number_in (between 1 (greatest_size load)) >>= λ size_number.
+    Some (commands.Load load seed_number size_number)
 
 -- a command without further words
 abbrev pub alone : Command → Texts → Option Command

@@ -3,7 +3,8 @@
 ghost use Rattle.std.specs.Prelude.{◌≡◌, ◌≤◌, map, option_map, IfOk, IfSome, None, Some, if◌then◌else◌};
 ghost use Rattle.clap.specs.Words.{first_value, found_of};
 ghost use Rattle.spec_state.specs.Settings.{IsLine, IsValid};
-ghost use Rattle.command_line.specs.Requests.{HasSize, IsLimited, alone, chosen, command_by, greatest_size, load_by, load_of};
+ghost use Rattle.command_line.specs.Requests.{HasSize, IsLimited, alone, chosen, command_by, greatest_size};
+ghost use Rattle.command_line.specs.Requests.{load_by, load_of};
 ghost use Rattle.command_line.specs.Requests.{number_in, request_by, request_of, settings_by};
 ghost use Rattle.command_line.specs.Settings.{between, is_line, line as line_setting, setting};
 ghost use Rattle.command_line.specs.Reading.{text_in};

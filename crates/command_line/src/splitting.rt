@@ -3,7 +3,8 @@
 ghost use Rattle.std.specs.Prelude.{◌≡◌, ◌≢◌, map, IfOk, None, false};
 ghost use Rattle.std.specs.List.{list_any};
 ghost use Rattle.clap.specs.Words.{app_of, found_of, kind_of, rule_of};
-ghost use Rattle.command_line.specs.App.{IsSplit, command_app, option_rule, plain_app, with_limits, with_places, with_sizes};
+ghost use Rattle.command_line.specs.App.{IsSplit, command_app, option_rule, plain_app, with_limits, with_places};
+ghost use Rattle.command_line.specs.App.{with_sizes};
 ghost use Rattle.command_line.specs.Reading.{dashed, given_in, is_stray, word_of};
 
 use crate::request::Refusal;

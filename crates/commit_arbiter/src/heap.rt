@@ -7,7 +7,8 @@ ghost use Rattle.commit_arbiter.specs.Heap.{StepsUp, StepsDown};
 use crate::entry::entry_order;
 use crate::slots::Slots;
 
-/// Exchanges an entry with its parent where it is less, and tells whether it did. What stands at its place then is noted.
+/// Exchanges an entry with its parent where it is less, and tells whether it did. What stands at its place then is
+/// noted.
 fn step_up(slots: &mut Slots, at: usize) -> bool
     requires below { 0 < at }
     requires within { at < length slots.old.entries }
@@ -73,9 +74,9 @@ fn step_down(slots: &mut Slots, at: usize) -> usize
     child
 }
 
-/// Moves the one entry that may stand wrong to where it belongs: down to a leaf, past the least child of each place, and
-/// up again as far as it is less. What a removal puts there came from the end, and so mostly belongs near a leaf: this
-/// takes about one comparison a level, where a test on the way down takes two.
+/// Moves the one entry that may stand wrong to where it belongs: down to a leaf, past the least child of each
+/// place, and up again as far as it is less. What a removal puts there came from the end, and so mostly belongs
+/// near a leaf: this takes about one comparison a level, where a test on the way down takes two.
 fn settle(slots: &mut Slots, start: usize)
     requires within { start < length slots.old.entries }
     requires heap { IsHeapApart upto (entry_at slots.old.entries) (length slots.old.entries) start }

@@ -1,9 +1,11 @@
-ghost use Rattle.std.specs.Prelude.{◌≡◌, ◌≢◌, ◌<◌, ◌≤◌, ◌↔◌, AllPairs, map, [], length, IfOk, IfSome, IsNone, IsSome, IsTrue};
+ghost use Rattle.std.specs.Prelude.{◌≡◌, ◌≢◌, ◌<◌, ◌≤◌, ◌↔◌, AllPairs, map, [], length, IfOk, IfSome, IsNone};
+ghost use Rattle.std.specs.Prelude.{IsSome, IsTrue};
 ghost use Rattle.std.specs.List.Sorted.{IsStrictlyIncreasing};
 ghost use Rattle.fractal_vt.specs.Keys.{key_cmp};
 ghost use Rattle.fractal_vt.specs.Least.{IsFirstLeast};
 ghost use Rattle.fractal_vt.specs.Sorted.{IsInOrder, inserted};
-ghost use Rattle.commit_arbiter.specs.Indexed.{entry_cmp, keys, renumbered_entry, HoldsEntries, HasId, without, first_id};
+ghost use Rattle.commit_arbiter.specs.Indexed.{entry_cmp, keys, renumbered_entry, HoldsEntries, HasId, without};
+ghost use Rattle.commit_arbiter.specs.Indexed.{first_id};
 ghost use Rattle.commit_arbiter.specs.Slots.{IsPlaceOf};
 ghost use Rattle.commit_arbiter.specs.declared.entry.Entry.{Entry};
 
@@ -16,8 +18,8 @@ use std::marker::Model;
 
 /// The tasks that may commit, in their order: by key, then by tile, by arrival and by id.
 ///
-/// It is a binary heap of slot numbers. `first` costs one look, `insert` and `remove` comparisons in the logarithm of the
-/// length, where the ids are below the capacity; the entry with a greater id is found by a look at each.
+/// It is a binary heap of slot numbers. `first` costs one look, `insert` and `remove` comparisons in the logarithm
+/// of the length, where the ids are below the capacity; the entry with a greater id is found by a look at each.
 #[derive(Drop)]
 pub struct Index {
     slots: Slots,
@@ -88,7 +90,8 @@ impl Index {
         Some(self.slots.get(0).id)
     }
 
-    /// Replaces each tiebreaker by its place in a strictly rising table that holds them all. The order stays. No memory.
+    /// Replaces each tiebreaker by its place in a strictly rising table that holds them all. The order stays. No
+    /// memory.
     pub fn renumber(&mut self, table: &[u64])
         requires rising { IsStrictlyIncreasing table.now }
         requires held { HoldsEntries table.now self.old.entries }

@@ -1,4 +1,5 @@
-ghost use Rattle.std.specs.Prelude.{◌≡◌, ◌+◌, ◌-◌, ◌<◌, ◌≤◌, [], ◌∷◌, ◌++◌, length, take, replicate, slice_get, Some, IfOk, map};
+ghost use Rattle.std.specs.Prelude.{◌≡◌, ◌+◌, ◌-◌, ◌<◌, ◌≤◌, [], ◌∷◌, ◌++◌, length, take, replicate, slice_get};
+ghost use Rattle.std.specs.Prelude.{Some, IfOk, map};
 ghost use Rattle.std.specs.Prelude.{vec_capacity};
 ghost use Rattle.std.specs.List.{range_with_len};
 ghost use Rattle.std.specs.List.Sorted.{IsStrictlyIncreasing};
@@ -11,7 +12,8 @@ use std::marker::Model;
 
 /// A list of entries that stay where they are in memory: what a change moves is the number of a slot, of four bytes.
 ///
-/// The place of an entry is noted by its id, as a hint: whoever asks tests it, so nothing rests on the notes being right.
+/// The place of an entry is noted by its id, as a hint: whoever asks tests it, so nothing rests on the notes being
+/// right.
 #[derive(Drop)]
 pub(crate) struct Slots {
     /// What each slot holds, or was left with.

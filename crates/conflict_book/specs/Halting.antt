@@ -23,7 +23,8 @@ NextComes N image book came new placers =
 
 -- where an event other than a commit was made, less is left up to the next commit or the end
 abbrev pub FallsIfMoved : Advance → View → View → Type 0
-FallsIfMoved (answers.Moved aborted) old new = (before after : ℕ) → HasRest old before → HasRest new after → after < before
+FallsIfMoved (answers.Moved aborted) old new = (before after : ℕ) → HasRest old before → HasRest new after
+    → after < before
 FallsIfMoved other old new = Unit {0}
 
 -- what an advance answers of an event that was made, by its deed and how many tasks it took back
@@ -45,8 +46,8 @@ abbrev pub last_answer : Halt → Advance
 last_answer (halts.Ended end) = answers.Ended end
 last_answer halts.Memory = answers.Memory
 
--- so many events for the least tasks were made, and then the run halted; with the commits among them they are no more than the budget and
--- 4 for each commit and one more
+-- so many events for the least tasks were made, and then the run halted; with the commits among them they are no
+-- more than the budget and 4 for each commit and one more
 pub record RunsLeast (N : Type 0) (image : ImageValue) (old : BookView) (halt : Halt) (new : BookView) : Type 0 where
   pub made : ℕ
   pub advances : AdvancesBy N image made old new

@@ -217,9 +217,10 @@ impl<N: Naming, P: Placer, T: Tap> Book<N, P, T> {
         }
     }
 
-    /// Makes the event for the least task: a split where it is spilled, a dispatch where it is idle, a leg where it runs, and its commit
-    /// where it is finished. `Ended` where the run is over, and `Memory` where memory is wanting or the book was stopped; nothing changes
-    /// then. Less is left up to the next commit after each event but that.
+    /// Makes the event for the least task: a split where it is spilled, a dispatch where it is idle, a leg where it
+    /// runs, and its commit where it is finished. `Ended` where the run is over, and `Memory` where memory is
+    /// wanting or the book was stopped; nothing changes then. Less is left up to the next commit after each event
+    /// but that.
     pub fn advance(&mut self, image: &Image) -> Advance
         requires image { image.now ≡ N.image }
         ensures answers { let old = view_of P.policy T.reading self.old in

@@ -63,8 +63,8 @@ impl<N: Naming, P: Placer, T: Tap> Book<N, P, T> {
         }
     }
 
-    /// Makes an event on a tile and a core that are there, or refuses it, and then nothing changes. Each event that is made is counted, and
-    /// the taps are told of it. A stopped book answers `Memory`.
+    /// Makes an event on a tile and a core that are there, or refuses it, and then nothing changes. Each event that
+    /// is made is counted, and the taps are told of it. A stopped book answers `Memory`.
     pub fn apply(&mut self, event: Event<N>) -> Applied
         requires given { let old = view_of P.policy T.reading self.old in
             IsInRange old.view.settings event }
@@ -77,8 +77,8 @@ impl<N: Naming, P: Placer, T: Tap> Book<N, P, T> {
         self.apply_kept(&event)
     }
 
-    /// Makes or refuses events one after another, and lists their answers. `AllocError` where there is no memory for the list, and then no
-    /// event was tried.
+    /// Makes or refuses events one after another, and lists their answers. `AllocError` where there is no memory
+    /// for the list, and then no event was tried.
     pub fn apply_all(&mut self, events: Vec<Event<N>>) -> Result<Vec<Applied>, AllocError>
         requires given { let old = view_of P.policy T.reading self.old in
             All (IsInRange old.view.settings) events.items }

@@ -42,8 +42,8 @@ fn close_state<N: Naming>(sound: SoundState<N>) -> Closed
 }
 
 impl<N: Naming, P: Placer, T: Tap> Book<N, P, T> {
-    /// The committed tasks, with their memory and output, once all other tasks are taken back: a run of the serial machine. It takes no
-    /// memory.
+    /// The committed tasks, with their memory and output, once all other tasks are taken back: a run of the serial
+    /// machine. It takes no memory.
     pub fn close(self) -> Closed
         ensures closes { Closes (view_of P.policy T.reading self) result }
         ensures run { let book = view_of P.policy T.reading self in

@@ -1,8 +1,9 @@
-//! The book of the speculative machine: a sound state, with the placers that pick tiles for its tasks and the taps that note its events.
+//! The book of the speculative machine: a sound state, with the placers that pick tiles for its tasks and the taps
+//! that note its events.
 //!
-//! Its type keeps that the state is sound. A book keeps its state beside the placers, so that to pick a tile costs one call of a placer.
-//! It stands on all crates of the machine; scripts, workers and runs call it. An event costs a look at the least task
-//! beside its own change; no call copies the data.
+//! Its type keeps that the state is sound. A book keeps its state beside the placers, so that to pick a tile costs
+//! one call of a placer. It stands on all crates of the machine; scripts, workers and runs call it. An event costs
+//! a look at the least task beside its own change; no call copies the data.
 #![tactic(auto)]
 
 mod advancing;

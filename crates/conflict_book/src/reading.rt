@@ -50,8 +50,8 @@ fn running_core<N: Naming>(state: &State<N>, tile: u32, core: u32) -> Option<&Co
 }
 
 impl<N: Naming, P: Placer, T: Tap> Book<N, P, T> {
-    /// Law: what holds of every book. Its state is sound, so that its history is a run of the image that `N` names; its settings are
-    /// valid, with the task budget and the commit limit that `N` names.
+    /// Law: what holds of every book. Its state is sound, so that its history is a run of the image that `N` names;
+    /// its settings are valid, with the task budget and the commit limit that `N` names.
     pub fn is_sound(&self)
         ensures sound { Sound N.image (view_of P.policy T.reading self.now).view }
         ensures valid { IsValid (view_of P.policy T.reading self.now).view.settings }
@@ -71,8 +71,8 @@ impl<N: Naming, P: Placer, T: Tap> Book<N, P, T> {
         limited_settings(self.sound.state())
     }
 
-    /// How the run ended: with no task uncommitted, with as many committed as may, or at a trap of the least task; None exactly where it
-    /// goes on.
+    /// How the run ended: with no task uncommitted, with as many committed as may, or at a trap of the least task;
+    /// None exactly where it goes on.
     pub fn end(&self) -> Option<End>
         ensures some { IfSome result (HasEnd (view_of P.policy T.reading self.now).view) }
         ensures none { let book = view_of P.policy T.reading self.now in
@@ -102,8 +102,8 @@ impl<N: Naming, P: Placer, T: Tap> Book<N, P, T> {
         self.sound.state().loads()
     }
 
-    /// The core to which the running task on a core of a tile has come, within the task budget; None exactly where no running task is
-    /// there.
+    /// The core to which the running task on a core of a tile has come, within the task budget; None exactly where
+    /// no running task is there.
     pub fn core_at(&self, tile: u32, core: u32) -> Option<&Core>
         requires tile { tile < (view_of P.policy T.reading self.now).view.settings.tiles }
         requires core { core < (view_of P.policy T.reading self.now).view.settings.cores }

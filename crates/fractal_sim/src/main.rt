@@ -1,7 +1,7 @@
-//! Runs a guest program on the machine of tiles, plays a script on it, or checks the report of a run: the image comes
-//! from standard input or is generated, and the report, or a line that says what is wrong, goes to standard output.
-//! Everything is found before anything is written; a run takes memory for its tasks, its journal and its output, and one
-//! copy of the data memory.
+//! Runs a guest program on the machine of tiles, plays a script on it, or checks the report of a run: the image
+//! comes from standard input or is generated, and the report, or a line that says what is wrong, goes to standard
+//! output. Everything is found before anything is written; a run takes memory for its tasks, its journal and its
+//! output, and one copy of the data memory.
 #![tactic(auto)]
 
 mod checking;

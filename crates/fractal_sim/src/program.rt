@@ -19,17 +19,17 @@ use trace_tap::Tap;
 
 /// Does what the words ask for, on the bytes of the source, and writes what comes of it to the sink.
 ///
-/// The words are those behind the program's name. A run is made by the machine of the settings that they choose: without
-/// workers one event for its least task after another, with workers by so many host threads, each of which passes the
-/// gate outside the lock before it hands in a leg. A script is played act by act. The first of the placers picks tiles
-/// for a phase of commits, then the next one does, and each tap notes each event. Where the outcome tells how many events
-/// there were, they lead from the opening to the run that it holds.
+/// The words are those behind the program's name. A run is made by the machine of the settings that they choose:
+/// without workers one event for its least task after another, with workers by so many host threads, each of which
+/// passes the gate outside the lock before it hands in a leg. A script is played act by act. The first of the
+/// placers picks tiles for a phase of commits, then the next one does, and each tap notes each event. Where the
+/// outcome tells how many events there were, they lead from the opening to the run that it holds.
 ///
-/// The outcome holds nothing, or a run of the serial machine from the image that was read or generated: its journal, the
-/// memory and the output that it leads to, and its end. The run meets the laws of runs. The status tells what was found,
-/// and the sink took the text that tells it and no other byte; where the sink failed it took a front of that text. Where
-/// the words are refused or ask for a generated image the source is left alone; else at most 67,108,864 of its bytes are
-/// taken, or one more where it has more than that.
+/// The outcome holds nothing, or a run of the serial machine from the image that was read or generated: its
+/// journal, the memory and the output that it leads to, and its end. The run meets the laws of runs. The status
+/// tells what was found, and the sink took the text that tells it and no other byte; where the sink failed it took
+/// a front of that text. Where the words are refused or ask for a generated image the source is left alone; else at
+/// most 67,108,864 of its bytes are taken, or one more where it has more than that.
 pub fn top<R: Threads + Wait + Sync, S: Source, K: Sink, G: Gate + Sync>(
     rt: &R,
     alloc: Global,

@@ -26,7 +26,11 @@ renumbered table domain = map (renumbered_level table) domain
 
 -- the same of all levels of a key; an open tiebreaker stays open
 abbrev pub renumbered_key : List ℕ → Key → Key
-renumbered_key table key = record { domain = renumbered table key.domain; ts = key.ts; tb = option_map (place_in table) key.tb }
+renumbered_key table key = record {
+  domain = renumbered table key.domain;
+  ts = key.ts;
+  tb = option_map (place_in table) key.tb;
+}
 
 -- the level is open, or its tiebreaker stands in the table
 abbrev pub IsHeld : List ℕ → Open → Type 0
@@ -56,7 +60,8 @@ RenumberingKeepsPrefixes =
 abbrev pub RenumberingKeepsDomains : Type 0
 RenumberingKeepsDomains =
     (table : List ℕ) (domain : List Level) (key : Key) → HoldsDomain table domain → HoldsKey table key
-    → Begins (map closed (renumbered table domain)) (levels (renumbered_key table key)) ↔ Begins (map closed domain) (levels key)
+    → Begins (map closed (renumbered table domain)) (levels (renumbered_key table key))
+    ↔ Begins (map closed domain) (levels key)
 
 -- two numbers of a table have one place exactly where they are one
 abbrev pub NumbersStayApart : Type 0

@@ -2,7 +2,8 @@ ghost use Rattle.std.specs.Cmp.{IsTotalOrder};
 ghost use Rattle.fractal_vt.specs.Keys.{key_cmp};
 ghost use Rattle.fractal_vt.specs.Renumbered.{RenumberingKeepsOrder, RenumberingKeepsPrefixes, RenumberingKeepsDomains};
 ghost use Rattle.fractal_vt.specs.Renumbered.{NumbersStayApart, PlacesAreWhereNumbersStand};
-ghost use Rattle.fractal_vt.specs.Laws.{OnlyEqualKeysTie, ExtensionsAreGreater, OpenIsAboveNumbers, DeeperIsLess, LastLevelsDecide};
+ghost use Rattle.fractal_vt.specs.Laws.{OnlyEqualKeysTie, ExtensionsAreGreater, OpenIsAboveNumbers, DeeperIsLess};
+ghost use Rattle.fractal_vt.specs.Laws.{LastLevelsDecide};
 
 /// Law: the order of keys is a total order.
 pub fn cmp_is_total()

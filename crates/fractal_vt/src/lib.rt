@@ -1,7 +1,7 @@
-//! Fractal virtual times: the keys by which the machine orders its tasks, and the domains in which they lie. A `Vt` is a
-//! list of a few levels in place (an `ArrayVec`), and a `Key` is a domain and one level more, whose tiebreaker may be open.
-//! No call takes memory; each costs at most one walk over the levels, and a renumbering a search by halving in its table
-//! for each level. The machine's parts that keep keys stand on it.
+//! Fractal virtual times: the keys by which the machine orders its tasks, and the domains in which they lie. A `Vt`
+//! is a list of a few levels in place (an `ArrayVec`), and a `Key` is a domain and one level more, whose tiebreaker
+//! may be open. No call takes memory; each costs at most one walk over the levels, and a renumbering a search by
+//! halving in its table for each level. The machine's parts that keep keys stand on it.
 #![tactic(auto)]
 
 mod key;

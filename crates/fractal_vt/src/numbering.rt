@@ -37,7 +37,8 @@ pub fn renumber(vt: &Vt, table: &[u64]) -> Vt
     vt.renumbered(table)
 }
 
-/// The key with each tiebreaker replaced by its place in the table, as `renumber` does; an open one stays open. No memory.
+/// The key with each tiebreaker replaced by its place in the table, as `renumber` does; an open one stays open. No
+/// memory.
 pub fn renumber_key(key: &Key, table: &[u64]) -> Key
     requires rising { IsStrictlyIncreasing table.now }
     ensures { result ≡ renumbered_key table.now key.now }

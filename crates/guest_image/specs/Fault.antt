@@ -1,7 +1,8 @@
 -- How a fault of an image is told: its number, and an offset in the bytes.
 use Rattle.std.specs.Prelude.{ℕ}
 use Rattle.guest_image.specs.declared.fault.ImageFault.{ImageFault}
-use Rattle.guest_image.specs.declared.fault.ImageFault.TheVariants.{Short, Magic, Version, RootKind, Limit, Window, NoTask, Memory}
+use Rattle.guest_image.specs.declared.fault.ImageFault.TheVariants.{Short, Magic, Version, RootKind, Limit, Window}
+use Rattle.guest_image.specs.declared.fault.ImageFault.TheVariants.{NoTask, Memory}
 
 -- the faults are numbered from 1 in the order of the header's fields; want of memory is no fault of the bytes
 abbrev pub fault_number : ImageFault → ℕ

@@ -1,11 +1,12 @@
 -- The limits of an image.
-use Rattle.std.specs.Prelude.{ℕ, ◌≡◌, ◌+◌, ◌*◌, ◌%◌, ◌||◌, ◌==◌, ◌≤◌, ◌<◌, not, min, nat_lt, length, Result, Ok, Err, if◌then◌else◌}
+use Rattle.std.specs.Prelude.{ℕ, ◌≡◌, ◌+◌, ◌*◌, ◌%◌, ◌||◌, ◌==◌, ◌≤◌, ◌<◌, not, min, nat_lt, length, Result, Ok}
+use Rattle.std.specs.Prelude.{Err, if◌then◌else◌}
 use Rattle.guest_image.specs.declared.fault.ImageFault.{ImageFault}
 use Rattle.guest_image.specs.declared.fault.ImageFault.TheVariants as faults
 use Rattle.guest_image.specs.ImageValue.{ImageValue}
 
--- each row of the table of limits, over the lengths of the text, the initial data and the tasks: where the test holds it
--- is this fault, else the next row is tried
+-- each row of the table of limits, over the lengths of the text, the initial data and the tasks: where the test
+-- holds it is this fault, else the next row is tried
 unfoldable pub limits_fault : (text initial data_size window_offset window_words tasks : ℕ)
     → Result (Unit {0}) ImageFault
 limits_fault text initial data_size window_offset window_words tasks =

@@ -29,9 +29,9 @@ pub struct ImageTask {
     pub args: [u32; 3],
 }
 
-/// A program, its data and its initial tasks, within the limits of the format: at most 65,536 words of text, 16,777,216
-/// bytes of data that begin with the initial bytes, a window of at most 4,096 words that lies in the data from a multiple
-/// of 4 on, and 1 to 65,536 tasks.
+/// A program, its data and its initial tasks, within the limits of the format: at most 65,536 words of text,
+/// 16,777,216 bytes of data that begin with the initial bytes, a window of at most 4,096 words that lies in the
+/// data from a multiple of 4 on, and 1 to 65,536 tasks.
 #[derive(Drop)]
 pub struct Image {
     kind: Kind,
@@ -61,8 +61,8 @@ fn visit(task: ImageTask)
     ensures { IsTask task }
 {}
 
-/// Goes over the tasks and changes nothing. That each is a task of words is known of a value that is read, and of a list
-/// of them once it was gone over.
+/// Goes over the tasks and changes nothing. That each is a task of words is known of a value that is read, and of a
+/// list of them once it was gone over.
 fn visit_all(tasks: &[ImageTask])
     ensures { All IsTask tasks.now }
 {
@@ -75,9 +75,9 @@ impl Image {
     ghost use Rattle.guest_image.specs.ImageValue.{IsImage, image_value};
     ghost use Rattle.guest_image.specs.Limits.{AreWithinLimits, AreInLimits, image_made};
 
-    /// An image of the given values, or the first of the limits that they exceed, in the order in which the limits of a
-    /// header are tried. `kind` is that of the root domain; `data_size` and `window_offset` are in bytes. A list longer than
-    /// 4,294,967,295 is told as that number. Takes no memory.
+    /// An image of the given values, or the first of the limits that they exceed, in the order in which the limits
+    /// of a header are tried. `kind` is that of the root domain; `data_size` and `window_offset` are in bytes. A
+    /// list longer than 4,294,967,295 is told as that number. Takes no memory.
     #[tactic(auto, unfolding(crate::specs::Limits::image_made))]
     pub fn new(
         kind: Kind,
@@ -192,8 +192,8 @@ impl Image {
         self.text.get((addr - TEXT_START) as usize / 4).copied()
     }
 
-    /// 1, 2 or 4 bytes of the text as a little-endian number, at an address that is a multiple of their number; None where
-    /// they lie outside the text.
+    /// 1, 2 or 4 bytes of the text as a little-endian number, at an address that is a multiple of their number;
+    /// None where they lie outside the text.
     pub fn text_load(&self, addr: u32, bytes: u32) -> Option<u32>
         requires width { (bytes ≡ 1) ⊎ (bytes ≡ 2) ⊎ (bytes ≡ 4) }
         requires aligned { addr % bytes ≡ 0 }

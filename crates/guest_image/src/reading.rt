@@ -2,7 +2,8 @@
 
 ghost use Rattle.std.specs.Prelude.{◌≡◌, ◌≢◌, ◌+◌, ◌*◌, ◌≤◌, length, IfErr, IfOk, OnOk};
 ghost use Rattle.guest_image.specs.Numbers.{word_at, half_at};
-ghost use Rattle.guest_image.specs.Reading.{Gives, image_of, header_fault, HeaderFits, whole_length, task_at, tasks_from, words_from, value_of, root_kind};
+ghost use Rattle.guest_image.specs.Reading.{Gives, image_of, header_fault, HeaderFits, whole_length, task_at};
+ghost use Rattle.guest_image.specs.Reading.{tasks_from, words_from, value_of, root_kind};
 
 use crate::fault::ImageFault;
 use crate::image::{Image, ImageTask, Kind};

@@ -4,7 +4,8 @@ ghost use Rattle.std.specs.Prelude.{◌≡◌, ◌++◌, ◌∷◌, [], length, 
 ghost use Rattle.std.specs.List.{flat_map};
 ghost use Rattle.guest_image.specs.Numbers.{word_bytes, half_bytes};
 ghost use Rattle.guest_image.specs.Reading.{image_of};
-ghost use Rattle.guest_image.specs.Writing.{kind_number, header_bytes, task_bytes, image_bytes, ReadsBack, header_numbers};
+ghost use Rattle.guest_image.specs.Writing.{kind_number, header_bytes, task_bytes, image_bytes, ReadsBack};
+ghost use Rattle.guest_image.specs.Writing.{header_numbers};
 
 use crate::image::{Image, ImageTask, Kind};
 use crate::layout::{HEADER, MAGIC, TASK, VERSION};

@@ -21,7 +21,8 @@ touched_beside notes line = list_any (λ note. same_bit note.line line) notes
 abbrev pub wrote_beside : List Note → ℕ → Bool
 wrote_beside notes line = list_any (λ note. note.write && same_bit note.line line) notes
 
--- a line is touched exactly where some noted line equals it modulo 1,024, and wrote exactly where some line noted with a write does
+-- a line is touched exactly where some noted line equals it modulo 1,024, and wrote exactly where some line noted
+-- with a write does
 pub record IsSignature (signature : Signature) (notes : List Note) : Type 0 where
   pub touched_is : (line : ℕ) → touched_of signature line ≡ touched_beside notes line
   pub wrote_is : (line : ℕ) → wrote_of signature line ≡ wrote_beside notes line
@@ -30,6 +31,7 @@ pub record IsSignature (signature : Signature) (notes : List Note) : Type 0 wher
 unfoldable pub no_lines : Signature
 no_lines = record { touched = no_bits; wrote = no_bits }
 
--- the first signature wrote some line below 1,024 that the second touched; all other lines are told apart from none of these
+-- the first signature wrote some line below 1,024 that the second touched; all other lines are told apart from none
+-- of these
 unfoldable pub meets_of : Signature → Signature → Bool
 meets_of earlier later = list_any (λ line. wrote_of earlier line && touched_of later line) (range_with_len 0 1024)

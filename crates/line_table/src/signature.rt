@@ -49,7 +49,8 @@ pub fn signatures_agree()
 
 impl Filter for Signature {
     ghost use Rattle.line_table.specs.Signature.{IsSignature, touched_of, wrote_of};
-    ghost use Rattle.line_table.specs.SignatureLaws.{noted_touched, noted_wrote, wrote_touched, cleared_touched, cleared_wrote};
+    ghost use Rattle.line_table.specs.SignatureLaws.{noted_touched, noted_wrote, wrote_touched, cleared_touched};
+    ghost use Rattle.line_table.specs.SignatureLaws.{cleared_wrote};
 
     ghost notes_are = { IsSignature };
 

@@ -13,7 +13,11 @@ cell place = DATA_START + 4 * (place % 8)
 
 -- a root task: its amount and its two cells
 abbrev pub nest_task : ℕ → ℕ → ImageTask
-nest_task seed place = record { entry = TEXT_START; ts = 0; args = (seed % 1000 + place) ∷ cell place ∷ cell (place + 3) ∷ [] }
+nest_task seed place = record {
+  entry = TEXT_START;
+  ts = 0;
+  args = (seed % 1000 + place) ∷ cell place ∷ cell (place + 3) ∷ [];
+}
 
 -- the image: the additions as text, eight cells of zeros, which are the window, and as many tasks as the size tells
 abbrev pub nest_image : ℕ → ℕ → ImageValue

@@ -25,8 +25,8 @@ lw rd rs1 = Load load.W rd rs1 (pos 0)
 abbrev pub sw : ℕ → ℕ → Instr
 sw rs2 rs1 = Store store.W rs1 rs2 (pos 0)
 
--- a breadth-first walk: the task of a node (x10) whose word in the distance table (at x11) is 0 sets it to its timestamp (x13)
--- plus 1, and enqueues the nodes at the end of its three edges at that timestamp
+-- a breadth-first walk: the task of a node (x10) whose word in the distance table (at x11) is 0 sets it to its
+-- timestamp (x13) plus 1, and enqueues the nodes at the end of its three edges at that timestamp
 unfoldable pub breadth_first_walk : List Instr
 breadth_first_walk =
     slli 5 10 2  -- slli x5, x10, 2
@@ -62,8 +62,9 @@ walk_words =
     ∷ 0x100003b7 ∷ 0x007282b3 ∷ 0x00300493 ∷ 0x00058693 ∷ 0x00040593 ∷ 0x00100893 ∷ 0x00010537 ∷ 0x0002a603
     ∷ 0x00064663 ∷ 0x00060793 ∷ 0x00000073 ∷ 0x00428293 ∷ 0xfff48493 ∷ 0xfe0494e3 ∷ 0x00000893 ∷ 0x00000073 ∷ []
 
--- nested additions: the root task has an amount (x10) and the addresses of two cells (x11 and x12); it makes an ordered subdomain with
--- two tasks, which add the amount to the second cell at timestamp 1 and to the first at timestamp 0
+-- nested additions: the root task has an amount (x10) and the addresses of two cells (x11 and x12); it makes an
+-- ordered subdomain with two tasks, which add the amount to the second cell at timestamp 1 and to the first at
+-- timestamp 0
 unfoldable pub nested_additions : List Instr
 nested_additions =
     addi 17 0 (pos 4)  -- addi x17, x0, 4

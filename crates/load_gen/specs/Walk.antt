@@ -28,8 +28,8 @@ edges size number node = edge size (2 * node + 1) ∷ edge size (2 * node + 2) �
 abbrev pub adjacency : ℕ → ℕ → List ℕ
 adjacency seed size = flat_map (λ node. edges size (random seed node) node) (range_with_len 0 size)
 
--- the image: the walk as text, the adjacency table as bytes, then a distance table of zeros, whose last four words at most are the window,
--- and one task at node 0
+-- the image: the walk as text, the adjacency table as bytes, then a distance table of zeros, whose last four words
+-- at most are the window, and one task at node 0
 abbrev pub walk_image : ℕ → ℕ → ImageValue
 walk_image seed size = record {
   kind = Ordered;

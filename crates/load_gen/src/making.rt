@@ -13,11 +13,12 @@ use std::alloc::{AllocError, Global};
 /// What an image makes its machine do.
 #[derive(Clone, Copy, Debug, PartialEq, Eq)]
 pub enum Load {
-    /// A breadth-first walk in an ordered root through a graph of as many nodes as the size tells. Each node has edges to its
-    /// children in a binary heap, and one to a node that is not after it. A whole run has two commits for each node.
+    /// A breadth-first walk in an ordered root through a graph of as many nodes as the size tells. Each node has
+    /// edges to its children in a binary heap, and one to a node that is not after it. A whole run has two commits
+    /// for each node.
     Walk,
-    /// As many tasks in an unordered root as the size tells, each of which adds an amount to two of eight cells by two tasks of a
-    /// domain of its own. A whole run has three commits for each task.
+    /// As many tasks in an unordered root as the size tells, each of which adds an amount to two of eight cells by
+    /// two tasks of a domain of its own. A whole run has three commits for each task.
     Nest,
 }
 
@@ -48,7 +49,8 @@ pub(crate) fn image_of(
     .unwrap()
 }
 
-/// The image of a load of this seed and size. The size is 1 to 100,000 for a walk, and 1 to 10,000 for nested additions.
+/// The image of a load of this seed and size. The size is 1 to 100,000 for a walk, and 1 to 10,000 for nested
+/// additions.
 pub fn make(alloc: Global, load: Load, seed: u32, size: u32) -> Result<Image, AllocError>
     requires size { IsSize load size }
     ensures image { IfOk result (λ image. image ≡ generated load seed size) }

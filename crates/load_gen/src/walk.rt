@@ -5,7 +5,8 @@ ghost use Rattle.std.specs.List.{AllByRecursion, flat_map};
 ghost use Rattle.rv_table.specs.Table.{decoded};
 ghost use Rattle.guest_image.specs.Numbers.{word_bytes};
 ghost use Rattle.load_gen.specs.Programs.{breadth_first_walk, walk_words as walk_words_lem};
-ghost use Rattle.load_gen.specs.Walk.{next_random as next_random_lem, edge as edge_lem, edges as edges_lem, adjacency as adjacency_lem, walk_image as walk_image_lem};
+ghost use Rattle.load_gen.specs.Walk.{next_random as next_random_lem, edge as edge_lem, edges as edges_lem};
+ghost use Rattle.load_gen.specs.Walk.{adjacency as adjacency_lem, walk_image as walk_image_lem};
 
 use crate::assembly::{add, addi, branch, ecall, lui, lw, slli, sw};
 use crate::making::image_of;
@@ -36,7 +37,8 @@ fn breadth_first_words() -> [u32; 24]
         add(5, 5, 7),
         lui(7, 0x1000_0000),
         add(5, 5, 7),
-        // Three edges are left. A child starts at the first word, at the timestamp in x8, with the table as its second argument.
+        // Three edges are left. A child starts at the first word, at the timestamp in x8, with the table as its
+        // second argument.
         addi(9, 0, 3),
         addi(13, 11, 0),
         addi(11, 8, 0),

@@ -16,8 +16,9 @@ use Rattle.book_event.specs.Opening.{IsOpening}
 use Rattle.book_event.specs.Advancing.{AdvancesBy}
 use Rattle.book_event.specs.End.{HasEnd}
 
--- so many events of the least tasks lead from an opening, with these placers and taps, to a book of this journal and this
--- output, of which this memory is left where all uncommitted tasks are taken back, and which ends so if the run has an end
+-- so many events of the least tasks lead from an opening, with these placers and taps, to a book of this journal
+-- and this output, of which this memory is left where all uncommitted tasks are taken back, and which ends so if
+-- the run has an end
 pub record IsLeastRun (N : Type 0) (image : ImageValue) (settings : Settings)
     (placers : List Policy) (taps : List Reading) (events : ℕ) (run : SerialRun) : Type 0 where
   pub opening : BookView

@@ -21,10 +21,12 @@ abbrev pub StandsAt : View → End → Type 0
 StandsAt view ends.Unfinished = IsOver view → ⊥
 StandsAt view end = HasEnd view end
 
--- the script, played from an opening with these placers and taps, of which this is said, leads to a book of this journal, this output and
--- this count of events, of which this memory is left where all uncommitted tasks are taken back, and which stands at this end
+-- the script, played from an opening with these placers and taps, of which this is said, leads to a book of this
+-- journal, this output and this count of events, of which this memory is left where all uncommitted tasks are taken
+-- back, and which stands at this end
 pub record IsPlayedRun (N : Type 0) (image : ImageValue) (settings : Settings) (script : List Act)
-    (placers : List Policy) (taps : List Reading) (said : List Said) (events : ℕ) (end : End) (run : SerialRun) : Type 0 where
+    (placers : List Policy) (taps : List Reading) (said : List Said) (events : ℕ) (end : End)
+    (run : SerialRun) : Type 0 where
   pub opening : BookView
   pub is_opening : IsOpening image settings placers taps opening
   pub last : BookView
@@ -41,14 +43,16 @@ abbrev pub tap_lists : BookView → List (List ℕ)
 tap_lists book = map (λ reading. reading.list) book.taps
 
 -- the script, played from one book on, leads to another, whose taps have these lists
-pub record IsTold (N : Type 0) (image : ImageValue) (script : List Act) (old : BookView) (lists : List (List ℕ)) (new : BookView) : Type 0 where
+pub record IsTold (N : Type 0) (image : ImageValue) (script : List Act) (old : BookView) (lists : List (List ℕ))
+    (new : BookView) : Type 0 where
   pub said : List Said
   pub plays : Plays N image script old said new
   pub lists_are : lists ≡ tap_lists new
 
 -- a script was played so, and its taps have these lists then
 pub record IsTracedRun (N : Type 0) (image : ImageValue) (settings : Settings) (script : List Act)
-    (placers : List Policy) (taps : List Reading) (lists : List (List ℕ)) (events : ℕ) (end : End) (run : SerialRun) : Type 0 where
+    (placers : List Policy) (taps : List Reading) (lists : List (List ℕ)) (events : ℕ) (end : End)
+    (run : SerialRun) : Type 0 where
   pub said : List Said
   pub played : IsPlayedRun N image settings script placers taps said events end run
   pub lists_are : lists ≡ tap_lists played.last

@@ -23,7 +23,8 @@ pub struct Ran {
     pub end: Option<End>,
 }
 
-/// Closes a book that stands at this end, where one is told: what is left is a run of the serial machine, which ends so too.
+/// Closes a book that stands at this end, where one is told: what is left is a run of the serial machine, which
+/// ends so too.
 pub(crate) fn leave<N: Naming, P: Placer, T: Tap>(book: Book<N, P, T>, end: Option<End>) -> Ran
     requires fits { IsImage N.image }
     requires stands { IfSome end (StandsAt (view_of P.policy T.reading book).view) }

@@ -24,8 +24,9 @@ use std::thread::Threads;
 use tile_worker::{Gate, run_tiles};
 use trace_tap::Tap;
 
-/// Runs an image up to its end, or as far as memory goes: with no workers by the events of the least tasks, one after another; else by so
-/// many workers, each of whose legs passes the gate. `AllocError` where memory is wanting before the first event.
+/// Runs an image up to its end, or as far as memory goes: with no workers by the events of the least tasks, one
+/// after another; else by so many workers, each of whose legs passes the gate. `AllocError` where memory is wanting
+/// before the first event.
 pub fn run<
     N: Naming + Send + Sync,
     P: Placer + Send,

@@ -33,8 +33,9 @@ const SETTINGS: Settings = Settings {
     phase: 1_000_000,
 };
 
-/// A reader at 0x00010000: it loads the first word of the data, stores it plus 1 into the second, and enqueues a child at 0x00010024, which
-/// ends at once, as it does itself then. A writer at 0x0001002c: it stores 7 into the first word.
+/// A reader at 0x00010000: it loads the first word of the data, stores it plus 1 into the second, and enqueues a
+/// child at 0x00010024, which ends at once, as it does itself then. A writer at 0x0001002c: it stores 7 into the
+/// first word.
 static READER_AND_WRITER: [u32; 16] = [
     0x1000_02b7,
     0x0002_a303,

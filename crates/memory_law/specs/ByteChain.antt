@@ -1,5 +1,6 @@
 -- The chain of one byte.
-use Rattle.std.specs.Prelude.{◌≡◌, ℕ, zero, suc, ◌+◌, ◌-◌, ◌/◌, ◌%◌, Bool, List, [], ◌∷◌, Option, Some, None, if◌then◌else◌, nat_le, nat_lt, ◌&&◌, unwrap_or}
+use Rattle.std.specs.Prelude.{◌≡◌, ℕ, zero, suc, ◌+◌, ◌-◌, ◌/◌, ◌%◌, Bool, List, [], ◌∷◌, Option, Some, None}
+use Rattle.std.specs.Prelude.{if◌then◌else◌, nat_le, nat_lt, ◌&&◌, unwrap_or}
 use Rattle.undo_log.specs.declared.access.Access.{Access}
 
 -- the byte of a number at a place, from the least one on
@@ -24,7 +25,8 @@ byte_events k (access ∷ log) =
     then (digit access.old (k - access.offset), new_digit access.new (k - access.offset)) ∷ byte_events k log
     else byte_events k log
 
--- the first old value is the byte as it was, each further one is what the access before it left, and the last one left the byte as it is
+-- the first old value is the byte as it was, each further one is what the access before it left, and the last one
+-- left the byte as it is
 abbrev pub IsByteChain : ℕ → List (ℕ × Option ℕ) → ℕ → Type 0
 IsByteChain byte [] now = byte ≡ now
 IsByteChain byte ((old, new) ∷ events) now = (byte ≡ old) × IsByteChain (unwrap_or new byte) events now

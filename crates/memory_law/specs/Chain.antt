@@ -5,7 +5,8 @@ use Rattle.memory_law.specs.Accesses.{replayed, Replays, AllHaveRoom}
 use Rattle.memory_law.specs.ByteChain.{byte_events, IsByteChain}
 use Rattle.memory_law.specs.Tasks.{Logged, IsNoted, logs, IsByKey}
 
--- the accesses of the dispatched tasks, by key and then by place in the log, lead each byte from the serial memory to the memory
+-- the accesses of the dispatched tasks, by key and then by place in the log, lead each byte from the serial memory
+-- to the memory
 pub record IsChained (line : ℕ) (tasks : ℕ → Option Logged) (serial memory : List ℕ) : Type 0 where
   pub ids : List ℕ
   pub by_key : IsByKey tasks ids

@@ -1,11 +1,13 @@
 -- What the events of the machine change of what memory reads of the tasks.
-use Rattle.std.specs.Prelude.{◌↔◌, ◌==◌, if◌then◌else◌, ◌≡◌, ◌≢◌, ◌⊎◌, ℕ, Bool, true, false, List, [], ◌∷◌, ◌++◌, length, Option, Some, None}
+use Rattle.std.specs.Prelude.{◌↔◌, ◌==◌, if◌then◌else◌, ◌≡◌, ◌≢◌, ◌⊎◌, ℕ, Bool, true, false, List, [], ◌∷◌, ◌++◌}
+use Rattle.std.specs.Prelude.{length, Option, Some, None}
 use Rattle.undo_log.specs.declared.access.Access.{Access}
 use Rattle.undo_log.specs.Number.{number_at, IsAccessible}
 use Rattle.memory_law.specs.Tasks.{Logged, IsNoted, Earlier}
 
 -- a dispatched task's log grows by an access to the memory, which its filter notes, and all other tasks stay
-pub record Accesses (line : ℕ) (memory : List ℕ) (old new : ℕ → Option Logged) (id : ℕ) (was now : Logged) (access : Access) : Type 0 where
+pub record Accesses (line : ℕ) (memory : List ℕ) (old new : ℕ → Option Logged) (id : ℕ) (was now : Logged)
+    (access : Access) : Type 0 where
   pub there : old id ≡ Some was
   pub changed : new id ≡ Some now
   pub others : (k : ℕ) → k ≢ id → new k ≡ old k
@@ -19,23 +21,28 @@ pub record Accesses (line : ℕ) (memory : List ℕ) (old new : ℕ → Option L
 
 -- no later dispatched task wrote the line, by its filter
 abbrev pub NoLaterWrote : (ℕ → Option Logged) → Logged → ℕ → Type 0
-NoLaterWrote tasks task at = (k : ℕ) (other : Logged) → tasks k ≡ Some other → other.dispatched ≡ true → Earlier task other → other.wrote at ≡ false
+NoLaterWrote tasks task at = (k : ℕ) (other : Logged) → tasks k ≡ Some other → other.dispatched ≡ true
+    → Earlier task other → other.wrote at ≡ false
 
 -- no later dispatched task touched the line, by its filter
 abbrev pub NoLaterTouched : (ℕ → Option Logged) → Logged → ℕ → Type 0
-NoLaterTouched tasks task at = (k : ℕ) (other : Logged) → tasks k ≡ Some other → other.dispatched ≡ true → Earlier task other → other.touched at ≡ false
+NoLaterTouched tasks task at = (k : ℕ) (other : Logged) → tasks k ≡ Some other → other.dispatched ≡ true
+    → Earlier task other → other.touched at ≡ false
 
 -- the set holds each later dispatched task that wrote the line, by its filter
 abbrev pub HoldsLaterWriters : (ℕ → Bool) → (ℕ → Option Logged) → Logged → ℕ → Type 0
 HoldsLaterWriters set tasks task at =
-    (k : ℕ) (other : Logged) → tasks k ≡ Some other → other.dispatched ≡ true → Earlier task other → other.wrote at ≡ true → set k ≡ true
+    (k : ℕ) (other : Logged) → tasks k ≡ Some other → other.dispatched ≡ true → Earlier task other
+    → other.wrote at ≡ true → set k ≡ true
 
 -- the set holds each later dispatched task that touched the line, by its filter
 abbrev pub HoldsLaterTouchers : (ℕ → Bool) → (ℕ → Option Logged) → Logged → ℕ → Type 0
 HoldsLaterTouchers set tasks task at =
-    (k : ℕ) (other : Logged) → tasks k ≡ Some other → other.dispatched ≡ true → Earlier task other → other.touched at ≡ true → set k ≡ true
+    (k : ℕ) (other : Logged) → tasks k ≡ Some other → other.dispatched ≡ true → Earlier task other
+    → other.touched at ≡ true → set k ≡ true
 
--- with each member the set holds each later dispatched task that touched a line which the member wrote, by their filters
+-- with each member the set holds each later dispatched task that touched a line which the member wrote, by their
+-- filters
 abbrev pub HoldsLater : (ℕ → Bool) → (ℕ → Option Logged) → Type 0
 HoldsLater set tasks =
     (a b : ℕ) (x y : Logged) (at : ℕ) → tasks a ≡ Some x → tasks b ≡ Some y → x.dispatched ≡ true → y.dispatched ≡ true
@@ -43,7 +50,8 @@ HoldsLater set tasks =
 
 -- each member of the set leaves, or is idle with an empty log, and all other tasks stay
 pub record TakesBack (set : ℕ → Bool) (old new : ℕ → Option Logged) : Type 0 where
-  pub members : (id : ℕ) (task : Logged) → set id ≡ true → new id ≡ Some task → (task.dispatched ≡ false) × (task.log ≡ [])
+  pub members : (id : ℕ) (task : Logged) → set id ≡ true → new id ≡ Some task
+      → (task.dispatched ≡ false) × (task.log ≡ [])
   pub others : (id : ℕ) → set id ≡ false → new id ≡ old id
 
 -- an idle task is dispatched with an empty log, its key ties with that of no dispatched task, and all other tasks stay
@@ -53,7 +61,8 @@ pub record Dispatches (old new : ℕ → Option Logged) (id : ℕ) (now : Logged
   pub others : (k : ℕ) → k ≢ id → new k ≡ old k
   pub dispatched : now.dispatched ≡ true
   pub log : now.log ≡ []
-  pub ordered : (k : ℕ) (other : Logged) → k ≢ id → old k ≡ Some other → other.dispatched ≡ true → Earlier other now ⊎ Earlier now other
+  pub ordered : (k : ℕ) (other : Logged) → k ≢ id → old k ≡ Some other → other.dispatched ≡ true
+      → Earlier other now ⊎ Earlier now other
 
 -- the least task leaves, which is dispatched and earlier than all other dispatched tasks, and all of them stay
 pub record Commits (old new : ℕ → Option Logged) (id : ℕ) (task : Logged) : Type 0 where
@@ -73,7 +82,8 @@ pub record IsLatest (set : ℕ → Bool) (tasks : ℕ → Option Logged) (id : �
   pub there : tasks id ≡ Some task
   pub dispatched : task.dispatched ≡ true
   pub member : set id ≡ true
-  pub none_later : (k : ℕ) (other : Logged) → tasks k ≡ Some other → other.dispatched ≡ true → Earlier task other → set k ≡ false
+  pub none_later : (k : ℕ) (other : Logged) → tasks k ≡ Some other → other.dispatched ≡ true → Earlier task other
+      → set k ≡ false
 
 -- the set without one member
 abbrev pub without_one : ℕ → (ℕ → Bool) → ℕ → Bool

@@ -6,25 +6,31 @@ use Rattle.undo_log.specs.Undo.{undone}
 use Rattle.memory_law.specs.Accesses.{replayed, Replays, Apart}
 use Rattle.memory_law.specs.Tasks.{Logged, IsLineSize, IsByKey, undone_set}
 use Rattle.memory_law.specs.Chain.{IsChained, IsReplay}
-use Rattle.memory_law.specs.Events.{Accesses, NoLaterWrote, NoLaterTouched, HoldsLaterWriters, HoldsLaterTouchers, HoldsLater, TakesBack, Dispatches, Commits, KeepsDispatched, IsLatest, without_one}
+use Rattle.memory_law.specs.Events.{Accesses, NoLaterWrote, NoLaterTouched, HoldsLaterWriters, HoldsLaterTouchers}
+use Rattle.memory_law.specs.Events.{HoldsLater, TakesBack, Dispatches, Commits, KeepsDispatched, IsLatest}
+use Rattle.memory_law.specs.Events.{without_one}
 
 -- the accesses chain in each byte exactly where the logs, replayed by rising key, make the memory
 abbrev pub ChainIsReplay : Type 0
 ChainIsReplay =
-    (line : ℕ) (tasks : ℕ → Option Logged) (serial memory : List ℕ) → IsChained line tasks serial memory ↔ IsReplay line tasks serial memory
+    (line : ℕ) (tasks : ℕ → Option Logged) (serial memory : List ℕ)
+    → IsChained line tasks serial memory ↔ IsReplay line tasks serial memory
 
 -- a load of a line that no later task wrote keeps the chain
 abbrev pub LoadKeepsChain : Type 0
 LoadKeepsChain =
     (line : ℕ) (old new : ℕ → Option Logged) (id : ℕ) (was now : Logged) (access : Access) (serial memory : List ℕ)
-    → IsLineSize line → Accesses line memory old new id was now access → access.new ≡ None → NoLaterWrote old was (access.offset / line)
+    → IsLineSize line → Accesses line memory old new id was now access → access.new ≡ None
+    → NoLaterWrote old was (access.offset / line)
     → IsChained line old serial memory → IsChained line new serial memory
 
 -- a store to a line that no later task touched keeps the chain, to the memory with its value written
 abbrev pub StoreKeepsChain : Type 0
 StoreKeepsChain =
-    (line : ℕ) (old new : ℕ → Option Logged) (id : ℕ) (was now : Logged) (access : Access) (value : ℕ) (serial memory : List ℕ)
-    → IsLineSize line → Accesses line memory old new id was now access → access.new ≡ Some value → NoLaterTouched old was (access.offset / line)
+    (line : ℕ) (old new : ℕ → Option Logged) (id : ℕ) (was now : Logged) (access : Access) (value : ℕ)
+    (serial memory : List ℕ)
+    → IsLineSize line → Accesses line memory old new id was now access → access.new ≡ Some value
+    → NoLaterTouched old was (access.offset / line)
     → IsChained line old serial memory → IsChained line new serial (written memory access.offset access.width value)
 
 -- a closed set of tasks that is taken back, the latest first, leaves the chain of the others
@@ -39,7 +45,8 @@ abbrev pub NoConflictIsLeft : Type 0
 NoConflictIsLeft =
     (set : ℕ → Bool) (old new : ℕ → Option Logged) (task : Logged) (at : ℕ)
     → TakesBack set old new
-    → (HoldsLaterWriters set old task at → NoLaterWrote new task at) × (HoldsLaterTouchers set old task at → NoLaterTouched new task at)
+    → (HoldsLaterWriters set old task at → NoLaterWrote new task at)
+    × (HoldsLaterTouchers set old task at → NoLaterTouched new task at)
 
 -- a dispatch keeps the chain
 abbrev pub DispatchKeepsChain : Type 0
@@ -47,7 +54,8 @@ DispatchKeepsChain =
     (line : ℕ) (old new : ℕ → Option Logged) (id : ℕ) (now : Logged) (serial memory : List ℕ)
     → Dispatches old new id now → IsChained line old serial memory → IsChained line new serial memory
 
--- at the commit of the least task its log replays on the serial memory, and the others chain from the memory that it makes
+-- at the commit of the least task its log replays on the serial memory, and the others chain from the memory that
+-- it makes
 abbrev pub CommitKeepsChain : Type 0
 CommitKeepsChain =
     (line : ℕ) (old new : ℕ → Option Logged) (id : ℕ) (task : Logged) (serial memory : List ℕ)

@@ -14,4 +14,5 @@ notes_of line (access ∷ log) = record { line = access.offset / line; write = i
 abbrev pub LeavesNoneOut : {F : Type 0} → (F → List Note → Type 0) → (F → ℕ → Bool) → (F → ℕ → Bool) → Type 0
 LeavesNoneOut {F} notes_are touched wrote =
     (filter : F) (size line : ℕ) (log : List Access)
-    → AllAccessible size log → notes_are filter (notes_of line log) → AreNoted size line (touched filter) (wrote filter) log
+    → AllAccessible size log → notes_are filter (notes_of line log)
+    → AreNoted size line (touched filter) (wrote filter) log

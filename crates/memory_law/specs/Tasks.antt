@@ -1,5 +1,6 @@
 -- What memory reads of the uncommitted tasks, which are given by their ids.
-use Rattle.std.specs.Prelude.{◌≡◌, ◌⊎◌, ℕ, ◌/◌, ◌%◌, ◌<◌, Bool, true, List, [], ◌∷◌, ◌++◌, Option, Some, None, if◌then◌else◌}
+use Rattle.std.specs.Prelude.{◌≡◌, ◌⊎◌, ℕ, ◌/◌, ◌%◌, ◌<◌, Bool, true, List, [], ◌∷◌, ◌++◌, Option, Some, None}
+use Rattle.std.specs.Prelude.{if◌then◌else◌}
 use Rattle.std.specs.declared.cmp.Ordering.TheVariants.{Less}
 use Rattle.fractal_vt.specs.Levels.{Open, levels_cmp}
 use Rattle.undo_log.specs.declared.access.Access.{Access}
@@ -71,7 +72,8 @@ pub record IsByKey (tasks : ℕ → Option Logged) (ids : List ℕ) : Type 0 whe
   pub ascends : Ascends tasks ids
   pub complete : (id : ℕ) (task : Logged) → tasks id ≡ Some task → task.dispatched ≡ true → Member id ids
 
--- the memory after the logs of the set's members among these are taken back, the last one first, each from its last access on
+-- the memory after the logs of the set's members among these are taken back, the last one first, each from its last
+-- access on
 abbrev pub undone_set : (ℕ → Bool) → (ℕ → Option Logged) → List ℕ → List ℕ → List ℕ
 undone_set set tasks [] memory = memory
 undone_set set tasks (id ∷ ids) memory =

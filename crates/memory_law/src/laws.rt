@@ -1,12 +1,15 @@
 // The laws of memory.
 
 ghost use Rattle.memory_law.specs.Notes.{LeavesNoneOut};
-ghost use Rattle.memory_law.specs.Laws.{ChainIsReplay, OrderIsOne, LoadKeepsChain, StoreKeepsChain, AbortKeepsChain, DispatchKeepsChain, CommitKeepsChain, AllUndoneIsSerial, UndispatchedIsChained, IdleTasksKeepChain, LatestFirst, LinesShareNoByte, NoConflictIsLeft};
+ghost use Rattle.memory_law.specs.Laws.{ChainIsReplay, OrderIsOne, LoadKeepsChain, StoreKeepsChain};
+ghost use Rattle.memory_law.specs.Laws.{AbortKeepsChain, DispatchKeepsChain, CommitKeepsChain, AllUndoneIsSerial};
+ghost use Rattle.memory_law.specs.Laws.{UndispatchedIsChained, IdleTasksKeepChain, LatestFirst, LinesShareNoByte};
+ghost use Rattle.memory_law.specs.Laws.{NoConflictIsLeft};
 
 use line_table::Filter;
 
-/// Law: the accesses of the dispatched tasks chain in each byte exactly where their logs, replayed on the serial memory by rising key,
-/// make the memory.
+/// Law: the accesses of the dispatched tasks chain in each byte exactly where their logs, replayed on the serial
+/// memory by rising key, make the memory.
 pub fn chain_is_replay()
     ensures { ChainIsReplay }
 {}
@@ -26,13 +29,14 @@ pub fn store_keeps_chain()
     ensures { StoreKeepsChain }
 {}
 
-/// Law: a set that holds, with each member, each later task that touched a line which the member wrote is taken back, the latest first,
-/// and the other tasks chain to the memory that is left.
+/// Law: a set that holds, with each member, each later task that touched a line which the member wrote is taken
+/// back, the latest first, and the other tasks chain to the memory that is left.
 pub fn abort_keeps_chain()
     ensures { AbortKeepsChain }
 {}
 
-/// Law: where the later dispatched tasks that conflict with an access are taken back, none is left that conflicts with it.
+/// Law: where the later dispatched tasks that conflict with an access are taken back, none is left that conflicts
+/// with it.
 pub fn no_conflict_is_left()
     ensures { NoConflictIsLeft }
 {}
@@ -42,7 +46,8 @@ pub fn dispatch_keeps_chain()
     ensures { DispatchKeepsChain }
 {}
 
-/// Law: when the least task commits, its log replays on the serial memory, and the other tasks chain from the serial memory that it makes.
+/// Law: when the least task commits, its log replays on the serial memory, and the other tasks chain from the
+/// serial memory that it makes.
 pub fn commit_keeps_chain()
     ensures { CommitKeepsChain }
 {}

@@ -1,8 +1,10 @@
-//! The laws of memory under speculation: how the accesses of the uncommitted tasks chain, and that each kind of event keeps the chain.
+//! The laws of memory under speculation: how the accesses of the uncommitted tasks chain, and that each kind of
+//! event keeps the chain.
 //!
-//! They are definitions over what memory reads of a task (`Logged`), with tasks given as a function from ids, and each law is the contract
-//! of a function that does nothing and costs nothing. They hold of any filter that leaves no access out, and of any line of whole words.
-//! It stands on logs, filters and keys; the laws of states stand on it.
+//! They are definitions over what memory reads of a task (`Logged`), with tasks given as a function from ids, and
+//! each law is the contract of a function that does nothing and costs nothing. They hold of any filter that leaves
+//! no access out, and of any line of whole words. It stands on logs, filters and keys; the laws of states stand on
+//! it.
 #![tactic(auto)]
 
 mod laws;

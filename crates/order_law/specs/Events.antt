@@ -1,6 +1,7 @@
--- What each event does to the tasks, as their order reads them: dispatch, abort, enqueue, commit and spill are those of Swarm
--- (Jeffrey et al. 2015), the three places of a child those of Fractal (Subramanian et al. 2017).
-use Rattle.std.specs.Prelude.{◌≡◌, ◌≢◌, ◌≤◌, ◌<◌, ◌⊎◌, ◌↔◌, ◌-◌, ℕ, nat_lt, Bool, true, false, List, length, slice_get, Option, Some, None, if◌then◌else◌}
+-- What each event does to the tasks, as their order reads them: dispatch, abort, enqueue, commit and spill are
+-- those of Swarm (Jeffrey et al. 2015), the three places of a child those of Fractal (Subramanian et al. 2017).
+use Rattle.std.specs.Prelude.{◌≡◌, ◌≢◌, ◌≤◌, ◌<◌, ◌⊎◌, ◌↔◌, ◌-◌, ℕ, nat_lt, Bool, true, false, List, length}
+use Rattle.std.specs.Prelude.{slice_get, Option, Some, None, if◌then◌else◌}
 use Rattle.std.specs.declared.cmp.Ordering.TheVariants.{Greater}
 use Rattle.fractal_vt.specs.Levels.{Open, levels_cmp}
 use Rattle.fractal_vt.specs.declared.vt.TheConstants.{MAX_LEVELS}
@@ -31,20 +32,22 @@ pub record Dispatches (old new : ℕ → Option Keyed) (next : ℕ) : Type 0 whe
   pub idle : task.last.tb ≡ None
   pub changes : Changes old new id (Some (numbered task next))
 
--- an abort of a set that holds the children of its members: a member that stays is idle again and has no member for its creator,
--- all other tasks stay
+-- an abort of a set that holds the children of its members: a member that stays is idle again and has no member for
+-- its creator, all other tasks stay
 pub record Aborts (set : ℕ → Bool) (old new : ℕ → Option Keyed) : Type 0 where
   pub holds_children : (k c : ℕ) (x : Keyed) → old k ≡ Some x → x.creator ≡ Some c → set c ≡ true → set k ≡ true
   pub others : (k : ℕ) → set k ≡ false → new k ≡ old k
-  pub members : (k : ℕ) (x : Keyed) → set k ≡ true → new k ≡ Some x → (y : Keyed) × (old k ≡ Some y) × (x ≡ reopened y) × ((c : ℕ) → y.creator ≡ Some c → set c ≡ false)
+  pub members : (k : ℕ) (x : Keyed) → set k ≡ true → new k ≡ Some x
+      → (y : Keyed) × (old k ≡ Some y) × (x ≡ reopened y) × ((c : ℕ) → y.creator ≡ Some c → set c ≡ false)
 
 -- in an ordered domain the timestamp is not below the bound, and in an unordered one it is 0
 pub record IsAllowed (child : Keyed) (bound : ℕ) : Type 0 where
   pub late : child.ordered ≡ true → bound ≤ child.last.ts
   pub timely : IsTimely child.ordered child.last
 
--- the child stands in one of the three places, at a timestamp that its domain allows: from the creator's own timestamp on in the
--- creator's domain, at any in the subdomain if there may be one so deep, and from that of the level that it shares on in the superdomain
+-- the child stands in one of the three places, at a timestamp that its domain allows: from the creator's own
+-- timestamp on in the creator's domain, at any in the subdomain if there may be one so deep, and from that of the
+-- level that it shares on in the superdomain
 abbrev pub IsPlaced : Keyed → Keyed → Type 0
 IsPlaced creator child =
     (IsSame creator child × IsAllowed child creator.last.ts)

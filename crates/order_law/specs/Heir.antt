@@ -19,4 +19,5 @@ IsAbove tasks low id = (x : Keyed) × (tasks id ≡ Some x) × (levels_cmp low (
 abbrev pub PullsLater : (ℕ → Option Keyed) → (ℕ → ℕ → Bool) → Type 0
 PullsLater tasks pull =
     (a b : ℕ) → pull a b ≡ true
-    → (x : Keyed) × (y : Keyed) × (tasks a ≡ Some x) × (tasks b ≡ Some y) × ((y.creator ≡ Some a) ⊎ (levels_cmp (levels x) (levels y) ≡ Less))
+    → (x : Keyed) × (y : Keyed) × (tasks a ≡ Some x) × (tasks b ≡ Some y)
+    × ((y.creator ≡ Some a) ⊎ (levels_cmp (levels x) (levels y) ≡ Less))

@@ -20,31 +20,37 @@ OpeningIsOrdered =
 -- a dispatch keeps the order, and the next number is one higher
 abbrev pub DispatchKeepsOrder : Type 0
 DispatchKeepsOrder =
-    (old new : ℕ → Option Keyed) (path : List Open) (next : ℕ) → Dispatches old new next → IsOrdered old path next → IsOrdered new path (next + 1)
+    (old new : ℕ → Option Keyed) (path : List Open) (next : ℕ) → Dispatches old new next → IsOrdered old path next
+    → IsOrdered new path (next + 1)
 
 -- a new child, in any of the three places, keeps the order
 abbrev pub SpawnKeepsOrder : Type 0
 SpawnKeepsOrder =
-    (old new : ℕ → Option Keyed) (path : List Open) (next : ℕ) → Spawns old new → IsOrdered old path next → IsOrdered new path next
+    (old new : ℕ → Option Keyed) (path : List Open) (next : ℕ) → Spawns old new → IsOrdered old path next
+    → IsOrdered new path next
 
 -- an abort keeps the order
 abbrev pub AbortKeepsOrder : Type 0
 AbortKeepsOrder =
-    (set : ℕ → Bool) (old new : ℕ → Option Keyed) (path : List Open) (next : ℕ) → Aborts set old new → IsOrdered old path next → IsOrdered new path next
+    (set : ℕ → Bool) (old new : ℕ → Option Keyed) (path : List Open) (next : ℕ) → Aborts set old new
+    → IsOrdered old path next → IsOrdered new path next
 
 -- a commit of a dispatched least task keeps the order, and the levels of its key are the new path
 abbrev pub CommitKeepsOrder : Type 0
 CommitKeepsOrder =
     (old new : ℕ → Option Keyed) (path : List Open) (next id number : ℕ) (task : Keyed)
-    → IsLeast old id task → HasNumber task number → Commits old new id → IsOrdered old path next → IsOrdered new (levels task) next
+    → IsLeast old id task → HasNumber task number → Commits old new id → IsOrdered old path next
+    → IsOrdered new (levels task) next
 
 -- a spill and its return keep the order
 abbrev pub SpillKeepsOrder : Type 0
 SpillKeepsOrder =
     (bound : ℕ) (old new : ℕ → Option Keyed) (before after : List Keyed) (path : List Open) (next : ℕ)
-    → Moves bound old new before after → IsOrdered (beside bound old before) path next → IsOrdered (beside bound new after) path next
+    → Moves bound old new before after → IsOrdered (beside bound old before) path next
+    → IsOrdered (beside bound new after) path next
 
--- each number replaced by its place in a rising table of those in use keeps the order, and the table's length is the next number
+-- each number replaced by its place in a rising table of those in use keeps the order, and the table's length is
+-- the next number
 abbrev pub RenumberingKeepsOrder : Type 0
 RenumberingKeepsOrder =
     (table : List ℕ) (tasks : ℕ → Option Keyed) (path : List Open) (next : ℕ)
@@ -62,13 +68,15 @@ DomainNumbersAreHeld =
 -- the least task has a committed creator, the greatest depth among those tasks, and the least timestamp of its depth
 abbrev pub LeastIsInnermost : Type 0
 LeastIsInnermost =
-    (tasks : ℕ → Option Keyed) (path : List Open) (next id : ℕ) (task : Keyed) → IsOrdered tasks path next → IsLeast tasks id task → IsInnermost tasks task
+    (tasks : ℕ → Option Keyed) (path : List Open) (next id : ℕ) (task : Keyed) → IsOrdered tasks path next
+    → IsLeast tasks id task → IsInnermost tasks task
 
 -- each dispatched task but the least is above it, ties or not
 abbrev pub DispatchedAreAboveLeast : Type 0
 DispatchedAreAboveLeast =
     (tasks : ℕ → Option Keyed) (path : List Open) (next id k number : ℕ) (task x : Keyed)
-    → IsOrdered tasks path next → IsLeast tasks id task → k ≢ id → tasks k ≡ Some x → HasNumber x number → levels_cmp (levels task) (levels x) ≡ Less
+    → IsOrdered tasks path next → IsLeast tasks id task → k ≢ id → tasks k ≡ Some x → HasNumber x number
+    → levels_cmp (levels task) (levels x) ≡ Less
 
 -- a least task that has been dispatched is below all others
 abbrev pub LeastIsHeir : Type 0
@@ -103,7 +111,8 @@ AbortKeepsHeir =
 -- a spill and its return leave the heir the heir
 abbrev pub SpillKeepsHeir : Type 0
 SpillKeepsHeir =
-    (bound : ℕ) (old new : ℕ → Option Keyed) (before after : List Keyed) (path : List Open) (next heir : ℕ) (task : Keyed)
+    (bound : ℕ) (old new : ℕ → Option Keyed) (before after : List Keyed) (path : List Open) (next heir : ℕ)
+    (task : Keyed)
     → Moves bound old new before after → IsOrdered (beside bound old before) path next
     → IsHeir (beside bound old before) heir task → IsHeir (beside bound new after) heir task
 
@@ -111,19 +120,22 @@ SpillKeepsHeir =
 abbrev pub SpillKeepsLeast : Type 0
 SpillKeepsLeast =
     (bound : ℕ) (old new : ℕ → Option Keyed) (before after : List Keyed) (id now : ℕ) (task : Keyed)
-    → Moves bound old new before after → IsLeast (beside bound old before) id task → beside bound new after now ≡ Some task
+    → Moves bound old new before after → IsLeast (beside bound old before) id task
+    → beside bound new after now ≡ Some task
     → IsLeast (beside bound new after) now task
 
 -- where a task pulls no other than its children and tasks above it, a cascade lies above what its first tasks lie above
 abbrev pub CascadeLiesAbove : Type 0
 CascadeLiesAbove =
-    (tasks : ℕ → Option Keyed) (path : List Open) (next count : ℕ) (pull : ℕ → ℕ → Bool) (firsts marks : List Bool) (low : List Open)
+    (tasks : ℕ → Option Keyed) (path : List Open) (next count : ℕ) (pull : ℕ → ℕ → Bool) (firsts marks : List Bool)
+    (low : List Open)
     → IsOrdered tasks path next → PullsLater tasks pull → IsLeastClosed count pull (Marked firsts) marks
     → ((id : ℕ) → Marked firsts id → IsAbove tasks low id) → (id : ℕ) → Marked marks id → IsAbove tasks low id
 
 -- a cascade whose first tasks lie above a task does not take it
 abbrev pub CascadeSparesLower : Type 0
 CascadeSparesLower =
-    (tasks : ℕ → Option Keyed) (path : List Open) (next count : ℕ) (pull : ℕ → ℕ → Bool) (firsts marks : List Bool) (id : ℕ) (task : Keyed)
+    (tasks : ℕ → Option Keyed) (path : List Open) (next count : ℕ) (pull : ℕ → ℕ → Bool) (firsts marks : List Bool)
+    (id : ℕ) (task : Keyed)
     → IsOrdered tasks path next → PullsLater tasks pull → IsLeastClosed count pull (Marked firsts) marks
     → tasks id ≡ Some task → ((k : ℕ) → Marked firsts k → IsAbove tasks (levels task) k) → Marked marks id → ⊥

@@ -8,7 +8,10 @@ use Rattle.order_law.specs.Tasks.{Keyed, levels}
 
 -- the task with other numbers in all its levels
 abbrev pub new_task : (ℕ → ℕ) → Keyed → Keyed
-new_task number task = record task { domain = map (with_number number) task.domain; last = with_number number task.last }
+new_task number task = record task {
+  domain = map (with_number number) task.domain;
+  last = with_number number task.last;
+}
 
 -- all tasks with other numbers
 abbrev pub renumbered : (ℕ → ℕ) → (ℕ → Option Keyed) → ℕ → Option Keyed

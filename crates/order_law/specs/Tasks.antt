@@ -2,8 +2,8 @@
 use Rattle.std.specs.Prelude.{◌≡◌, ◌⊎◌, ℕ, Bool, false, List, [], ◌∷◌, ◌++◌, Option, Some}
 use Rattle.fractal_vt.specs.Levels.{Open}
 
--- the levels of a task's domain and its own level, whether each domain outside its own is ordered and whether its own is, and
--- its creator where that is uncommitted
+-- the levels of a task's domain and its own level, whether each domain outside its own is ordered and whether its
+-- own is, and its creator where that is uncommitted
 pub record Keyed : Type 0 where
   pub domain : List Open
   pub last : Open
@@ -25,7 +25,8 @@ IsTimely ordered level = ordered ≡ false → level.ts ≡ 0
 
 -- a child in its creator's own domain
 abbrev pub IsSame : Keyed → Keyed → Type 0
-IsSame creator child = (child.domain ≡ creator.domain) × (child.kinds ≡ creator.kinds) × (child.ordered ≡ creator.ordered)
+IsSame creator child = (child.domain ≡ creator.domain) × (child.kinds ≡ creator.kinds)
+    × (child.ordered ≡ creator.ordered)
 
 -- a child in the subdomain that its creator made, whose domain is the creator's whole key
 abbrev pub IsSub : Keyed → Keyed → Type 0
@@ -33,7 +34,8 @@ IsSub creator child = (child.domain ≡ levels creator) × (child.kinds ≡ crea
 
 -- a child one domain further out than its creator, where this level of the creator lies
 abbrev pub IsSuper : Keyed → Keyed → Open → Type 0
-IsSuper creator child level = (creator.domain ≡ child.domain ++ level ∷ []) × (creator.kinds ≡ child.kinds ++ child.ordered ∷ [])
+IsSuper creator child level = (creator.domain ≡ child.domain ++ level ∷ [])
+    × (creator.kinds ≡ child.kinds ++ child.ordered ∷ [])
 
 -- a child is placed in one of the three places
 abbrev pub Kin : Keyed → Keyed → Type 0

@@ -1,8 +1,11 @@
 //! The laws of the order of tasks.
 
-ghost use Rattle.order_law.specs.Laws.{AbortKeepsHeir, AbortKeepsOrder, CascadeLiesAbove, CascadeSparesLower, CommitKeepsOrder, DispatchKeepsHeir};
-ghost use Rattle.order_law.specs.Laws.{DomainNumbersAreHeld, DispatchKeepsOrder, DispatchMakesHeir, DispatchedAreAboveLeast, LeastIsHeir, LeastIsInnermost, OpeningIsOrdered};
-ghost use Rattle.order_law.specs.Laws.{RenumberingKeepsOrder, SpawnKeepsHeir, SpawnKeepsOrder, SpillKeepsHeir, SpillKeepsLeast, SpillKeepsOrder};
+ghost use Rattle.order_law.specs.Laws.{AbortKeepsHeir, AbortKeepsOrder, CascadeLiesAbove, CascadeSparesLower};
+ghost use Rattle.order_law.specs.Laws.{CommitKeepsOrder, DispatchKeepsHeir};
+ghost use Rattle.order_law.specs.Laws.{DomainNumbersAreHeld, DispatchKeepsOrder, DispatchMakesHeir};
+ghost use Rattle.order_law.specs.Laws.{DispatchedAreAboveLeast, LeastIsHeir, LeastIsInnermost, OpeningIsOrdered};
+ghost use Rattle.order_law.specs.Laws.{RenumberingKeepsOrder, SpawnKeepsHeir, SpawnKeepsOrder, SpillKeepsHeir};
+ghost use Rattle.order_law.specs.Laws.{SpillKeepsLeast, SpillKeepsOrder};
 
 /// Law: before the first event the order of the tasks holds.
 pub fn opening_is_ordered()
@@ -39,12 +42,14 @@ pub fn domain_numbers_are_held()
     ensures { DomainNumbersAreHeld }
 {}
 
-/// Law: each dispatch number replaced by its place in a rising table of the numbers in use keeps the order of the tasks.
+/// Law: each dispatch number replaced by its place in a rising table of the numbers in use keeps the order of the
+/// tasks.
 pub fn renumbering_keeps_order()
     ensures { RenumberingKeepsOrder }
 {}
 
-/// Law: the least task has a committed creator, the greatest depth among such tasks and the least timestamp of its depth.
+/// Law: the least task has a committed creator, the greatest depth among such tasks and the least timestamp of its
+/// depth.
 pub fn least_is_innermost()
     ensures { LeastIsInnermost }
 {}

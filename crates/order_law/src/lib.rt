@@ -1,8 +1,9 @@
-//! The order of the machine's tasks: what holds of keys, dispatch numbers and creators in every state, and that each event keeps it.
+//! The order of the machine's tasks: what holds of keys, dispatch numbers and creators in every state, and that
+//! each event keeps it.
 //!
-//! The tasks are a function from ids to what the order reads of them; no state of the machine is known here. Each law is the contract
-//! of a function that does nothing and costs nothing.
-//! It stands on keys and closed sets; the laws of states stand on it.
+//! The tasks are a function from ids to what the order reads of them; no state of the machine is known here. Each
+//! law is the contract of a function that does nothing and costs nothing. It stands on keys and closed sets; the
+//! laws of states stand on it.
 #![tactic(auto)]
 
 mod laws;

@@ -7,7 +7,8 @@ use spill_store::Block;
 use std::alloc::{AllocError, Global};
 use task_desc::{Desc, Name};
 
-/// Pushes so many tasks into a block and takes them all out again, so many times. Gives the last timestamp that came out.
+/// Pushes so many tasks into a block and takes them all out again, so many times. Gives the last timestamp that
+/// came out.
 pub(crate) fn fill_and_empty(alloc: Global, size: u32, rounds: u32) -> Result<u64, AllocError> {
     let mut block = Block::new(alloc);
     let mut last = 0;

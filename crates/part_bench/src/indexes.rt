@@ -5,8 +5,8 @@ use commit_arbiter::Index;
 use fractal_vt::Key;
 use std::alloc::{AllocError, Global};
 
-/// Fills an index, and then takes out a task by any id and puts one in with that id, so many times. Gives the id that is
-/// first at the end.
+/// Fills an index, and then takes out a task by any id and puts one in with that id, so many times. Gives the id
+/// that is first at the end.
 pub(crate) fn by_id(alloc: Global, size: u32, rounds: u32) -> Result<u64, AllocError>
     requires { 1 ≤ size }
 {
@@ -19,8 +19,8 @@ pub(crate) fn by_id(alloc: Global, size: u32, rounds: u32) -> Result<u64, AllocE
     Ok(first_of(&index))
 }
 
-/// Fills an index, and then takes out the first task and puts in a later one, so many times. Gives the id that is first at
-/// the end.
+/// Fills an index, and then takes out the first task and puts in a later one, so many times. Gives the id that is
+/// first at the end.
 pub(crate) fn by_first(alloc: Global, size: u32, rounds: u32) -> Result<u64, AllocError>
     requires { 1 ≤ size }
 {

@@ -1,6 +1,7 @@
 -- Tournaments: binary trees of ranks in a list, in which each node above the leaves has the lesser rank of its two
 -- children.
-use Rattle.std.specs.Prelude.{◌≡◌, ◌≢◌, ◌⊎◌, ℕ, ◌+◌, ◌*◌, ◌^◌, ◌-◌, ◌/◌, ◌<◌, ◌≤◌, min, List, length, drop, slice_index_or}
+use Rattle.std.specs.Prelude.{◌≡◌, ◌≢◌, ◌⊎◌, ℕ, ◌+◌, ◌*◌, ◌^◌, ◌-◌, ◌/◌, ◌<◌, ◌≤◌, min, List, length, drop}
+use Rattle.std.specs.Prelude.{slice_index_or}
 
 -- the rank of what isn't there: above all others
 abbrev pub no_rank : ℕ

@@ -1,8 +1,8 @@
 //! The pending tasks of a domain, in the order of their arrival, with an index by name and one by timestamp.
 //!
-//! A task joins at the end, is found and leaves by its name, and the first of the least timestamp is at hand: a join, a look by
-//! name and a leave cost the logarithm of the number of tasks, the look at the first one step.
-//! It stands on task descriptors; the serial machine calls it.
+//! A task joins at the end, is found and leaves by its name, and the first of the least timestamp is at hand: a
+//! join, a look by name and a leave cost the logarithm of the number of tasks, the look at the first one step. It
+//! stands on task descriptors; the serial machine calls it.
 #![tactic(auto)]
 
 mod list;

@@ -1,4 +1,5 @@
-ghost use Rattle.std.specs.Prelude.{◌≡◌, ◌==◌, ◌≤◌, ◌<◌, ◌+◌, ◌-◌, ◌*◌, ◌%◌, ◌^◌, ◌++◌, ◌∷◌, [], length, IfOk, OnOk, OnErr};
+ghost use Rattle.std.specs.Prelude.{◌≡◌, ◌==◌, ◌≤◌, ◌<◌, ◌+◌, ◌-◌, ◌*◌, ◌%◌, ◌^◌, ◌++◌, ◌∷◌, [], length, IfOk};
+ghost use Rattle.std.specs.Prelude.{OnOk, OnErr};
 ghost use Rattle.std.specs.List.{list_any};
 ghost use Rattle.pending_list.specs.Pending.{is_named, find_named, without, AllBefore, first_least};
 ghost use Rattle.pending_list.specs.Slots.{present, Rises};
@@ -15,9 +16,9 @@ const SLOT_NUMBERS: u64 = 1 << 32;
 
 /// The pending tasks of a domain, in the order of their arrival, which is that of their names.
 ///
-/// Each task has a slot, and a slot that its task left stays vacant until the list moves. A look by name halves the slots, whose
-/// names rise; the first task of the least timestamp is that of the root of a tournament of ranks, a timestamp with a slot's number
-/// behind it.
+/// Each task has a slot, and a slot that its task left stays vacant until the list moves. A look by name halves the
+/// slots, whose names rise; the first task of the least timestamp is that of the root of a tournament of ranks, a
+/// timestamp with a slot's number behind it.
 #[derive(Drop)]
 pub struct PendingList {
     alloc: Global,
@@ -77,8 +78,8 @@ impl PendingList {
         self.slots.is_empty()
     }
 
-    /// Makes room for so many more tasks. A list that is full moves into fresh slots, about twice as many as it has tasks; more
-    /// than 4,294,967,295 slots are refused as memory that is wanting.
+    /// Makes room for so many more tasks. A list that is full moves into fresh slots, about twice as many as it has
+    /// tasks; more than 4,294,967,295 slots are refused as memory that is wanting.
     pub fn reserve(&mut self, more: usize) -> Result<(), AllocError>
         ensures tasks { self.new.tasks ≡ self.old.tasks }
         ensures room { OnOk result (more ≤ self.new.room) }

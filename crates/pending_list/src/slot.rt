@@ -1,6 +1,7 @@
 //! Places for tasks, in the order of their arrival.
 
-ghost use Rattle.std.specs.Prelude.{◌≡◌, ◌+◌, ◌*◌, ◌^◌, ◌<◌, ◌≤◌, ◌&&◌, true, length, vec_len, vec_capacity, MatchOption};
+ghost use Rattle.std.specs.Prelude.{◌≡◌, ◌+◌, ◌*◌, ◌^◌, ◌<◌, ◌≤◌, ◌&&◌, true, length, vec_len, vec_capacity};
+ghost use Rattle.std.specs.Prelude.{MatchOption};
 ghost use Rattle.pending_list.specs.Pending.{is_before, is_named};
 ghost use Rattle.pending_list.specs.Slots.{present, Rises, IsFirstNotBefore, IsPlaceOf, IsNowhere, IsTrimmed};
 

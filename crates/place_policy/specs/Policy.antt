@@ -1,7 +1,8 @@
 -- What a placer does, as contracts see it.
 use Rattle.std.specs.Prelude.{ℕ, ◌<◌, ◌≤◌, List}
 
--- a state, the tile that is chosen from a state, a hint and the load of each tile, and the state after a task was placed in a tile
+-- a state, the tile that is chosen from a state, a hint and the load of each tile, and the state after a task was
+-- placed in a tile
 pub record Policy : Type 0 where
   pub state : ℕ
   pub chosen : ℕ → ℕ → List ℕ → ℕ

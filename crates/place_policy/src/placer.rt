@@ -8,8 +8,8 @@ pub trait Placer: Drop {
     /// The state of the placer, and the two functions that tell what it does.
     ghost policy: { Self → Policy };
 
-    /// The tile for a task with this hint, where tile `k` has `loads[k]` tasks; there are 1 to 16 tiles. It changes nothing, and
-    /// may be asked without a task being placed.
+    /// The tile for a task with this hint, where tile `k` has `loads[k]` tasks; there are 1 to 16 tiles. It changes
+    /// nothing, and may be asked without a task being placed.
     fn pick(&self, hint: u32, loads: &[u32]) -> u32
         requires tiles { IsTileCount (length loads.now) }
         ensures chosen { result ≡ (policy self.now).chosen (policy self.now).state hint loads.now }

@@ -6,8 +6,8 @@ ghost use Rattle.place_policy.specs.Serving.{serving_tile, first_placed};
 
 use crate::placer::Placer;
 
-/// The tile that the first of the placers picks; with no placer it is `hint` modulo the number of tiles, of which there are 1 to 16.
-/// Takes no memory.
+/// The tile that the first of the placers picks; with no placer it is `hint` modulo the number of tiles, of which
+/// there are 1 to 16. Takes no memory.
 #[tactic(auto, using(crate::proofs::Fronts::serving_tile_front))]
 pub fn serving_pick<P: Placer>(placers: &[P], hint: u32, loads: &[u32]) -> u32
     requires tiles { IsTileCount (length loads.now) }

@@ -16,7 +16,11 @@ struct LastTile {
 impl Placer for LastTile {
     ghost use Rattle.std.specs.Prelude.{◌-◌, length};
 
-    ghost policy = { λ _. record { state = 0; chosen = λ state hint loads. length loads - 1; after = λ state tile. 0 } };
+    ghost policy = { λ _. record {
+      state = 0;
+      chosen = λ state hint loads. length loads - 1;
+      after = λ state tile. 0;
+    } };
 
     fn pick(&self, _hint: u32, loads: &[u32]) -> u32 {
         loads.len() as u32 - 1

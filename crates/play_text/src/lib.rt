@@ -1,5 +1,5 @@
-//! The text of what was said of the acts of a script, and of what taps saw: written line by line without memory. Each line is one piece
-//! for the sink, with its newline.
+//! The text of what was said of the acts of a script, and of what taps saw: written line by line without memory.
+//! Each line is one piece for the sink, with its newline.
 #![tactic(auto)]
 
 mod line;

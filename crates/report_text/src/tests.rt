@@ -246,7 +246,9 @@ fn a_report_goes_out_in_lines_and_its_output_in_pieces(rt: HostRuntime) -> Resul
     assert!(rt; write_report(&mut sink, &image, &closed, &end) == Ok(()));
     assert_eq!(rt;
         sink.bytes(),
-        b"fractal 1\n1 0.4294967295 1 10\noutput 5043\nwindow 10000000 00000007\nwindow 10000004 ff000008\nend trap 10 00010020 1.0\n".as_slice()
+        b"fractal 1\n1 0.4294967295 1 10\noutput 5043\nwindow 10000000 00000007\n\
+            window 10000004 ff000008\nend trap 10 00010020 1.0\n"
+            .as_slice()
     );
     let mut sink = MemSink::new(alloc, 1000, 1000, vec![in alloc; 3]?)?;
     assert!(rt; write_report(&mut sink, &image, &closed, &end) == Err(Failed));

@@ -7,7 +7,8 @@ ghost use Rattle.arrayvec.specs.ArrayVec.{array_vec_len};
 ghost use Rattle.guest_image.specs.Numbers.{word_at};
 ghost use Rattle.sim_io.specs.Parts.{Writes};
 ghost use Rattle.report_text.specs.Hex.{byte_hex};
-ghost use Rattle.report_text.specs.Report.{body_lines, end_line, entry_line, entry_lines, name_text, output_digits, output_line, report, window_line, window_of};
+ghost use Rattle.report_text.specs.Report.{body_lines, end_line, entry_line, entry_lines, name_text, output_digits};
+ghost use Rattle.report_text.specs.Report.{output_line, report, window_line, window_of};
 
 use crate::line::{Line, digits_of, put, put_count, put_number, put_word};
 use crate::report::WindowWord;

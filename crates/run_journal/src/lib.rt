@@ -1,8 +1,8 @@
 //! What a run of a machine leaves: the journal of the tasks that took their turns, how it ended, and lists of bytes.
 //!
-//! Both machines, the serial one and the speculative one, hand out these types, and reports are written from them. An entry is plain
-//! `Copy` data; a list is a `Vec` that contracts see as its items alone, and only to add an item takes memory.
-//! It stands on task names.
+//! Both machines, the serial one and the speculative one, hand out these types, and reports are written from them.
+//! An entry is plain `Copy` data; a list is a `Vec` that contracts see as its items alone, and only to add an item
+//! takes memory. It stands on task names.
 #![tactic(auto)]
 
 mod closed;

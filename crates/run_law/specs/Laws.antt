@@ -61,7 +61,8 @@ pub record IsComplete (image : ImageValue) (budget : ℕ) (journal : List Entry)
   pub only : (name : Name) → 1 ≤ turns_of name journal → IsMade image budget journal name
   pub each : inner state.stack ≡ [] → (name : Name) → IsMade image budget journal name → turns_of name journal ≡ 1
 
--- the owner's entry, counted from 1, stands before this entry, and all entries behind the owner's up to and with this one are deeper than it
+-- the owner's entry, counted from 1, stands before this entry, and all entries behind the owner's up to and with
+-- this one are deeper than it
 pub record IsInside (owner : ℕ) (before : List Entry) (entry : Entry) : Type 0 where
   pub earlier : List Entry
   pub creator : Entry
@@ -70,8 +71,8 @@ pub record IsInside (owner : ℕ) (before : List Entry) (entry : Entry) : Type 0
   pub number : owner ≡ length earlier + 1
   pub deeper : AllByRecursion (λ e. creator.depth < e.depth) (between ++ entry ∷ [])
 
--- where a task takes its turn from a domain that another task made, all turns behind that other task's up to and with this one are
--- deeper (Subramanian et al. 2017, section 3: a task and its subdomain run as one unit)
+-- where a task takes its turn from a domain that another task made, all turns behind that other task's up to and
+-- with this one are deeper (Subramanian et al. 2017, section 3: a task and its subdomain run as one unit)
 abbrev pub AreDeeper : ImageValue → ℕ → List Entry → Type 0
 AreDeeper image budget journal =
     (before : List Entry) → (state : State) → (entry : Entry) → IsTurnOf image budget journal before state entry

@@ -1,5 +1,6 @@
 -- Plain instructions, and what stands at a core. The image, how many bytes its data has, and the task budget are given.
-use Rattle.std.specs.Prelude.{ℕ, ◌+◌, ◌%◌, ◌==◌, not, nat_lt, List, slice_index, replicate, Option, Some, None, ◌≡◌, ◌≢◌, ◌<◌, ◌≤◌, zero, suc, if◌then◌else◌}
+use Rattle.std.specs.Prelude.{ℕ, ◌+◌, ◌%◌, ◌==◌, not, nat_lt, List, slice_index, replicate, Option, Some, None, ◌≡◌}
+use Rattle.std.specs.Prelude.{◌≢◌, ◌<◌, ◌≤◌, zero, suc, if◌then◌else◌}
 use Rattle.guest_image.specs.ImageValue.{ImageValue}
 use Rattle.rv_table.specs.declared.instr.Effect.{Effect}
 use Rattle.rv_table.specs.declared.instr.Effect.TheVariants as does
@@ -49,7 +50,8 @@ load_next size core width rd addr None =
     if is_within DATA_START size addr (load_bytes width) then Stops (stop.Load width rd addr)
     else traps core 5
 
--- what comes of what an instruction does (trap 3: target misaligned, 4 and 6: access misaligned, 7: store range, 8: break)
+-- what comes of what an instruction does (trap 3: target misaligned, 4 and 6: access misaligned, 7: store range, 8:
+-- break)
 abbrev pub effect_next : ImageValue → ℕ → Core → Effect → Next
 effect_next image size core (does.Plain pc rd value) = Goes (moved core pc rd value)
 effect_next image size core (does.Load width rd addr) =
@@ -91,7 +93,8 @@ PlainSteps image size budget (suc n) from to =
     (mid : Core) × PlainSteps image size budget n from mid × PlainStep image size budget mid to
 
 -- a run of at most quantum plain instructions, as long as nothing stops it, and what it stops at
-pub record IsLeg (image : ImageValue) (size budget quantum : ℕ) (from to : Core) (steps : ℕ) (found : Stop) : Type 0 where
+pub record IsLeg (image : ImageValue) (size budget quantum : ℕ) (from to : Core) (steps : ℕ)
+    (found : Stop) : Type 0 where
   pub run : PlainSteps image size budget steps from to
   pub bound : steps ≤ quantum
   pub full : steps ≡ quantum → found ≡ stop.Quantum

@@ -3,7 +3,8 @@
 ghost use Rattle.std.specs.Prelude.{◌≡◌, ◌+◌, ◌%◌, ◌^◌, ◌-◌, ◌<◌, ◌≤◌, OnSome};
 ghost use Rattle.guest_image.specs.Fetch.{text_loaded};
 ghost use Rattle.rv_core.specs.Memory.{load_bytes, store_bytes, is_within};
-ghost use Rattle.rv_core.specs.Legs.{moved, after_other_of, after_load_of, load_next, effect_next, next_at, given, IsLeg, IsInside};
+ghost use Rattle.rv_core.specs.Legs.{moved, after_other_of, after_load_of, load_next, effect_next, next_at, given};
+ghost use Rattle.rv_core.specs.Legs.{IsLeg, IsInside};
 
 use crate::state::{Core, Plain, Stop};
 use guest_image::{DATA_START, Image};
@@ -128,8 +129,8 @@ fn obey(image: &Image, data_size: u32, core: &mut Core, effect: Effect) -> Optio
     }
 }
 
-/// Executes the plain instruction that stands at a core, or tells what stands there and leaves the core as it is. Inlined with
-/// `decode` and `effect`, so that no instruction or effect is built in memory.
+/// Executes the plain instruction that stands at a core, or tells what stands there and leaves the core as it is.
+/// Inlined with `decode` and `effect`, so that no instruction or effect is built in memory.
 #[inline(always)]
 #[tactic(auto, unfolding(crate::specs::Legs::next_at))]
 fn step(image: &Image, data_size: u32, core: &mut Core, budget: u32) -> Option<Stop>
@@ -149,7 +150,8 @@ fn step(image: &Image, data_size: u32, core: &mut Core, budget: u32) -> Option<S
     obey(image, data_size, core, effect)
 }
 
-/// Runs plain instructions on the image's text with data of another size than the image's. All else is as in `run_plain`.
+/// Runs plain instructions on the image's text with data of another size than the image's. All else is as in
+/// `run_plain`.
 #[tactic(auto, using(crate::proofs::Runs::step_facts))]
 pub fn run_plain_within(
     image: &Image,
@@ -181,9 +183,10 @@ pub fn run_plain_within(
     }
 }
 
-/// Runs plain instructions from a core on, at most `quantum` of them, 1 to 1,024. A plain instruction touches nothing but the
-/// registers and, by a load, the text. The run stops at the first of: its quantum is done; a trap, of which 17 (the task has used
-/// `budget` instructions), 1 and 2 come first; a load from the data; a store; an ECALL. What it stops at isn't executed.
+/// Runs plain instructions from a core on, at most `quantum` of them, 1 to 1,024. A plain instruction touches
+/// nothing but the registers and, by a load, the text. The run stops at the first of: its quantum is done; a trap,
+/// of which 17 (the task has used `budget` instructions), 1 and 2 come first; a load from the data; a store; an
+/// ECALL. What it stops at isn't executed.
 pub fn run_plain(image: &Image, from: &Core, quantum: u32, budget: u32) -> Plain
     requires quantum { (1 ≤ quantum) × (quantum ≤ 1024) }
     requires used { from.now.used ≤ budget }

@@ -1,7 +1,7 @@
-//! The core of a task and its runs of plain instructions: those that touch registers and text alone. A run goes on until a load
-//! from the data, a store, a call, a trap or its quantum stands next. It changes one core in place, at some sixty machine
-//! instructions for each plain instruction of the guest; no call takes memory.
-//! It stands on the instruction table and the image; both machines call it.
+//! The core of a task and its runs of plain instructions: those that touch registers and text alone. A run goes on
+//! until a load from the data, a store, a call, a trap or its quantum stands next. It changes one core in place, at
+//! some sixty machine instructions for each plain instruction of the guest; no call takes memory. It stands on the
+//! instruction table and the image; both machines call it.
 #![tactic(auto)]
 
 mod legs;

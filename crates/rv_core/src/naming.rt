@@ -11,8 +11,8 @@ use crate::state::{Core, Stop};
 use guest_image::Image;
 use std::marker::{Brand, Model, PhantomData};
 
-/// A name for an image and for the task budget and the commit limit that go with it. It has no functions: generic code takes an
-/// image and numbers that are those of its `N`, and what it makes stays tied to them.
+/// A name for an image and for the task budget and the commit limit that go with it. It has no functions: generic
+/// code takes an image and numbers that are those of its `N`, and what it makes stays tied to them.
 pub trait Naming {
     /// The image that is named.
     ghost image: { ImageValue };

@@ -19,8 +19,8 @@ impl Core {
     ghost use Rattle.std.specs.Prelude.{◌≡◌, ◌<◌};
     ghost use Rattle.rv_core.specs.Legs.{start_of};
 
-    /// The core of a task that starts: `x10` to `x12` are its arguments, `x13` is its timestamp, all other registers are 0, and
-    /// no instruction is used.
+    /// The core of a task that starts: `x10` to `x12` are its arguments, `x13` is its timestamp, all other
+    /// registers are 0, and no instruction is used.
     pub fn start(entry: u32, ts: u32, args: [u32; 3]) -> Core
         ensures { result ≡ start_of entry ts args }
     {

@@ -9,7 +9,8 @@ use std::alloc::Global;
 use std::marker::Brand;
 use std::test::Fail;
 
-/// The text, the data size, the quantum, the budget; the number of plain instructions, and the stop with its address or cause.
+/// The text, the data size, the quantum, the budget; the number of plain instructions, and the stop with its
+/// address or cause.
 struct Program {
     text: [u32; 5],
     data_size: u32,

@@ -1,9 +1,11 @@
 -- What an instruction does (RISC-V Unprivileged ISA 20191213, chapter 2).
-use Rattle.std.specs.Prelude.{ℕ, ◌+◌, ◌*◌, ◌/◌, ◌%◌, ◌^◌, ◌-◌, ℤ, List, slice_index, Bool, not, ◌==◌, nat_lt, int_lt, if◌then◌else◌, bit_and, bit_or, bit_xor}
+use Rattle.std.specs.Prelude.{ℕ, ◌+◌, ◌*◌, ◌/◌, ◌%◌, ◌^◌, ◌-◌, ℤ, List, slice_index, Bool, not, ◌==◌, nat_lt}
+use Rattle.std.specs.Prelude.{int_lt, if◌then◌else◌, bit_and, bit_or, bit_xor}
 use Rattle.std.specs.Int.{w32, cast_signed, cast_unsigned}
 use Rattle.rv_table.specs.Fields.{bits, signed}
 use Rattle.rv_table.specs.declared.instr.Instr.{Instr}
-use Rattle.rv_table.specs.declared.instr.Instr.TheVariants.{Lui, Auipc, Jal, Jalr, Branch, Load, Store, OpImm, Op, Fence, Ecall, Ebreak}
+use Rattle.rv_table.specs.declared.instr.Instr.TheVariants.{Lui, Auipc, Jal, Jalr, Branch, Load, Store, OpImm, Op}
+use Rattle.rv_table.specs.declared.instr.Instr.TheVariants.{Fence, Ecall, Ebreak}
 use Rattle.rv_table.specs.declared.instr.Cond.{Cond}
 use Rattle.rv_table.specs.declared.instr.Cond.TheVariants as cond
 use Rattle.rv_table.specs.declared.instr.LoadWidth.{LoadWidth}
@@ -97,7 +99,8 @@ acts_on pc regs Fence = does.Plain (plus pc 4) 0 0
 acts_on pc regs Ecall = does.Call
 acts_on pc regs Ebreak = does.Break
 
--- what a load writes to its register: the low 8, 16 or 32 bits of what it read, sign-extended for LB and LH (section 2.6)
+-- what a load writes to its register: the low 8, 16 or 32 bits of what it read, sign-extended for LB and LH
+-- (section 2.6)
 abbrev pub loaded_value : LoadWidth → ℕ → ℕ
 loaded_value load.B raw = word (signed 8 (bits 7 0 raw))
 loaded_value load.H raw = word (signed 16 (bits 15 0 raw))

@@ -1,8 +1,11 @@
--- The instruction table of RV32I 2.1 (RISC-V Unprivileged ISA 20191213), in the order of the manual's listing in chapter 24.
+-- The instruction table of RV32I 2.1 (RISC-V Unprivileged ISA 20191213), in the order of the manual's listing in
+-- chapter 24.
 use Rattle.std.specs.Prelude.{◌≡◌, ℕ, ℤ, pos, List, [], ◌∷◌, Option, Some, None, Bool, true, ◌==◌, ◌&&◌, if◌then◌else◌}
-use Rattle.rv_table.specs.Fields.{opcode, rd, funct3, rs1, rs2, funct7, shamt, i_immediate, s_immediate, b_immediate, u_immediate, j_immediate}
+use Rattle.rv_table.specs.Fields.{opcode, rd, funct3, rs1, rs2, funct7, shamt, i_immediate, s_immediate}
+use Rattle.rv_table.specs.Fields.{b_immediate, u_immediate, j_immediate}
 use Rattle.rv_table.specs.declared.instr.Instr.{Instr}
-use Rattle.rv_table.specs.declared.instr.Instr.TheVariants.{Lui, Auipc, Jal, Jalr, Branch, Load, Store, OpImm, Op, Fence, Ecall, Ebreak}
+use Rattle.rv_table.specs.declared.instr.Instr.TheVariants.{Lui, Auipc, Jal, Jalr, Branch, Load, Store, OpImm, Op}
+use Rattle.rv_table.specs.declared.instr.Instr.TheVariants.{Fence, Ecall, Ebreak}
 use Rattle.rv_table.specs.declared.instr.Cond.TheVariants as cond
 use Rattle.rv_table.specs.declared.instr.LoadWidth.TheVariants as load
 use Rattle.rv_table.specs.declared.instr.StoreWidth.TheVariants as store

@@ -1,8 +1,10 @@
--- Which instructions have a word: those whose immediate fits its format (RISC-V Unprivileged ISA 20191213, section 2.3).
+-- Which instructions have a word: those whose immediate fits its format (RISC-V Unprivileged ISA 20191213, section
+-- 2.3).
 use Rattle.std.specs.Prelude.{◌%◌, ◌^◌, ◌==◌, ◌&&◌, ℤ, pos, negsuc, int_le, Bool, true}
 use Rattle.std.specs.Int.{w32, cast_unsigned}
 use Rattle.rv_table.specs.declared.instr.Instr.{Instr}
-use Rattle.rv_table.specs.declared.instr.Instr.TheVariants.{Lui, Auipc, Jal, Jalr, Branch, Load, Store, OpImm, Op, Fence, Ecall, Ebreak}
+use Rattle.rv_table.specs.declared.instr.Instr.TheVariants.{Lui, Auipc, Jal, Jalr, Branch, Load, Store, OpImm, Op}
+use Rattle.rv_table.specs.declared.instr.Instr.TheVariants.{Fence, Ecall, Ebreak}
 use Rattle.rv_table.specs.declared.instr.ImmOp.{ImmOp}
 use Rattle.rv_table.specs.declared.instr.ImmOp.TheVariants as imm_op
 

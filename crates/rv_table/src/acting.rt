@@ -1,7 +1,8 @@
 //! What an instruction does.
 
 ghost use Rattle.std.specs.Prelude.{◌≡◌, ◌<◌, if◌then◌else◌};
-ghost use Rattle.rv_table.specs.Exec.{acts_on, holds, value_of, with_register, jump, loaded_value, plus, shift_signed, word};
+ghost use Rattle.rv_table.specs.Exec.{acts_on, holds, value_of, with_register, jump, loaded_value, plus};
+ghost use Rattle.rv_table.specs.Exec.{shift_signed, word};
 
 use crate::instr::{Cond, Effect, ImmOp, Instr, LoadWidth, RegOp, StoreWidth};
 use crate::reg::{Reg, Regs};

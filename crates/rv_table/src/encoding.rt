@@ -3,7 +3,8 @@
 ghost use Rattle.std.specs.Prelude.{◌≡◌, ◌<◌, ◌^◌, ◌%◌, pos, Some, IsTrue};
 ghost use Rattle.rv_table.specs.Fields as field;
 ghost use Rattle.rv_table.specs.Table.{decoded};
-ghost use Rattle.rv_table.specs.Valid.{valid, is_branch_offset, is_even as even, is_jump_offset, is_operand as operand, is_twelve_bits as twelve_bits};
+ghost use Rattle.rv_table.specs.Valid.{valid, is_branch_offset, is_even as even, is_jump_offset};
+ghost use Rattle.rv_table.specs.Valid.{is_operand as operand, is_twelve_bits as twelve_bits};
 
 use crate::instr::{Cond, ImmOp, Instr, LoadWidth, RegOp, StoreWidth};
 use crate::reg::Reg;
@@ -252,7 +253,8 @@ fn encode_op(op: RegOp, rd: Reg, rs1: Reg, rs2: Reg) -> u32
     }
 }
 
-/// The word of an instruction. `decode` gives the instruction back, and FENCE has several words, of which this is 0x0000000F.
+/// The word of an instruction. `decode` gives the instruction back, and FENCE has several words, of which this is
+/// 0x0000000F.
 pub fn encode(instr: &Instr) -> u32
     requires { IsTrue (valid instr.now) }
     ensures decodes { decoded result ≡ Some instr.now }

@@ -45,7 +45,8 @@ pub enum StoreWidth {
     W,
 }
 
-/// An operation on a register and an immediate. Each computes what the `RegOp` of its name does with the immediate as a word.
+/// An operation on a register and an immediate. Each computes what the `RegOp` of its name does with the immediate
+/// as a word.
 #[derive(Clone, Copy, Debug, PartialEq, Eq)]
 pub enum ImmOp {
     /// ADDI
@@ -93,7 +94,8 @@ pub enum RegOp {
     And,
 }
 
-/// An instruction of RV32I 2.1 with its fields. Immediates are as the program means them: sign-extended, offsets in bytes.
+/// An instruction of RV32I 2.1 with its fields. Immediates are as the program means them: sign-extended, offsets in
+/// bytes.
 #[derive(Clone, Copy, Debug, PartialEq, Eq)]
 pub enum Instr {
     /// LUI. `imm` is a multiple of 4,096.

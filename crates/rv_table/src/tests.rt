@@ -7,8 +7,8 @@ use super::{
 use std::alloc::{AllocError, Global};
 use std::test::Fail;
 
-/// Words of `riscv64-linux-gnu-as -march=rv32i -mabi=ilp32` with the lines that it read: each instruction, with its least and
-/// its greatest immediate. The three words of FENCE differ in the fields that are ignored.
+/// Words of `riscv64-linux-gnu-as -march=rv32i -mabi=ilp32` with the lines that it read: each instruction, with its
+/// least and its greatest immediate. The three words of FENCE differ in the fields that are ignored.
 static LISTING: [(u32, &str); 93] = [
     (0x0000_00b7, "lui x1,0x0"),
     (0xffff_ffb7, "lui x31,0xfffff"),
@@ -319,7 +319,8 @@ fn words_are_those_of_the_assembler(rt: HostRuntime) -> Result<(), Fail> {
     Ok(())
 }
 
-/// A word at a pc with values of x5 and x6, and the pc, the register and its value that come: none where it is misaligned.
+/// A word at a pc with values of x5 and x6, and the pc, the register and its value that come: none where it is
+/// misaligned.
 const EFFECTS: [(u32, u32, u32, u32, Option<(u32, u8, u32)>); 8] = [
     // sltiu x5,x6,-1
     (0xfff3_3293, 0x0001_0000, 0, 5, Some((0x0001_0004, 5, 1))),

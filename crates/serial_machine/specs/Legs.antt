@@ -54,7 +54,8 @@ StopCanCount used stop.Call = CanCount used
 StopCanCount used (stop.Trap cause pc) = Unit {0}
 StopCanCount used stop.Quantum = Unit {0}
 
--- the code can do what a task asks for: an instruction can be counted, an access lies in the memory, and there is room for a child or a byte
+-- the code can do what a task asks for: an instruction can be counted, an access lies in the memory, and there is
+-- room for a child or a byte
 abbrev pub CanPerform : TaskState → Request → Type 0
 CanPerform task request.Continue = Unit {0}
 CanPerform task (request.Load width rd offset) =

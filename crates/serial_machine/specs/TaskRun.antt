@@ -13,7 +13,8 @@ pub data TaskEnd : Type 0 where
   Done : (after : TaskState) → TaskEnd
   Trapped : (cause pc : ℕ) → TaskEnd
 
--- where what stands next at a task's core leads: a plain instruction to its core, and any other to what the task asks for
+-- where what stands next at a task's core leads: a plain instruction to its core, and any other to what the task
+-- asks for
 abbrev pub after_next : Ctx → TaskState → Next → Stepped
 after_next ctx task (Goes core) = Continues (record task { core = core })
 after_next ctx task (Stops found) = after_stop ctx task found

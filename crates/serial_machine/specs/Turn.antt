@@ -1,5 +1,6 @@
 -- One turn of the serial machine.
-use Rattle.std.specs.Prelude.{◌≡◌, ◌<◌, ℕ, ◌+◌, ◌==◌, nat_le, Bool, true, false, List, [], ◌∷◌, ◌++◌, length, map, filter, Option, Some, None, if◌then◌else◌, Contains}
+use Rattle.std.specs.Prelude.{◌≡◌, ◌<◌, ℕ, ◌+◌, ◌==◌, nat_le, Bool, true, false, List, [], ◌∷◌, ◌++◌, length, map}
+use Rattle.std.specs.Prelude.{filter, Option, Some, None, if◌then◌else◌, Contains}
 use Rattle.std.specs.List.{enumerate_from, list_all, list_any}
 use Rattle.guest_image.specs.declared.image.Kind.{Kind}
 use Rattle.guest_image.specs.ImageValue.{ImageValue}
@@ -120,7 +121,8 @@ turn image budget s name = turned image budget s name (inner s.stack)
 abbrev pub TakesTurn : ImageValue → ℕ → State → Name → State → Entry → Type 0
 TakesTurn image budget before name after entry = turn image budget before name ≡ Some (after, entry)
 
--- the task of a name may take the next turn: it stands in the innermost bag that isn't empty, with a least timestamp there
+-- the task of a name may take the next turn: it stands in the innermost bag that isn't empty, with a least
+-- timestamp there
 pub record MayTurn (stack : List BagValue) (name : Name) (bag : BagValue) (outer : List BagValue)
     (task : PendingTask) : Type 0 where
   pub top : inner stack ≡ bag ∷ outer

@@ -14,7 +14,8 @@ use Rattle.serial_machine.specs.Run.{IsEnd, IsRun}
 use Rattle.serial_machine.specs.State.{State, SerialValue}
 use Rattle.serial_machine.specs.Turn.{turn, inner, TrapsSo}
 
--- the journal is a run of the image of at most so many turns, which led to this memory and this output, and ended so if it has an end
+-- the journal is a run of the image of at most so many turns, which led to this memory and this output, and ended
+-- so if it has an end
 pub record IsRunOf (image : ImageValue) (commits budget : ℕ) (run : SerialRun) : Type 0 where
   pub state : State
   pub is_run : IsRun image budget run.journal state

@@ -1,6 +1,7 @@
 //! The serial machine.
 
-ghost use Rattle.std.specs.Prelude.{◌≡◌, ◌≢◌, ◌≤◌, ◌<◌, [], length, map, ◌+◌, IfOk, IfErr, OnOk, OnErr, MatchBool, MatchOption};
+ghost use Rattle.std.specs.Prelude.{◌≡◌, ◌≢◌, ◌≤◌, ◌<◌, [], length, map, ◌+◌, IfOk, IfErr, OnOk, OnErr, MatchBool};
+ghost use Rattle.std.specs.Prelude.{MatchOption};
 ghost use Rattle.std.specs.List.{enumerate_from};
 ghost use Rattle.serial_machine.specs.Names.{next_in, IsNext};
 ghost use Rattle.serial_machine.specs.Run.{opening, image_task};
@@ -101,8 +102,8 @@ impl Serial {
         }
     }
 
-    /// The name that takes the next turn here: the first task in the innermost bag that isn't empty, of those with the least
-    /// timestamp. None where no task is pending.
+    /// The name that takes the next turn here: the first task in the innermost bag that isn't empty, of those with
+    /// the least timestamp. None where no task is pending.
     pub fn next(&self) -> Option<Name>
         ensures first { result ≡ next_in (inner self.now.state.stack) }
         ensures may { MatchOption result (inner self.now.state.stack ≡ []) (IsNext self.now.state.stack) }

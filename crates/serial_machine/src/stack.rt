@@ -1,8 +1,11 @@
 //! The stack of bags: looking for a task, and the changes that a turn makes.
 
-ghost use Rattle.std.specs.Prelude.{◌≡◌, ◌≤◌, ◌<◌, ◌+◌, ◌++◌, ◌∷◌, [], ℕ, true, length, drop, map, vec_len, vec_capacity, IfOk, OnOk, IfSome, IfNone, MatchOption, MatchBool, Some, Contains};
+ghost use Rattle.std.specs.Prelude.{◌≡◌, ◌≤◌, ◌<◌, ◌+◌, ◌++◌, ◌∷◌, [], ℕ, true, length, drop, map, vec_len};
+ghost use Rattle.std.specs.Prelude.{vec_capacity, IfOk, OnOk, IfSome, IfNone, MatchOption, MatchBool, Some};
+ghost use Rattle.std.specs.Prelude.{Contains};
 ghost use Rattle.std.specs.List.{list_any};
-ghost use Rattle.serial_machine.specs.Turn.{is_named, is_least, inner, is_pending, place_number, children, sub_bags, with_super};
+ghost use Rattle.serial_machine.specs.Turn.{is_named, is_least, inner, is_pending, place_number, children};
+ghost use Rattle.serial_machine.specs.Turn.{sub_bags, with_super};
 ghost use Rattle.serial_machine.specs.Stack.{bags, new_bags, AreOlder, AreAllOlder, HaveRoom, IsTopAt, settled};
 
 use crate::bag::Bag;
@@ -210,7 +213,8 @@ fn join_outside(stack: &mut Vec<Bag>, owner: u32, spawns: &[Spawn])
     put_first(stack, bag);
 }
 
-/// What a turn changes: the emptied bags go, the name leaves its bag, and the children join their domains. All room was made before.
+/// What a turn changes: the emptied bags go, the name leaves its bag, and the children join their domains. All room
+/// was made before.
 pub(crate) fn settle(
     stack: &mut Vec<Bag>,
     top: usize,

@@ -1,12 +1,15 @@
 //! A turn, on the parts of a machine.
 
-ghost use Rattle.std.specs.Prelude.{◌≡◌, ◌≤◌, ◌<◌, ◌+◌, ◌++◌, ◌∷◌, ◌^◌, ℕ, length, drop, IfOk, IfErr, OnOk, OnErr, Some, IsSome, ◌↔◌, MatchBool};
+ghost use Rattle.std.specs.Prelude.{◌≡◌, ◌≤◌, ◌<◌, ◌+◌, ◌++◌, ◌∷◌, ◌^◌, ℕ, length, drop, IfOk, IfErr, OnOk, OnErr};
+ghost use Rattle.std.specs.Prelude.{Some, IsSome, ◌↔◌, MatchBool};
 ghost use Rattle.serial_machine.specs.Legs.{SubFits, Finishes, RunFails};
 ghost use Rattle.serial_machine.specs.Names.{AreNamed};
-ghost use Rattle.serial_machine.specs.Stack.{bag_value, bags, new_bags, settled, IsSelected, IsUnselected, AreAllOlder, state_of};
+ghost use Rattle.serial_machine.specs.Stack.{bag_value, bags, new_bags, settled, IsSelected, IsUnselected};
+ghost use Rattle.serial_machine.specs.Stack.{AreAllOlder, state_of};
 ghost use Rattle.serial_machine.specs.State.{IsStack};
 ghost use Rattle.serial_machine.specs.TaskRun.{task_run, Done};
-ghost use Rattle.serial_machine.specs.Turn.{TakesTurn, Refuses, context_of, children, sub_bags, IsNotTop, is_pending, kind_outside};
+ghost use Rattle.serial_machine.specs.Turn.{TakesTurn, Refuses, context_of, children, sub_bags, IsNotTop};
+ghost use Rattle.serial_machine.specs.Turn.{is_pending, kind_outside};
 
 use crate::bag::Bag;
 use crate::fault::TurnFault;
@@ -77,7 +80,8 @@ fn context(bag: &Bag, outer: &[Bag], task: &PendingTask) -> Ctx
     }
 }
 
-/// Runs the task of a bag on the memory, which the progress takes with it; where the run is not done the memory is as it was.
+/// Runs the task of a bag on the memory, which the progress takes with it; where the run is not done the memory is
+/// as it was.
 fn run_done(
     alloc: Global,
     image: &Image,

@@ -36,8 +36,9 @@ pub(crate) enum Advance {
     Wanting,
 }
 
-/// Runs an image for at most `commits` turns, each task with this budget of instructions. Of the tasks that may take the next turn it
-/// takes the first of the innermost bag that isn't empty. Where memory is wanting on the way the run has no end.
+/// Runs an image for at most `commits` turns, each task with this budget of instructions. Of the tasks that may
+/// take the next turn it takes the first of the innermost bag that isn't empty. Where memory is wanting on the way
+/// the run has no end.
 pub fn run_image(
     alloc: Global,
     image: &Image,

@@ -27,7 +27,14 @@ new_source bytes piece fail_at = record { left = bytes; piece = piece; fail_at =
 
 -- a sink in memory that took nothing yet
 abbrev pub new_sink : (room piece : ℕ) (fail_at : List ℕ) → MemSinkValue
-new_sink room piece fail_at = record { bytes = []; room = room; piece = piece; fail_at = fail_at; calls = 0; faults = 0 }
+new_sink room piece fail_at = record {
+  bytes = [];
+  room = room;
+  piece = piece;
+  fail_at = fail_at;
+  calls = 0;
+  faults = 0;
+}
 
 -- one more, up to the end of a counter of 64 bits
 abbrev pub one_more : ℕ → ℕ

@@ -1,9 +1,9 @@
 //! Room that is taken before it is needed, for lists that contracts see without their capacity.
 //!
-//! A `Buffer` is an empty vector of a capacity that contracts see. A list that is full moves its items into the buffer, and the two
-//! vectors change places: so a push after a reservation takes no memory, whichever list it is. The layers that keep lists of their own
-//! (a task's log, its children, the output) call it. To reserve costs an allocation at most, and a push amortized a constant: a move of
-//! all items only where the list was full.
+//! A `Buffer` is an empty vector of a capacity that contracts see. A list that is full moves its items into the
+//! buffer, and the two vectors change places: so a push after a reservation takes no memory, whichever list it is.
+//! The layers that keep lists of their own (a task's log, its children, the output) call it. To reserve costs an
+//! allocation at most, and a push amortized a constant: a move of all items only where the list was full.
 #![tactic(auto)]
 
 ghost use Rattle.std.specs.Prelude.{◌≡◌, ◌≤◌, ◌+◌, [], vec_len, vec_capacity, IsOk, OnOk, OnErr};
@@ -39,7 +39,8 @@ impl<T> Buffer<T> {
         }
     }
 
-    /// Makes room for so many items. Where there is as much, no memory is taken; after an error there is as much as before.
+    /// Makes room for so many items. Where there is as much, no memory is taken; after an error there is as much as
+    /// before.
     pub fn reserve(&mut self, items: usize) -> Result<(), AllocError>
         ensures room { OnOk result (items ≤ self.new) }
         ensures stays { self.old ≤ self.new }
@@ -49,8 +50,8 @@ impl<T> Buffer<T> {
         self.empty.reserve(items)
     }
 
-    /// Sees to it that the list has room for `more` items: where it has not, its items move into the buffer's room, and the buffer keeps
-    /// what room the list had. It takes no memory.
+    /// Sees to it that the list has room for `more` items: where it has not, its items move into the buffer's room,
+    /// and the buffer keeps what room the list had. It takes no memory.
     pub fn make_room_in(&mut self, list: &mut Vec<T>, more: usize)
         requires { vec_len list.old + more ≤ self.old }
         ensures items { list.new.items ≡ list.old.items }

@@ -22,7 +22,8 @@ pub record Spills (tile id : ℕ) (old new : View) : Type 0 where
   pub changes : ChangesTask old new id None
   pub queues : new.queues ≡ map (without id) old.queues
   pub blocks : new.blocks
-      ≡ slice_set old.blocks tile (pushed (block_at old tile) (spilled_as (name_given task.creator (length old.history)) (descriptor_of task)))
+      ≡ slice_set old.blocks tile (pushed (block_at old tile)
+      (spilled_as (name_given task.creator (length old.history)) (descriptor_of task)))
   pub rest : new ≡ record old { tasks = new.tasks; queues = new.queues; blocks = new.blocks }
 
 -- at most the spare pushes of this tile are others

@@ -30,7 +30,8 @@ fn is_movable(task: &Task, heir: Option<TaskId>) -> bool
     }
 }
 
-/// How many of the chosen tasks come before one that stands behind them in the queue: those up to the last whose key isn't greater.
+/// How many of the chosen tasks come before one that stands behind them in the queue: those up to the last whose
+/// key isn't greater.
 fn place_for<N: Naming>(state: &State<N>, chosen: &[usize], id: usize) -> usize
     requires live { (k other : ℕ) → slice_get chosen.now k ≡ Some other → IsSome (task_at state.now.view other) }
     requires own { IsSome (task_at state.now.view id) }

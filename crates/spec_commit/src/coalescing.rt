@@ -1,6 +1,7 @@
 //! Idle tasks that move into the block of their tile.
 
-ghost use Rattle.std.specs.Prelude.{◌≡◌, ◌≢◌, ◌<◌, ◌≤◌, ◌+◌, ◌^◌, [], ℕ, length, IsOk, IfOk, OnOk, OnErr, slice_index_or, slice_set};
+ghost use Rattle.std.specs.Prelude.{◌≡◌, ◌≢◌, ◌<◌, ◌≤◌, ◌+◌, ◌^◌, [], ℕ, length, IsOk, IfOk, OnOk, OnErr};
+ghost use Rattle.std.specs.Prelude.{slice_index_or, slice_set};
 ghost use Rattle.task_desc.specs.declared.calls.TheConstants.{MAX_DEPTH};
 ghost use Rattle.task_desc.specs.Record.{IsDesc};
 ghost use Rattle.spill_store.specs.Entries.{pushed};
@@ -37,8 +38,8 @@ fn spilled_desc(task: &Task, count: u32) -> Desc
     }
 }
 
-/// Makes room for as many pushes into the block of a tile as move at once. `AllocError` where memory is wanting; the view stays in any
-/// case.
+/// Makes room for as many pushes into the block of a tile as move at once. `AllocError` where memory is wanting;
+/// the view stays in any case.
 fn reserve_pushes<N: Naming>(state: &mut State<N>, tile: u32) -> Result<(), AllocError>
     requires tile { tile < state.old.view.settings.tiles }
     ensures view { state.new.view ≡ state.old.view }
@@ -96,8 +97,8 @@ fn spill_all<N: Naming>(state: &mut State<N>, tile: u32, ids: &[usize])
     }
 }
 
-/// Moves the latest idle firm tasks of a tile, which has one, into its block: at most eight, the least of them first. Their number, or
-/// `AllocError` where memory is wanting, and then nothing has moved.
+/// Moves the latest idle firm tasks of a tile, which has one, into its block: at most eight, the least of them
+/// first. Their number, or `AllocError` where memory is wanting, and then nothing has moved.
 pub fn coalesce<N: Naming>(state: &mut State<N>, tile: u32) -> Result<u32, AllocError>
     requires tile { tile < state.old.view.settings.tiles }
     requires some { (id : ℕ) × IsMovable state.old.view tile id }

@@ -1,6 +1,7 @@
 //! The commit of the least task.
 
-ghost use Rattle.std.specs.Prelude.{◌≡◌, ◌≢◌, ◌<◌, ◌≤◌, ◌+◌, [], ◌∷◌, ◌++◌, ℕ, Some, length, IsSome, IfSome, IfOk, OnOk, OnErr};
+ghost use Rattle.std.specs.Prelude.{◌≡◌, ◌≢◌, ◌<◌, ◌≤◌, ◌+◌, [], ◌∷◌, ◌++◌, ℕ, Some, length, IsSome, IfSome, IfOk};
+ghost use Rattle.std.specs.Prelude.{OnOk, OnErr};
 ghost use Rattle.fractal_vt.specs.declared.vt.TheConstants.{MAX_LEVELS};
 ghost use Rattle.slab.specs.Slab.{get, slab_len};
 ghost use Rattle.spec_state.specs.declared.task.Creator.TheVariants.{Committed};
@@ -87,7 +88,11 @@ fn entry_of(task: &Task) -> Entry
     requires firm { (turn : ℕ) × (index : ℕ) × (task.now.creator ≡ Committed turn index) }
     requires shallow { length task.now.key.domain < MAX_LEVELS }
     ensures { (turn index : ℕ) → task.now.creator ≡ Committed turn index
-        → result ≡ record { name = record { creator = turn; index = index }; depth = depth_of task.now; ts = task.now.key.ts } }
+        → result ≡ record {
+          name = record { creator = turn; index = index };
+          depth = depth_of task.now;
+          ts = task.now.key.ts;
+        } }
 {
     match task.creator {
         Creator::Committed { turn, index } => Entry {
@@ -134,9 +139,9 @@ fn record_commit<N: Naming>(state: &mut State<N>, entry: Entry, task: &Task)
     state.path = as_domain(&task.key);
 }
 
-/// Commits the least task, which is finished and was made by the image or a committed task: its entry joins the history, its bytes the
-/// output, and its levels are the path. `AllocError` where the output has no room for the bytes and memory is wanting; nothing has
-/// changed then.
+/// Commits the least task, which is finished and was made by the image or a committed task: its entry joins the
+/// history, its bytes the output, and its levels are the path. `AllocError` where the output has no room for the
+/// bytes and memory is wanting; nothing has changed then.
 pub fn commit<N: Naming>(state: &mut State<N>, id: TaskId) -> Result<Entry, AllocError>
     requires least { (task : Task) × IsLeastTask state.old.view id.0 task × (task.status ≡ Finished)
         × ((turn : ℕ) × (index : ℕ) × (task.creator ≡ Committed turn index)) }

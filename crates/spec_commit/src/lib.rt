@@ -1,10 +1,10 @@
-//! Tasks that leave the queues for good or for a while: a commit, the moving of idle tasks into a block and their return, and the task
-//! that makes way in a full queue.
+//! Tasks that leave the queues for good or for a while: a commit, the moving of idle tasks into a block and their
+//! return, and the task that makes way in a full queue.
 //!
-//! Each call changes a state as its definition says and keeps what the state's type keeps. What takes memory takes it before its first
-//! change, so that a want of it leaves the state as it was. Whether an event is allowed is decided above.
-//! It stands on the state; `book_move` and `book_room` call it. A commit of a task with children costs a look at each
-//! slot of tasks.
+//! Each call changes a state as its definition says and keeps what the state's type keeps. What takes memory takes
+//! it before its first change, so that a want of it leaves the state as it was. Whether an event is allowed is
+//! decided above. It stands on the state; `book_move` and `book_room` call it. A commit of a task with children
+//! costs a look at each slot of tasks.
 #![tactic(auto)]
 
 mod choosing;

@@ -1,6 +1,7 @@
 //! A spilled task that comes back.
 
-ghost use Rattle.std.specs.Prelude.{◌≡◌, ◌≢◌, ◌<◌, ◌≤◌, ◌+◌, [], ℕ, length, IsOk, IsSome, OnOk, OnErr, Contains, option_map, slice_set};
+ghost use Rattle.std.specs.Prelude.{◌≡◌, ◌≢◌, ◌<◌, ◌≤◌, ◌+◌, [], ℕ, length, IsOk, IsSome, OnOk, OnErr, Contains};
+ghost use Rattle.std.specs.Prelude.{option_map, slice_set};
 ghost use Rattle.task_desc.specs.Record.{IsDesc};
 ghost use Rattle.spill_store.specs.Entries.{Entry as Spilled, TakesLeast};
 ghost use Rattle.spec_state.specs.declared.task.Creator.{Creator};
@@ -92,8 +93,8 @@ fn take_spilled<N: Naming>(state: &mut State<N>, tile: u32) -> (Desc, Vt)
     }
 }
 
-/// Brings the least task of a tile's block back, idle, as the last one of its task queue, which has a free entry. It takes no memory, and
-/// never answers `AllocError`.
+/// Brings the least task of a tile's block back, idle, as the last one of its task queue, which has a free entry.
+/// It takes no memory, and never answers `AllocError`.
 pub fn split<N: Naming>(state: &mut State<N>, tile: u32) -> Result<(), AllocError>
     requires tile { tile < state.old.view.settings.tiles }
     requires some { block_at state.old.view tile ≢ [] }

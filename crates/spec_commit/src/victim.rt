@@ -50,8 +50,8 @@ fn latest_other<N: Naming>(state: &State<N>, tile: u32, asker: Option<TaskId>) -
     }
 }
 
-/// The task that makes way in a full queue: the latest one other than the task that asks, by key and then by place. The splitter asks
-/// where no task is given. It costs a look at each task of the queue.
+/// The task that makes way in a full queue: the latest one other than the task that asks, by key and then by place.
+/// The splitter asks where no task is given. It costs a look at each task of the queue.
 pub fn victim_of<N: Naming>(state: &State<N>, tile: u32, asker: Option<TaskId>) -> TaskId
     requires tile { tile < state.now.view.settings.tiles }
     requires full { IsFull state.now.view tile }

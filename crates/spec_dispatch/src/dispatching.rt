@@ -23,8 +23,9 @@ fn free_number<N: Naming>(state: &mut State<N>)
     }
 }
 
-/// Puts a task, which is the least idle one of its tile, on the tile's lowest free core with the next dispatch number. Where all numbers
-/// are given, those in use are renumbered first: each is one of the path or of a dispatched task. No memory.
+/// Puts a task, which is the least idle one of its tile, on the tile's lowest free core with the next dispatch
+/// number. Where all numbers are given, those in use are renumbered first: each is one of the path or of a
+/// dispatched task. No memory.
 pub fn dispatch<N: Naming>(state: &mut State<N>, tile: u32, id: TaskId)
     requires tile { tile < state.old.view.settings.tiles }
     requires idle { (task : Task) × IsLeastIdle state.old.view tile id.0 task }

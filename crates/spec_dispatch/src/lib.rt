@@ -1,9 +1,9 @@
-//! The dispatch: the least idle task of a tile goes to its lowest free core with the next dispatch number. Where all numbers are given,
-//! those in use are renumbered first.
+//! The dispatch: the least idle task of a tile goes to its lowest free core with the next dispatch number. Where
+//! all numbers are given, those in use are renumbered first.
 //!
-//! It stands on the state of the machine, whose lists, index and tasks it changes. No call takes memory: the state keeps room for the
-//! table of a renumbering. Which task and which core a dispatch is of, the caller finds out by the state's own queries and `free_core`.
-//! `book_move` calls it.
+//! It stands on the state of the machine, whose lists, index and tasks it changes. No call takes memory: the state
+//! keeps room for the table of a renumbering. Which task and which core a dispatch is of, the caller finds out by
+//! the state's own queries and `free_core`. `book_move` calls it.
 #![tactic(auto)]
 
 mod cores;

@@ -36,7 +36,8 @@ fn move_key(index: &mut Index, task: &Task, id: usize, arrival: u64)
     index.insert(&task.key, task.tile, arrival, id);
 }
 
-/// Puts the least idle task of a tile on the tile's lowest free core with the next dispatch number, which is one that may be given.
+/// Puts the least idle task of a tile on the tile's lowest free core with the next dispatch number, which is one
+/// that may be given.
 pub(crate) fn place<N: Naming>(state: &mut State<N>, tile: u32, id: TaskId, core: u32)
     requires tile { tile < state.old.view.settings.tiles }
     requires least { (task : Task) × IsLeastIdle state.old.view tile id.0 task }

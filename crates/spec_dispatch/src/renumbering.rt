@@ -48,8 +48,8 @@ fn renumber_blocks(blocks: &mut [Block], table: &[u64])
     }
 }
 
-/// Replaces each dispatch number in use by its place among them, counted from 0. Each is one of the path or of a dispatched task. The
-/// next number is how many they are, fewer than there are numbers.
+/// Replaces each dispatch number in use by its place among them, counted from 0. Each is one of the path or of a
+/// dispatched task. The next number is how many they are, fewer than there are numbers.
 pub(crate) fn renumber<N: Naming>(state: &mut State<N>)
     requires held { (number : ℕ) → IsInUse state.old.view number → IsPathsOrTasks state.old.view number }
     ensures renumbers { Renumbers state.old.view state.new.view }

@@ -1,6 +1,7 @@
 //! The table of the dispatch numbers in use: those of the path and of the dispatched tasks.
 
-ghost use Rattle.std.specs.Prelude.{◌≡◌, ◌+◌, ◌<◌, ◌≤◌, ◌↔◌, ◌∷◌, ◌++◌, [], ℕ, Contains, map, length, vec_len, vec_capacity};
+ghost use Rattle.std.specs.Prelude.{◌≡◌, ◌+◌, ◌<◌, ◌≤◌, ◌↔◌, ◌∷◌, ◌++◌, [], ℕ, Contains, map, length, vec_len};
+ghost use Rattle.std.specs.Prelude.{vec_capacity};
 ghost use Rattle.std.specs.List.Sorted.{IsStrictlyIncreasing};
 ghost use Rattle.fractal_vt.specs.declared.vt.TheConstants.{MAX_LEVELS};
 ghost use Rattle.slab.specs.Slab.{slab_len, entries};
@@ -58,7 +59,8 @@ fn arrange(numbers: &mut Vec<u64>)
     numbers.dedup();
 }
 
-/// Fills the table with the numbers of the path and of the dispatched tasks, in rising order, each once. It has room for them.
+/// Fills the table with the numbers of the path and of the dispatched tasks, in rising order, each once. It has
+/// room for them.
 pub(crate) fn fill(table: &mut Vec<u64>, path: &Vt, tasks: &Slab<Task>)
     requires room { MAX_LEVELS + slab_len tasks.now ≤ vec_capacity table.old }
     ensures rising { IsStrictlyIncreasing table.new.items }

@@ -19,7 +19,8 @@ use Rattle.spec_law.specs.Sound.{Sound, SoundMemory, SoundOrder, SoundSizes, Sou
 abbrev pub HoldsPulled : View → List Bool → Type 0
 HoldsPulled view marks = (a b : ℕ) → Pulls view a b → is_marked marks a ≡ true → is_marked marks b ≡ true
 
--- the marked tasks are taken back, with their stores, and leave queues and cores: what an abort does, whichever tasks its cascades begin with
+-- the marked tasks are taken back, with their stores, and leave queues and cores: what an abort does, whichever
+-- tasks its cascades begin with
 pub record TakesMarked (marks : List Bool) (old new : View) : Type 0 where
   pub holds : HoldsPulled old marks
   pub each : (id : ℕ) → task_at new id ≡ taken_back old.version marks id (task_at old id)
@@ -27,27 +28,39 @@ pub record TakesMarked (marks : List Bool) (old new : View) : Type 0 where
   pub queues : new.queues ≡ map (queue_after (waiting new)) old.queues
   pub finished : new.finished ≡ map (filter (λ id. not (is_marked marks id))) old.finished
   pub cores : new.cores ≡ map (map (freed_core marks)) old.cores
-  pub rest : new ≡ record old { tasks = new.tasks; memory = new.memory; queues = new.queues; finished = new.finished; cores = new.cores }
+  pub rest : new
+      ≡ record old {
+        tasks = new.tasks;
+        memory = new.memory;
+        queues = new.queues;
+        finished = new.finished;
+        cores = new.cores;
+      }
 
 -- an abort of one task takes its marked tasks back
 abbrev pub AbortTakesMarked : Type 0
-AbortTakesMarked = (first : ℕ) (old : View) (aborted : ℕ) (new : View) (abort : Aborts (Only first) old aborted new) → TakesMarked abort.marks old new
+AbortTakesMarked = (first : ℕ) (old : View) (aborted : ℕ) (new : View) (abort : Aborts (Only first) old aborted new)
+    → TakesMarked abort.marks old new
 
 -- an abort of all tasks that conflict with an access takes its marked tasks back
 abbrev pub ConflictsTakeMarked : Type 0
 ConflictsTakeMarked =
-    (task : Task) (line : ℕ) (write : Bool) (old : View) (aborted : ℕ) (new : View) (abort : Aborts (Conflicts old task line write) old aborted new)
+    (task : Task) (line : ℕ) (write : Bool) (old : View) (aborted : ℕ) (new : View)
+    (abort : Aborts (Conflicts old task line write) old aborted new)
     → TakesMarked abort.marks old new
 
 -- to take marked tasks back is an abort to the order of the queued tasks
 abbrev pub MarkedAreAborted : Type 0
-MarkedAreAborted = (marks : List Bool) (old new : View) → TakesMarked marks old new → order.Aborts (is_marked marks) (keyed old) (keyed new)
+MarkedAreAborted = (marks : List Bool) (old new : View) → TakesMarked marks old new
+    → order.Aborts (is_marked marks) (keyed old) (keyed new)
 
 -- to take marked tasks back is that to the bags of pending tasks
 abbrev pub MarkedAreIdle : Type 0
-MarkedAreIdle = (marks : List Bool) (old new : View) → TakesMarked marks old new → moves.TakesBack (is_marked marks) (bag_tasks old) (bag_tasks new)
+MarkedAreIdle = (marks : List Bool) (old new : View) → TakesMarked marks old new
+    → moves.TakesBack (is_marked marks) (bag_tasks old) (bag_tasks new)
 
--- to take marked tasks back is, for memory, to take back a set that holds, with each member, the later tasks that may have seen what it wrote
+-- to take marked tasks back is, for memory, to take back a set that holds, with each member, the later tasks that
+-- may have seen what it wrote
 abbrev pub MarkedLeaveMemory : Type 0
 MarkedLeaveMemory =
     (marks : List Bool) (old new : View) → TakesMarked marks old new
@@ -56,7 +69,8 @@ MarkedLeaveMemory =
 -- the group of memory holds after an abort in a sound view, against the same state of the serial machine
 abbrev pub AbortKeepsMemory : Type 0
 AbortKeepsMemory =
-    (image : ImageValue) (marks : List Bool) (old new : View) (sound : Sound image old) → TakesMarked marks old new → SoundMemory new sound.serial
+    (image : ImageValue) (marks : List Bool) (old new : View) (sound : Sound image old) → TakesMarked marks old new
+    → SoundMemory new sound.serial
 
 -- the heir, where there is one, is unmarked
 abbrev pub SparesHeir : List Bool → Option ℕ → Type 0
@@ -66,24 +80,28 @@ SparesHeir marks heir = (id : ℕ) → heir ≡ Some id → is_marked marks id �
 abbrev pub CascadeSparesHeir : Type 0
 CascadeSparesHeir =
     (image : ImageValue) (view : View) (first : ℕ) (task : Task) (marks : List Bool) (sound : Sound image view)
-    → task_at view first ≡ Some task → sound.heir ≢ Some first → IsCascade view (Only first) marks → SparesHeir marks sound.heir
+    → task_at view first ≡ Some task → sound.heir ≢ Some first → IsCascade view (Only first) marks
+    → SparesHeir marks sound.heir
 
 -- an abort of all tasks that conflict with an access spares the heir
 abbrev pub ConflictsSpareHeir : Type 0
 ConflictsSpareHeir =
-    (image : ImageValue) (view : View) (id line : ℕ) (task : Task) (write : Bool) (marks : List Bool) (sound : Sound image view)
+    (image : ImageValue) (view : View) (id line : ℕ) (task : Task) (write : Bool) (marks : List Bool)
+    (sound : Sound image view)
     → task_at view id ≡ Some task → IsCascade view (Conflicts view task line write) marks → SparesHeir marks sound.heir
 
 -- an abort that spares the heir keeps the order of all uncommitted tasks
 abbrev pub AbortKeepsOrder : Type 0
 AbortKeepsOrder =
-    (marks : List Bool) (old new : View) (heir : Option ℕ) → TakesMarked marks old new → SparesHeir marks heir → SoundOrder old heir → SoundOrder new heir
+    (marks : List Bool) (old new : View) (heir : Option ℕ) → TakesMarked marks old new → SparesHeir marks heir
+    → SoundOrder old heir → SoundOrder new heir
 
 -- an abort that spares the heir keeps the group of tasks, against the same state of the serial machine
 abbrev pub AbortKeepsTasks : Type 0
 AbortKeepsTasks =
     (image : ImageValue) (marks : List Bool) (old new : View) (heir : Option ℕ) (serial : State)
-    → TakesMarked marks old new → SparesHeir marks heir → SoundTasks image old heir serial → SoundTasks image new heir serial
+    → TakesMarked marks old new → SparesHeir marks heir → SoundTasks image old heir serial
+    → SoundTasks image new heir serial
 
 -- an abort keeps the group of sizes
 abbrev pub AbortKeepsSizes : Type 0
@@ -92,13 +110,15 @@ AbortKeepsSizes = (marks : List Bool) (old new : View) → TakesMarked marks old
 -- an abort that spares the heir leaves it the heir, and makes none where there was none
 abbrev pub AbortKeepsHeir : Type 0
 AbortKeepsHeir =
-    (marks : List Bool) (old new : View) (heir : Option ℕ) → TakesMarked marks old new → SparesHeir marks heir → SoundOrder old heir → SoundSizes old
+    (marks : List Bool) (old new : View) (heir : Option ℕ) → TakesMarked marks old new → SparesHeir marks heir
+    → SoundOrder old heir → SoundSizes old
     → IsHeir old heir → IsHeir new heir
 
 -- an abort that spares the heir keeps a view sound, against the same state of the serial machine
 abbrev pub AbortKeepsSound : Type 0
 AbortKeepsSound =
-    (image : ImageValue) (marks : List Bool) (old new : View) (sound : Sound image old) → TakesMarked marks old new → SparesHeir marks sound.heir
+    (image : ImageValue) (marks : List Bool) (old new : View) (sound : Sound image old) → TakesMarked marks old new
+    → SparesHeir marks sound.heir
     → StaysSound image old sound new
 
 -- an abort of one task other than the heir keeps a view sound
@@ -111,7 +131,8 @@ AbortOfOneIsSound =
 -- an abort of all tasks that conflict with an access keeps a view sound
 abbrev pub AbortOfConflictsIsSound : Type 0
 AbortOfConflictsIsSound =
-    (image : ImageValue) (id line : ℕ) (task : Task) (write : Bool) (old : View) (aborted : ℕ) (new : View) (sound : Sound image old)
+    (image : ImageValue) (id line : ℕ) (task : Task) (write : Bool) (old : View) (aborted : ℕ) (new : View)
+    (sound : Sound image old)
     → task_at old id ≡ Some task → Aborts (Conflicts old task line write) old aborted new
     → StaysSound image old sound new
 
@@ -125,6 +146,7 @@ AbortOfLaterIsSound =
 -- an abort that makes room for a least task that asks, which is the heir or is spilled, keeps a view sound
 abbrev pub AbortForRoomIsSound : Type 0
 AbortForRoomIsSound =
-    (image : ImageValue) (tile v first : ℕ) (task : Task) (old : View) (aborted : ℕ) (new : View) (sound : Sound image old)
+    (image : ImageValue) (tile v first : ℕ) (task : Task) (old : View) (aborted : ℕ) (new : View)
+    (sound : Sound image old)
     → IsVictim old tile (asker_of sound.heir) v task → IsTakenFor old v task first → Aborts (Only first) old aborted new
     → StaysSound image old sound new

@@ -23,8 +23,8 @@ use Rattle.turn_law.specs.Tasks.{pending}
 abbrev pub LeastIsOne : Type 0
 LeastIsOne = (view : View) (a b : Spot) → IsLeastSpot view a → IsLeastSpot view b → a ≡ b
 
--- a task of a committed creator that may take the serial machine's next turn: it stands in the innermost bag that holds a task, with a
--- least timestamp there
+-- a task of a committed creator that may take the serial machine's next turn: it stands in the innermost bag that
+-- holds a task, with a least timestamp there
 pub record MayTakeTurn (stack : List BagValue) (task : Task) : Type 0 where
   pub turn : ℕ
   pub index : ℕ
@@ -34,37 +34,43 @@ pub record MayTakeTurn (stack : List BagValue) (task : Task) : Type 0 where
 -- the least task, where it is queued, is firm and may take the serial machine's next turn
 abbrev pub LeastIsNext : Type 0
 LeastIsNext =
-    (image : ImageValue) (view : View) (sound : Sound image view) (id : ℕ) (task : Task) → IsLeastTask view id task → MayTakeTurn sound.serial.stack task
+    (image : ImageValue) (view : View) (sound : Sound image view) (id : ℕ) (task : Task) → IsLeastTask view id task
+    → MayTakeTurn sound.serial.stack task
 
 -- the same holds where it is spilled
 abbrev pub LeastSpilledIsNext : Type 0
 LeastSpilledIsNext =
-    (image : ImageValue) (view : View) (sound : Sound image view) (tile place : ℕ) (s : Spilled) → IsLeastSpot view (Spilled_at tile place)
+    (image : ImageValue) (view : View) (sound : Sound image view) (tile place : ℕ) (s : Spilled)
+    → IsLeastSpot view (Spilled_at tile place)
     → slice_get (block_at view tile) place ≡ Some s
     → (s.desc.name.creator ≤ length view.history) × HasTurn sound.serial.stack s.desc.depth (bag_spilled s).task
 
 -- each spilled task is firm: its name is that of a child of a committed task, or of the least one, which is dispatched
 abbrev pub SpilledAreFirm : Type 0
 SpilledAreFirm =
-    (image : ImageValue) (view : View) → Sound image view → (s : Spilled) → Contains (all_spilled view) s → (creator : Creator) × HasName view creator s.desc.name
+    (image : ImageValue) (view : View) → Sound image view → (s : Spilled) → Contains (all_spilled view) s
+    → (creator : Creator) × HasName view creator s.desc.name
 
 -- the cascade of a task holds, beside it, later tasks alone
 abbrev pub CascadeIsLater : Type 0
 CascadeIsLater =
     (image : ImageValue) (view : View) (first : ℕ) (task : Task) (marks : List Bool)
     → Sound image view → task_at view first ≡ Some task → IsCascade view (Only first) marks
-    → (id : ℕ) → Marked marks id → id ≢ first → (x : Task) × (task_at view id ≡ Some x) × (key_cmp task.key x.key ≡ Less)
+    → (id : ℕ) → Marked marks id → id ≢ first
+    → (x : Task) × (task_at view id ≡ Some x) × (key_cmp task.key x.key ≡ Less)
 
 -- what is taken back for an access of a task, the cascades of all tasks that conflict with it, never takes that task
 abbrev pub ConflictsSpareAsker : Type 0
 ConflictsSpareAsker =
     (image : ImageValue) (view : View) (id line : ℕ) (task : Task) (write : Bool) (marks : List Bool)
-    → Sound image view → task_at view id ≡ Some task → IsCascade view (Conflicts view task line write) marks → Marked marks id → ⊥
+    → Sound image view → task_at view id ≡ Some task → IsCascade view (Conflicts view task line write) marks
+    → Marked marks id → ⊥
 
 -- with all uncommitted tasks taken back, memory is that of the serial machine after the history
 abbrev pub AllUndoneIsSerial : Type 0
 AllUndoneIsSerial =
-    (image : ImageValue) (view : View) (sound : Sound image view) (memory : List ℕ) → IsUndone view (λ id. true) memory → memory ≡ sound.serial.memory
+    (image : ImageValue) (view : View) (sound : Sound image view) (memory : List ℕ)
+    → IsUndone view (λ id. true) memory → memory ≡ sound.serial.memory
 
 -- what undoing all uncommitted tasks leaves has the serial machine's memory and output after the history
 abbrev pub UndoAllIsSerial : Type 0

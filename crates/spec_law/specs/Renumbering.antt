@@ -14,7 +14,8 @@ use Rattle.spec_law.specs.Sound.{Sound}
 -- in a sound view each number in use is one of the path or that of a dispatched task, so that no domain has another
 abbrev pub NumbersAreHeld : Type 0
 NumbersAreHeld =
-    (image : ImageValue) (view : View) → Sound image view → (number : ℕ) → IsInUse view number → IsPathsOrTasks view number
+    (image : ImageValue) (view : View) → Sound image view → (number : ℕ) → IsInUse view number
+    → IsPathsOrTasks view number
 
 -- of a sound view's dispatch numbers few are in use
 abbrev pub NumbersInUseAreFew : Type 0
@@ -28,8 +29,8 @@ RenumberingStaysSound =
     (image : ImageValue) (old new : View) (sound : Sound image old) → Renumbers old new
     → (now : Sound image new) × (now.serial ≡ sound.serial) × (now.heir ≡ sound.heir)
 
--- the views have the same least task and the same heir, each access conflicts with the same tasks, the same tasks are taken back with
--- each, and whatever is taken back leaves the same memory
+-- the views have the same least task and the same heir, each access conflicts with the same tasks, the same tasks
+-- are taken back with each, and whatever is taken back leaves the same memory
 pub record SaySame (table : List ℕ) (old new : View) : Type 0 where
   pub least : (spot : Spot) → IsLeastSpot old spot ↔ IsLeastSpot new spot
   pub heir : (heir : Option ℕ) → IsHeir old heir ↔ IsHeir new heir

@@ -15,14 +15,16 @@ use Rattle.spec_state.specs.View.{View, task_at, queue_at, block_at}
 use Rattle.spec_state.specs.Tasks.{is_dispatched, child_descriptor, idle_task}
 use Rattle.spec_state.specs.Groups.{keyed_task, waiting_task, waiting}
 use Rattle.spec_state.specs.Least.{IsFirm, IsLeastTask, IsLeastSpilled}
-use Rattle.spec_state.specs.Room.{Asker, Enqueuer, Splitter, IsMovable, Coalesces, Splits, HasFreeEntry, NoneMoves, IsVictim, MakesRoom, IsTakenFor}
+use Rattle.spec_state.specs.Room.{Asker, Enqueuer, Splitter, IsMovable, Coalesces, Splits, HasFreeEntry, NoneMoves}
+use Rattle.spec_state.specs.Room.{IsVictim, MakesRoom, IsTakenFor}
 use Rattle.spec_state.specs.Changes.{TakesLeg, request_of}
 use Rattle.spec_law.specs.Sound.{Sound}
 
 -- in a sound view a task is firm exactly where the laws of room call it so
 abbrev pub FirmIsFirm : Type 0
 FirmIsFirm =
-    (image : ImageValue) (view : View) (sound : Sound image view) (task : Task) → IsFirm view task ↔ room.IsFirm sound.heir (waiting_task task)
+    (image : ImageValue) (view : View) (sound : Sound image view) (task : Task)
+    → IsFirm view task ↔ room.IsFirm sound.heir (waiting_task task)
 
 -- in a sound view a task of a tile's queue may move exactly where the laws of room let it
 abbrev pub MovableIsMovable : Type 0
@@ -56,18 +58,21 @@ pub record MayBeTaken (view : View) (asker : Asker) (low : Key) (first : ℕ) : 
   pub other : asker ≢ Enqueuer first
   pub above : key_cmp low task.key ≡ Less
 
--- in a sound view, where nothing in a tile's queue moves and the least task asks, what is taken back for the victim is a later dispatched task
+-- in a sound view, where nothing in a tile's queue moves and the least task asks, what is taken back for the victim
+-- is a later dispatched task
 abbrev pub VictimIsLater : Type 0
 VictimIsLater =
     (image : ImageValue) (view : View) (tile : ℕ) (asker : Asker) (low : Key) (v first : ℕ) (task : Task)
-    → Sound image view → AsksAsLeast view tile asker low → NoneMoves view tile → IsVictim view tile asker v task → IsTakenFor view v task first
+    → Sound image view → AsksAsLeast view tile asker low → NoneMoves view tile → IsVictim view tile asker v task
+    → IsTakenFor view v task first
     → MayBeTaken view asker low first
 
 -- a coalescing makes the tile's queue shorter, and no queue longer
 abbrev pub CoalesceMakesRoom : Type 0
 CoalesceMakesRoom =
     (tile : ℕ) (old new : View) → Coalesces tile old new
-    → (length (queue_at new tile) < length (queue_at old tile)) × ((other : ℕ) → length (queue_at new other) ≤ length (queue_at old other))
+    → (length (queue_at new tile) < length (queue_at old tile))
+    × ((other : ℕ) → length (queue_at new other) ≤ length (queue_at old other))
 
 -- in a sound view a tile's queue has a free entry once room was made in it, by whichever rule
 abbrev pub RoomIsMade : Type 0
@@ -79,16 +84,19 @@ RoomIsMade =
 abbrev pub HasKeyAt : View → ℕ → Key → Type 0
 HasKeyAt view id key = (task : Task) × (task_at view id ≡ Some task) × (task.key ≡ key)
 
--- where the least task is spilled in a tile, a split takes it out of the block, and the task that comes back has its key
+-- where the least task is spilled in a tile, a split takes it out of the block, and the task that comes back has
+-- its key
 abbrev pub SplitReturnsLeast : Type 0
 SplitReturnsLeast =
     (tile : ℕ) (old new : View) (least : IsLeastSpilled old tile) (splits : Splits tile old new)
     → (slice_get (block_at old tile) least.place ≡ Some splits.s) × HasKeyAt new splits.id least.least.key
 
--- in a sound view, where the least task is spilled in a tile, the task that comes back by a split is the least one from then on
+-- in a sound view, where the least task is spilled in a tile, the task that comes back by a split is the least one
+-- from then on
 abbrev pub SplitKeepsLeast : Type 0
 SplitKeepsLeast =
-    (image : ImageValue) (tile : ℕ) (old new : View) → Sound image old → IsLeastSpilled old tile → (splits : Splits tile old new)
+    (image : ImageValue) (tile : ℕ) (old new : View) → Sound image old → IsLeastSpilled old tile
+    → (splits : Splits tile old new)
     → (task : Task) × IsLeastTask new splits.id task
 
 -- the idle child that a task of this id makes by this spawn, in a tile
@@ -96,8 +104,8 @@ abbrev pub child_of : ℕ → ℕ → Task → Spawn → ℕ → Task
 child_of version id task spawn tile =
     idle_task version (child_descriptor task spawn) (Live (record { 0 = id }) (length task.spawns)) tile
 
--- in a sound view, where a running task asks for a child, the child stands in one of the places that the law of order has for it, and
--- its key is above its creator's
+-- in a sound view, where a running task asks for a child, the child stands in one of the places that the law of
+-- order has for it, and its key is above its creator's
 abbrev pub ChildIsAbove : Type 0
 ChildIsAbove =
     (image : ImageValue) (view : View) (tile core id to : ℕ) (leg : LegValue) (task : Task) (spawn : Spawn)

@@ -1,5 +1,7 @@
--- When a view is sound: were all its uncommitted tasks taken back, the serial machine's state after its history would be left.
-use Rattle.std.specs.Prelude.{◌≡◌, ◌↔◌, ◌+◌, ◌^◌, ℕ, ◌<◌, ◌≤◌, [], length, map, All, Contains, Option, Some, IsSome, is_some, unwrap_or, slice_get}
+-- When a view is sound: were all its uncommitted tasks taken back, the serial machine's state after its history
+-- would be left.
+use Rattle.std.specs.Prelude.{◌≡◌, ◌↔◌, ◌+◌, ◌^◌, ℕ, ◌<◌, ◌≤◌, [], length, map, All, Contains, Option, Some, IsSome}
+use Rattle.std.specs.Prelude.{is_some, unwrap_or, slice_get}
 use Rattle.fractal_vt.specs.Levels.{closed}
 use Rattle.guest_image.specs.ImageValue.{ImageValue}
 use Rattle.memory_law.specs.Chain.{IsChained}
@@ -29,13 +31,15 @@ use Rattle.spec_state.specs.declared.task.TaskId.{TaskId}
 use Rattle.spec_state.specs.Settings.{IsValid}
 use Rattle.spec_state.specs.View.{View, version_of, task_at, finished_at, cores_at}
 use Rattle.spec_state.specs.Filters.{HasNotes}
-use Rattle.spec_state.specs.Tasks.{Descriptor, depth_of, start_context, progress_at, idle_again, descriptor_of, spilled_descriptor, child_descriptor}
+use Rattle.spec_state.specs.Tasks.{Descriptor, depth_of, start_context, progress_at, idle_again, descriptor_of}
+use Rattle.spec_state.specs.Tasks.{spilled_descriptor, child_descriptor}
 use Rattle.spec_state.specs.Groups.{all_keyed, all_spilled, logged, bag_tasks, bags_spilled, domains_of}
 use Rattle.spec_state.specs.Least.{IsHeir}
 use Rattle.spec_state.specs.Queries.{IsQueued}
 
 module _ (image : ImageValue) (budget : ℕ) where
-  -- the task's steps from its start on led to this state; its loads found the values of its log, and its stores are those of its log
+  -- the task's steps from its start on led to this state; its loads found the values of its log, and its stores are
+  -- those of its log
   abbrev pub RanTo : Task → TaskState → Type 0
   RanTo task =
       LoggedRun image budget image.data_size (start_context (version_of image) task)
@@ -76,34 +80,39 @@ pub record IsMadeBy (view : View) (id index : ℕ) (d : Descriptor) : Type 0 whe
   pub made : slice_get creator.spawns index ≡ Some spawn
   pub is : d ≡ child_descriptor creator spawn
 
--- the group of tasks, against the serial machine's state after the history: the history is no longer than it may be; the output is that
--- of the run; names are apart, families whole and spilled tasks firm; the tasks of committed creators are, at each depth, the pending
--- tasks of the bag there, and their kinds and floors are those of the bags; each task has done what its status says; and each child is as
--- its creator made it. That names are apart, and those of spilled tasks as a list, is kept for the proof alone
+-- the group of tasks, against the serial machine's state after the history: the history is no longer than it may
+-- be; the output is that of the run; names are apart, families whole and spilled tasks firm; the tasks of committed
+-- creators are, at each depth, the pending tasks of the bag there, and their kinds and floors are those of the
+-- bags; each task has done what its status says; and each child is as its creator made it. That names are apart,
+-- and those of spilled tasks as a list, is kept for the proof alone
 pub record SoundTasks (image : ImageValue) (view : View) (heir : Option ℕ) (serial : State) : Type 0 where
   pub few : length view.history ≤ view.settings.commits
   pub output : view.output ≡ serial.output
   pub names : AreSound (length view.history) (unwrap_or heir 0) (is_some heir) (bag_tasks view) (bags_spilled view)
   pub matches : Matches (length view.history) (bag_tasks view) (bags_spilled view) serial.stack
-  pub domains : (id : ℕ) (task : Task) (turn index : ℕ) → task_at view id ≡ Some task → task.creator ≡ Committed turn index
+  pub domains : (id : ℕ) (task : Task) (turn index : ℕ) → task_at view id ≡ Some task
+      → task.creator ≡ Committed turn index
       → FitsBags (domains_of task.kinds task.key.domain) serial.stack
   pub spilled_domains : (s : Spilled) → Contains (all_spilled view) s → s.desc.name.creator ≤ length view.history
       → FitsBags (domains_of s.desc.kinds s.domain) serial.stack
-  pub stands : (id : ℕ) (task : Task) → task_at view id ≡ Some task → StandsAs image view.settings.budget task task.status
-  pub children : (id : ℕ) (task : Task) (creator : TaskId) (index : ℕ) → task_at view id ≡ Some task → task.creator ≡ Live creator index
+  pub stands : (id : ℕ) (task : Task) → task_at view id ≡ Some task
+      → StandsAs image view.settings.budget task task.status
+  pub children : (id : ℕ) (task : Task) (creator : TaskId) (index : ℕ) → task_at view id ≡ Some task
+      → task.creator ≡ Live creator index
       → IsMadeBy view creator.0 index (descriptor_of task)
   pub spilled_children : (s : Spilled) → Contains (all_spilled view) s → s.desc.name.creator ≡ length view.history + 1
       → (id : ℕ) × (heir ≡ Some id) × IsMadeBy view id s.desc.name.index (spilled_descriptor s)
 
--- the group of memory: for each byte the accesses of the dispatched tasks chain from the serial machine's memory to the view's, and each
--- task's filter has the notes of its log
+-- the group of memory: for each byte the accesses of the dispatched tasks chain from the serial machine's memory to
+-- the view's, and each task's filter has the notes of its log
 pub record SoundMemory (view : View) (serial : State) : Type 0 where
   pub chained : IsChained view.settings.line (logged view) serial.memory view.memory
-  pub noted : (id : ℕ) (task : Task) → task_at view id ≡ Some task → HasNotes task.lines (notes_of view.settings.line task.log)
+  pub noted : (id : ℕ) (task : Task) → task_at view id ≡ Some task
+      → HasNotes task.lines (notes_of view.settings.line task.log)
 
--- the group of order: the virtual times of all uncommitted tasks, the path and the next dispatch number, which is at most how many there
--- are. Kept for the proof alone: that no task has a number of the path, that keys fit and the path is no longer, that timestamps of
--- unordered domains are 0, and all that it says of spilled children
+-- the group of order: the virtual times of all uncommitted tasks, the path and the next dispatch number, which is
+-- at most how many there are. Kept for the proof alone: that no task has a number of the path, that keys fit and
+-- the path is no longer, that timestamps of unordered domains are 0, and all that it says of spilled children
 pub record SoundOrder (view : View) (heir : Option ℕ) : Type 0 where
   pub order : IsOrdered (all_keyed view heir) (map closed view.path) view.next
   pub numbers : view.next ≤ DISPATCH_NUMBERS
@@ -119,9 +128,10 @@ HoldsCore Finished core = ⊥
 abbrev pub HasTask : View → ℕ → ℕ → (Status → Type 0) → Type 0
 HasTask view tile id kind = (task : Task) × (task_at view id ≡ Some task) × (task.tile ≡ tile) × kind task.status
 
--- the group of sizes: the settings are in their ranges; each tile has its lists, none of which holds more than it may, nor one task twice;
--- its task queue holds its tasks, its commit queue the finished ones of them, and its cores those that run or are trapped; and kinds and
--- bytes have room. All but the bounds of the lists is kept for the proof alone
+-- the group of sizes: the settings are in their ranges; each tile has its lists, none of which holds more than it
+-- may, nor one task twice; its task queue holds its tasks, its commit queue the finished ones of them, and its
+-- cores those that run or are trapped; and kinds and bytes have room. All but the bounds of the lists is kept for
+-- the proof alone
 pub record SoundSizes (view : View) : Type 0 where
   pub settings : IsValid view.settings
   pub queues : length view.queues ≡ view.settings.tiles
@@ -132,8 +142,10 @@ pub record SoundSizes (view : View) : Type 0 where
   pub commit_queues : All (λ ids. (length ids ≤ view.settings.commit_queue) × AreDistinct ids) view.finished
   pub core_counts : All (λ held. length held ≡ view.settings.cores) view.cores
   pub queued_are : (tile id : ℕ) → IsQueued view tile id ↔ HasTask view tile id (λ status. Unit {0})
-  pub finished_are : (tile id : ℕ) → Contains (finished_at view tile) id ↔ HasTask view tile id (λ status. status ≡ Finished)
-  pub held_are : (tile core id : ℕ) → (slice_get (cores_at view tile) core ≡ Some (Some id)) ↔ HasTask view tile id (λ status. HoldsCore status core)
+  pub finished_are : (tile id : ℕ)
+      → Contains (finished_at view tile) id ↔ HasTask view tile id (λ status. status ≡ Finished)
+  pub held_are : (tile core id : ℕ)
+      → (slice_get (cores_at view tile) core ≡ Some (Some id)) ↔ HasTask view tile id (λ status. HoldsCore status core)
   pub kinds : (id : ℕ) (task : Task) → task_at view id ≡ Some task → task.kinds < 2 ^ depth_of task
   pub bytes : (id : ℕ) (task : Task) → task_at view id ≡ Some task → length task.bytes ≤ MAX_EMITTED
   pub spilled : (s : Spilled) → Contains (all_spilled view) s → IsDesc s.desc × (length s.domain + 1 ≡ s.desc.depth)

@@ -1,6 +1,10 @@
 //! What an abort is to the laws of order, of tasks and of memory. Each is the contract of a function that does nothing.
 
-ghost use Rattle.spec_law.specs.AbortLaws.{AbortKeepsHeir, AbortKeepsMemory, AbortKeepsOrder, AbortKeepsSizes, AbortKeepsSound, AbortKeepsTasks, AbortForRoomIsSound, AbortOfConflictsIsSound, AbortOfLaterIsSound, AbortOfOneIsSound, AbortTakesMarked, CascadeSparesHeir, ConflictsSpareHeir, ConflictsTakeMarked, MarkedAreAborted, MarkedAreIdle, MarkedLeaveMemory};
+ghost use Rattle.spec_law.specs.AbortLaws.{AbortKeepsHeir, AbortKeepsMemory, AbortKeepsOrder, AbortKeepsSizes};
+ghost use Rattle.spec_law.specs.AbortLaws.{AbortKeepsSound, AbortKeepsTasks, AbortForRoomIsSound};
+ghost use Rattle.spec_law.specs.AbortLaws.{AbortOfConflictsIsSound, AbortOfLaterIsSound, AbortOfOneIsSound};
+ghost use Rattle.spec_law.specs.AbortLaws.{AbortTakesMarked, CascadeSparesHeir, ConflictsSpareHeir};
+ghost use Rattle.spec_law.specs.AbortLaws.{ConflictsTakeMarked, MarkedAreAborted, MarkedAreIdle, MarkedLeaveMemory};
 
 /// An abort of one task takes its marked tasks back.
 pub fn abort_takes_marked()
@@ -22,8 +26,8 @@ pub fn marked_are_idle()
     ensures { MarkedAreIdle }
 {}
 
-/// To take marked tasks back is, for memory, to take back a set that holds, with each member, the later tasks that may have seen what
-/// it wrote.
+/// To take marked tasks back is, for memory, to take back a set that holds, with each member, the later tasks that
+/// may have seen what it wrote.
 pub fn marked_leave_memory()
     ensures { MarkedLeaveMemory }
 {}

@@ -1,4 +1,5 @@
-//! A load or a store with which no task conflicts, and an enqueue that is allowed, keep a view sound. Each is the contract of a function that does nothing.
+//! A load or a store with which no task conflicts, and an enqueue that is allowed, keep a view sound. Each is the
+//! contract of a function that does nothing.
 
 ghost use Rattle.spec_law.specs.Keeping.{EnqueueStaysSound, LoadStaysSound, StoreStaysSound};
 

@@ -1,19 +1,22 @@
 //! Laws of sound views. Each is the contract of a function that does nothing.
 
-ghost use Rattle.spec_law.specs.Laws.{AllUndoneIsSerial, CascadeIsLater, ConflictsSpareAsker, LeastIsNext, LeastIsOne, LeastSpilledIsNext, SpilledAreFirm, UndoAllIsSerial};
+ghost use Rattle.spec_law.specs.Laws.{AllUndoneIsSerial, CascadeIsLater, ConflictsSpareAsker, LeastIsNext};
+ghost use Rattle.spec_law.specs.Laws.{LeastIsOne, LeastSpilledIsNext, SpilledAreFirm, UndoAllIsSerial};
 
 /// There is one least task at most: keys decide, and where they tie, the places at which the tasks stand.
 pub fn least_is_one()
     ensures { LeastIsOne }
 {}
 
-/// In a sound view the least task, where it is queued, is firm: its creator has committed. It stands in the innermost bag of the serial
-/// machine that holds a task, with a least timestamp there, and so may take the next turn.
+/// In a sound view the least task, where it is queued, is firm: its creator has committed. It stands in the
+/// innermost bag of the serial machine that holds a task, with a least timestamp there, and so may take the next
+/// turn.
 pub fn least_is_next()
     ensures { LeastIsNext }
 {}
 
-/// In a sound view the least task, where it is spilled, may take the serial machine's next turn: its creator has committed.
+/// In a sound view the least task, where it is spilled, may take the serial machine's next turn: its creator has
+/// committed.
 pub fn least_spilled_is_next()
     ensures { LeastSpilledIsNext }
 {}
@@ -33,12 +36,14 @@ pub fn conflicts_spare_asker()
     ensures { ConflictsSpareAsker }
 {}
 
-/// In a sound view all uncommitted tasks taken back, the latest first, leave the serial machine's memory after the history.
+/// In a sound view all uncommitted tasks taken back, the latest first, leave the serial machine's memory after the
+/// history.
 pub fn all_undone_is_serial()
     ensures { AllUndoneIsSerial }
 {}
 
-/// In a sound view what undoing all uncommitted tasks leaves has the serial machine's memory and output after the history.
+/// In a sound view what undoing all uncommitted tasks leaves has the serial machine's memory and output after the
+/// history.
 pub fn undo_all_is_serial()
     ensures { UndoAllIsSerial }
 {}

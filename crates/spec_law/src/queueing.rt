@@ -1,4 +1,5 @@
-//! Laws of the events that move tasks between queues and blocks, and to cores. Each is the contract of a function that does nothing.
+//! Laws of the events that move tasks between queues and blocks, and to cores. Each is the contract of a function
+//! that does nothing.
 
 ghost use Rattle.spec_law.specs.Keeping.{CoalesceStaysSound, DispatchStaysSound, SplitStaysSound};
 

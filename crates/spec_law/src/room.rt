@@ -1,6 +1,8 @@
 //! Laws of room in a task queue. Each is the contract of a function that does nothing.
 
-ghost use Rattle.spec_law.specs.RoomLaws.{ChildIsAbove, CoalesceMakesRoom, FirmIsFirm, MovableIsMovable, RoomIsMade, SplitKeepsLeast, SplitReturnsLeast, VictimIsLater, VictimIsVictim};
+ghost use Rattle.spec_law.specs.RoomLaws.{ChildIsAbove, CoalesceMakesRoom, FirmIsFirm, MovableIsMovable};
+ghost use Rattle.spec_law.specs.RoomLaws.{RoomIsMade, SplitKeepsLeast, SplitReturnsLeast, VictimIsLater};
+ghost use Rattle.spec_law.specs.RoomLaws.{VictimIsVictim};
 
 /// In a sound view a task is firm exactly where the laws of room call it so.
 pub fn firm_is_firm()
@@ -12,13 +14,14 @@ pub fn movable_is_movable()
     ensures { MovableIsMovable }
 {}
 
-/// The victim, the last task of a queue where places break ties, is one that the laws of room allow: none has a greater key.
+/// The victim, the last task of a queue where places break ties, is one that the laws of room allow: none has a
+/// greater key.
 pub fn victim_is_victim()
     ensures { VictimIsVictim }
 {}
 
-/// In a sound view, where nothing in a tile's queue moves and the least task asks, what is taken back for the victim, itself where it is
-/// firm and else its creator, is dispatched, is not the least task, and is above it.
+/// In a sound view, where nothing in a tile's queue moves and the least task asks, what is taken back for the
+/// victim, itself where it is firm and else its creator, is dispatched, is not the least task, and is above it.
 pub fn victim_is_later()
     ensures { VictimIsLater }
 {}
@@ -33,18 +36,20 @@ pub fn room_is_made()
     ensures { RoomIsMade }
 {}
 
-/// Where the least task is spilled in a tile, a split takes it out of the block, and the task that comes back has its key.
+/// Where the least task is spilled in a tile, a split takes it out of the block, and the task that comes back has
+/// its key.
 pub fn split_returns_least()
     ensures { SplitReturnsLeast }
 {}
 
-/// In a sound view, where the least task is spilled in a tile, the task that comes back by a split is the least one from then on.
+/// In a sound view, where the least task is spilled in a tile, the task that comes back by a split is the least one
+/// from then on.
 pub fn split_keeps_least()
     ensures { SplitKeepsLeast }
 {}
 
-/// In a sound view the child of an enqueue that is allowed stands in one of the places that the law of order has for it, and its key is
-/// above its creator's.
+/// In a sound view the child of an enqueue that is allowed stands in one of the places that the law of order has
+/// for it, and its key is above its creator's.
 pub fn child_is_above()
     ensures { ChildIsAbove }
 {}

@@ -1,6 +1,8 @@
-//! Each step of one running task alone keeps a sound view sound. Each law is the contract of a function that does nothing.
+//! Each step of one running task alone keeps a sound view sound. Each law is the contract of a function that does
+//! nothing.
 
-ghost use Rattle.spec_law.specs.Keeping.{ByteStaysSound, EndStaysSound, QuantumStaysSound, SubStaysSound, TrapStaysSound};
+ghost use Rattle.spec_law.specs.Keeping.{ByteStaysSound, EndStaysSound, QuantumStaysSound, SubStaysSound};
+ghost use Rattle.spec_law.specs.Keeping.{TrapStaysSound};
 
 /// A leg that did its quantum keeps a view sound.
 pub fn quantum_stays_sound()

@@ -1,5 +1,6 @@
 -- Which tasks an abort takes, and what it leaves (Jeffrey et al. 2015, section 4.5: selective aborts).
-use Rattle.std.specs.Prelude.{◌≡◌, ◌⊎◌, ◌↔◌, ℕ, ◌≤◌, not, Bool, true, false, List, [], length, map, filter, replicate, count_by, Option, Some, None, slice_index_or, if◌then◌else◌}
+use Rattle.std.specs.Prelude.{◌≡◌, ◌⊎◌, ◌↔◌, ℕ, ◌≤◌, not, Bool, true, false, List, [], length, map, filter}
+use Rattle.std.specs.Prelude.{replicate, count_by, Option, Some, None, slice_index_or, if◌then◌else◌}
 use Rattle.abort_cascade.specs.Cascade.{IsLeastClosed}
 pub use Rattle.abort_cascade.specs.Cascade.{Only}
 use Rattle.line_table.specs.Note.{Meet}
@@ -36,16 +37,16 @@ Pulls view a b = IsChildOf view a b ⊎ ReadsFrom view a b
 abbrev pub is_marked : List Bool → ℕ → Bool
 is_marked marks id = slice_index_or marks id false
 
--- the marked tasks are the union of the cascades of these: the least set that holds them and, with each member, all that is taken back
--- with it
+-- the marked tasks are the union of the cascades of these: the least set that holds them and, with each member, all
+-- that is taken back with it
 pub record IsCascade (view : View) (firsts : ℕ → Type 0) (marks : List Bool) : Type 0 where
   pub pull : ℕ → ℕ → Bool
   pub pulls : (a b : ℕ) → (pull a b ≡ true) ↔ Pulls view a b
   pub size : length view.tasks ≤ length marks
   pub least : IsLeastClosed (length marks) pull firsts marks
 
--- this memory is what is left where the stores of a set of tasks are taken back: of the tasks in descending order of their keys, and of
--- each the last one first
+-- this memory is what is left where the stores of a set of tasks are taken back: of the tasks in descending order
+-- of their keys, and of each the last one first
 pub record IsUndone (view : View) (set : ℕ → Bool) (memory : List ℕ) : Type 0 where
   pub ids : List ℕ
   pub by_key : IsByKey (logged view) ids
@@ -69,8 +70,8 @@ abbrev pub freed_core : List Bool → Option ℕ → Option ℕ
 freed_core marks None = None
 freed_core marks (Some id) = if is_marked marks id then None else Some id
 
--- the cascades of these tasks are taken back, and so many tasks with them: memory is as they found it, and a member whose creator is a
--- member leaves its queue; all else stays
+-- the cascades of these tasks are taken back, and so many tasks with them: memory is as they found it, and a member
+-- whose creator is a member leaves its queue; all else stays
 pub record Aborts (firsts : ℕ → Type 0) (old : View) (aborted : ℕ) (new : View) : Type 0 where
   pub marks : List Bool
   pub cascade : IsCascade old firsts marks
@@ -80,7 +81,14 @@ pub record Aborts (firsts : ℕ → Type 0) (old : View) (aborted : ℕ) (new : 
   pub queues : new.queues ≡ map (queue_after (waiting new)) old.queues
   pub finished : new.finished ≡ map (filter (λ id. not (is_marked marks id))) old.finished
   pub cores : new.cores ≡ map (map (freed_core marks)) old.cores
-  pub rest : new ≡ record old { tasks = new.tasks; memory = new.memory; queues = new.queues; finished = new.finished; cores = new.cores }
+  pub rest : new
+      ≡ record old {
+        tasks = new.tasks;
+        memory = new.memory;
+        queues = new.queues;
+        finished = new.finished;
+        cores = new.cores;
+      }
 
 -- all uncommitted tasks are taken back: memory is as they found it, none is left, queued, finished, on a core or
 -- spilled, and all else stays

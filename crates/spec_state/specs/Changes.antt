@@ -1,5 +1,6 @@
 -- The one change of each event, where what it forces is done.
-use Rattle.std.specs.Prelude.{◌≡◌, ◌≢◌, ◌+◌, ◌∷◌, ◌++◌, ℕ, List, [], length, map, ◌==◌, Option, Some, None, slice_set, if◌then◌else◌}
+use Rattle.std.specs.Prelude.{◌≡◌, ◌≢◌, ◌+◌, ◌∷◌, ◌++◌, ℕ, List, [], length, map, ◌==◌, Option, Some, None}
+use Rattle.std.specs.Prelude.{slice_set, if◌then◌else◌}
 use Rattle.guest_image.specs.declared.image.Kind.{Kind}
 use Rattle.memory_law.specs.Notes.{notes_of}
 use Rattle.rv_core.specs.declared.state.Core.{Core}
@@ -122,10 +123,11 @@ creator_after id n (Live task index) = if task.0 == id then Committed n index el
 -- the task of this id leaves, its children's creator is committed, and all others stay
 abbrev pub after_commit : ℕ → ℕ → ℕ → Option Task → Option Task
 after_commit id n k None = None
-after_commit id n k (Some task) = if k == id then None else Some (record task { creator = creator_after id n task.creator })
+after_commit id n k (Some task) =
+    if k == id then None else Some (record task { creator = creator_after id n task.creator })
 
--- a commit: the least task, which is finished, leaves; its entry joins the history and its bytes the output, and the levels of its key
--- are the path
+-- a commit: the least task, which is finished, leaves; its entry joins the history and its bytes the output, and
+-- the levels of its key are the path
 pub record Commits (old new : View) : Type 0 where
   pub id : ℕ
   pub task : Task
@@ -136,7 +138,11 @@ pub record Commits (old new : View) : Type 0 where
   pub creator : task.creator ≡ Committed turn index
   pub each : (k : ℕ) → task_at new k ≡ after_commit id (length old.history + 1) k (task_at old k)
   pub history : new.history
-      ≡ old.history ++ record { name = record { creator = turn; index = index }; depth = depth_of task; ts = task.key.ts } ∷ []
+      ≡ old.history ++ record {
+        name = record { creator = turn; index = index };
+        depth = depth_of task;
+        ts = task.key.ts;
+      } ∷ []
   pub output : new.output ≡ old.output ++ task.bytes
   pub path : new.path ≡ task.key.domain ++ own_level task ∷ []
   pub queues : new.queues ≡ map (without id) old.queues

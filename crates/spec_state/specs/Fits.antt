@@ -61,9 +61,11 @@ pub record HasTiles (settings : Settings) (queues finished : List QueueValue) (c
 abbrev pub queued_count : List QueueValue → ℕ
 queued_count queues = sum_by (λ queue. length queue.ids) queues
 
--- there is a slot and an index entry for each entry of the task queues, of which no more are in use than ids are queued; each slot has a mark, a
--- place among the members and an arrival number, and the table of numbers has room for all that may be in use
-pub record HasSlots (settings : Settings) (tasks : List (Option Task)) (slots : ℕ) (queues : List QueueValue) (indexed entries mark_count member_count arrival_count room : ℕ) : Type 0 where
+-- there is a slot and an index entry for each entry of the task queues, of which no more are in use than ids are
+-- queued; each slot has a mark, a place among the members and an arrival number, and the table of numbers has room
+-- for all that may be in use
+pub record HasSlots (settings : Settings) (tasks : List (Option Task)) (slots : ℕ) (queues : List QueueValue)
+    (indexed entries mark_count member_count arrival_count room : ℕ) : Type 0 where
   pub enough : settings.tiles * settings.task_queue ≤ slots
   pub used : count_by is_some tasks ≡ queued_count queues
   pub short : All (λ queue. length queue.ids ≤ settings.task_queue) queues

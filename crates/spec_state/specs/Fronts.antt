@@ -18,7 +18,8 @@ use Rattle.spec_state.specs.Least.{Queued, Spilled_at, IsQueuedAt, ranked_cmp}
 pub record IsFirstQueued (view : View) (id : ℕ) (task : Task) : Type 0 where
   pub place : ℕ
   pub at : IsQueuedAt view task.tile place id task
-  pub first : (tile p k : ℕ) (x : Task) → IsQueuedAt view tile p k x → ranked_cmp task.key (Queued task.tile place) x.key (Queued tile p) ≢ Greater
+  pub first : (tile p k : ℕ) (x : Task) → IsQueuedAt view tile p k x
+      → ranked_cmp task.key (Queued task.tile place) x.key (Queued tile p) ≢ Greater
 
 -- of the tasks in the first blocks, so many, none comes before one of this tile, which has this key
 pub record IsFirstSpilled (blocks : List (List Spilled)) (count tile : ℕ) (key : Key) : Type 0 where
@@ -38,7 +39,8 @@ HoldNone blocks count = (t p : ℕ) (x : Spilled) → t < count → slice_get (s
 abbrev pub IsStanding : Where → TaskId → Task → Type 0
 IsStanding (where_.Idle id) own task = (id ≡ own) × (task.status ≡ status.Idle)
 IsStanding (where_.Running id) own task = (id ≡ own) × ((core : ℕ) × (task.status ≡ status.Running core))
-IsStanding (where_.Trapped id) own task = (id ≡ own) × ((core : ℕ) × (cause : ℕ) × (task.status ≡ status.Trapped core cause))
+IsStanding (where_.Trapped id) own task = (id ≡ own)
+    × ((core : ℕ) × (cause : ℕ) × (task.status ≡ status.Trapped core cause))
 IsStanding (where_.Finished id) own task = (id ≡ own) × (task.status ≡ status.Finished)
 IsStanding (where_.Spilled tile) own task = ⊥
 

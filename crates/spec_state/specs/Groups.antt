@@ -1,5 +1,6 @@
 -- What each group of the laws reads of a view: the order of tasks, memory, names and children, and room in a queue.
-use Rattle.std.specs.Prelude.{ℕ, ◌/◌, ◌∷◌, Bool, true, false, List, [], length, map, flat_map, nat_le, Option, Some, None, option_map}
+use Rattle.std.specs.Prelude.{ℕ, ◌/◌, ◌∷◌, Bool, true, false, List, [], length, map, flat_map, nat_le, Option, Some}
+use Rattle.std.specs.Prelude.{None, option_map}
 use Rattle.fractal_vt.specs.declared.level.Level.{Level}
 use Rattle.fractal_vt.specs.Keys.{last, levels}
 use Rattle.fractal_vt.specs.Levels.{closed}
@@ -57,7 +58,8 @@ keyed_spilled count heir s = record {
 
 -- all uncommitted tasks, the spilled ones under ids behind those of the queued ones
 abbrev pub all_keyed : View → Option ℕ → ℕ → Option Keyed
-all_keyed view heir = beside (length view.tasks) (keyed view) (map (keyed_spilled (length view.history) heir) (all_spilled view))
+all_keyed view heir =
+    beside (length view.tasks) (keyed view) (map (keyed_spilled (length view.history) heir) (all_spilled view))
 
 -- what memory reads of a task
 abbrev pub logged_task : Task → Logged
@@ -95,7 +97,10 @@ bag_tasks view id = option_map bag_task (task_at view id)
 
 -- what they read of a spilled one
 abbrev pub bag_spilled : Spilled → bags.SpilledTask
-bag_spilled s = record { depth = s.desc.depth; task = record { name = s.desc.name; entry = s.desc.entry; ts = s.desc.ts; args = s.desc.args } }
+bag_spilled s = record {
+  depth = s.desc.depth;
+  task = record { name = s.desc.name; entry = s.desc.entry; ts = s.desc.ts; args = s.desc.args };
+}
 
 -- what they read of the spilled tasks of all tiles
 abbrev pub bags_spilled : View → List bags.SpilledTask
@@ -103,7 +108,11 @@ bags_spilled view = map bag_spilled (all_spilled view)
 
 -- what room in a queue reads of a task
 abbrev pub waiting_task : Task → Waiting
-waiting_task task = record { levels = levels task.key; dispatched = is_dispatched task; creator = live_creator task.creator }
+waiting_task task = record {
+  levels = levels task.key;
+  dispatched = is_dispatched task;
+  creator = live_creator task.creator;
+}
 
 -- what it reads of the queued tasks, by id
 abbrev pub waiting : View → ℕ → Option Waiting

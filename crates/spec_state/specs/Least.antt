@@ -29,7 +29,8 @@ pub record IsQueuedAt (view : View) (tile place id : ℕ) (task : Task) : Type 0
 -- the task that stands there has this key
 abbrev pub HasKey : View → Spot → Key → Type 0
 HasKey view (Queued tile place) key = (id : ℕ) × (task : Task) × IsQueuedAt view tile place id task × (key ≡ task.key)
-HasKey view (Spilled_at tile place) key = (s : Spilled) × (slice_get (block_at view tile) place ≡ Some s) × (key ≡ open_key s)
+HasKey view (Spilled_at tile place) key = (s : Spilled) × (slice_get (block_at view tile) place ≡ Some s)
+    × (key ≡ open_key s)
 
 -- a place of a tile, by tile and then by place
 abbrev pub place_cmp : ℕ → ℕ → ℕ → ℕ → Ordering
@@ -50,7 +51,8 @@ ranked_cmp key spot other_key other_spot = ordering_then (key_cmp key other_key)
 pub record IsLeastSpot (view : View) (spot : Spot) : Type 0 where
   pub key : Key
   pub has : HasKey view spot key
-  pub least : (other : Spot) (other_key : Key) → HasKey view other other_key → ranked_cmp key spot other_key other ≢ Greater
+  pub least : (other : Spot) (other_key : Key) → HasKey view other other_key
+      → ranked_cmp key spot other_key other ≢ Greater
 
 -- the task of this id is the least uncommitted one
 pub record IsLeastTask (view : View) (id : ℕ) (task : Task) : Type 0 where
@@ -74,8 +76,10 @@ IsAllCommitted view = (spot : Spot) (key : Key) → HasKey view spot key → ⊥
 -- the least task is this one, and stands so
 abbrev pub IsLeast : View → Where → Type 0
 IsLeast view (where_.Idle id) = (task : Task) × IsLeastTask view id.0 task × (task.status ≡ status.Idle)
-IsLeast view (where_.Running id) = (task : Task) × (core : ℕ) × IsLeastTask view id.0 task × (task.status ≡ status.Running core)
-IsLeast view (where_.Trapped id) = (task : Task) × (core cause : ℕ) × IsLeastTask view id.0 task × (task.status ≡ status.Trapped core cause)
+IsLeast view (where_.Running id) = (task : Task) × (core : ℕ) × IsLeastTask view id.0 task
+    × (task.status ≡ status.Running core)
+IsLeast view (where_.Trapped id) = (task : Task) × (core cause : ℕ) × IsLeastTask view id.0 task
+    × (task.status ≡ status.Trapped core cause)
 IsLeast view (where_.Finished id) = (task : Task) × IsLeastTask view id.0 task × (task.status ≡ status.Finished)
 IsLeast view (where_.Spilled tile) = IsLeastSpilled view tile
 
@@ -90,13 +94,16 @@ IsFirm view task =
     ((turn index : ℕ) × (task.creator ≡ Committed turn index))
     ⊎ ((heir : ℕ) × (index : ℕ) × (task.creator ≡ Live (record { 0 = heir }) index) × IsHeir view (Some heir))
 
--- the name of a firm task by its creator: the creator's commit number, which is the next one where the creator is the heir, and the
--- place among its children
+-- the name of a firm task by its creator: the creator's commit number, which is the next one where the creator is
+-- the heir, and the place among its children
 abbrev pub HasName : View → Creator → Name → Type 0
-HasName view (Committed turn index) name = (turn ≤ length view.history) × (name ≡ record { creator = turn; index = index })
-HasName view (Live task index) name = IsHeir view (Some task.0) × (name ≡ record { creator = length view.history + 1; index = index })
+HasName view (Committed turn index) name = (turn ≤ length view.history)
+    × (name ≡ record { creator = turn; index = index })
+HasName view (Live task index) name = IsHeir view (Some task.0)
+    × (name ≡ record { creator = length view.history + 1; index = index })
 
--- of two tasks of a tile's task queue one comes before the other: its key is less, or ties and it stands at an earlier place
+-- of two tasks of a tile's task queue one comes before the other: its key is less, or ties and it stands at an
+-- earlier place
 abbrev pub Precedes : View → ℕ → ℕ → ℕ → Type 0
 Precedes view tile a b =
     (p q : ℕ) (x y : Task) → IsQueuedAt view tile p a x → IsQueuedAt view tile q b y

@@ -1,5 +1,5 @@
--- The dispatch numbers that are in use, and their renumbering once all numbers are given: as tiebreakers of hardware they have few bits
--- (Subramanian et al. 2017, tiebreakers that wrap around).
+-- The dispatch numbers that are in use, and their renumbering once all numbers are given: as tiebreakers of
+-- hardware they have few bits (Subramanian et al. 2017, tiebreakers that wrap around).
 use Rattle.std.specs.Prelude.{◌≡◌, ◌⊎◌, ◌↔◌, ℕ, ◌<◌, ◌≤◌, List, length, map, Contains, Some, option_map}
 use Rattle.std.specs.List.Sorted.{IsStrictlyIncreasing}
 use Rattle.fractal_vt.specs.declared.level.Level.{Level}
@@ -14,10 +14,12 @@ use Rattle.spec_state.specs.Groups.{all_spilled}
 abbrev pub IsTieOf : List Level → ℕ → Type 0
 IsTieOf levels number = Contains (map (λ level. level.tb) levels) number
 
--- the number is in use: it is a tiebreaker of the path, of the domain of an uncommitted task, or of a dispatched task's own level
+-- the number is in use: it is a tiebreaker of the path, of the domain of an uncommitted task, or of a dispatched
+-- task's own level
 pub data IsInUse (view : View) (number : ℕ) : Type 0 where
   on_path : IsTieOf view.path number → IsInUse view number
-  in_domain : (id : ℕ) (task : Task) → task_at view id ≡ Some task → IsTieOf task.key.domain number → IsInUse view number
+  in_domain : (id : ℕ) (task : Task) → task_at view id ≡ Some task → IsTieOf task.key.domain number
+      → IsInUse view number
   of_task : (id : ℕ) (task : Task) → task_at view id ≡ Some task → task.key.tb ≡ Some number → IsInUse view number
   of_spilled : (s : Spilled) → Contains (all_spilled view) s → IsTieOf s.domain number → IsInUse view number
 
@@ -36,8 +38,8 @@ pub record IsNumberTable (view : View) (table : List ℕ) : Type 0 where
 abbrev pub renumbered_task : List ℕ → Task → Task
 renumbered_task table task = record task { key = renumbered_key table task.key }
 
--- a renumbering: each tiebreaker, those of the path among them, becomes its place among the numbers in use, counted from 0, and the next
--- dispatch number is how many they are
+-- a renumbering: each tiebreaker, those of the path among them, becomes its place among the numbers in use, counted
+-- from 0, and the next dispatch number is how many they are
 pub record Renumbers (old new : View) : Type 0 where
   pub table : List ℕ
   pub is_table : IsNumberTable old table

@@ -82,8 +82,8 @@ pub record IsLater (view : View) (task : Task) (k : ℕ) (x : Task) : Type 0 whe
   pub dispatched : is_dispatched x ≡ true
   pub later : key_cmp task.key x.key ≡ Less
 
--- a store conflicts with a later task that touched its line, and a load with one that wrote it (Jeffrey et al. 2015, section 4.4: eager
--- conflict detection; here by what the tasks' filters say)
+-- a store conflicts with a later task that touched its line, and a load with one that wrote it (Jeffrey et al.
+-- 2015, section 4.4: eager conflict detection; here by what the tasks' filters say)
 abbrev pub HasLine : Bool → Task → ℕ → Type 0
 HasLine true x line = has_touched x line ≡ true
 HasLine false x line = has_written x line ≡ true

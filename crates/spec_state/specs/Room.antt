@@ -1,6 +1,7 @@
--- Room in a task queue: spilling, its return, and the four rules by which a full queue gets a free entry (Jeffrey et al. 2015, section
--- 4.7: coalescers and splitters).
-use Rattle.std.specs.Prelude.{◌≡◌, ◌⊎◌, ◌≢◌, ℕ, ◌<◌, ◌≤◌, List, [], length, map, AllPairs, Contains, Option, Some, None, slice_set}
+-- Room in a task queue: spilling, its return, and the four rules by which a full queue gets a free entry (Jeffrey
+-- et al. 2015, section 4.7: coalescers and splitters).
+use Rattle.std.specs.Prelude.{◌≡◌, ◌⊎◌, ◌≢◌, ℕ, ◌<◌, ◌≤◌, List, [], length, map, AllPairs, Contains, Option, Some}
+use Rattle.std.specs.Prelude.{None, slice_set}
 use Rattle.std.specs.List.{AllZip}
 use Rattle.spill_store.specs.Entries.{Entry as Spilled, TakesLeast}
 use Rattle.spill_store.specs.Pushing.{all_pushed}
@@ -112,7 +113,8 @@ pub record IsVictim (view : View) (tile : ℕ) (asker : Asker) (id : ℕ) (task 
 
 -- what is taken back for a victim: itself where it is firm, and else its creator
 abbrev pub IsTakenFor : View → ℕ → Task → ℕ → Type 0
-IsTakenFor view v task first = (IsFirm view task × (first ≡ v)) ⊎ ((IsFirm view task → ⊥) × (live_creator task.creator ≡ Some first))
+IsTakenFor view v task first = (IsFirm view task × (first ≡ v))
+    ⊎ ((IsFirm view task → ⊥) × (live_creator task.creator ≡ Some first))
 
 -- how a tile's task queue gets a free entry for who asks, and how many tasks are taken back for it
 pub data MakesRoom (tile : ℕ) (asker : Asker) (old : View) : ℕ → View → Type 0 where

@@ -1,10 +1,11 @@
--- What contracts see of a state: the machine, the room that it keeps for what the next event adds, and its notes of a cascade.
+-- What contracts see of a state: the machine, the room that it keeps for what the next event adds, and its notes of
+-- a cascade.
 use Rattle.std.specs.Prelude.{◌<◌, ◌≤◌, ℕ, Bool, List, Option, length, IfSome, slice_index_or}
 use Rattle.spec_state.specs.declared.task.TaskId.{TaskId}
 use Rattle.spec_state.specs.View.{View, task_at}
 
--- how many accesses, children and bytes of output have room in the buffers that a full list moves into, and how many pushes are spare in
--- each tile's block
+-- how many accesses, children and bytes of output have room in the buffers that a full list moves into, and how
+-- many pushes are spare in each tile's block
 pub record Spare : Type 0 where
   pub log : ℕ
   pub spawns : ℕ
@@ -34,8 +35,8 @@ CoversChild state id = IfSome (task_at state.view id) (λ task. length task.spaw
 abbrev pub CoversPushes : StateValue → ℕ → ℕ → Type 0
 CoversPushes state tile more = more ≤ slice_index_or state.room.blocks tile 0
 
--- what one event adds has room: an access and a child of the task that is given, and so many tasks in the block of the tile as move at
--- once
+-- what one event adds has room: an access and a child of the task that is given, and so many tasks in the block of
+-- the tile as move at once
 pub record Covers (state : StateValue) (task : Option TaskId) (tile : ℕ) : Type 0 where
   pub log : IfSome task (λ id. CoversLog state id.0)
   pub child : IfSome task (λ id. CoversChild state id.0)

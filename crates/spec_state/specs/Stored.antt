@@ -1,5 +1,6 @@
 -- What the type of a state keeps of its tasks and lists, so that what reads or changes a state has it for each state.
-use Rattle.std.specs.Prelude.{◌≡◌, ◌↔◌, ◌≢◌, ◌<◌, ◌≤◌, ◌^◌, ℕ, List, [], All, Contains, Option, Some, None, IsSome, is_some, length, slice_get, slice_index_or}
+use Rattle.std.specs.Prelude.{◌≡◌, ◌↔◌, ◌≢◌, ◌<◌, ◌≤◌, ◌^◌, ℕ, List, [], All, Contains, Option, Some, None, IsSome}
+use Rattle.std.specs.Prelude.{is_some, length, slice_get, slice_index_or}
 use Rattle.commit_arbiter.specs.declared.entry.Entry.{Entry}
 use Rattle.undo_log.specs.Undo.{AllAccessible}
 use Rattle.task_desc.specs.declared.calls.TheConstants.{MAX_CHILDREN, MAX_DEPTH}
@@ -22,9 +23,9 @@ HasCore Finished core = ⊥
 abbrev pub IsThere : View → ℕ → ℕ → (Status → Type 0) → Type 0
 IsThere view tile id kind = (task : Task) × (task_at view id ≡ Some task) × (task.tile ≡ tile) × kind task.status
 
--- a task by itself, in a state of so many bytes of data and so many commits: its depth, the kinds on its path and its children are within
--- their bounds, its accesses lie in the data, it has a dispatch number exactly where it keeps a core, and a committed creator is one of the
--- commits
+-- a task by itself, in a state of so many bytes of data and so many commits: its depth, the kinds on its path and
+-- its children are within their bounds, its accesses lie in the data, it has a dispatch number exactly where it
+-- keeps a core, and a committed creator is one of the commits
 pub record IsWellFormed (size commits : ℕ) (task : Task) : Type 0 where
   pub depth : depth_of task ≤ MAX_DEPTH
   pub kinds : task.kinds < 2 ^ depth_of task
@@ -34,30 +35,38 @@ pub record IsWellFormed (size commits : ℕ) (task : Task) : Type 0 where
   pub dispatched : is_dispatched task ≡ is_some (kept_core task.status task.core)
   pub turn : (turn index : ℕ) → task.creator ≡ Committed turn index → turn ≤ commits
 
--- each task stands in the queue of its tile, and in its commit queue or on its core as its status says, and nothing else stands in these
--- lists; each task is well formed; the data has its size
+-- each task stands in the queue of its tile, and in its commit queue or on its core as its status says, and nothing
+-- else stands in these lists; each task is well formed; the data has its size
 pub record IsStored (size : ℕ) (view : View) : Type 0 where
   pub queued_are : (tile id : ℕ) → IsQueued view tile id ↔ IsThere view tile id (λ status. Unit {0})
-  pub finished_are : (tile id : ℕ) → Contains (finished_at view tile) id ↔ IsThere view tile id (λ status. status ≡ Finished)
-  pub held_are : (tile core id : ℕ) → (slice_get (cores_at view tile) core ≡ Some (Some id)) ↔ IsThere view tile id (λ status. HasCore status core)
+  pub finished_are : (tile id : ℕ)
+      → Contains (finished_at view tile) id ↔ IsThere view tile id (λ status. status ≡ Finished)
+  pub held_are : (tile core id : ℕ)
+      → (slice_get (cores_at view tile) core ≡ Some (Some id)) ↔ IsThere view tile id (λ status. HasCore status core)
   pub tasks : (id : ℕ) (task : Task) → task_at view id ≡ Some task → IsWellFormed size (length view.history) task
   pub memory : length view.memory ≡ size
 
 -- the lists by tile hold tasks of their tile alone
 abbrev pub AreTheirs : List (Option Task) → List (List ℕ) → Type 0
 AreTheirs tasks lists =
-    (tile id : ℕ) → Contains (slice_index_or lists tile []) id → (task : Task) × (slice_index_or tasks id None ≡ Some task) × (task.tile ≡ tile)
+    (tile id : ℕ) → Contains (slice_index_or lists tile []) id
+    → (task : Task) × (slice_index_or tasks id None ≡ Some task) × (task.tile ≡ tile)
 
 -- the entry of a task in the index, with its arrival number
 abbrev pub entry_of : List ℕ → ℕ → Task → Entry
 entry_of arrivals id task = record { key = task.key; tile = task.tile; arrival = slice_index_or arrivals id 0; id = id }
 
--- the index holds these tasks and no other, each once, under arrival numbers that rise along each queue and are less than the next one
-pub record IsIndexed (tasks : List (Option Task)) (queues : List (List ℕ)) (arrivals : List ℕ) (next : ℕ) (entries : List Entry) : Type 0 where
-  pub all : (id : ℕ) (task : Task) → slice_index_or tasks id None ≡ Some task → Contains entries (entry_of arrivals id task)
-  pub each : (entry : Entry) → Contains entries entry → (task : Task) × (slice_index_or tasks entry.id None ≡ Some task) × (entry ≡ entry_of arrivals entry.id task)
+-- the index holds these tasks and no other, each once, under arrival numbers that rise along each queue and are
+-- less than the next one
+pub record IsIndexed (tasks : List (Option Task)) (queues : List (List ℕ)) (arrivals : List ℕ) (next : ℕ)
+    (entries : List Entry) : Type 0 where
+  pub all : (id : ℕ) (task : Task) → slice_index_or tasks id None ≡ Some task
+      → Contains entries (entry_of arrivals id task)
+  pub each : (entry : Entry) → Contains entries entry
+      → (task : Task) × (slice_index_or tasks entry.id None ≡ Some task) × (entry ≡ entry_of arrivals entry.id task)
   pub early : (tile id : ℕ) → Contains (slice_index_or queues tile []) id → slice_index_or arrivals id 0 < next
-  pub rising : (tile p q a b : ℕ) → p < q → slice_get (slice_index_or queues tile []) p ≡ Some a → slice_get (slice_index_or queues tile []) q ≡ Some b
+  pub rising : (tile p q a b : ℕ) → p < q → slice_get (slice_index_or queues tile []) p ≡ Some a
+      → slice_get (slice_index_or queues tile []) q ≡ Some b
       → slice_index_or arrivals a 0 < slice_index_or arrivals b 0
 
 -- the ids of a list have arrival numbers below this one

@@ -1,6 +1,7 @@
 -- Words on one task. Where it starts, what its calls depend on and what it has before its dispatch may differ by the
 -- version of the image.
-use Rattle.std.specs.Prelude.{◌==◌, ℕ, zero, suc, ◌+◌, ◌*◌, ◌-◌, ◌/◌, ◌%◌, ◌^◌, ◌∷◌, ◌++◌, Bool, true, false, List, [], length, take, Option, Some, None, is_some, unwrap_or}
+use Rattle.std.specs.Prelude.{◌==◌, ℕ, zero, suc, ◌+◌, ◌*◌, ◌-◌, ◌/◌, ◌%◌, ◌^◌, ◌∷◌, ◌++◌, Bool, true, false, List}
+use Rattle.std.specs.Prelude.{[], length, take, Option, Some, None, is_some, unwrap_or}
 use Rattle.fractal_vt.specs.declared.level.Level.{Level}
 use Rattle.guest_image.specs.declared.image.Kind.{Kind}
 use Rattle.guest_image.specs.declared.image.Kind.TheVariants.{Unordered, Ordered}
@@ -95,10 +96,16 @@ start_core version task = start_of task.entry task.key.ts task.args
 
 -- the task in progress at this core, on a memory
 abbrev pub progress_at : List ℕ → Core → Task → TaskState
-progress_at memory core task = record { core = core; memory = memory; spawns = task.spawns; bytes = task.bytes; sub = task.sub }
+progress_at memory core task = record {
+  core = core;
+  memory = memory;
+  spawns = task.spawns;
+  bytes = task.bytes;
+  sub = task.sub;
+}
 
--- what is fixed of a task when it is made, but for its creator: its entry, arguments, hint and timestamp, the levels of its domain, and
--- the kinds of the domains on its path
+-- what is fixed of a task when it is made, but for its creator: its entry, arguments, hint and timestamp, the
+-- levels of its domain, and the kinds of the domains on its path
 pub record Descriptor : Type 0 where
   pub entry : ℕ
   pub args : List ℕ
@@ -109,20 +116,49 @@ pub record Descriptor : Type 0 where
 
 -- the descriptor of a task
 abbrev pub descriptor_of : Task → Descriptor
-descriptor_of task = record { entry = task.entry; args = task.args; hint = task.hint; ts = task.key.ts; domain = task.key.domain; kinds = task.kinds }
+descriptor_of task = record {
+  entry = task.entry;
+  args = task.args;
+  hint = task.hint;
+  ts = task.key.ts;
+  domain = task.key.domain;
+  kinds = task.kinds;
+}
 
 -- the descriptor of a task of the root domain
 abbrev pub root_descriptor : Desc → Descriptor
-root_descriptor desc = record { entry = desc.entry; args = desc.args; hint = desc.hint; ts = desc.ts; domain = []; kinds = desc.kinds }
+root_descriptor desc = record {
+  entry = desc.entry;
+  args = desc.args;
+  hint = desc.hint;
+  ts = desc.ts;
+  domain = [];
+  kinds = desc.kinds;
+}
 
 -- the descriptor that a spilled task has
 abbrev pub spilled_descriptor : Spilled → Descriptor
-spilled_descriptor s = record { entry = s.desc.entry; args = s.desc.args; hint = s.desc.hint; ts = s.desc.ts; domain = s.domain; kinds = s.desc.kinds }
+spilled_descriptor s = record {
+  entry = s.desc.entry;
+  args = s.desc.args;
+  hint = s.desc.hint;
+  ts = s.desc.ts;
+  domain = s.domain;
+  kinds = s.desc.kinds;
+}
 
 -- a spilled task of this name and descriptor
 abbrev pub spilled_as : Name → Descriptor → Spilled
 spilled_as name d = record {
-  desc = record { name = name; entry = d.entry; ts = d.ts; args = d.args; hint = d.hint; depth = length d.domain + 1; kinds = d.kinds };
+  desc = record {
+    name = name;
+    entry = d.entry;
+    ts = d.ts;
+    args = d.args;
+    hint = d.hint;
+    depth = length d.domain + 1;
+    kinds = d.kinds;
+  };
   domain = d.domain;
 }
 
@@ -153,8 +189,8 @@ idle_again version task = idle_task version (descriptor_of task) task.creator ta
 abbrev pub own_level : Task → Level
 own_level task = record { ts = task.key.ts; tb = unwrap_or task.key.tb 0 }
 
--- the levels of the domain of a dispatched task's child: the task's own domain, its whole key, or its domain without the last level
--- (Subramanian et al. 2017, section 3)
+-- the levels of the domain of a dispatched task's child: the task's own domain, its whole key, or its domain
+-- without the last level (Subramanian et al. 2017, section 3)
 abbrev pub child_domain : Task → Place → List Level
 child_domain task Same = task.key.domain
 child_domain task Sub = task.key.domain ++ own_level task ∷ []

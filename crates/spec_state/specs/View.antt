@@ -1,5 +1,6 @@
 -- What contracts see of a state.
-use Rattle.std.specs.Prelude.{◌≡◌, ◌≢◌, ℕ, ◌∷◌, ◌++◌, List, [], map, length, Option, None, option_map, slice_index_or, slice_set}
+use Rattle.std.specs.Prelude.{◌≡◌, ◌≢◌, ℕ, ◌∷◌, ◌++◌, List, [], map, length, Option, None, option_map}
+use Rattle.std.specs.Prelude.{slice_index_or, slice_set}
 use Rattle.fractal_vt.specs.declared.level.Level.{Level}
 use Rattle.guest_image.specs.ImageValue.{ImageValue}
 use Rattle.run_journal.specs.declared.journal.Entry.{Entry}
@@ -8,10 +9,10 @@ use Rattle.spec_state.specs.declared.settings.Settings.{Settings}
 use Rattle.spec_state.specs.declared.task.Task.{Task}
 use Rattle.spec_state.specs.declared.task.TaskId.{TaskId}
 
--- the version of the image; the settings; the uncommitted tasks that aren't spilled, by id; the data memory with the
--- stores of all dispatched tasks; the committed tasks and their bytes; the next dispatch number; the levels of the key of
--- the task that committed last; and, by tile, the ids in its task queue and in its commit queue in order of arrival, the
--- id that each core holds, and the spilled tasks, as their pushes left them
+-- the version of the image; the settings; the uncommitted tasks that aren't spilled, by id; the data memory with
+-- the stores of all dispatched tasks; the committed tasks and their bytes; the next dispatch number; the levels of
+-- the key of the task that committed last; and, by tile, the ids in its task queue and in its commit queue in order
+-- of arrival, the id that each core holds, and the spilled tasks, as their pushes left them
 pub record View : Type 0 where
   pub version : ℕ
   pub settings : Settings

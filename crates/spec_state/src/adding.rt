@@ -57,7 +57,8 @@ fn root_task<N: Naming>(alloc: Global, desc: &Desc, tile: u32) -> Task
 }
 
 impl<N: Naming> State<N> {
-    /// Puts an idle task under a free id, as the last one of the task queue of its tile, which has a free entry. It takes no memory.
+    /// Puts an idle task under a free id, as the last one of the task queue of its tile, which has a free entry. It
+    /// takes no memory.
     pub fn put(&mut self, task: Task) -> TaskId
         requires tile { task.tile < self.old.view.settings.tiles }
         requires free { HasFreeEntry self.old.view task.tile }
@@ -83,8 +84,8 @@ impl<N: Naming> State<N> {
         TaskId(id)
     }
 
-    /// Adds an idle task of the image, under the descriptor's name, as the last one of the task queue of the tile, which has a free
-    /// entry. It takes no memory, and never answers `AllocError`.
+    /// Adds an idle task of the image, under the descriptor's name, as the last one of the task queue of the tile,
+    /// which has a free entry. It takes no memory, and never answers `AllocError`.
     pub fn add(&mut self, desc: &Desc, tile: u32) -> Result<TaskId, AllocError>
         requires image { IsOfImage desc.now }
         requires tile { tile < self.old.view.settings.tiles }

@@ -25,8 +25,8 @@ fn has_line(task: &Task, line: u32, write: bool) -> bool
     }
 }
 
-/// Whether an access of the first task to the line, a store if `write`, conflicts with the second one. The line is tested first, since
-/// most tasks don't have it.
+/// Whether an access of the first task to the line, a store if `write`, conflicts with the second one. The line is
+/// tested first, since most tasks don't have it.
 fn conflict_between(task: &Task, line: u32, write: bool, other: &Task) -> bool
     ensures { IsTrue result ↔ ConflictsWith task.now line write other.now }
 {
@@ -113,8 +113,8 @@ impl<N: Naming> State<N> {
         )
     }
 
-    /// The earliest task with which an access of the task to the line conflicts, a store if `write`; None exactly where it conflicts with
-    /// none. It looks at the cores and the commit queues of all tiles.
+    /// The earliest task with which an access of the task to the line conflicts, a store if `write`; None exactly
+    /// where it conflicts with none. It looks at the cores and the commit queues of all tiles.
     pub fn conflict(&self, task: TaskId, line: u32, write: bool) -> Option<TaskId>
         requires live { IsSome (task_at self.now.view task.0) }
         ensures some { IfSome (task_at self.now.view task.0)
@@ -132,7 +132,8 @@ impl<N: Naming> State<N> {
         best
     }
 
-    /// Whether an access of the task to the line, a store if `write`, conflicts with the other task: false where that is no task.
+    /// Whether an access of the task to the line, a store if `write`, conflicts with the other task: false where
+    /// that is no task.
     pub fn conflicts_with(&self, task: TaskId, line: u32, write: bool, other: TaskId) -> bool
         requires live { IsSome (task_at self.now.view task.0) }
         ensures { IfSome (task_at self.now.view task.0)

@@ -6,7 +6,8 @@ use std::marker::Model;
 /// How many bytes a task may emit.
 pub const MAX_EMITTED: usize = 256;
 
-/// The bytes that a task has emitted, in their order: at most `MAX_EMITTED`. The room for all of them is in it from the start.
+/// The bytes that a task has emitted, in their order: at most `MAX_EMITTED`. The room for all of them is in it from
+/// the start.
 #[derive(Debug, Drop)]
 pub struct Emitted {
     bytes: ArrayVec<u8, MAX_EMITTED>,

@@ -6,7 +6,8 @@ use serial_machine::{Entry, Journal};
 use std::alloc::{AllocError, Global};
 use std::marker::Model;
 
-/// The committed tasks in the order of their commits, at most as many as its limit. It takes all its memory when it is made.
+/// The committed tasks in the order of their commits, at most as many as its limit. It takes all its memory when it
+/// is made.
 #[derive(Drop)]
 pub struct History {
     entries: Vec<Entry>,

@@ -66,8 +66,8 @@ impl<N: Naming> State<N> {
         best
     }
 
-    /// The latest dispatched task of a tile; None exactly where no task of the tile is dispatched. It looks at the tile's cores and its
-    /// commit queue alone.
+    /// The latest dispatched task of a tile; None exactly where no task of the tile is dispatched. It looks at the
+    /// tile's cores and its commit queue alone.
     pub fn latest(&self, tile: u32) -> Option<TaskId>
         requires { tile < self.now.view.settings.tiles }
         ensures some { IfSome result

@@ -89,8 +89,8 @@ impl<N: Naming> State<N> {
         first_spilled(self.blocks.as_slice())
     }
 
-    /// The least uncommitted task, and how it stands; None exactly where no task is uncommitted. It costs a look at the index and one
-    /// at each tile's block.
+    /// The least uncommitted task, and how it stands; None exactly where no task is uncommitted. It costs a look at
+    /// the index and one at each tile's block.
     pub fn least(&self) -> Option<Where>
         ensures some { IfSome result (IsLeast self.now.view) }
         ensures none { IsNone result ↔ IsAllCommitted self.now.view }

@@ -1,10 +1,10 @@
 //! The state of the speculative machine: its settings, its tasks and its lists, and what it tells of itself.
 //!
-//! State and tasks stand as code keeps them: the tasks in a slab, four lists by tile beside it. As definitions stand here what contracts
-//! see of a state (`View`), the words that its readers promise, and what each change does to it, for the crates that change it. A task is
-//! found by its id in one step, and nothing is copied to look at one. When a view is sound is said in the crate of its laws, so that what
-//! changes a state stands on definitions alone.
-//! It stands on the parts of the machine: keys, index, queues, blocks, filters and logs.
+//! State and tasks stand as code keeps them: the tasks in a slab, four lists by tile beside it. As definitions
+//! stand here what contracts see of a state (`View`), the words that its readers promise, and what each change does
+//! to it, for the crates that change it. A task is found by its id in one step, and nothing is copied to look at
+//! one. When a view is sound is said in the crate of its laws, so that what changes a state stands on definitions
+//! alone. It stands on the parts of the machine: keys, index, queues, blocks, filters and logs.
 #![tactic(auto)]
 
 mod adding;

@@ -6,7 +6,8 @@ use std::marker::Model;
 /// How many tiles a machine has at most.
 pub const MAX_TILES: usize = 16;
 
-/// How many tasks each tile's task queue holds, the lowest tile first: at most `MAX_TILES` numbers, which take no memory of their own.
+/// How many tasks each tile's task queue holds, the lowest tile first: at most `MAX_TILES` numbers, which take no
+/// memory of their own.
 #[derive(Debug, Drop)]
 pub struct Loads {
     loads: ArrayVec<u32, MAX_TILES>,

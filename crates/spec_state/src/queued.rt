@@ -32,7 +32,8 @@ fn is_idle_firm(task: &Task, heir: Option<TaskId>) -> bool
 }
 
 impl<N: Naming> State<N> {
-    /// The lesser of the first idle task of the earlier places and the task at the next one, where that is idle; on a tie the first.
+    /// The lesser of the first idle task of the earlier places and the task at the next one, where that is idle; on
+    /// a tie the first.
     fn lesser_idle(&self, ids: &[usize], place: usize, best: Option<TaskId>) -> Option<TaskId>
         requires live { (id : ℕ) → Contains ids.now id → IsSome (task_at self.now.view id) }
         requires place { place < length ids.now }
@@ -56,8 +57,8 @@ impl<N: Naming> State<N> {
         }
     }
 
-    /// The least idle task of a tile, by key and then by its place in the task queue; None exactly where no task of the tile is idle. It
-    /// looks at each task of the queue.
+    /// The least idle task of a tile, by key and then by its place in the task queue; None exactly where no task of
+    /// the tile is idle. It looks at each task of the queue.
     pub fn idle(&self, tile: u32) -> Option<TaskId>
         requires { tile < self.now.view.settings.tiles }
         ensures some { IfSome result

@@ -1,6 +1,7 @@
 //! What a state tells of itself. No call takes memory.
 
-ghost use Rattle.std.specs.Prelude.{◌≡◌, ◌+◌, ◌<◌, ◌≤◌, length, map, All, Some, IsSome, IfSome, option_map, option_copied, slice_get};
+ghost use Rattle.std.specs.Prelude.{◌≡◌, ◌+◌, ◌<◌, ◌≤◌, length, map, All, Some, IsSome, IfSome, option_map};
+ghost use Rattle.std.specs.Prelude.{option_copied, slice_get};
 ghost use Rattle.spec_state.specs.declared.loads.TheConstants.{MAX_TILES};
 ghost use Rattle.spec_state.specs.View.{task_at, finished_at, cores_at, block_at, loads};
 ghost use Rattle.spec_state.specs.Tasks.{kept_core, trap_in};

@@ -7,8 +7,8 @@ use serial_machine::Items;
 use task_desc::Spawn;
 use undo_log::Log;
 
-/// An uncommitted task that isn't spilled, by its key in the state's slab. It says nothing of the task: an id is given again once its
-/// task has left.
+/// An uncommitted task that isn't spilled, by its key in the state's slab. It says nothing of the task: an id is
+/// given again once its task has left.
 #[derive(Clone, Copy, Debug, PartialEq, Eq)]
 pub struct TaskId(pub usize);
 
@@ -31,7 +31,8 @@ pub enum Creator {
     },
 }
 
-/// How far a task in a task queue has come (Jeffrey et al. 2015: idle, running or finished; a trapped one waits to become the least).
+/// How far a task in a task queue has come (Jeffrey et al. 2015: idle, running or finished; a trapped one waits to
+/// become the least).
 #[derive(Clone, Copy, Debug, PartialEq, Eq)]
 pub enum Status {
     /// It waits for a core.

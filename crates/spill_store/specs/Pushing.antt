@@ -12,7 +12,8 @@ all_pushed entries (entry ∷ more) = all_pushed (pushed entries entry) more
 
 -- what is pushed into an empty block stands there, each entry once, none after one with a greater key
 abbrev pub PushesStandInOrder : Type 0
-PushesStandInOrder = (entries : List Entry) → IsPermutation entries (all_pushed [] entries) × IsInOrder by_key (all_pushed [] entries)
+PushesStandInOrder = (entries : List Entry)
+    → IsPermutation entries (all_pushed [] entries) × IsInOrder by_key (all_pushed [] entries)
 
 -- the entries of the same key as this one, in their order
 abbrev pub of_same_key : Entry → List Entry → List Entry

@@ -1,10 +1,12 @@
-ghost use Rattle.std.specs.Prelude.{◌≡◌, ◌+◌, ◌-◌, ◌<◌, ◌≤◌, ◌↔◌, [], ◌∷◌, length, map, slice_get, Some, IfSome, IfNone};
+ghost use Rattle.std.specs.Prelude.{◌≡◌, ◌+◌, ◌-◌, ◌<◌, ◌≤◌, ◌↔◌, [], ◌∷◌, length, map, slice_get, Some, IfSome};
+ghost use Rattle.std.specs.Prelude.{IfNone};
 ghost use Rattle.std.specs.Prelude.{IsNone, IsOk, IsTrue, OnOk, OnSome, option_map};
 ghost use Rattle.std.specs.List.Sorted.{IsStrictlyIncreasing};
 ghost use Rattle.std.specs.VecDeque.{deque_capacity, deque_len};
 ghost use Rattle.fractal_vt.specs.Sorted.{IsInOrder, place_for};
 ghost use Rattle.task_desc.specs.Record.{IsDesc};
-ghost use Rattle.spill_store.specs.Entries.{by_key, pushed, first_key, TakesLeast, IsLeastKey, renumbered_entry, HoldsEntries};
+ghost use Rattle.spill_store.specs.Entries.{by_key, pushed, first_key, TakesLeast, IsLeastKey, renumbered_entry};
+ghost use Rattle.spill_store.specs.Entries.{HoldsEntries};
 
 use crate::kept::Kept;
 use fractal_vt::{Key, Vt, cmp};
@@ -121,8 +123,8 @@ impl Block {
         self.kept.is_empty()
     }
 
-    /// Replaces each tiebreaker of the domains by its place in a strictly rising table that holds them all. The order stays.
-    /// No memory.
+    /// Replaces each tiebreaker of the domains by its place in a strictly rising table that holds them all. The
+    /// order stays. No memory.
     pub fn renumber(&mut self, table: &[u64])
         requires rising { IsStrictlyIncreasing table.now }
         requires held { HoldsEntries table.now self.old.entries }

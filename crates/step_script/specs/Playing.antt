@@ -1,5 +1,6 @@
 -- What playing a script does to a book, and what is said of each act.
-use Rattle.std.specs.Prelude.{◌≡◌, ◌≢◌, ℕ, List, [], ◌∷◌, ◌++◌, ◌==◌, ◌&&◌, not, Bool, filter, take, Some, None, if◌then◌else◌}
+use Rattle.std.specs.Prelude.{◌≡◌, ◌≢◌, ℕ, List, [], ◌∷◌, ◌++◌, ◌==◌, ◌&&◌, not, Bool, filter, take, Some, None}
+use Rattle.std.specs.Prelude.{if◌then◌else◌}
 use Rattle.std.specs.declared.option.Option.{Option}
 use Rattle.guest_image.specs.ImageValue.{ImageValue}
 use Rattle.rv_core.specs.LegValue.{LegValue}
@@ -87,22 +88,24 @@ NoneRuns view tile core = (id : ℕ) (task : Task) → IsRunning view tile core 
 -- ---- acts
 
 -- `step`: the leg of the running task there is handed in; at the end of a run, and where none runs there, that is said
-pub data Steps (N : Type 0) (image : ImageValue) (tile core : ℕ) (old : Played) (said : Said) (new : Played) : Type 0 where
+pub data Steps (N : Type 0) (image : ImageValue) (tile core : ℕ) (old : Played) (said : Said)
+    (new : Played) : Type 0 where
   step_runs : (leg : LegValue) → (IsOver old.book.view → ⊥) → HasLegAt image old.book.view tile core leg
       → Makes {N = N} (event.Step tile core leg) old said new → Steps N image tile core old said new
   step_ended : IsOver old.book.view → Stays reply.Ended old said new → Steps N image tile core old said new
   step_stale : (IsOver old.book.view → ⊥) → NoneRuns old.book.view tile core → Stays reply.Stale old said new
       → Steps N image tile core old said new
 
--- `take`: the leg of the running task there is held; where none runs there nothing is held for that core. It is no event, and an end
--- does not refuse it
+-- `take`: the leg of the running task there is held; where none runs there nothing is held for that core. It is no
+-- event, and an end does not refuse it
 pub data Takes (image : ImageValue) (tile core : ℕ) (old : Played) (said : Said) (new : Played) : Type 0 where
   take_holds : (leg : LegValue) → HasLegAt image old.book.view tile core leg → said ≡ plainly reply.Ok
       → new ≡ record old { held = holding tile core leg old.held } → Takes image tile core old said new
   take_stale : NoneRuns old.book.view tile core → said ≡ plainly reply.Stale
       → new ≡ record old { held = without tile core old.held } → Takes image tile core old said new
 
--- `give`: the leg that is held for that core is handed in, and is no longer held, whatever the reply; at the end of a run it stays held
+-- `give`: the leg that is held for that core is handed in, and is no longer held, whatever the reply; at the end of
+-- a run it stays held
 pub data Gives (N : Type 0) (tile core : ℕ) (old : Played) (said : Said) (new : Played) : Type 0 where
   give_hands : (leg : LegValue) → (IsOver old.book.view → ⊥) → held_for tile core old.held ≡ Some leg
       → HandsIn {N = N} (event.Step tile core leg) old.book said new.book → new.held ≡ without tile core old.held
@@ -148,7 +151,8 @@ DoesAll N image (act ∷ acts) old [] new = ⊥
 -- the script is played from a book on, where no leg is held: this is said of its acts, and it leaves this book
 abbrev pub Plays : Type 0 → ImageValue → List Act → BookView → List Said → BookView → Type 0
 Plays N image script old said new =
-    (held : List HeldLeg) × DoesAll N image script (record { book = old; held = [] }) said (record { book = new; held = held })
+    (held : List HeldLeg)
+    × DoesAll N image script (record { book = old; held = [] }) said (record { book = new; held = held })
 
 -- so many acts of the script were played, and then memory was wanting
 pub record PlaysSome (N : Type 0) (image : ImageValue) (script : List Act) (old new : BookView) : Type 0 where

@@ -4,7 +4,8 @@ ghost use Rattle.std.specs.Prelude.{◌≡◌, ◌<◌, All, IfOk, IfSome, IsNon
 ghost use Rattle.book_event.specs.declared.event.Reply.{Reply};
 ghost use Rattle.conflict_book.specs.Ranges.{IsInRange};
 ghost use Rattle.conflict_book.specs.Seen.{view_of};
-ghost use Rattle.step_script.specs.Playing.{Does, DoesAdvance, Gives, HandsIn, HasLegAt, HeldLeg, NoneRuns, Plays, PlaysSome};
+ghost use Rattle.step_script.specs.Playing.{Does, DoesAdvance, Gives, HandsIn, HasLegAt, HeldLeg, NoneRuns, Plays};
+ghost use Rattle.step_script.specs.Playing.{PlaysSome};
 ghost use Rattle.step_script.specs.Playing.{Steps, Takes, plainly};
 ghost use Rattle.step_script.specs.Ranges.{IsWithin};
 
@@ -53,7 +54,8 @@ fn hand_in<N: Naming, P: Placer, T: Tap>(
     }
 }
 
-/// The leg of the running task on a core, from the core that it has, with the quantum of the settings; None where no task runs there.
+/// The leg of the running task on a core, from the core that it has, with the quantum of the settings; None where
+/// no task runs there.
 fn leg_at<N: Naming, P: Placer, T: Tap>(
     image: &Image,
     book: &Book<N, P, T>,
@@ -100,7 +102,8 @@ fn step<N: Naming, P: Placer, T: Tap>(
     }
 }
 
-/// `take`: a leg of the running task on a core is run and held; where no task runs there, nothing is held for that core.
+/// `take`: a leg of the running task on a core is run and held; where no task runs there, nothing is held for that
+/// core.
 fn take<N: Naming, P: Placer, T: Tap>(
     image: &Image,
     book: &Book<N, P, T>,
@@ -212,7 +215,8 @@ fn play_act<N: Naming, P: Placer, T: Tap>(
     }
 }
 
-/// Plays acts one after another; tells what is said of each. Where memory is wanting the book stands as the acts before left it.
+/// Plays acts one after another; tells what is said of each. Where memory is wanting the book stands as the acts
+/// before left it.
 pub fn play<N: Naming, P: Placer, T: Tap>(
     alloc: Global,
     image: &Image,

@@ -95,8 +95,8 @@ struct Program {
     tasks: &'static [(u32, u32)],
 }
 
-/// A reader at timestamp 2: it loads the first word of the data, stores it plus 1 into the second, and enqueues a child, which ends at once,
-/// as it does itself then. A writer at timestamp 1: it stores 7 into the first word.
+/// A reader at timestamp 2: it loads the first word of the data, stores it plus 1 into the second, and enqueues a
+/// child, which ends at once, as it does itself then. A writer at timestamp 1: it stores 7 into the first word.
 const READER: Program = Program {
     text: &[
         0x1000_02b7,
@@ -121,8 +121,8 @@ const READER: Program = Program {
     tasks: &[(0x0001_0000, 2), (0x0001_002c, 1)],
 };
 
-/// A task at timestamp 2 that follows the pointer in the first word and emits what it finds, and a task at timestamp 1 that sets the pointer
-/// to the second word.
+/// A task at timestamp 2 that follows the pointer in the first word and emits what it finds, and a task at
+/// timestamp 1 that sets the pointer to the second word.
 const FOLLOWER: Program = Program {
     text: &[
         0x1000_02b7,
@@ -186,7 +186,8 @@ const FIRST_MAKER: Program = Program {
     ],
 };
 
-/// A task at timestamp 2 that loads the word at offset 16,384, and one at timestamp 1 that stores into the word at offset 0.
+/// A task at timestamp 2 that loads the word at offset 16,384, and one at timestamp 1 that stores into the word at
+/// offset 0.
 const FAR_APART: Program = Program {
     text: &[
         0x1000_42b7,
@@ -272,7 +273,8 @@ static ROWS: [Row; 11] = [
         name: "a reader with a child, and a writer",
         program: READER,
         settings: TWO_TILES,
-        script: "dispatch 0\nstep 0 0\nstep 0 0\nstep 0 0\ndispatch 1\nstep 1 0\nstep 1 0\ncommit\ndispatch 0\nstep 0 0\nstep 0 0\nstep 0 0\nstep 0 0\ncommit\ndispatch 0\nstep 0 0\ncommit\n",
+        script: "dispatch 0\nstep 0 0\nstep 0 0\nstep 0 0\ndispatch 1\nstep 1 0\nstep 1 0\ncommit\n\
+            dispatch 0\nstep 0 0\nstep 0 0\nstep 0 0\nstep 0 0\ncommit\ndispatch 0\nstep 0 0\ncommit\n",
         said: &[
             OK, OK, OK, OK, OK, TAKES_2, OK, OK, OK, OK, OK, OK, OK, OK, OK, OK, OK,
         ],
@@ -295,7 +297,8 @@ static ROWS: [Row; 11] = [
         name: "a run by the least tasks, and what is said at its end",
         program: READER,
         settings: TWO_TILES,
-        script: "advance\nadvance\nadvance\nadvance\nadvance\nadvance\nadvance\nadvance\nadvance\nadvance\nadvance\nadvance\nadvance\nadvance\nstep 0 0\ntake 0 0\ngive 0 0\ncommit\n",
+        script: "advance\nadvance\nadvance\nadvance\nadvance\nadvance\nadvance\nadvance\nadvance\nadvance\n\
+            advance\nadvance\nadvance\nadvance\nstep 0 0\ntake 0 0\ngive 0 0\ncommit\n",
         said: &[
             MOVED, MOVED, MOVED, COMMITTED, MOVED, MOVED, MOVED, MOVED, MOVED, COMMITTED, MOVED,
             MOVED, COMMITTED, ENDED, ENDED, STALE, ENDED, ENDED,
@@ -305,7 +308,8 @@ static ROWS: [Row; 11] = [
         name: "a pointer that is followed too early",
         program: FOLLOWER,
         settings: TWO_TILES,
-        script: "dispatch 0\nstep 0 0\nstep 0 0\nstep 0 0\ncommit\ndispatch 1\nstep 1 0\nstep 1 0\ncommit\ndispatch 0\nstep 0 0\nstep 0 0\nstep 0 0\nstep 0 0\ncommit\n",
+        script: "dispatch 0\nstep 0 0\nstep 0 0\nstep 0 0\ncommit\ndispatch 1\nstep 1 0\nstep 1 0\ncommit\n\
+            dispatch 0\nstep 0 0\nstep 0 0\nstep 0 0\nstep 0 0\ncommit\n",
         said: &[
             OK, OK, OK, STALE, EMPTY, OK, TAKES_1, OK, OK, OK, OK, OK, OK, OK, OK,
         ],
@@ -328,7 +332,8 @@ static ROWS: [Row; 11] = [
         name: "an enqueue that stalls",
         program: LATE_MAKER,
         settings: SHORT_QUEUES,
-        script: "dispatch 0\nstep 0 0\nstep 0 0\nstep 0 0\nstep 0 0\ndispatch 1\nstep 1 0\ncommit\nstep 0 0\nabort 0\ndispatch 0\ncoalesce 0\ncoalesce 0\nsplit 0\n",
+        script: "dispatch 0\nstep 0 0\nstep 0 0\nstep 0 0\nstep 0 0\ndispatch 1\nstep 1 0\ncommit\nstep 0 0\n\
+            abort 0\ndispatch 0\ncoalesce 0\ncoalesce 0\nsplit 0\n",
         said: &[
             OK, OK, OK, OK, STALL, OK, OK, OK, OK, FIRM, BUSY, OK, EMPTY, OK,
         ],

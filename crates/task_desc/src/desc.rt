@@ -36,8 +36,8 @@ pub struct Spawn {
     pub hint: u32,
 }
 
-/// What a task is made of, without its domain's levels. Its domain lies at `depth`, the root at 1; bit d of `kinds` is 1
-/// where the domain at depth d + 1 on the task's path is ordered.
+/// What a task is made of, without its domain's levels. Its domain lies at `depth`, the root at 1; bit d of `kinds`
+/// is 1 where the domain at depth d + 1 on the task's path is ordered.
 #[derive(Clone, Copy, Debug, PartialEq, Eq)]
 pub struct Desc {
     /// The task's name.

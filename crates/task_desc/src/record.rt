@@ -1,4 +1,5 @@
-ghost use Rattle.std.specs.Prelude.{◌≡◌, true, ◌+◌, ◌≤◌, ◌^◌, ◌++◌, ◌&&◌, ◌==◌, nat_le, nat_lt, Some, take, drop, length, replicate, IfSome};
+ghost use Rattle.std.specs.Prelude.{◌≡◌, true, ◌+◌, ◌≤◌, ◌^◌, ◌++◌, ◌&&◌, ◌==◌, nat_le, nat_lt, Some, take, drop};
+ghost use Rattle.std.specs.Prelude.{length, replicate, IfSome};
 ghost use Rattle.std.specs.Bool.{OnTrue};
 ghost use Rattle.std.specs.List.{list_all};
 ghost use Rattle.guest_image.specs.Numbers.{word_at, half_at, word_bytes, half_bytes};

@@ -13,7 +13,8 @@ IsInData size (Load width rd offset) = IsAccessible size offset (load_bytes widt
 IsInData size (Store offset bytes value) = IsAccessible size offset bytes
 IsInData size other = Unit {0}
 
--- a task asks for a child and for a byte only while it may make one more, and for a subdomain only where it has none and one more fits
+-- a task asks for a child and for a byte only while it may make one more, and for a subdomain only where it has
+-- none and one more fits
 abbrev pub HasRoom : Ctx → Request → Type 0
 HasRoom ctx (Enqueue child) = ctx.children < MAX_CHILDREN
 HasRoom ctx (MakeSub kind) = (ctx.sub ≡ None) × (ctx.depth ≢ MAX_DEPTH)

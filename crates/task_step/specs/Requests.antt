@@ -11,7 +11,8 @@ use Rattle.task_desc.specs.declared.desc.Place.TheVariants.{Same, Sub, Super}
 use Rattle.task_desc.specs.declared.desc.Spawn.{Spawn}
 use Rattle.task_desc.specs.Calls.{allowed, sub_allowed, byte_allowed}
 use Rattle.task_step.specs.declared.request.Request.{Request}
-use Rattle.task_step.specs.declared.request.Request.TheVariants.{Continue, Load, Store, Enqueue, MakeSub, Emit, End, Trap}
+use Rattle.task_step.specs.declared.request.Request.TheVariants.{Continue, Load, Store, Enqueue, MakeSub, Emit, End}
+use Rattle.task_step.specs.declared.request.Request.TheVariants.{Trap}
 
 -- the value of a register
 abbrev pub register_at : Core → ℕ → ℕ
@@ -46,8 +47,8 @@ sub_at ctx core = unless_trap MakeSub (sub_allowed ctx (register_at core 10))
 abbrev pub byte_at : Ctx → Core → Request
 byte_at ctx core = unless_trap (λ allowed. Emit (register_at core 10 % 256)) (byte_allowed ctx)
 
--- an ECALL asks for what x17 says: 0 to end, 1 to 3 to enqueue to its own domain, its subdomain and its superdomain, 4 to make its
--- subdomain, 5 to emit a byte; any other number is trap 9
+-- an ECALL asks for what x17 says: 0 to end, 1 to 3 to enqueue to its own domain, its subdomain and its
+-- superdomain, 4 to make its subdomain, 5 to emit a byte; any other number is trap 9
 unfoldable pub call_at : Ctx → Core → Request
 call_at ctx core =
     let number = register_at core 17 in

@@ -6,7 +6,8 @@ use Rattle.rv_core.specs.Memory.{load_bytes}
 use Rattle.task_desc.specs.declared.desc.Ctx.{Ctx}
 use Rattle.undo_log.specs.Number.{number_at, written}
 use Rattle.task_step.specs.declared.request.Request.{Request}
-use Rattle.task_step.specs.declared.request.Request.TheVariants.{Continue, Load, Store, Enqueue, MakeSub, Emit, End, Trap}
+use Rattle.task_step.specs.declared.request.Request.TheVariants.{Continue, Load, Store, Enqueue, MakeSub, Emit, End}
+use Rattle.task_step.specs.declared.request.Request.TheVariants.{Trap}
 use Rattle.task_step.specs.Requests.{request_at}
 use Rattle.task_step.specs.TaskState.{TaskState, context}
 
@@ -20,8 +21,8 @@ pub data Stepped : Type 0 where
 abbrev pub passed : TaskState → TaskState
 passed task = record task { core = after_other_of task.core }
 
--- where a request leads: a load takes its value from the memory and a store changes it, a child and a byte stand last, a subdomain has
--- its kind from then on
+-- where a request leads: a load takes its value from the memory and a store changes it, a child and a byte stand
+-- last, a subdomain has its kind from then on
 abbrev pub after_request : TaskState → Request → Stepped
 after_request task Continue = Continues task
 after_request task (Load width rd offset) =

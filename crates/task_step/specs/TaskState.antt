@@ -6,7 +6,8 @@ use Rattle.rv_core.specs.Legs.{start_of}
 use Rattle.task_desc.specs.declared.desc.Ctx.{Ctx}
 use Rattle.task_desc.specs.declared.desc.Spawn.{Spawn}
 
--- its core, the data memory, the children and the bytes that it has made so far, and the kind of its subdomain if it made one
+-- its core, the data memory, the children and the bytes that it has made so far, and the kind of its subdomain if
+-- it made one
 pub record TaskState : Type 0 where
   pub core : Core
   pub memory : List ℕ

@@ -10,8 +10,8 @@ use rv_core::{Core, Stop, bytes_of_store};
 use rv_table::{LoadWidth, Reg};
 use task_desc::{Ctx, Place, Spawn, allow, allow_byte, allow_sub};
 
-/// What a task asks for, where a leg of it has stopped. An ECALL is a request to the machine (RISC-V Unprivileged ISA 20191213,
-/// section 2.8), which the calls' rules have allowed or made a trap of.
+/// What a task asks for, where a leg of it has stopped. An ECALL is a request to the machine (RISC-V Unprivileged
+/// ISA 20191213, section 2.8), which the calls' rules have allowed or made a trap of.
 #[derive(Clone, Copy, Debug, PartialEq, Eq)]
 pub enum Request {
     /// To go on with plain instructions: the leg did its quantum.
@@ -128,10 +128,11 @@ fn call(ctx: &Ctx, core: &Core) -> Request
     }
 }
 
-/// What a task asks for at the core where its leg stopped, under what its calls depend on now: the kind of its subdomain, and how many
-/// children and bytes it has made, among them.
+/// What a task asks for at the core where its leg stopped, under what its calls depend on now: the kind of its
+/// subdomain, and how many children and bytes it has made, among them.
 ///
-/// A load or a store has its offset in the data. A leg stops at none below the data; there the offset would be told as 0.
+/// A load or a store has its offset in the data. A leg stops at none below the data; there the offset would be told
+/// as 0.
 pub fn request_of(ctx: &Ctx, core: &Core, stop: &Stop) -> Request
     ensures request { result ≡ request_at ctx.now core.now stop.now }
     ensures data { (size : ℕ) → IsInside size stop.now → IsInData size result }

@@ -1,6 +1,7 @@
 //! The next line of a text, and what stands in a line before and behind a mark or a front.
 
-ghost use Rattle.std.specs.Prelude.{◌≡◌, ◌≢◌, ℕ, ◌<◌, ◌≤◌, ◌∷◌, [], length, option_map, slice_index, IfSome, MatchOption};
+ghost use Rattle.std.specs.Prelude.{◌≡◌, ◌≢◌, ℕ, ◌<◌, ◌≤◌, ◌∷◌, [], length, option_map, slice_index, IfSome};
+ghost use Rattle.std.specs.Prelude.{MatchOption};
 ghost use Rattle.text_lines.specs.Lines.{behind, cut, lines_of};
 
 /// The next line of a text without its newline, and what follows it; None where nothing is left.

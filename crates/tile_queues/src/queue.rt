@@ -1,6 +1,7 @@
 // A bounded list of distinct ids.
 
-ghost use Rattle.std.specs.Prelude.{◌≡◌, false, slice_index_or, ◌+◌, ◌<◌, ◌≤◌, ◌↔◌, [], ◌∷◌, ◌++◌, length, Contains, IsTrue, IsErr, IfOk, IfErr, OnOk, OnErr};
+ghost use Rattle.std.specs.Prelude.{◌≡◌, false, slice_index_or, ◌+◌, ◌<◌, ◌≤◌, ◌↔◌, [], ◌∷◌, ◌++◌, length};
+ghost use Rattle.std.specs.Prelude.{Contains, IsTrue, IsErr, IfOk, IfErr, OnOk, OnErr};
 ghost use Rattle.std.specs.Bool.{OnFalse};
 ghost use Rattle.tile_queues.specs.Queue.{AreDistinct, without, unmarked_ids};
 
@@ -85,7 +86,8 @@ impl<Kind> Queue<Kind> {
         }
     }
 
-    /// Takes out each id whose mark is true, in one pass. The others keep their order; an id past the marks has none, and stays.
+    /// Takes out each id whose mark is true, in one pass. The others keep their order; an id past the marks has
+    /// none, and stays.
     pub fn take_marked(&mut self, marks: &[bool])
         ensures { self.new ≡ record self.old { ids = unmarked_ids marks.now self.old.ids } }
     {

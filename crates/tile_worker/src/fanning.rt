@@ -97,8 +97,8 @@ pub(crate) fn fan<
             ensures { length result.shares ≡ half }
         { fan(rt, image, lock, theirs, first, half, workers, gate) },
         move || -> Gathered<L>
-            requires { IsSync R.row × IsSync G.row × (image.now ≡ N.image) × (mine.parts ≡ count - half) × (mine.amount ≡ 0)
-                × (0 < count - half) × (half ≤ count) × (first + count ≤ workers) × (workers ≤ 16) }
+            requires { IsSync R.row × IsSync G.row × (image.now ≡ N.image) × (mine.parts ≡ count - half)
+                × (mine.amount ≡ 0) × (0 < count - half) × (half ≤ count) × (first + count ≤ workers) × (workers ≤ 16) }
             ensures { length result.shares ≡ count - half }
         {
             fan(

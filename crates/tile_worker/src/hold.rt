@@ -1,4 +1,5 @@
-//! What a worker does with the book in one hold of the lock: at most one event, and a look for the core of its next leg.
+//! What a worker does with the book in one hold of the lock: at most one event, and a look for the core of its next
+//! leg.
 
 ghost use Rattle.std.specs.Prelude.{◌≡◌, ◌<◌, ◌≤◌, ◌+◌, ◌^◌, ℕ, IfSome};
 ghost use Rattle.conflict_book.specs.Ranges.{IsInRange};
@@ -185,8 +186,8 @@ fn found_of(running: Option<Running>) -> Found
     }
 }
 
-/// One hold of the lock: the leg that is handed in, or a dispatch, or, where the worker has none of both, the event for the least task; and
-/// then a look for the core of its next leg. No more than one of these events is made.
+/// One hold of the lock: the leg that is handed in, or a dispatch, or, where the worker has none of both, the event
+/// for the least task; and then a look for the core of its next leg. No more than one of these events is made.
 pub(crate) fn serve<N: Naming, P: Placer, T: Tap>(
     book: &mut Book<N, P, T>,
     image: &Image,

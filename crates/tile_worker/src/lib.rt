@@ -1,7 +1,9 @@
-//! Host threads that drive a book: each worker makes events for its own tiles under a lock, and computes its legs outside it.
+//! Host threads that drive a book: each worker makes events for its own tiles under a lock, and computes its legs
+//! outside it.
 //!
-//! Worker `w` of `n` drives the tiles `t` with `t % n == w`. In each hold of the lock it makes at most one event, counts that to its part,
-//! and copies the core of its next leg. The type of the lock's value keeps that all parts together are the book's steps.
+//! Worker `w` of `n` drives the tiles `t` with `t % n == w`. In each hold of the lock it makes at most one event,
+//! counts that to its part, and copies the core of its next leg. The type of the lock's value keeps that all parts
+//! together are the book's steps.
 #![tactic(auto)]
 
 mod fanning;

@@ -2,8 +2,9 @@
 
 ghost use Rattle.std.specs.Prelude.{◌≡◌, ◌<◌, ◌≤◌, ◌%◌, IfSome, IsTrue};
 
-/// How many events are made before a core that stalled, or a tile that had nothing to dispatch, is tried again. In so many events for the
-/// least tasks all that a commit queue may hold can commit, so that what stalled doesn't stall again at once.
+/// How many events are made before a core that stalled, or a tile that had nothing to dispatch, is tried again. In
+/// so many events for the least tasks all that a commit queue may hold can commit, so that what stalled doesn't
+/// stall again at once.
 const PATIENCE: u64 = 64;
 
 /// A core of a tile.
@@ -15,7 +16,8 @@ pub(crate) struct Place {
     pub(crate) core: u32,
 }
 
-/// Which tiles are a worker's own, on which core it looked last, and up to which count of events it lets be what refused it.
+/// Which tiles are a worker's own, on which core it looked last, and up to which count of events it lets be what
+/// refused it.
 #[derive(Drop)]
 pub(crate) struct Round {
     worker: u32,
@@ -100,7 +102,8 @@ impl Round {
         }
     }
 
-    /// The next core of the worker's own tiles, where it looks then, and after the last one the first; None where no tile is its own.
+    /// The next core of the worker's own tiles, where it looks then, and after the last one the first; None where
+    /// no tile is its own.
     #[tactic(auto, using(crate::proofs::Tiles::own_first, crate::proofs::Tiles::own_next))]
     pub(crate) fn next_core(&mut self, tiles: u32, cores: u32) -> Option<Place>
         requires tiles { tiles ≤ 16 }

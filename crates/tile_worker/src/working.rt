@@ -28,12 +28,13 @@ fn compute<N: Naming>(image: &Image, settings: &Settings, running: &Running) -> 
     }
 }
 
-/// Drives the tiles `t` with `t % workers == worker`, one event in each hold of the lock, until the run is over, memory is wanting, or the
-/// book has 2^63 events; and gives back its part, to which each event that it made is counted.
+/// Drives the tiles `t` with `t % workers == worker`, one event in each hold of the lock, until the run is over,
+/// memory is wanting, or the book has 2^63 events; and gives back its part, to which each event that it made is
+/// counted.
 ///
-/// It hands in legs of its running cores, each after it passed the gate, and dispatches where an own tile has an idle task and a free core.
-/// Only where it has neither, or all of these were refused, it makes the event for the least task. A hold costs one event and a look at each
-/// core of its own tiles; a leg is computed outside the lock.
+/// It hands in legs of its running cores, each after it passed the gate, and dispatches where an own tile has an
+/// idle task and a free core. Only where it has neither, or all of these were refused, it makes the event for the
+/// least task. A hold costs one event and a look at each core of its own tiles; a leg is computed outside the lock.
 pub fn work<N: Naming, L: Ledger, P: Placer, T: Tap, G: Gate + Sync, R: Wait>(
     rt: &R,
     image: &Image,

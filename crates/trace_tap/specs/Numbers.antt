@@ -1,7 +1,8 @@
 -- A record as numbers.
 use Rattle.std.specs.Prelude.{ℕ, ◌+◌, List, [], ◌∷◌, Option, Some, None}
 use Rattle.trace_tap.specs.declared.record.Deed.{Deed}
-use Rattle.trace_tap.specs.declared.record.Deed.TheVariants.{Dispatch, Access, Call, Keep, Abort, Commit, Coalesce, Split}
+use Rattle.trace_tap.specs.declared.record.Deed.TheVariants.{Dispatch, Access, Call, Keep, Abort, Commit, Coalesce}
+use Rattle.trace_tap.specs.declared.record.Deed.TheVariants.{Split}
 use Rattle.trace_tap.specs.declared.record.Record.{Record}
 
 -- the deeds are numbered from 1

@@ -21,4 +21,7 @@ counted lines counts deed line aborted = counts
 
 -- the counts of this many lines, and of all lines after them
 abbrev pub line_counts : ℕ → List ℕ → Reading
-line_counts lines counts = record { list = counts; after = λ counts seen. counted lines counts seen.deed seen.line seen.aborted }
+line_counts lines counts = record {
+  list = counts;
+  after = λ counts seen. counted lines counts seen.deed seen.line seen.aborted;
+}

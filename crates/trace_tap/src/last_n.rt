@@ -10,8 +10,8 @@ use crate::tap::Tap;
 use circular_buffer::HeapCircularBuffer;
 use std::alloc::{AllocError, Global};
 
-/// Keeps the last records. Its list has five numbers for each of them, the oldest first: the code of the deed, the tile, the line plus
-/// 1 or 0 where there is none, the number of aborted tasks and that of commits.
+/// Keeps the last records. Its list has five numbers for each of them, the oldest first: the code of the deed, the
+/// tile, the line plus 1 or 0 where there is none, the number of aborted tasks and that of commits.
 #[derive(Drop)]
 pub struct LastN {
     records: HeapCircularBuffer<Record>,

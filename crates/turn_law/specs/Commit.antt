@@ -81,7 +81,8 @@ CommitIsTurn =
     → Matches (count + 1) new spilled
     (stack_after next.bag next.outer (record { creator = turn; index = index }) (count + 1) task.ts task.spawns sub)
 
--- a commit of the least task keeps names apart, families whole and spilled tasks firm, whichever task is the least one next
+-- a commit of the least task keeps names apart, families whole and spilled tasks firm, whichever task is the least
+-- one next
 abbrev pub CommitKeepsTasks : Type 0
 CommitKeepsTasks =
     (count id turn index least : ℕ) (runs : Bool) (old new : ℕ → Option Task) (spilled : List SpilledTask) (task : Task)

@@ -1,8 +1,11 @@
--- Events by which tasks come to be: a placement, a dispatch, by which a family begins, and an enqueue, by which it grows.
-use Rattle.std.specs.Prelude.{◌≡◌, ◌≢◌, ◌⊎◌, ◌↔◌, ℕ, ◌≤◌, Bool, true, false, List, [], ◌∷◌, ◌++◌, length, Option, Some, None}
+-- Events by which tasks come to be: a placement, a dispatch, by which a family begins, and an enqueue, by which it
+-- grows.
+use Rattle.std.specs.Prelude.{◌≡◌, ◌≢◌, ◌⊎◌, ◌↔◌, ℕ, ◌≤◌, Bool, true, false, List, [], ◌∷◌, ◌++◌, length, Option}
+use Rattle.std.specs.Prelude.{Some, None}
 use Rattle.task_desc.specs.declared.desc.Spawn.{Spawn}
 use Rattle.pending_list.specs.declared.task.PendingTask.{PendingTask}
-use Rattle.turn_law.specs.Tasks.{Task, Committed, Live, spawn_body, IsChildDepth, IsFree, pending, SpilledTask, IsSpilled}
+use Rattle.turn_law.specs.Tasks.{Task, Committed, Live, spawn_body, IsChildDepth, IsFree, pending, SpilledTask}
+use Rattle.turn_law.specs.Tasks.{IsSpilled}
 use Rattle.turn_law.specs.Sound.{AreSound, IsFresh, SameFree}
 
 -- an idle task, which has made no child, is dispatched
@@ -14,8 +17,8 @@ pub record Starts (old new : ℕ → Option Task) (id : ℕ) (task : Task) : Typ
   pub now : new id ≡ Some (record task { dispatched = true })
   pub others : (k : ℕ) → k ≢ id → new k ≡ old k
 
--- a dispatch leaves the free tasks as they are, names apart, families whole and spilled tasks firm; where the least task is dispatched,
--- it is from then on
+-- a dispatch leaves the free tasks as they are, names apart, families whole and spilled tasks firm; where the least
+-- task is dispatched, it is from then on
 abbrev pub DispatchKeepsTasks : Type 0
 DispatchKeepsTasks =
     (old new : ℕ → Option Task) (spilled : List SpilledTask) (count least id : ℕ) (task : Task) (runs now : Bool)

@@ -28,7 +28,8 @@ module _ (image : ImageValue) (budget size : ℕ) (ctx : Ctx) where
     pub stands : next_at image size budget task.core ≡ Stops found
     pub asks : request_at (context ctx task) task.core found ≡ request
 
-  -- the steps of a task from its start on that led to a state and a log, for a memory of this size; the memory itself is not read
+  -- the steps of a task from its start on that led to a state and a log, for a memory of this size; the memory
+  -- itself is not read
   pub data LoggedRun (start : TaskState) : List Access → TaskState → Type 0 where
     none : LoggedRun start [] start
     plain : {log : List Access} {task : TaskState} (core : Core) → LoggedRun start log task
@@ -57,8 +58,8 @@ module _ (image : ImageValue) (budget size : ℕ) (ctx : Ctx) where
     pub traps : Asks before (Trap cause)
     pub at : pc ≡ before.core.pc
 
--- where the log of a finished task replays on the serial memory, its turn is the serial machine's, with the log's stores, its children and
--- its output
+-- where the log of a finished task replays on the serial memory, its turn is the serial machine's, with the log's
+-- stores, its children and its output
 abbrev pub LoggedRunIsTurn : Type 0
 LoggedRunIsTurn =
     (image : ImageValue) (budget depth : ℕ) (s : State) (task : PendingTask) (log : List Access) (after : TaskState)

@@ -46,7 +46,8 @@ pub record Spills (count least : ℕ) (old new : ℕ → Option Task) (before af
 abbrev pub spilled_of : Name → Task → SpilledTask
 spilled_of name task = record { depth = task.depth; task = with_name name task }
 
--- one idle firm task becomes a spilled one, at some place of the list; a child of the least task is firm only while that is dispatched
+-- one idle firm task becomes a spilled one, at some place of the list; a child of the least task is firm only while
+-- that is dispatched
 pub record SpillsOne (count least : ℕ) (runs : Bool) (old new : ℕ → Option Task) (before after : List SpilledTask)
     (id : ℕ) : Type 0 where
   pub task : Task

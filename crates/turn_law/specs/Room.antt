@@ -1,10 +1,13 @@
--- How a full task queue gets a free entry: four rules, tried in order (after Jeffrey et al. 2015, on limited queue sizes).
-use Rattle.std.specs.Prelude.{◌≡◌, ◌≢◌, ◌⊎◌, ℕ, ◌<◌, ◌≤◌, Bool, true, false, List, [], ◌∷◌, length, Option, Some, None, is_some}
+-- How a full task queue gets a free entry: four rules, tried in order (after Jeffrey et al. 2015, on limited queue
+-- sizes).
+use Rattle.std.specs.Prelude.{◌≡◌, ◌≢◌, ◌⊎◌, ℕ, ◌<◌, ◌≤◌, Bool, true, false, List, [], ◌∷◌, length, Option, Some}
+use Rattle.std.specs.Prelude.{None, is_some}
 use Rattle.std.specs.declared.cmp.Ordering.TheVariants.{Less, Greater}
 use Rattle.fractal_vt.specs.Levels.{Open, levels_cmp}
 use Rattle.turn_law.specs.Tasks.{In}
 
--- what room reads of a task: its levels, whether it is dispatched, and the id of its creator where that is to commit yet
+-- what room reads of a task: its levels, whether it is dispatched, and the id of its creator where that is to
+-- commit yet
 pub record Waiting : Type 0 where
   pub levels : List Open
   pub dispatched : Bool
@@ -35,8 +38,8 @@ pub record IsVictim (tasks : ℕ → Option Waiting) (queue : List ℕ) (asker :
 abbrev pub IsFirst : Option ℕ → ℕ → Waiting → ℕ → Type 0
 IsFirst heir v task first = (IsFirm heir task × (first ≡ v)) ⊎ ((IsFirm heir task → ⊥) × (task.creator ≡ Some first))
 
--- the rule that a queue of this capacity comes to: an entry is free; or an idle firm task moves; or the asker, which is not the least
--- task, stalls; or a victim is aborted for it
+-- the rule that a queue of this capacity comes to: an entry is free; or an idle firm task moves; or the asker,
+-- which is not the least task, stalls; or a victim is aborted for it
 pub data Rule (tasks : ℕ → Option Waiting) (heir : Option ℕ) (queue : List ℕ) (capacity : ℕ) (asker : Option ℕ)
     (is_least : Bool) : Type 0 where
   Free : length queue < capacity → Rule tasks heir queue capacity asker is_least
@@ -69,8 +72,8 @@ CreatorsRun tasks =
     (k c : ℕ) (x : Waiting) → tasks k ≡ Some x → x.creator ≡ Some c
     → (y : Waiting) × (tasks c ≡ Some y) × (y.dispatched ≡ true)
 
--- the asker is the least task: queued, and then it is the heir, or spilled, and then there is none; its levels are these, and each other
--- dispatched task is above them
+-- the asker is the least task: queued, and then it is the heir, or spilled, and then there is none; its levels are
+-- these, and each other dispatched task is above them
 pub record AsksAsLeast (tasks : ℕ → Option Waiting) (heir asker : Option ℕ) (low : List Open) : Type 0 where
   pub is_heir : asker ≡ heir
   pub others_above : (k : ℕ) (x : Waiting) → tasks k ≡ Some x → asker ≢ Some k → x.dispatched ≡ true
@@ -97,7 +100,8 @@ VictimIsLegal =
 abbrev pub HoldsChildren : (ℕ → Bool) → (ℕ → Option Waiting) → Type 0
 HoldsChildren set tasks = (k c : ℕ) (x : Waiting) → tasks k ≡ Some x → x.creator ≡ Some c → set c ≡ true → set k ≡ true
 
--- a set is taken back: a member whose creator is a member leaves, and each other member is idle again, with these levels
+-- a set is taken back: a member whose creator is a member leaves, and each other member is idle again, with these
+-- levels
 pub record TakenBack (set : ℕ → Bool) (reopened : Waiting → List Open) (old new : ℕ → Option Waiting) : Type 0 where
   pub others : (k : ℕ) → set k ≡ false → new k ≡ old k
   pub gone : (k c : ℕ) (x : Waiting) → set k ≡ true → old k ≡ Some x → x.creator ≡ Some c → set c ≡ true → new k ≡ None
@@ -128,7 +132,8 @@ VictimMakesRoom =
 abbrev pub IsRising : (ℕ → Option Waiting) → List ℕ → Type 0
 IsRising tasks [] = Unit {0}
 IsRising tasks (k ∷ ks) =
-    ((j : ℕ) (x y : Waiting) → In j ks → tasks k ≡ Some x → tasks j ≡ Some y → levels_cmp x.levels y.levels ≢ Greater) × IsRising tasks ks
+    ((j : ℕ) (x y : Waiting) → In j ks → tasks k ≡ Some x → tasks j ≡ Some y
+    → levels_cmp x.levels y.levels ≢ Greater) × IsRising tasks ks
 
 -- the tasks that a tile coalesces, the least of them first: the latest movable ones, at most 8
 pub record IsChosen (tasks : ℕ → Option Waiting) (heir : Option ℕ) (queue chosen : List ℕ) : Type 0 where

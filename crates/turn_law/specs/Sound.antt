@@ -29,8 +29,9 @@ AreFirm count runs spilled =
     (depth : ℕ) (p : PendingTask) → spilled depth p
     → (p.name.creator ≤ count) ⊎ ((p.name.creator ≡ count + 1) × (runs ≡ true))
 
--- creators that have committed took one of the turns so far, names are apart, spilled tasks are firm, and the children of each dispatched task are those that it has enqueued;
--- `least` is the id of the least task, and `runs` says whether it is dispatched
+-- creators that have committed took one of the turns so far, names are apart, spilled tasks are firm, and the
+-- children of each dispatched task are those that it has enqueued; `least` is the id of the least task, and `runs`
+-- says whether it is dispatched
 pub record AreSound (count least : ℕ) (runs : Bool) (tasks : ℕ → Option Task)
     (spilled : List SpilledTask) : Type 0 where
   pub counted : (id : ℕ) (task : Task) (turn index : ℕ) → tasks id ≡ Some task

@@ -11,7 +11,8 @@ abbrev pub In : {X : Type 0} → X → List X → Type 0
 In x [] = ⊥
 In x (y ∷ ys) = (x ≡ y) ⊎ In x ys
 
--- who made a task: the turn of this number, or a task of this id that is still to commit; and the child's place among the creator's children
+-- who made a task: the turn of this number, or a task of this id that is still to commit; and the child's place
+-- among the creator's children
 pub data Creator : Type 0 where
   Committed : (turn index : ℕ) → Creator
   Live : (task index : ℕ) → Creator
@@ -27,7 +28,8 @@ body_of p = record { entry = p.entry; args = p.args }
 abbrev pub spawn_body : Spawn → Body
 spawn_body spawn = record { entry = spawn.entry; args = spawn.args }
 
--- what the bags read of a queued task: its depth, what it runs, its timestamp and creator, and the children that it has made so far
+-- what the bags read of a queued task: its depth, what it runs, its timestamp and creator, and the children that it
+-- has made so far
 pub record Task : Type 0 where
   pub depth : ℕ
   pub body : Body
@@ -95,7 +97,8 @@ pub record IsFamily (tasks : ℕ → Option Task) (spilled : ℕ → PendingTask
   pub only : (index depth : ℕ) (body : Body) (ts : ℕ)
       → IsChild tasks spilled count least creator index depth body ts → Matched task index depth body ts
 
--- the name that a firm task has: that of its committed creator's child, or of a child of the least task, which takes the next turn
+-- the name that a firm task has: that of its committed creator's child, or of a child of the least task, which
+-- takes the next turn
 abbrev pub Names : ℕ → ℕ → Creator → Name → Type 0
 Names count least (Committed turn index) name = (name ≡ record { creator = turn; index = index }) × (turn ≤ count)
 Names count least (Live creator index) name = (creator ≡ least) × (name ≡ record { creator = count + 1; index = index })

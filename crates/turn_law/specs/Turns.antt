@@ -12,7 +12,8 @@ use Rattle.turn_law.specs.Domains.{Domain, FitsBags, start_context}
 use Rattle.memory_law.specs.Accesses.{replayed, Replays}
 use Rattle.turn_law.specs.Logged.{IsFinished, IsTrapped}
 
--- a finished least task: its run by its log, from its own context, came to its end call, and the log replays on the serial memory
+-- a finished least task: its run by its log, from its own context, came to its end call, and the log replays on the
+-- serial memory
 pub record IsReady (image : ImageValue) (budget : ℕ) (s : State) (task : Task) (turn index : ℕ) (own : Domain)
     (outer : List Domain) (log : List Access) (after : TaskState) : Type 0 where
   pub fits : FitsBags (own ∷ outer) s.stack

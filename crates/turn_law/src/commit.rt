@@ -19,18 +19,20 @@ pub fn commit_keeps_tasks()
     ensures { CommitKeepsTasks }
 {}
 
-/// Where the domains of a task have the kinds and floors of the bags, the calls of its serial turn depend on what its own domains say.
+/// Where the domains of a task have the kinds and floors of the bags, the calls of its serial turn depend on what
+/// its own domains say.
 pub fn context_fits()
     ensures { ContextFits }
 {}
 
-/// A turn keeps the kinds and floors of the domains of the other free tasks, and those of the bags after it are those of its children.
+/// A turn keeps the kinds and floors of the domains of the other free tasks, and those of the bags after it are
+/// those of its children.
 pub fn turn_keeps_domains()
     ensures { TurnKeepsDomains }
 {}
 
-/// A finished least task commits as the serial machine's next turn: the same stores, output and children, and the pending tasks after that
-/// turn are the free tasks after the commit.
+/// A finished least task commits as the serial machine's next turn: the same stores, output and children, and the
+/// pending tasks after that turn are the free tasks after the commit.
 pub fn least_commits_serially()
     ensures { LeastCommitsSerially }
 {}

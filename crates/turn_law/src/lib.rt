@@ -1,8 +1,8 @@
 //! The laws of what a machine's uncommitted tasks mean to the serial machine, before any speculative state exists.
 //!
-//! Each law is a definition over functions from ids, and the contract of a function that does nothing and costs nothing; whoever holds
-//! a machine's tables states them of what it reads of its own tasks.
-//! It stands on the serial machine and on the laws of memory and of runs; the laws of states stand on it.
+//! Each law is a definition over functions from ids, and the contract of a function that does nothing and costs
+//! nothing; whoever holds a machine's tables states them of what it reads of its own tasks. It stands on the serial
+//! machine and on the laws of memory and of runs; the laws of states stand on it.
 #![tactic(auto)]
 
 mod commit;

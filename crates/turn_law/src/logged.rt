@@ -2,7 +2,8 @@
 
 ghost use Rattle.turn_law.specs.Logged.{LoggedRunIsTurn, LoggedTrapIsSerial};
 
-/// Where the log of a finished task replays on the serial memory, its turn is the serial machine's: the same stores, children and output.
+/// Where the log of a finished task replays on the serial memory, its turn is the serial machine's: the same
+/// stores, children and output.
 pub fn logged_run_is_turn()
     ensures { LoggedRunIsTurn }
 {}

@@ -2,13 +2,14 @@
 
 ghost use Rattle.turn_law.specs.Room.{CoalesceMakesRoom, SomeRuleApplies, VictimIsLegal, VictimMakesRoom};
 
-/// At each queue with room for two tasks or more some rule applies: an entry is free, or an idle firm task moves, or the asker stalls, or,
-/// where it is the least task, there is a victim.
+/// At each queue with room for two tasks or more some rule applies: an entry is free, or an idle firm task moves,
+/// or the asker stalls, or, where it is the least task, there is a victim.
 pub fn some_rule_applies()
     ensures { SomeRuleApplies }
 {}
 
-/// What is aborted for a victim, itself where it is firm and else its creator, is dispatched, is not the asker, and is above it.
+/// What is aborted for a victim, itself where it is firm and else its creator, is dispatched, is not the asker, and
+/// is above it.
 pub fn victim_is_legal()
     ensures { VictimIsLegal }
 {}

@@ -51,4 +51,5 @@ AllAccessible size log = All (λ access. IsAccessible size access.offset access.
 -- to undo the log of any calls gives the bytes before them
 abbrev pub UndoRestores : Type 0
 UndoRestores =
-    (bytes : List ℕ) (calls : List Call) → AreBytes bytes → undone (log_of bytes calls) (after_calls bytes calls) ≡ bytes
+    (bytes : List ℕ) (calls : List Call) → AreBytes bytes
+    → undone (log_of bytes calls) (after_calls bytes calls) ≡ bytes

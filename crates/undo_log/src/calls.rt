@@ -74,7 +74,8 @@ pub fn undo(memory: &mut Memory, log: &Log)
     }
 }
 
-/// A law: to undo the log of any loads and stores, made one after another from an empty log, gives the memory before them.
+/// A law: to undo the log of any loads and stores, made one after another from an empty log, gives the memory
+/// before them.
 pub fn undo_restores()
     ensures { UndoRestores }
 {}

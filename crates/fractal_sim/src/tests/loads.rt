@@ -12,7 +12,8 @@ use std::thread::Threads;
 static CASES: [(&str, &str); 3] = [
     (
         "load nest 0 8",
-        "load nest 0 8\ncommits 24\noutput -\nwindow 10000000 00000005\nwindow 10000004 00000007\nwindow 10000008 00000009\n\
+        "load nest 0 8\ncommits 24\noutput -\nwindow 10000000 00000005\nwindow 10000004 00000007\n\
+        window 10000008 00000009\n\
         window 1000000c 00000003\nwindow 10000010 00000005\nwindow 10000014 00000007\nwindow 10000018 00000009\n\
         window 1000001c 0000000b\nend normal\n",
     ),

@@ -92,7 +92,8 @@ static CASES: [(&str, &str, &str, &str, u8); 33] = [
         "run",
         DEEPER,
         "",
-        "fractal 1\n1 0.0 1 0\n2 1.0 2 0\n3 2.0 3 0\n4 3.0 4 0\n5 4.0 5 0\n6 5.0 6 0\n7 6.0 7 0\noutput -\nend trap 14 00010008 7.0\n",
+        "fractal 1\n1 0.0 1 0\n2 1.0 2 0\n3 2.0 3 0\n4 3.0 4 0\n5 4.0 5 0\n6 5.0 6 0\n\
+        7 6.0 7 0\noutput -\nend trap 14 00010008 7.0\n",
         3,
     ),
     (
@@ -189,7 +190,8 @@ static CASES: [(&str, &str, &str, &str, u8); 33] = [
         "run --tiles 2 --workers 2",
         READER,
         "",
-        "fractal 1\n1 0.1 1 1\n2 0.0 1 2\n3 2.0 1 2\noutput -\nwindow 10000000 00000007\nwindow 10000004 00000008\nend normal\n",
+        "fractal 1\n1 0.1 1 1\n2 0.0 1 2\n3 2.0 1 2\noutput -\nwindow 10000000 00000007\n\
+        window 10000004 00000008\nend normal\n",
         0,
     ),
     (

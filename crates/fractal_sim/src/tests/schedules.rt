@@ -36,7 +36,8 @@ static CASES: [(&str, &str, &str, &str, u8); 23] = [
         READER,
         CONFLICT,
         "ok 0\nok 0\nok 0\nok 0\nok 0\nok 2\nok 0\nok 0\nok 0\nok 0\nok 0\nok 0\nok 0\nok 0\nok 0\nok 0\nok 0\n\
-        fractal 1\n1 0.1 1 1\n2 0.0 1 2\n3 2.0 1 2\noutput -\nwindow 10000000 00000007\nwindow 10000004 00000008\nend normal\n",
+        fractal 1\n1 0.1 1 1\n2 0.0 1 2\n3 2.0 1 2\noutput -\nwindow 10000000 00000007\n\
+        window 10000004 00000008\nend normal\n",
         0,
     ),
     (
@@ -213,7 +214,11 @@ fn told_with(
 struct LastTile;
 
 impl Placer for LastTile {
-    ghost policy = { λ _. record { state = 0; chosen = λ state hint loads. length loads - 1; after = λ state tile. 0 } };
+    ghost policy = { λ _. record {
+      state = 0;
+      chosen = λ state hint loads. length loads - 1;
+      after = λ state tile. 0;
+    } };
 
     fn pick(&self, _hint: u32, loads: &[u32]) -> u32 {
         loads.len() as u32 - 1
