@@ -7,7 +7,7 @@ use Rattle.memory_law.specs.Accesses.{replayed, Replays}
 use Rattle.memory_law.proofs.Marks.{Marks, Clear, Untouched, UntouchedIfStore, all_of, kept_of, without, IsClosed}
 use Rattle.memory_law.proofs.Lines.{lines_apart}
 use Rattle.memory_law.proofs.Joins.{taken_back_closed}
-use Rattle.memory_law.specs.Tasks.{Logged, IsLineSize, IsNoted, AreNoted, IsWroteIfStore, log_of, logs, Member, Earlier, Ascends, undone_set}
+use Rattle.memory_law.specs.Tasks.{Logged, IsLineSize, IsNoted, AreNoted, IsWroteIfStore, log_of, logs, In, Earlier, Ascends, undone_set}
 use Rattle.memory_law.specs.Chain.{IsReplay}
 use Rattle.memory_law.specs.Events.{HoldsLater, TakesBack}
 
@@ -83,7 +83,7 @@ Clear-nil (a ∷ log) = (by_store a.new, Clear-nil log)
 
 module _ (size line : ℕ) (sized : IsLineSize line) (set : ℕ → Bool) (tasks : ℕ → Option Logged) (noted : (id : ℕ) (task : Logged) → tasks id ≡ Some task → AreNoted size line task.touched task.wrote task.log) (holds : HoldsLater set tasks) where
   -- what a member wrote is clear of the later tasks that are no members
-  clear_of_kept : (id : ℕ) (task : Logged) → tasks id ≡ Some task → task.dispatched ≡ true → set id ≡ true → (ids : List ℕ) → ((k : ℕ) (other : Logged) → Member k ids → tasks k ≡ Some other → Earlier task other) → Ascends tasks ids → Clear task.log (kept_of (marks_of set tasks ids))
+  clear_of_kept : (id : ℕ) (task : Logged) → tasks id ≡ Some task → task.dispatched ≡ true → set id ≡ true → (ids : List ℕ) → ((k : ℕ) (other : Logged) → In k ids → tasks k ≡ Some other → Earlier task other) → Ascends tasks ids → Clear task.log (kept_of (marks_of set tasks ids))
   clear_of_kept id task there runs member [] later ascends = Clear-nil task.log
   clear_of_kept id task there runs member (k ∷ ids) later ascends =
       let rest = clear_of_kept id task there runs member ids (λ j other in'. later j other (inr in')) ascends.4 in
@@ -109,21 +109,21 @@ module _ (size line : ℕ) (sized : IsLineSize line) (set : ℕ → Bool) (tasks
       by_mark false is rest = rest
 
 module _ (set : ℕ → Bool) (old new : ℕ → Option Logged) (takes : TakesBack set old new) where
-  Member-kept : (id : ℕ) (ids : List ℕ) → set id ≡ false → Member id ids → Member id (kept set ids)
-  Member-kept id [] out at = at
-  Member-kept id (k ∷ ids) out at = by_mark (set k) refl (Member-kept id ids out) at
+  In-kept : (id : ℕ) (ids : List ℕ) → set id ≡ false → In id ids → In id (kept set ids)
+  In-kept id [] out at = at
+  In-kept id (k ∷ ids) out at = by_mark (set k) refl (In-kept id ids out) at
     where
-      by_mark : (b : Bool) → set k ≡ b → (Member id ids → Member id (kept set ids)) → Member id (k ∷ ids) → Member id (cond b (kept set ids) (k ∷ kept set ids))
+      by_mark : (b : Bool) → set k ≡ b → (In id ids → In id (kept set ids)) → In id (k ∷ ids) → In id (cond b (kept set ids) (k ∷ kept set ids))
       by_mark true is rest (inl here) = absurd (cc (ap set here, out, is))
       by_mark true is rest (inr later) = rest later
       by_mark false is rest (inl here) = inl here
       by_mark false is rest (inr later) = inr (rest later)
 
-  Member-of_kept : (id : ℕ) (ids : List ℕ) → Member id (kept set ids) → Member id ids × (set id ≡ false)
-  Member-of_kept id [] at = absurd at
-  Member-of_kept id (k ∷ ids) at = by_mark (set k) refl (Member-of_kept id ids) at
+  In-of_kept : (id : ℕ) (ids : List ℕ) → In id (kept set ids) → In id ids × (set id ≡ false)
+  In-of_kept id [] at = absurd at
+  In-of_kept id (k ∷ ids) at = by_mark (set k) refl (In-of_kept id ids) at
     where
-      by_mark : (b : Bool) → set k ≡ b → (Member id (kept set ids) → Member id ids × (set id ≡ false)) → Member id (cond b (kept set ids) (k ∷ kept set ids)) → Member id (k ∷ ids) × (set id ≡ false)
+      by_mark : (b : Bool) → set k ≡ b → (In id (kept set ids) → In id ids × (set id ≡ false)) → In id (cond b (kept set ids) (k ∷ kept set ids)) → In id (k ∷ ids) × (set id ≡ false)
       by_mark true is rest later = (inr (rest later).0, (rest later).1)
       by_mark false is rest (inl here) = (inl here, ap set here ∙ is)
       by_mark false is rest (inr later) = (inr (rest later).0, (rest later).1)
@@ -146,7 +146,7 @@ module _ (set : ℕ → Bool) (old new : ℕ → Option Logged) (takes : TakesBa
         ascends.0,
         takes.others k is ∙ ascends.1,
         ascends.2,
-        λ j other at there. let was = Member-of_kept j ids at in ascends.3 j other was.0 (sym (takes.others j was.1) ∙ there),
+        λ j other at there. let was = In-of_kept j ids at in ascends.3 j other was.0 (sym (takes.others j was.1) ∙ there),
         rest,
       )
 
@@ -180,9 +180,9 @@ taken_back line set old new serial memory sized holds takes replay =
       bytes = replay.bytes;
     }
   where
-    by_set : (id : ℕ) (task : Logged) → new id ≡ Some task → task.dispatched ≡ true → (b : Bool) → set id ≡ b → Member id (kept set replay.ids)
+    by_set : (id : ℕ) (task : Logged) → new id ≡ Some task → task.dispatched ≡ true → (b : Bool) → set id ≡ b → In id (kept set replay.ids)
     by_set id task there runs true is = absurd (cc ((takes.members id task is there).0, runs))
-    by_set id task there runs false is = Member-kept set old new takes id replay.ids is (replay.by_key.complete id task (sym (takes.others id is) ∙ there) runs)
+    by_set id task there runs false is = In-kept set old new takes id replay.ids is (replay.by_key.complete id task (sym (takes.others id is) ∙ there) runs)
 
 -- all tasks taken back, the latest first, leave the serial memory
 pub all_back : (line : ℕ) (tasks : ℕ → Option Logged) (serial memory : List ℕ) → (replay : IsReplay line tasks serial memory) → undone_set (λ id. true) tasks replay.ids memory ≡ serial

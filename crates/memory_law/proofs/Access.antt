@@ -8,7 +8,7 @@ use Rattle.memory_law.specs.Accesses.{replayed, Replays, Apart}
 use Rattle.memory_law.proofs.Marks.{Untouched, Unwritten, ApartIfStore}
 use Rattle.memory_law.proofs.Lines.{lines_apart}
 use Rattle.memory_law.proofs.Joins.{load_joins, store_joins, length-replayed}
-use Rattle.memory_law.specs.Tasks.{Logged, IsLineSize, IsNoted, AreNoted, IsWroteIfStore, log_of, logs, Member, Earlier, Ascends, IsByKey}
+use Rattle.memory_law.specs.Tasks.{Logged, IsLineSize, IsNoted, AreNoted, IsWroteIfStore, log_of, logs, In, Earlier, Ascends, IsByKey}
 use Rattle.memory_law.specs.Chain.{IsReplay}
 use Rattle.memory_law.specs.Events.{Accesses, NoLaterWrote, NoLaterTouched}
 use Rattle.memory_law.proofs.Latest.{not_self}
@@ -56,7 +56,7 @@ pub record Splits (old new : ℕ → Option Logged) (ids : List ℕ) (access : A
 
 module _ (line : ℕ) (memory : List ℕ) (old new : ℕ → Option Logged) (id : ℕ) (was now : Logged) (access : Access) (grows : Accesses line memory old new id was now access) where
   -- the logs of later tasks are as they were
-  logs_others : (ids : List ℕ) → (Member id ids → ⊥) → logs new ids ≡ logs old ids
+  logs_others : (ids : List ℕ) → (In id ids → ⊥) → logs new ids ≡ logs old ids
   logs_others [] out = refl
   logs_others (k ∷ ids) out =
       let other : k ≢ id = λ here. out (inl (sym here)) in
@@ -64,25 +64,25 @@ module _ (line : ℕ) (memory : List ℕ) (old new : ℕ → Option Logged) (id 
       let rest = logs_others ids (λ at. out (inr at)) in
       cc
 
-  pub splits : (Rest : List Access → Type 0) → Rest [] → ((xs ys : List Access) → Rest xs → Rest ys → Rest (xs ++ ys)) → ((k : ℕ) (y : Logged) → old k ≡ Some y → y.dispatched ≡ true → Earlier was y → Rest y.log) → (ids : List ℕ) → Ascends old ids → Member id ids → Splits old new ids access Rest
+  pub splits : (Rest : List Access → Type 0) → Rest [] → ((xs ys : List Access) → Rest xs → Rest ys → Rest (xs ++ ys)) → ((k : ℕ) (y : Logged) → old k ≡ Some y → y.dispatched ≡ true → Earlier was y → Rest y.log) → (ids : List ℕ) → Ascends old ids → In id ids → Splits old new ids access Rest
   splits Rest none more clear [] ascends at = absurd at
   splits Rest none more clear (k ∷ ids) ascends at = by_case (cases_eq k id) (splits Rest none more clear ids ascends.4)
     where
       -- all later ones are clear
-      later : (rest : List ℕ) → ((j : ℕ) (other : Logged) → Member j rest → old j ≡ Some other → Earlier was other) → Ascends old rest → Rest (logs old rest)
+      later : (rest : List ℕ) → ((j : ℕ) (other : Logged) → In j rest → old j ≡ Some other → Earlier was other) → Ascends old rest → Rest (logs old rest)
       later [] above up = none
       later (j ∷ rest) above up =
           more (log_of (old j)) (logs old rest)
           (subst (λ t. Rest (log_of t)) (sym up.1) (clear j up.0 up.1 up.2 (above j up.0 (inl refl) up.1)))
           (later rest (λ i other in'. above i other (inr in')) up.4)
 
-      by_case : (k ≡ id) ⊎ (k ≢ id) → (Member id ids → Splits old new ids access Rest) → Splits old new (k ∷ ids) access Rest
+      by_case : (k ≡ id) ⊎ (k ≢ id) → (In id ids → Splits old new ids access Rest) → Splits old new (k ∷ ids) access Rest
       by_case (inl here) go =
           let there' : old k ≡ Some was = ap old here ∙ grows.there in
           let same : Some ascends.0 ≡ Some was = sym ascends.1 ∙ there' in
           let eq : ascends.0 ≡ was = cc in
-          let above : (j : ℕ) (other : Logged) → Member j ids → old j ≡ Some other → Earlier was other = λ j other in' at'. subst (λ t. Earlier t other) eq (ascends.3 j other in' at') in
-          let out : Member id ids → ⊥ = λ in'. not_self was (above id was in' grows.there) in
+          let above : (j : ℕ) (other : Logged) → In j ids → old j ≡ Some other → Earlier was other = λ j other in' at'. subst (λ t. Earlier t other) eq (ascends.3 j other in' at') in
+          let out : In id ids → ⊥ = λ in'. not_self was (above id was in' grows.there) in
           let log_old : log_of (old k) ≡ was.log = ap log_of there' in
           let log_new : log_of (new k) ≡ was.log ++ access ∷ [] = ap log_of (ap new here ∙ grows.changed) ∙ grows.log in
           record {
@@ -102,7 +102,7 @@ module _ (line : ℕ) (memory : List ℕ) (old new : ℕ → Option Logged) (id 
             rest = inner.rest;
           }
         where
-          in_rest : Member id (k ∷ ids) → Member id ids
+          in_rest : In id (k ∷ ids) → In id ids
           in_rest (inl here) = absurd (other (sym here))
           in_rest (inr later') = later'
 
@@ -116,7 +116,7 @@ module _ (line : ℕ) (memory : List ℕ) (old new : ℕ → Option Logged) (id 
         | inr other ↦ (y, sym (grows.others j other) ∙ at, refl)
       ]
 
-      above : (task : Logged) → task.levels ≡ ascends.0.levels → (j : ℕ) (other : Logged) → Member j ids → new j ≡ Some other → Earlier task other
+      above : (task : Logged) → task.levels ≡ ascends.0.levels → (j : ℕ) (other : Logged) → In j ids → new j ≡ Some other → Earlier task other
       above task same j other in' at =
           let z = levels_of_new j other at in
           subst (λ l. levels_cmp l other.levels ≡ Less) (sym same) (subst (λ l. levels_cmp ascends.0.levels l ≡ Less) z.2 (ascends.3 j z.0 in' z.1))
@@ -136,7 +136,7 @@ module _ (line : ℕ) (memory : List ℕ) (old new : ℕ → Option Logged) (id 
           | inl here ↦
               let same : Some now ≡ Some task = sym grows.changed ∙ sym (ap new here) ∙ at in
               let eq : now ≡ task = cc in
-              subst (λ j. Member j ids) (sym here) (by_key.complete id was grows.there (sym grows.dispatched ∙ ap (λ t. t.dispatched) eq ∙ runs))
+              subst (λ j. In j ids) (sym here) (by_key.complete id was grows.there (sym grows.dispatched ∙ ap (λ t. t.dispatched) eq ∙ runs))
           | inr other ↦ by_key.complete k task (sym (grows.others k other) ∙ at) runs
         ];
       }

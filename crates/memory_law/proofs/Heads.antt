@@ -6,7 +6,7 @@ use Rattle.fractal_vt.proofs.Proved.{level_cmp_total, levels_cmp_total, not_both
 use Rattle.memory_law.specs.Accesses.{replayed, Replays}
 use Rattle.memory_law.proofs.Replays.{replayed-append, Replays-front, Replays-back}
 use Rattle.memory_law.proofs.Joins.{AreBytes-replayed, length-replayed}
-use Rattle.memory_law.specs.Tasks.{Logged, IsNoted, AreNoted, log_of, logs, Member, Earlier, Ascends}
+use Rattle.memory_law.specs.Tasks.{Logged, IsNoted, AreNoted, log_of, logs, In, Earlier, Ascends}
 use Rattle.memory_law.specs.Chain.{IsReplay}
 use Rattle.memory_law.specs.Events.{Dispatches, Commits}
 use Rattle.memory_law.proofs.Latest.{not_self, member_runs}
@@ -15,13 +15,13 @@ pub record Inserts (old new : ℕ → Option Logged) (id : ℕ) (ids : List ℕ)
   pub longer : List ℕ
   pub ascends : Ascends new longer
   pub same_logs : logs new longer ≡ logs old ids
-  pub here : Member id longer
-  pub holds : (k : ℕ) → Member k ids → Member k longer
-  pub only : (k : ℕ) → Member k longer → (k ≡ id) ⊎ Member k ids
+  pub here : In id longer
+  pub holds : (k : ℕ) → In k ids → In k longer
+  pub only : (k : ℕ) → In k longer → (k ≡ id) ⊎ In k ids
 
 module _ (old new : ℕ → Option Logged) (id : ℕ) (now : Logged) (starts : Dispatches old new id now) where
   -- no listed task is the one that starts
-  listed_other : (k : ℕ) (ids : List ℕ) → Ascends old ids → Member k ids → k ≢ id
+  listed_other : (k : ℕ) (ids : List ℕ) → Ascends old ids → In k ids → k ≢ id
   listed_other k ids up at here =
       let runs = member_runs old k ids at up in
       let off : runs.0.dispatched ≡ false = starts.idle runs.0 (ap old (sym here) ∙ runs.1) in
@@ -116,7 +116,7 @@ module _ (old new : ℕ → Option Logged) (id : ℕ) (now : Logged) (starts : D
         by_key = record {
           ascends = ins.ascends;
           complete = λ k task at runs. elim (cases_eq k id) [
-            | inl here ↦ subst (λ j. Member j ins.longer) (sym here) ins.here
+            | inl here ↦ subst (λ j. In j ins.longer) (sym here) ins.here
             | inr other ↦ ins.holds k (replay.by_key.complete k task (sym (starts.others k other) ∙ at) runs)
           ];
         };
@@ -132,31 +132,31 @@ module _ (old new : ℕ → Option Logged) (id : ℕ) (now : Logged) (starts : D
       }
 
 module _ (old new : ℕ → Option Logged) (id : ℕ) (task : Logged) (leaves : Commits old new id task) where
-  rest_line : (ids : List ℕ) → Ascends old ids → (Member id ids → ⊥) → Ascends new ids × (logs new ids ≡ logs old ids)
+  rest_line : (ids : List ℕ) → Ascends old ids → (In id ids → ⊥) → Ascends new ids × (logs new ids ≡ logs old ids)
   rest_line [] up out = (tt, refl)
   rest_line (k ∷ ids) up out =
       let rest = rest_line ids up.4 (λ at. out (inr at)) in
       let other : k ≢ id = λ here. out (inl (sym here)) in
       let same = leaves.others k other in (
-        (up.0, same ∙ up.1, up.2, (λ j x at there. up.3 j x at (elim (cases_eq j id) [ inl here ↦ absurd (out (inr (subst (λ i. Member i ids) here at))) | inr differs ↦ sym (leaves.others j differs) ∙ there ])), rest.0),
+        (up.0, same ∙ up.1, up.2, (λ j x at there. up.3 j x at (elim (cases_eq j id) [ inl here ↦ absurd (out (inr (subst (λ i. In i ids) here at))) | inr differs ↦ sym (leaves.others j differs) ∙ there ])), rest.0),
         (let r = rest.1 in cc),
       )
 
   pub commit_keeps : (line : ℕ) (serial memory : List ℕ) → IsReplay line old serial memory → Replays serial task.log × IsReplay line new (replayed serial task.log) memory
   commit_keeps line serial memory replay = by_line replay.ids refl replay.by_key.ascends (replay.by_key.complete id task leaves.there leaves.dispatched)
     where
-      by_line : (ids : List ℕ) → replay.ids ≡ ids → Ascends old ids → Member id ids → Replays serial task.log × IsReplay line new (replayed serial task.log) memory
+      by_line : (ids : List ℕ) → replay.ids ≡ ids → Ascends old ids → In id ids → Replays serial task.log × IsReplay line new (replayed serial task.log) memory
       by_line [] is up at = absurd at
       by_line (k ∷ ids) is up at = by_head (cases_eq k id)
         where
           by_head : (k ≡ id) ⊎ (k ≢ id) → Replays serial task.log × IsReplay line new (replayed serial task.log) memory
           by_head (inr other) =
-              let in_rest : Member id ids = elim at [ inl here ↦ absurd (other (sym here)) | inr later ↦ later ] in
+              let in_rest : In id ids = elim at [ inl here ↦ absurd (other (sym here)) | inr later ↦ later ] in
               absurd (not_both level_cmp level_cmp_total task.levels up.0.levels (leaves.least k up.0 other up.1 up.2) (up.3 id task in_rest leaves.there))
           by_head (inl here) =
               let both : Some up.0 ≡ Some task = sym up.1 ∙ ap old here ∙ leaves.there in
               let eq : up.0 ≡ task = cc in
-              let out : Member id ids → ⊥ = λ at'. not_self task (subst (λ t. Earlier t task) eq (up.3 id task at' leaves.there)) in
+              let out : In id ids → ⊥ = λ at'. not_self task (subst (λ t. Earlier t task) eq (up.3 id task at' leaves.there)) in
               let rest = rest_line ids up.4 out in
               let all : logs old replay.ids ≡ task.log ++ logs old ids = ap (logs old) is ∙ ap (λ o. log_of o ++ logs old ids) (up.1 ∙ ap Some eq) in
               let chain : Replays serial (task.log ++ logs old ids) = subst (Replays serial) all replay.replays in (
@@ -168,7 +168,7 @@ module _ (old new : ℕ → Option Logged) (id : ℕ) (task : Logged) (leaves : 
                     complete = λ j x there runs. elim (cases_eq j id) [
                       | inl gone ↦ absurd (cc (leaves.gone, ap new gone, there))
                       | inr differs ↦
-                          let was : Member j (k ∷ ids) = subst (Member j) is (replay.by_key.complete j x (sym (leaves.others j differs) ∙ there) runs) in
+                          let was : In j (k ∷ ids) = subst (In j) is (replay.by_key.complete j x (sym (leaves.others j differs) ∙ there) runs) in
                           elim was [ inl e ↦ absurd (differs (e ∙ here)) | inr later ↦ later ]
                     ];
                   };

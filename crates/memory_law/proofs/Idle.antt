@@ -2,7 +2,7 @@
 use Rattle.std.proofs.Common.{◌≡◌, ℕ, Bool, true, false, List, [], ◌∷◌, length, Option, Some, refl, sym, ap, subst, ◌∙◌}
 use Rattle.undo_log.specs.Number.{AreBytes}
 use Rattle.memory_law.specs.Accesses.{replayed, Replays}
-use Rattle.memory_law.specs.Tasks.{Logged, IsNoted, AreNoted, logs, Member, Ascends}
+use Rattle.memory_law.specs.Tasks.{Logged, IsNoted, AreNoted, logs, In, Ascends}
 use Rattle.memory_law.specs.Chain.{IsReplay}
 use Rattle.memory_law.specs.Events.{KeepsDispatched}
 use Rattle.memory_law.proofs.Latest.{member_runs}
@@ -12,12 +12,12 @@ pub noted_empty : (size line : ℕ) (task : Logged) → task.log ≡ [] → IsNo
 noted_empty size line task empty = subst (AreNoted size line task.touched task.wrote) (sym empty) tt
 
 module _ (old new : ℕ → Option Logged) (keeps : KeepsDispatched old new) where
-  stays_there : (id : ℕ) (ids : List ℕ) → Ascends old ids → Member id ids → (task : Logged) × (old id ≡ Some task) × (new id ≡ Some task)
+  stays_there : (id : ℕ) (ids : List ℕ) → Ascends old ids → In id ids → (task : Logged) × (old id ≡ Some task) × (new id ≡ Some task)
   stays_there id ids up at =
       let runs = member_runs old id ids at up in
       (runs.0, runs.1, (keeps.stay id runs.0 runs.2).0 runs.1)
 
-  was_there : (id : ℕ) (other : Logged) (ids : List ℕ) → Ascends old ids → Member id ids → new id ≡ Some other → old id ≡ Some other
+  was_there : (id : ℕ) (other : Logged) (ids : List ℕ) → Ascends old ids → In id ids → new id ≡ Some other → old id ≡ Some other
   was_there id other ids up at there =
       let stays = stays_there id ids up at in
       stays.1 ∙ sym stays.2 ∙ there

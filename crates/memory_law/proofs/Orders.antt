@@ -2,16 +2,16 @@
 use Rattle.std.proofs.Common.{◌≡◌, ◌≢◌, ℕ, List, [], ◌∷◌, Option, refl, sym, ap, subst, ◌∙◌, inl, inr}
 use Rattle.fractal_vt.specs.Levels.{level_cmp}
 use Rattle.fractal_vt.proofs.Proved.{level_cmp_total, not_both}
-use Rattle.memory_law.specs.Tasks.{Logged, Member, Ascends, IsByKey}
+use Rattle.memory_law.specs.Tasks.{Logged, In, Ascends, IsByKey}
 use Rattle.memory_law.proofs.Latest.{not_self, member_runs}
 
 -- each of the first is one of the second
 abbrev pub Within : List ℕ → List ℕ → Type 0
-Within ids others = (k : ℕ) → Member k ids → Member k others
+Within ids others = (k : ℕ) → In k ids → In k others
 
 module _ (tasks : ℕ → Option Logged) where
   -- the first does not stand again behind itself
-  not_again : (x k : ℕ) (ids : List ℕ) → Ascends tasks (x ∷ ids) → Member k ids → k ≢ x
+  not_again : (x k : ℕ) (ids : List ℕ) → Ascends tasks (x ∷ ids) → In k ids → k ≢ x
   not_again x k ids up at same =
       not_self up.0 (up.3 k up.0 at (ap tasks same ∙ up.1))
 
@@ -23,7 +23,7 @@ module _ (tasks : ℕ → Option Logged) where
   ]
 
   -- the firsts are one, since each would be earlier than the other
-  same_first : (x y : ℕ) (ids others : List ℕ) → Ascends tasks (x ∷ ids) → Ascends tasks (y ∷ others) → Member x (y ∷ others) → Member y (x ∷ ids) → x ≡ y
+  same_first : (x y : ℕ) (ids others : List ℕ) → Ascends tasks (x ∷ ids) → Ascends tasks (y ∷ others) → In x (y ∷ others) → In y (x ∷ ids) → x ≡ y
   same_first x y ids others up up' (inl here) there = here
   same_first x y ids others up up' (inr later) (inl here) = sym here
   same_first x y ids others up up' (inr later) (inr later') =

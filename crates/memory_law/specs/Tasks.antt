@@ -48,10 +48,10 @@ abbrev pub logs : (ℕ → Option Logged) → List ℕ → List Access
 logs tasks [] = []
 logs tasks (id ∷ ids) = log_of (tasks id) ++ logs tasks ids
 
--- the id is one of these
-abbrev pub Member : ℕ → List ℕ → Type 0
-Member id [] = ⊥
-Member id (x ∷ xs) = (id ≡ x) ⊎ Member id xs
+-- the element stands in the list
+abbrev pub In : {X : Type 0} → X → List X → Type 0
+In x [] = ⊥
+In x (y ∷ ys) = (x ≡ y) ⊎ In x ys
 
 -- the first task's key is less than the second's
 abbrev pub Earlier : Logged → Logged → Type 0
@@ -64,13 +64,13 @@ Ascends tasks (id ∷ ids) =
     (task : Logged)
     × (tasks id ≡ Some task)
     × (task.dispatched ≡ true)
-    × ((k : ℕ) (other : Logged) → Member k ids → tasks k ≡ Some other → Earlier task other)
+    × ((k : ℕ) (other : Logged) → In k ids → tasks k ≡ Some other → Earlier task other)
     × Ascends tasks ids
 
 -- these are all dispatched tasks, by rising key
 pub record IsByKey (tasks : ℕ → Option Logged) (ids : List ℕ) : Type 0 where
   pub ascends : Ascends tasks ids
-  pub complete : (id : ℕ) (task : Logged) → tasks id ≡ Some task → task.dispatched ≡ true → Member id ids
+  pub complete : (id : ℕ) (task : Logged) → tasks id ≡ Some task → task.dispatched ≡ true → In id ids
 
 -- the memory after the logs of the set's members among these are taken back, the last one first, each from its last
 -- access on

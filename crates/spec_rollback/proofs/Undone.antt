@@ -7,7 +7,7 @@ use Rattle.std.specs.Cmp.{both_ways}
 use Rattle.std.proofs.lemmas.Bool.{cases_eq}
 use Rattle.std.proofs.lemmas.Bool.Decides.{nat_tests}
 use Rattle.memory_law.specs.Events.{IsLatest, without_one}
-use Rattle.memory_law.specs.Tasks.{Logged, log_of, Member, Earlier, Ascends, IsByKey, undone_set}
+use Rattle.memory_law.specs.Tasks.{Logged, log_of, In, Earlier, Ascends, IsByKey, undone_set}
 use Rattle.memory_law.proofs.Proved.{latest_first, member_runs, not_self}
 use Rattle.undo_log.specs.Undo.{undone}
 use Rattle.spec_state.specs.declared.task.Task.{Task}
@@ -62,7 +62,7 @@ not_among xs k absent = by_test (among xs k) refl
 
 -- two sets that agree at these ids take back the same
 pub same_set : (set other : ℕ → Bool) (tasks : ℕ → Option Logged) (ids memory : List ℕ)
-    → ((k : ℕ) → Member k ids → set k ≡ other k)
+    → ((k : ℕ) → In k ids → set k ≡ other k)
     → undone_set set tasks ids memory ≡ undone_set other tasks ids memory
 same_set set other tasks [] memory same = refl
 same_set set other tasks (k ∷ ids) memory same =
@@ -113,9 +113,9 @@ module _ (tasks : List (Option Task)) where
       by_slot (Some u) at is = let same : logged_task u ≡ other = cc in (u, at, sym same)
 
   module _ (ids : List ℕ) (up : Ascends read ids)
-      (complete : (id : ℕ) (task : Logged) → read id ≡ Some task → task.dispatched ≡ true → Member id ids) where
+      (complete : (id : ℕ) (task : Logged) → read id ≡ Some task → task.dispatched ≡ true → In id ids) where
     -- an id that is no dispatched task's is none of these
-    not_these : (x : ℕ) → ((task : Logged) → read x ≡ Some task → task.dispatched ≡ true → ⊥) → (k : ℕ) → Member k ids
+    not_these : (x : ℕ) → ((task : Logged) → read x ≡ Some task → task.dispatched ≡ true → ⊥) → (k : ℕ) → In k ids
         → k ≢ x
     not_these x none k at same =
         let runs = member_runs read k ids at up in none runs.0 (ap read (sym same) ∙ runs.1) runs.2

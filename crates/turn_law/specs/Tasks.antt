@@ -1,15 +1,11 @@
 -- The uncommitted tasks as the serial bags see them: queued ones by id, spilled ones by name.
 use Rattle.std.specs.Prelude.{◌≡◌, ◌⊎◌, ℕ, ◌+◌, ◌≤◌, Bool, List, [], ◌∷◌, Option, Some, slice_get}
+pub use Rattle.memory_law.specs.Tasks.{In}
 use Rattle.task_desc.specs.declared.desc.Name.{Name}
 use Rattle.task_desc.specs.declared.desc.Spawn.{Spawn}
 use Rattle.task_desc.specs.declared.desc.Place.{Place}
 use Rattle.task_desc.specs.declared.desc.Place.TheVariants.{Same, Sub, Super}
 use Rattle.pending_list.specs.declared.task.PendingTask.{PendingTask}
-
--- the element stands in the list
-abbrev pub In : {X : Type 0} → X → List X → Type 0
-In x [] = ⊥
-In x (y ∷ ys) = (x ≡ y) ⊎ In x ys
 
 -- who made a task: the turn of this number, or a task of this id that is still to commit; and the child's place
 -- among the creator's children
