@@ -268,7 +268,7 @@ struct Row {
     said: &'static [Said],
 }
 
-static ROWS: [Row; 11] = [
+static ROWS: [Row; 12] = [
     Row {
         name: "a reader with a child, and a writer",
         program: READER,
@@ -327,6 +327,13 @@ static ROWS: [Row; 11] = [
         settings: ONE_FINISHED,
         script: "dispatch 0\ndispatch 0\nstep 0 0\nstep 0 1\n",
         said: &[OK, OK, OK, STALL],
+    },
+    Row {
+        name: "a leg that stalls is no longer held",
+        program: ENDERS,
+        settings: ONE_FINISHED,
+        script: "dispatch 0\ndispatch 0\ntake 0 1\nstep 0 0\ngive 0 1\ncommit\ngive 0 1\n",
+        said: &[OK, OK, OK, OK, STALL, OK, STALE],
     },
     Row {
         name: "an enqueue that stalls",
