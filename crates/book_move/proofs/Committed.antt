@@ -1,20 +1,18 @@
 -- What comes of a commit.
-use Rattle.std.proofs.Common.{ℕ, ◌≡◌, ◌≢◌, [], List, Some, None, refl, sym, ap, subst, ◌∙◌}
-use Rattle.std.specs.Prelude.{slice_get}
+use Rattle.std.proofs.Common.{ℕ, ◌≡◌, ◌≢◌, ◌<◌, length, List, Some, None, refl, sym, ap, subst, ◌∙◌}
+use Rattle.std.specs.Prelude.{slice_get, option_map}
+use Rattle.std.proofs.lemmas.Option.{slice_get_within}
 use Rattle.guest_image.specs.ImageValue.{ImageValue}
-use Rattle.task_desc.specs.declared.desc.Spawn.{Spawn}
 use Rattle.trace_tap.specs.declared.record.Deed.TheVariants as deed
 use Rattle.trace_tap.specs.declared.record.Record.{Record}
-use Rattle.spec_state.specs.declared.task.Creator.{Creator}
-use Rattle.spec_state.specs.declared.task.Creator.TheVariants.{Committed, Live}
 use Rattle.spec_state.specs.declared.task.Status.TheVariants.{Finished}
 use Rattle.spec_state.specs.declared.task.Task.{Task}
 use Rattle.spec_state.specs.View.{View, task_at}
 use Rattle.spec_state.specs.Changes.{Commits}
-use Rattle.spec_state.specs.Groups.{live_creator}
+use Rattle.spec_state.specs.Groups.{bag_creator, bag_task}
 use Rattle.spec_state.specs.Least.{IsLeastTask}
 use Rattle.spec_state.specs.Tasks.{descriptor_of}
-use Rattle.spec_commit.specs.Committing.{ChildrenAreMade}
+use Rattle.spec_commit.specs.Committing.{ChildrenAreMade, HasChildren, IsChildAt}
 use Rattle.spec_law.specs.Sound.{IsMadeBy, Sound}
 use Rattle.book_event.specs.declared.event.Came.TheVariants.{Made, Refused}
 use Rattle.book_event.specs.declared.event.Reply.TheVariants as reply
@@ -24,24 +22,24 @@ use Rattle.book_event.specs.Trace.{record_of}
 use Rattle.step_law.proofs.Proved.{commit_is_granted, empty_is_refused}
 use Rattle.book_move.specs.Moving.{CommitComes, book_of}
 
--- a task that has children in a sound view has made some
-made_some : (spawns : List Spawn) (index : ℕ) (spawn : Spawn) → slice_get spawns index ≡ Some spawn → spawns ≢ []
-made_some spawns index spawn made none = absurd (cc (sym made ∙ ap (λ s. slice_get s index) none))
+-- in a sound view the children of a task stand at places of the list that it has made, no two at one
+module _ (image : ImageValue) (view : View) (sound : Sound image view) (id : ℕ) (task : Task) (here : task_at view id ≡ Some task) where
+  placed : (k place : ℕ) → IsChildAt id place (task_at view k) → place < length task.spawns
+  placed k place is =
+      let made : IsMadeBy view id place (descriptor_of is.child) = sound.tasks.children k is.child (record { 0 = id }) place is.there is.made_by in
+      let both : Some made.creator ≡ Some task = sym made.there ∙ here in
+      let same : made.creator ≡ task = cc in
+      slice_get_within task.spawns place made.spawn (subst (λ (t : Task). slice_get t.spawns place ≡ Some made.spawn) same made.made)
 
-by_creator : (image : ImageValue) (view : View) (sound : Sound image view) (id k : ℕ) (child task : Task) (creator : Creator)
-    → task_at view k ≡ Some child → child.creator ≡ creator
-    → live_creator creator ≡ Some id → task_at view id ≡ Some task → task.spawns ≢ []
-by_creator image view sound id k child task (Committed turn index) there is by here = absurd (cc (by))
-by_creator image view sound id k child task (Live made_by index) there is by here =
-    let made : IsMadeBy view made_by.0 index (descriptor_of child) = sound.tasks.children k child made_by index there is in
-    let one : made_by.0 ≡ id = cc in
-    let both : Some made.creator ≡ Some task = sym made.there ∙ (ap (task_at view) one ∙ here) in
-    let same : made.creator ≡ task = cc in
-    made_some task.spawns index made.spawn (subst (λ (t : Task). slice_get t.spawns index ≡ Some made.spawn) same made.made)
+  apart : (k l place : ℕ) → IsChildAt id place (task_at view k) → IsChildAt id place (task_at view l) → k ≡ l
+  apart k l place one other =
+      sound.tasks.names.distinct k l (bag_task one.child) (bag_task other.child)
+      (ap (option_map bag_task) one.there) (ap (option_map bag_task) other.there)
+      (ap bag_creator one.made_by ∙ sym (ap bag_creator other.made_by))
 
 pub children_are_made : (image : ImageValue) (view : View) → Sound image view → (id : ℕ) → ChildrenAreMade view id
-children_are_made image view sound id task k here child =
-    by_creator image view sound id k child.child task child.child.creator child.there refl child.made_by here
+children_are_made image view sound id task here =
+    record { placed = placed image view sound id task here; apart = apart image view sound id task here }
 
 module _ (N : Type 0) (view : View) (going : IsOver view → ⊥) where
   -- the least task isn't finished

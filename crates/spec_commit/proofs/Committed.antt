@@ -1,5 +1,5 @@
 -- The least task leaves by a commit, and its children have a committed creator.
-use Rattle.std.proofs.Common.{◌≡◌, ◌≢◌, ◌⊎◌, ◌≤◌, ◌+◌, ◌∷◌, ◌++◌, ◌==◌, ℕ, Bool, true, false, cond, List, [], length, Option, Some, None, refl, sym, ap, subst, ◌∙◌, inl, inr, arith, slice_index_or}
+use Rattle.std.proofs.Common.{◌≡◌, ◌≢◌, ◌⊎◌, ◌<◌, ◌≤◌, ◌+◌, ◌∷◌, ◌++◌, ◌==◌, ℕ, Bool, true, false, cond, List, [], length, Option, Some, None, refl, sym, ap, subst, ◌∙◌, inl, inr, arith, slice_index_or}
 use Rattle.std.specs.Prelude.{count_by, is_some, if◌then◌else◌}
 use Rattle.std.proofs.lemmas.Bool.{cases_eq, ne_eqb}
 use Rattle.std.proofs.lemmas.Bool.Decides.{nat_tests}
@@ -7,24 +7,21 @@ use Rattle.std.proofs.lemmas.List.{length_push}
 use Rattle.commit_arbiter.specs.declared.entry.Entry.{Entry as Indexed}
 use Rattle.fractal_vt.specs.declared.level.Level.{Level}
 use Rattle.run_journal.specs.declared.journal.Entry.{Entry}
-use Rattle.task_desc.specs.declared.desc.Spawn.{Spawn}
 use Rattle.tile_queues.specs.Queue.{QueueValue}
 use Rattle.spec_state.specs.declared.settings.Settings.{Settings}
 use Rattle.spec_state.specs.declared.task.Creator.{Creator}
 use Rattle.spec_state.specs.declared.task.Creator.TheVariants.{Committed, Live}
 use Rattle.spec_state.specs.declared.task.Status.TheVariants.{Finished}
 use Rattle.spec_state.specs.declared.task.Task.{Task}
-use Rattle.spec_state.specs.Aborts.{IsChildOf}
 use Rattle.spec_state.specs.Changes.{Commits, creator_after, after_commit}
 use Rattle.spec_state.specs.Fits.{HasSlots}
-use Rattle.spec_state.specs.Groups.{live_creator}
 use Rattle.spec_state.specs.Least.{IsLeastTask}
 use Rattle.spec_state.specs.Leaving.{Leaves}
 use Rattle.spec_state.specs.Stored.{IsStored, IsWellFormed, IsIndexed}
 use Rattle.spec_state.specs.Tasks.{depth_of, own_level}
 use Rattle.spec_state.specs.View.{View, task_at}
 use Rattle.spec_state.proofs.Proved.{AreKept, formed_later, indexed_kept, keeps_none, KeepsKey, KeepsPlace, kept_all, same_place, slots_kept, stored_kept}
-use Rattle.spec_commit.specs.Committing.{ChildrenAreMade, adopted}
+use Rattle.spec_commit.specs.Committing.{ChildrenAreMade, HasChildren, IsAdopted, IsAdoptedOrSame, IsChildAt, adopted}
 use Rattle.spec_commit.proofs.Moving.{cores_stay}
 
 -- with more in the history what is stored is stored still
@@ -51,25 +48,144 @@ adopted_turn id n bound turn index (Live task i) upto was is = go (task.0 == id)
     go true is = (let same : n ≡ turn = cc in omega (arith, same, upto))
     go false is = absurd (cc (is))
 
-module _ (id n : ℕ) (tasks now : List (Option Task)) (each : (k : ℕ) → slice_index_or now k None ≡ adopted id n (slice_index_or tasks k None)) where
-  adopted_kept : (stands : Task → Task → Type 0) → ((x : Task) → stands x (child_of id n x)) → AreKept stands tasks now
-  adopted_kept stands so = record {
-    forth = λ k t at. (child_of id n t, each k ∙ ap (adopted id n) at, so t);
-    back = λ k m at. (let was = was_adopted id n (slice_index_or tasks k None) m (sym (each k) ∙ at) in (was.0, was.1, subst (stands was.0) was.2 (so was.0)));
+-- a child is adopted once
+once : (id n : ℕ) (creator : Creator) → creator_after id n (creator_after id n creator) ≡ creator_after id n creator
+once id n (Committed turn index) = refl
+once id n (Live task index) = go (task.0 == id) refl
+  where
+    go : (b : Bool) → (task.0 == id) ≡ b
+        → creator_after id n (if b then Committed n index else Live task index) ≡ (if b then Committed n index else Live task index)
+    go true is = refl
+    go false is = ap (λ t. cond t (Committed n index) (Live task index)) is
+
+pub adopted_once : (id n : ℕ) (o : Option Task) → adopted id n (adopted id n o) ≡ adopted id n o
+adopted_once id n None = refl
+adopted_once id n (Some t) = ap (λ creator. Some (record t { creator = creator })) (once id n t.creator)
+
+-- what is adopted is no child any more
+pub adopted_is_no_child : (id n place : ℕ) (o : Option Task) → IsChildAt id place (adopted id n o) → ⊥
+adopted_is_no_child id n place None is = absurd (cc (is.there))
+adopted_is_no_child id n place (Some t) is =
+    let same : child_of id n t ≡ is.child = cc (is.there) in
+    by_creator t.creator (ap (λ (x : Task). x.creator) same ∙ is.made_by)
+  where
+    by_creator : (creator : Creator) → creator_after id n creator ≡ Live (record { 0 = id }) place → ⊥
+    by_creator (Committed turn index) at = absurd (cc (at))
+    by_creator (Live task index) at = go (task.0 == id) refl at
+      where
+        go : (b : Bool) → (task.0 == id) ≡ b → (if b then Committed n index else Live task index) ≡ Live (record { 0 = id }) place → ⊥
+        go true was at = absurd (cc (at))
+        go false was at =
+            let own : task.0 ≡ id = cc in
+            let is : (task.0 == id) ≡ true = grind (arith, nat_tests) in
+            absurd (cc (was, is))
+
+-- a task is a child of this one, at some place, or it is the same once it is adopted
+pub child_or_same : (id n : ℕ) (o : Option Task) → ((place : ℕ) × IsChildAt id place o) ⊎ (adopted id n o ≡ o)
+child_or_same id n None = inr refl
+child_or_same id n (Some t) = by_creator t.creator refl
+  where
+    by_creator : (creator : Creator) → t.creator ≡ creator → ((place : ℕ) × IsChildAt id place (Some t)) ⊎ (Some (child_of id n t) ≡ Some t)
+    by_creator (Committed turn index) is = inr (ap (λ c. Some (record t { creator = c })) (ap (creator_after id n) is ∙ sym is))
+    by_creator (Live task index) is = elim (cases_eq task.0 id) [
+      | inl own ↦ inl (index, record { child = t; there = refl; made_by = is ∙ ap (λ k. Live (record { 0 = k }) index) own })
+      | inr other ↦
+          let stays : creator_after id n (Live task index) ≡ Live task index = ap (λ b. cond b (Committed n index) (Live task index)) (ne_eqb task.0 id other) in
+          inr (ap (λ c. Some (record t { creator = c })) (ap (creator_after id n) is ∙ stays ∙ sym is))
+    ]
+
+-- where the child at each place was found and adopted, all are
+pub all_adopted : (id n made : ℕ) (old new : ℕ → Option Task) → HasChildren old id made
+    → ((k : ℕ) → IsAdoptedOrSame id n (old k) (new k)) → ((place : ℕ) → place < made → IsAdopted id n place old new)
+    → (k : ℕ) → new k ≡ adopted id n (old k)
+all_adopted id n made old new has each found k = elim (each k) [
+  | inr is ↦ is
+  | inl same ↦ elim (child_or_same id n (old k)) [
+    | inr stays ↦ same ∙ sym stays
+    | inl child ↦
+        let one : IsAdopted id n child.0 old new = found child.0 (has.placed k child.0 child.1) in
+        let here : k ≡ one.key = has.apart k one.key child.0 child.1 one.child in
+        subst (λ j. new j ≡ adopted id n (old j)) (sym here) one.now
+  ]
+]
+
+-- the children that were adopted so far, and then all: all are
+pub then_all : (id n : ℕ) (old mid new : Option Task) → IsAdoptedOrSame id n old mid → new ≡ adopted id n mid → new ≡ adopted id n old
+then_all id n old mid new (inl same) is = is ∙ ap (adopted id n) same
+then_all id n old mid new (inr was) is = is ∙ ap (adopted id n) was ∙ adopted_once id n old
+
+-- what was done to the slots of a state is done to the tasks of its view
+pub adopts_seen : (slots now : List (Option Task)) (view : View) (id n made wanted : ℕ) → slots ≡ view.tasks → n ≡ length view.history → made ≡ wanted
+    → (HasChildren (λ k. slice_index_or slots k None) id made → (k : ℕ) → slice_index_or now k None ≡ adopted id n (slice_index_or slots k None))
+    → HasChildren (task_at view) id wanted → (k : ℕ) → slice_index_or now k None ≡ adopted id (length view.history) (task_at view k)
+adopts_seen slots now view id n made wanted same turn count adopts has k =
+    adopts (subst (λ tasks. HasChildren (λ j. slice_index_or tasks j None) id made) (sym same) (subst (HasChildren (task_at view) id) (sym count) has)) k
+    ∙ ap (λ t. adopted id t (slice_index_or slots k None)) turn
+    ∙ ap (λ tasks. adopted id (length view.history) (slice_index_or tasks k None)) same
+
+-- the child at one more place is adopted
+module _ (id n place : ℕ) (old now new : ℕ → Option Task) (each : (k : ℕ) → IsAdoptedOrSame id n (old k) (now k))
+    (found : (j : ℕ) → j < place → IsAdopted id n j old now) (key : ℕ) (child : IsChildAt id place (now key))
+    (changed : new key ≡ adopted id n (now key)) (others : (k : ℕ) → k ≢ key → new k ≡ now k) where
+  was : now key ≡ old key
+  was = elim (each key) [
+    | inl same ↦ same
+    | inr is ↦ absurd (adopted_is_no_child id n place (old key) (subst (IsChildAt id place) is child))
+  ]
+
+  own : new key ≡ adopted id n (old key)
+  own = changed ∙ ap (adopted id n) was
+
+  pub each_more : (k : ℕ) → IsAdoptedOrSame id n (old k) (new k)
+  each_more k = elim (cases_eq k key) [
+    | inl same ↦ subst (λ j. IsAdoptedOrSame id n (old j) (new j)) (sym same) (inr own)
+    | inr other ↦ subst (IsAdoptedOrSame id n (old k)) (sym (others k other)) (each k)
+  ]
+
+  kept : (j : ℕ) → IsAdopted id n j old now → IsAdopted id n j old new
+  kept j is = record {
+    key = is.key;
+    child = is.child;
+    now = elim (cases_eq is.key key) [
+      | inl same ↦ subst (λ k. new k ≡ adopted id n (old k)) (sym same) own
+      | inr other ↦ others is.key other ∙ is.now
+    ];
+  }
+
+  pub found_more : (j : ℕ) → j < place + 1 → IsAdopted id n j old new
+  found_more j below = elim (cases_eq j place) [
+    | inl same ↦ subst (λ p. IsAdopted id n p old new) (sym same) (record { key = key; child = subst (IsChildAt id place) was child; now = own })
+    | inr other ↦ kept j (found j (grind arith))
+  ]
+
+module _ (id n : ℕ) (tasks now : List (Option Task)) (each : (k : ℕ) → IsAdoptedOrSame id n (slice_index_or tasks k None) (slice_index_or now k None)) where
+  adopted_kept : (stands : Task → Task → Type 0) → ((x : Task) → stands x x) → ((x : Task) → stands x (child_of id n x)) → AreKept stands tasks now
+  adopted_kept stands stays so = record {
+    forth = λ k t at. elim (each k) [
+      | inl same ↦ (t, same ∙ at, stays t)
+      | inr is ↦ (child_of id n t, is ∙ ap (adopted id n) at, so t)
+    ];
+    back = λ k m at. elim (each k) [
+      | inl same ↦ (m, sym same ∙ at, stays m)
+      | inr is ↦ (let was = was_adopted id n (slice_index_or tasks k None) m (sym is ∙ at) in (was.0, was.1, subst (stands was.0) was.2 (so was.0)))
+    ];
   }
 
   pub indexed_adopted : (queues : List (List ℕ)) (arrivals : List ℕ) (next : ℕ) (entries : List Indexed)
       → IsIndexed tasks queues arrivals next entries → IsIndexed now queues arrivals next entries
   indexed_adopted queues arrivals next entries =
-      indexed_kept tasks now queues arrivals next entries (adopted_kept KeepsKey (λ x. record { tile = refl; key = refl }))
+      indexed_kept tasks now queues arrivals next entries (adopted_kept KeepsKey (λ x. record { tile = refl; key = refl }) (λ x. record { tile = refl; key = refl }))
 
-pub stored_adopted : (size id n : ℕ) (old : View) (now : List (Option Task)) → ((k : ℕ) → slice_index_or now k None ≡ adopted id n (task_at old k))
+pub stored_adopted : (size id n : ℕ) (old : View) (now : List (Option Task)) → ((k : ℕ) → IsAdoptedOrSame id n (task_at old k) (slice_index_or now k None))
     → n ≤ length old.history → IsStored size old → IsStored size (record old { tasks = now })
 stored_adopted size id n old now each upto stored =
     stored_kept size old (record old { tasks = now }) stored
-    (adopted_kept id n old.tasks now each KeepsPlace (λ x. same_place x (child_of id n x) refl refl)) refl refl refl stored.memory
-    (λ k t at. (let was = was_adopted id n (task_at old k) t (sym (each k) ∙ at) in
-    subst (IsWellFormed size (length old.history)) was.2 (formed was.0 (stored.tasks k was.0 was.1))))
+    (adopted_kept id n old.tasks now each KeepsPlace (λ x. same_place x x refl refl) (λ x. same_place x (child_of id n x) refl refl)) refl refl refl stored.memory
+    (λ k t at. elim (each k) [
+      | inl same ↦ stored.tasks k t (sym same ∙ at)
+      | inr is ↦ (let was = was_adopted id n (task_at old k) t (sym is ∙ at) in
+        subst (IsWellFormed size (length old.history)) was.2 (formed was.0 (stored.tasks k was.0 was.1)))
+    ])
   where
     formed : (x : Task) → IsWellFormed size (length old.history) x → IsWellFormed size (length old.history) (child_of id n x)
     formed x is = record {
@@ -90,28 +206,6 @@ slots_adopted settings tasks now slots slots_now queues indexed entries marks me
     subst (λ n. HasSlots settings now n queues indexed entries marks members arrivals room) (sym capacity)
     (slots_kept settings tasks now slots queues indexed indexed entries entries marks members arrivals room has same (omega arith) refl)
 
--- a task without spawns has made none
-pub none_made : (slice spawns : List Spawn) (empty : Bool) → slice ≡ spawns → empty ≡ (length slice == 0) → empty ≡ true → spawns ≡ []
-none_made slice spawns empty same is none = sym same ∙ go slice is
-  where
-    go : (slice : List Spawn) → empty ≡ (length slice == 0) → slice ≡ []
-    go [] is = refl
-    go (s ∷ more) is =
-        let other : (length (s ∷ more) == 0) ≡ false = grind (arith, nat_tests) in
-        absurd (let both : true ≡ false = sym none ∙ is ∙ other in cc)
-
--- where a task has no child nothing is adopted
-same_creator : (id n : ℕ) (creator : Creator) → (live_creator creator ≡ Some id → ⊥) → creator ≡ creator_after id n creator
-same_creator id n (Committed turn index) other = refl
-same_creator id n (Live task index) other = ap (λ b. cond b (Committed n index) (Live task index)) (sym (ne_eqb task.0 id (λ same. other (ap Some same))))
-
-pub none_adopted : (view : View) (id n : ℕ) → ((k : ℕ) → IsChildOf view id k → ⊥) → (k : ℕ) → task_at view k ≡ adopted id n (task_at view k)
-none_adopted view id n none k = go (task_at view k) refl
-  where
-    go : (o : Option Task) → task_at view k ≡ o → o ≡ adopted id n o
-    go None at = refl
-    go (Some t) at = λ i. Some (record t { creator = same_creator id n t.creator (λ is. none k (record { child = t; there = at; made_by = is })) i })
-
 after_others : (id n k : ℕ) (o : Option Task) → k ≢ id → after_commit id n k o ≡ adopted id n o
 after_others id n k None other = refl
 after_others id n k (Some t) other = ap (λ b. cond b None (Some (child_of id n t))) (ne_eqb k id other)
@@ -122,25 +216,31 @@ after_own id n k (Some t) same = (let is : (k == id) ≡ true = grind (arith, na
 
 module _ (size id : ℕ) (old left noted new : View) (task : Task) (entry : Entry) (stored : IsStored size old) (there : task_at old id ≡ Some task) (leaves : Leaves id old left)
     (noted_is : noted ≡ record left { history = left.history ++ entry ∷ []; output = left.output ++ task.bytes; path = task.key.domain ++ own_level task ∷ [] })
-    (adopts : ((k : ℕ) → IsChildOf noted id k → task.spawns ≢ []) → (k : ℕ) → task_at new k ≡ adopted id (length noted.history) (task_at noted k))
+    (adopts : HasChildren (task_at noted) id (length task.spawns) → (k : ℕ) → task_at new k ≡ adopted id (length noted.history) (task_at noted k))
     (rest : new ≡ record noted { tasks = new.tasks })
     (named : (turn index : ℕ) → task.creator ≡ Committed turn index → entry ≡ record { name = record { creator = turn; index = index }; depth = depth_of task; ts = task.key.ts }) where
   noted_at : (k : ℕ) → task_at noted k ≡ task_at left k
   noted_at k = ap (λ v. task_at v k) noted_is
 
   -- a child that is left was there
-  was_child : (k : ℕ) → IsChildOf noted id k → IsChildOf old id k
-  was_child k is = elim (cases_eq k id) [
+  was_child : (k place : ℕ) → IsChildAt id place (task_at noted k) → IsChildAt id place (task_at old k)
+  was_child k place is = elim (cases_eq k id) [
     | inl same ↦ absurd (cc (is.there, noted_at k, ap (task_at left) same, leaves.changes.changed))
-    | inr other ↦ record { child = is.child; there = sym (leaves.changes.others k other) ∙ sym (noted_at k) ∙ is.there; made_by = is.made_by }
+    | inr other ↦ subst (IsChildAt id place) (noted_at k ∙ leaves.changes.others k other) is
   ]
+
+  has_left : HasChildren (task_at old) id (length task.spawns) → HasChildren (task_at noted) id (length task.spawns)
+  has_left has = record {
+    placed = λ k place is. has.placed k place (was_child k place is);
+    apart = λ k l place one other. has.apart k l place (was_child k place one) (was_child l place other);
+  }
 
   count : length noted.history ≡ length old.history + 1
   count = ap (λ (v : View). length v.history) noted_is ∙ length_push left.history entry ∙ ap (λ (v : View). length v.history + 1) leaves.rest
 
   each : ChildrenAreMade old id → (k : ℕ) → task_at new k ≡ after_commit id (length old.history + 1) k (task_at old k)
   each made k =
-      adopts (λ j is. made task j there (was_child j is)) k
+      adopts (has_left (made task there)) k
       ∙ ap (λ n. adopted id n (task_at noted k)) count
       ∙ ap (adopted id (length old.history + 1)) (noted_at k)
       ∙ go (cases_eq k id)
@@ -193,7 +293,7 @@ module _ (size id : ℕ) (old left noted new : View) (task : Task) (entry : Entr
 -- a commit by its parts
 pub commits : (size id : ℕ) (old made left noted new : View) (task : Task) (entry : Entry) → made ≡ old → IsStored size made → task_at made id ≡ Some task → Leaves id made left
     → noted ≡ record left { history = left.history ++ entry ∷ []; output = left.output ++ task.bytes; path = task.key.domain ++ own_level task ∷ [] }
-    → (((k : ℕ) → IsChildOf noted id k → task.spawns ≢ []) → (k : ℕ) → task_at new k ≡ adopted id (length noted.history) (task_at noted k))
+    → (HasChildren (task_at noted) id (length task.spawns) → (k : ℕ) → task_at new k ≡ adopted id (length noted.history) (task_at noted k))
     → new ≡ record noted { tasks = new.tasks }
     → ((turn index : ℕ) → task.creator ≡ Committed turn index → entry ≡ record { name = record { creator = turn; index = index }; depth = depth_of task; ts = task.key.ts })
     → (t : Task) × IsLeastTask old id t × (t.status ≡ Finished) × ((turn : ℕ) × (index : ℕ) × (t.creator ≡ Committed turn index))

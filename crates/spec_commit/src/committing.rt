@@ -1,24 +1,24 @@
 //! The commit of the least task.
 
-ghost use Rattle.std.specs.Prelude.{◌≡◌, ◌≢◌, ◌<◌, ◌≤◌, ◌+◌, [], ◌∷◌, ◌++◌, ℕ, Some, length, IsSome, IfSome, IfOk};
-ghost use Rattle.std.specs.Prelude.{OnOk, OnErr};
+ghost use Rattle.std.specs.Prelude.{◌≡◌, ◌≢◌, ◌↔◌, ◌<◌, ◌≤◌, ◌+◌, [], ◌∷◌, ◌++◌, ℕ, true, false, length, IsTrue};
+ghost use Rattle.std.specs.Prelude.{IsSome, IfSome, IfOk, OnOk, OnErr};
 ghost use Rattle.fractal_vt.specs.declared.vt.TheConstants.{MAX_LEVELS};
 ghost use Rattle.slab.specs.Slab.{get, slab_len};
 ghost use Rattle.spec_state.specs.declared.task.Creator.TheVariants.{Committed};
 ghost use Rattle.spec_state.specs.declared.task.Status.TheVariants.{Finished};
 ghost use Rattle.spec_state.specs.declared.task.Task.{Task};
-ghost use Rattle.spec_state.specs.Aborts.{IsChildOf};
 ghost use Rattle.spec_state.specs.Changes.{Commits, creator_after};
 ghost use Rattle.spec_state.specs.Least.{IsLeastTask};
 ghost use Rattle.spec_state.specs.Tasks.{depth_of, own_level};
 ghost use Rattle.spec_state.specs.View.{task_at};
-ghost use Rattle.spec_commit.specs.Committing.{ChildrenAreMade, adopted};
+ghost use Rattle.spec_commit.specs.Committing.{ChildrenAreMade, HasChildren, IsAdopted, IsAdoptedOrSame, IsChildAt};
+ghost use Rattle.spec_commit.specs.Committing.{adopted};
 
 use fractal_vt::as_domain;
 use rv_core::Naming;
 use serial_machine::Entry;
 use slab::Slab;
-use spec_state::{Creator, State, Task, TaskId};
+use spec_state::{Children, Creator, State, Task, TaskId};
 use std::alloc::AllocError;
 use task_desc::Name;
 
@@ -50,7 +50,7 @@ fn adopt_at(tasks: &mut Slab<Task>, key: usize, id: usize, turn: u32)
 }
 
 /// The same for all tasks. It costs a look at each slot.
-fn adopt(tasks: &mut Slab<Task>, id: usize, turn: u32)
+fn adopt_all(tasks: &mut Slab<Task>, id: usize, turn: u32)
     ensures each { (k : ℕ) → get tasks.new k ≡ adopted id turn (get tasks.old k) }
     ensures len { slab_len tasks.new ≡ slab_len tasks.old }
     ensures capacity { tasks.new.capacity ≡ tasks.old.capacity }
@@ -60,27 +60,95 @@ fn adopt(tasks: &mut Slab<Task>, id: usize, turn: u32)
     }
 }
 
-/// The same for the tasks of a state in which so many have committed.
-fn adopt_all<N: Naming>(state: &mut State<N>, id: TaskId, turn: u32)
-    requires { turn ≤ length state.old.view.history }
-    ensures each { (k : ℕ) → task_at state.new.view k ≡ adopted id.0 turn (task_at state.old.view k) }
-    ensures rest { state.new.view ≡ record state.old.view { tasks = state.new.view.tasks } }
-    ensures room { state.new.room ≡ state.old.room }
+/// Whether the child at this place of the task of this id stands under this key.
+fn has_child_at(tasks: &Slab<Task>, key: usize, id: usize, place: usize) -> bool
+    ensures { IsTrue result ↔ IsChildAt id place (get tasks.now key) }
 {
-    adopt(&mut state.tasks, id.0, turn);
+    match tasks.get(key) {
+        Some(task) => match task.creator {
+            Creator::Live {
+                task: creator,
+                index,
+            } => creator.0 == id && index as usize == place,
+            Creator::Committed { .. } => false,
+        },
+        None => false,
+    }
 }
 
-/// The same where the task has children. A task that made none has none, so nothing is looked for then.
+/// The same for the child at this place, if it stands where it was noted; tells whether it does.
+fn adopt_child(
+    tasks: &mut Slab<Task>,
+    children: &Children,
+    id: usize,
+    turn: u32,
+    place: usize,
+) -> bool
+    ensures missed { result ≡ false → (k : ℕ) → get tasks.new k ≡ get tasks.old k }
+    ensures found { IsTrue result → (key : ℕ) × IsChildAt id place (get tasks.old key)
+        × (get tasks.new key ≡ adopted id turn (get tasks.old key))
+        × ((k : ℕ) → k ≢ key → get tasks.new k ≡ get tasks.old k) }
+    ensures len { slab_len tasks.new ≡ slab_len tasks.old }
+    ensures capacity { tasks.new.capacity ≡ tasks.old.capacity }
+{
+    match children.hint(id, place) {
+        Some(key) => {
+            let found = has_child_at(tasks, key, id, place);
+            if found {
+                adopt_at(tasks, key, id, turn);
+            }
+            found
+        }
+        None => false,
+    }
+}
+
+/// The same for the children at all places below this one, as long as they stand where they were noted; tells whether
+/// all do.
+fn adopt_noted(
+    tasks: &mut Slab<Task>,
+    children: &Children,
+    id: usize,
+    turn: u32,
+    made: usize,
+) -> bool
+    ensures each { (k : ℕ) → IsAdoptedOrSame id turn (get tasks.old k) (get tasks.new k) }
+    ensures found { IsTrue result → (place : ℕ) → place < made → IsAdopted id turn place (get tasks.old) (get tasks.new) }
+    ensures len { slab_len tasks.new ≡ slab_len tasks.old }
+    ensures capacity { tasks.new.capacity ≡ tasks.old.capacity }
+{
+    for place in 0..made {
+        if !adopt_child(tasks, children, id, turn, place) {
+            return false;
+        }
+    }
+    true
+}
+
+/// The same for all children of a task that has made so many. It costs a look at each of them; and, where one doesn't
+/// stand where it was noted, as it is spilled, at each slot.
+fn adopt(tasks: &mut Slab<Task>, children: &Children, id: usize, turn: u32, made: usize)
+    ensures each { (k : ℕ) → IsAdoptedOrSame id turn (get tasks.old k) (get tasks.new k) }
+    ensures all { HasChildren (get tasks.old) id made
+        → (k : ℕ) → get tasks.new k ≡ adopted id turn (get tasks.old k) }
+    ensures len { slab_len tasks.new ≡ slab_len tasks.old }
+    ensures capacity { tasks.new.capacity ≡ tasks.old.capacity }
+{
+    if !adopt_noted(tasks, children, id, turn, made) {
+        adopt_all(tasks, id, turn);
+    }
+}
+
+/// The same for the children of a task in a state from which it has just gone.
 fn adopt_children<N: Naming>(state: &mut State<N>, id: TaskId, task: &Task)
-    ensures each { ((k : ℕ) → IsChildOf state.old.view id.0 k → task.now.spawns ≢ [])
+    ensures each { HasChildren (task_at state.old.view) id.0 (length task.now.spawns)
         → (k : ℕ) → task_at state.new.view k ≡ adopted id.0 (length state.old.view.history) (task_at state.old.view k) }
     ensures rest { state.new.view ≡ record state.old.view { tasks = state.new.view.tasks } }
     ensures room { state.new.room ≡ state.old.room }
 {
     let turn = state.history.count();
-    if !task.spawns.as_slice().is_empty() {
-        adopt_all(state, id, turn);
-    }
+    let made = task.spawns.as_slice().len();
+    adopt(&mut state.tasks, &state.children, id.0, turn, made);
 }
 
 /// The entry that a task with a committed creator has in the history.

@@ -1,10 +1,10 @@
 -- A task that leaves slab, queue and index, or is idle again in them, by the parts of a state.
 use Rattle.std.proofs.Common.{◌≡◌, ◌≢◌, ◌⊎◌, ◌<◌, ◌≤◌, ◌+◌, ◌∷◌, ℕ, List, [], length, map, Option, Some, None, refl, sym, ap, subst, ◌∙◌, inl, inr, arith, slice_get, slice_index_or}
-use Rattle.std.specs.Prelude.{AllPairs, Contains, slice_set, is_some, count_by, not, ◌==◌}
+use Rattle.std.specs.Prelude.{All, AllPairs, Contains, slice_set, is_some, count_by, not, ◌==◌}
 use Rattle.std.specs.List.Sorted.{IsPermutation}
 use Rattle.std.proofs.lemmas.Bool.{cases_eq}
-use Rattle.std.proofs.lemmas.List.{length-map}
-use Rattle.std.proofs.lemmas.List.Elements.{All-set}
+use Rattle.std.proofs.lemmas.List.{length-map, length-set}
+use Rattle.std.proofs.lemmas.List.Elements.{All-get_or, All-set}
 use Rattle.std.proofs.lemmas.List.Kept.{AllPairs-filter}
 use Rattle.std.proofs.lemmas.List.Sorted.{Contains-permutation, IsPermutation-sym}
 use Rattle.std.proofs.lemmas.List.Sums.{sum_by-set}
@@ -99,6 +99,24 @@ leaves_in id parts view new same leaves = subst (λ v. Leaves id v new) same lea
 
 pub back_in : (id : ℕ) (parts view new : View) → parts ≡ view → SetsBack id parts new → SetsBack id view new
 back_in id parts view new same back = subst (λ v. SetsBack id v new) same back
+
+-- one item of a list changes, and keeps what all of them have
+pub all_but_one : {X : Type 0} (P : X → Type 0) (xs : List X) (k : ℕ) (was now : X) → All P xs → k < length xs → was ≡ slice_index_or xs k was → (P was → P now) → All P (slice_set xs k now)
+all_but_one P xs k was now all within is keeps = All-set P xs k now (keeps (subst P (sym is) (All-get_or P xs k was within all))) all
+
+-- a task queue and a commit queue of a tile change, and keep their capacities
+pub tiles_left : (settings : Settings) (queues finished : List QueueValue) (cores cores_now blocks tile : ℕ) (queue after waiting later : QueueValue) → HasTiles settings queues finished cores blocks
+    → tile < length queues → queue ≡ slice_index_or queues tile queue → after.capacity ≡ queue.capacity
+    → tile < length finished → waiting ≡ slice_index_or finished tile waiting → later.capacity ≡ waiting.capacity → cores_now ≡ cores
+    → HasTiles settings (slice_set queues tile after) (slice_set finished tile later) cores_now blocks
+tiles_left settings queues finished cores cores_now blocks tile queue after waiting later tiles in_queues is same in_finished waits same_waiting same_cores = record {
+  queue_count = length-set queues tile after ∙ tiles.queue_count;
+  finished_count = length-set finished tile later ∙ tiles.finished_count;
+  core_lists = same_cores ∙ tiles.core_lists;
+  block_count = tiles.block_count;
+  task_queues = all_but_one (λ q. q.capacity ≡ settings.task_queue) queues tile queue after tiles.task_queues in_queues is (λ was. same ∙ was);
+  commit_queues = all_but_one (λ q. q.capacity ≡ settings.commit_queue) finished tile waiting later tiles.commit_queues in_finished waits (λ was. same_waiting ∙ was);
+}
 
 -- slots and entries are as many as they should be without one task
 pub slots_left : (settings : Settings) (tasks now : List (Option Task)) (slots slots_now : ℕ) (queues : List QueueValue) (indexed indexed_now entries entries_now marks members arrivals room : ℕ)

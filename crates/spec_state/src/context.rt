@@ -117,6 +117,7 @@ impl<N: Naming> State<N> {
             index: _,
             arrivals: _,
             next_arrival: _,
+            children: _,
             marks: _,
             members: _,
             numbers: _,

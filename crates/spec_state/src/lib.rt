@@ -9,6 +9,7 @@
 
 mod adding;
 mod arrival;
+mod children;
 mod conflicts;
 mod context;
 mod emitted;
@@ -30,6 +31,7 @@ mod task;
 #[cfg(test)]
 mod tests;
 
+pub use children::Children;
 pub use context::Parts;
 pub use emitted::{Emitted, MAX_EMITTED};
 pub use firm::name_given;

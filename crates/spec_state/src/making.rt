@@ -5,6 +5,7 @@ ghost use Rattle.spec_state.specs.Settings.{IsValid};
 ghost use Rattle.spec_state.specs.View.{core_ids};
 ghost use Rattle.spec_state.specs.Opening.{IsEmptyView};
 
+use crate::children::Children;
 use crate::history::History;
 use crate::numbers::MAX_NUMBERS_IN_USE;
 use crate::room::Buffers;
@@ -88,6 +89,7 @@ fn entries_of(settings: &Settings) -> u32
     requires { IsValid settings.now }
     ensures entries { result ≡ settings.now.tiles * settings.now.task_queue }
     ensures some { 1 ≤ result }
+    ensures few { result ≤ 4096 }
 {
     settings.tiles * settings.task_queue
 }
@@ -121,6 +123,7 @@ impl<N: Naming> State<N> {
             index: Index::new(alloc, entries)?,
             arrivals: vec![in alloc; 0; slots]?,
             next_arrival: 0,
+            children: Children::new(alloc, entries)?,
             marks: vec![in alloc; false; slots]?,
             members: vec![in alloc; 0; slots]?,
             numbers: Vec::with_capacity(alloc, MAX_NUMBERS_IN_USE)?,

@@ -1,3 +1,4 @@
+use crate::children::Children;
 use crate::history::History;
 use crate::room::Buffers;
 use crate::settings::Settings;
@@ -52,6 +53,8 @@ pub struct State<N: Naming> {
     pub arrivals: Vec<u64>,
     /// The next arrival number.
     pub next_arrival: u64,
+    /// Where the children of each task were put: a hint, of which nothing is kept.
+    pub children: Children,
     /// Room for the marks of a cascade: one for each id that a task may have.
     pub marks: Vec<bool>,
     /// Room for the members of a cascade: one for each id that a task may have.

@@ -1,7 +1,8 @@
 use Rattle.std.proofs.Common.{rules, ◌≡◌, ◌<◌, [], map, sym, ap, subst, refl, ◌∙◌, length}
-use Rattle.std.specs.Prelude.{Contains}
+use Rattle.std.specs.Prelude.{Contains, vec_len}
 use Rattle.std.specs.Vec.{with_items}
 use Rattle.std.proofs.lemmas.List.{with_items_is}
+use Rattle.tile_queues.specs.Queue.{QueueValue}
 use Rattle.spec_state.specs.Leaving.{freed_of, IsHeldAs}
 use Rattle.spec_state.specs.StateValue.{StateValue}
 use Rattle.spec_state.specs.View.{core_ids}
@@ -9,7 +10,7 @@ use Rattle.spec_state.proofs.Moved.{fewer, has_entry}
 use Rattle.spec_state.proofs.Renumbered.{ids_of_tile}
 use Rattle.spec_state.proofs.Without.{seen_at}
 use Rattle.spec_state.proofs.Vacated.{own_queued, own_finished, own_held, stored_left}
-use Rattle.spec_state.proofs.Left.{task_within, leaves_in, leaves_seen, slots_left, indexed_gone}
+use Rattle.spec_state.proofs.Left.{task_within, leaves_in, leaves_seen, tiles_left, all_but_one, slots_left, indexed_gone}
 use Rattle.spec_state.proofs.state.State.take_out.Goals as goal
 
 pub index_mut-requires : goal.index_mut-requires
@@ -65,10 +66,15 @@ invariant_of-self g c =
     let within = task_within _ _ c.self.invariant.4 c.args.id.0 _ c.remove-task.ensures.value _ c.self.inside.queues.items _ _ _ c.self.invariant.1 refl in
     let updates = c.remove-task.ensures.updates in
     let leaves = leaves_in c.args.id.0 _ _ _ (sym (ap (λ (v : StateValue). v.view) c.self.view_is)) (returns-clause-leaves g c) in
+    let held_now = with_items c.index_mut-3.result.now c.leave_core.new.cores in
+    let items : held_now.items ≡ c.leave_core.new.cores = with_items_is c.index_mut-3.result.now c.leave_core.new.cores (search rules) in
     let less = fewer c.args.id.0 c.self.inside.index.entries (has_entry _ _ _ _ _ c.self.invariant.5 c.args.id.0 c.remove-task.result c.remove-task.ensures.value) in (
       c.self.invariant.0,
-      search rules,
-      search rules,
+      tiles_left _ _ _ _ _ _ c.remove-task.result.tile c.index_mut.result.now c.leave_queue.new.queue c.index_mut-2.result.now c.leave_commits.new.waiting c.self.invariant.1
+          (search rules) c.index_mut.ensures.value (ap (λ (q : QueueValue). q.capacity) c.leave_queue.ensures.taken)
+          (search rules) c.index_mut-2.ensures.value (ap (λ (q : QueueValue). q.capacity) c.leave_commits.ensures) (search rules),
+      all_but_one (λ held. vec_len held ≡ c.self.inside.settings.cores) c.self.inside.cores.items c.remove-task.result.tile c.index_mut-3.result.now held_now c.self.invariant.2
+          (search rules) c.index_mut-3.ensures.value (λ was. search (rules, items, was)),
       slots_left _ _ c.remove-task.new.self.slots _ c.remove-task.new.self.capacity c.self.inside.queues.items _ (length c.remove.new.self.entries) _ c.remove.new.self.capacity _ _ _ _ c.remove-task.result.tile
           c.index_mut.result.now c.leave_queue.new.queue c.self.invariant.3 (search rules) c.index_mut.ensures.value c.leave_queue.ensures.one c.remove-task.ensures.len c.remove-task.ensures.capacity
           (subst (λ n. n < length c.self.inside.index.entries) (sym (ap length c.remove.ensures.entries)) less) c.remove.ensures.capacity,

@@ -1,7 +1,7 @@
 use Rattle.std.proofs.Common.{◌≡◌, ◌<◌, ◌≤◌, ℕ}
 use Rattle.slab.specs.Slab.{get, slab_len}
 use Rattle.spec_commit.specs.Committing.{adopted}
-use Rattle.spec_commit.proofs.committing.adopt.Given as goal
+use Rattle.spec_commit.proofs.committing.adopt_all.Given as goal
 
 abbrev pub invariant-loop-key : goal.invariant-loop-key
 invariant-loop-key l = record {
