@@ -184,7 +184,7 @@ stored_adopted size id n old now each upto stored =
     (λ k t at. elim (each k) [
       | inl same ↦ stored.tasks k t (sym same ∙ at)
       | inr is ↦ (let was = was_adopted id n (task_at old k) t (sym is ∙ at) in
-        subst (IsWellFormed size (length old.history)) was.2 (formed was.0 (stored.tasks k was.0 was.1)))
+          subst (IsWellFormed size (length old.history)) was.2 (formed was.0 (stored.tasks k was.0 was.1)))
     ])
   where
     formed : (x : Task) → IsWellFormed size (length old.history) x → IsWellFormed size (length old.history) (child_of id n x)

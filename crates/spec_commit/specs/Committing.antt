@@ -18,7 +18,8 @@ pub record HasChildren (tasks : ℕ → Option Task) (id made : ℕ) : Type 0 wh
 
 -- the children of a task are those that it has made since its dispatch
 abbrev pub ChildrenAreMade : View → ℕ → Type 0
-ChildrenAreMade view id = (task : Task) → task_at view id ≡ Some task → HasChildren (task_at view) id (length task.spawns)
+ChildrenAreMade view id = (task : Task) → task_at view id ≡ Some task
+    → HasChildren (task_at view) id (length task.spawns)
 
 -- a child of the task of this id has a creator that has committed as the n-th; all others stay
 abbrev pub adopted : ℕ → ℕ → Option Task → Option Task

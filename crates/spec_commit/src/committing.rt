@@ -113,7 +113,8 @@ fn adopt_noted(
     made: usize,
 ) -> bool
     ensures each { (k : ℕ) → IsAdoptedOrSame id turn (get tasks.old k) (get tasks.new k) }
-    ensures found { IsTrue result → (place : ℕ) → place < made → IsAdopted id turn place (get tasks.old) (get tasks.new) }
+    ensures found { IsTrue result → (place : ℕ) → place < made
+        → IsAdopted id turn place (get tasks.old) (get tasks.new) }
     ensures len { slab_len tasks.new ≡ slab_len tasks.old }
     ensures capacity { tasks.new.capacity ≡ tasks.old.capacity }
 {
