@@ -59,7 +59,7 @@ pub enum Reply {
     Firm,
     /// The run is over.
     Ended,
-    /// Memory is wanting, or the book was stopped.
+    /// Out of memory, or the book was stopped.
     Memory,
 }
 
@@ -93,7 +93,7 @@ pub enum Advance {
     Committed,
     /// The run is over.
     Ended(End),
-    /// Memory is wanting.
+    /// Out of memory.
     Memory,
 }
 
@@ -102,6 +102,6 @@ pub enum Advance {
 pub enum Halt {
     /// It is over.
     Ended(End),
-    /// Memory is wanting.
+    /// Out of memory.
     Memory,
 }

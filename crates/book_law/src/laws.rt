@@ -12,7 +12,7 @@ pub fn refusals_change_nothing<N: Naming>()
     ensures { RefusalsChangeNothing N }
 {}
 
-/// Want of memory aside, an event has one reply at most: no two causes to refuse it are first, and it is made only
+/// Memory aside, an event has one reply at most: no two causes to refuse it are first, and it is made only
 /// where there is none.
 pub fn reply_is_one<N: Naming>()
     ensures { ReplyIsOne N }

@@ -69,7 +69,7 @@ fn load_covered<N: Naming>(
     aborted
 }
 
-/// A task loads from the data, at an offset from its start. `Memory` where memory is wanting.
+/// A task loads from the data, at an offset from its start. `Memory` where memory runs out.
 pub(crate) fn load<N: Naming>(
     state: &mut State<N>,
     tile: u32,
@@ -115,7 +115,7 @@ fn store_covered<N: Naming>(
 }
 
 /// A task stores the low bytes of a value, 1, 2 or 4 of them, at an offset from the start of the
-/// data. `Memory` where memory is wanting.
+/// data. `Memory` where memory runs out.
 pub(crate) fn store<N: Naming>(
     state: &mut State<N>,
     tile: u32,

@@ -52,7 +52,7 @@ fn place<N: Naming>(state: &mut State<N>, id: TaskId, leg: &Leg<N>, child: Spawn
 }
 
 /// A task enqueues a child, and the serving placer is told. `Stall` where the tile that it picks
-/// is full and gives the task no entry, and `Memory` where memory is wanting; the placer is told
+/// is full and gives the task no entry, and `Memory` where memory runs out; the placer is told
 /// nothing then.
 pub(crate) fn enqueue<N: Naming, P: Placer>(
     state: &mut State<N>,

@@ -92,7 +92,7 @@ pub fn make_step<N: Naming, P: Placer>(
 /// The event of a step, from a state of a book that wasn't stopped: the task that runs on that
 /// core of that tile takes the leg, and what it asks for at the end of the leg comes to be.
 /// `Ended` where the run is over, `Stale` where no task there takes the leg, `Stall` where a
-/// queue is full for it, and `Memory` where memory is wanting; nothing changes then.
+/// queue is full for it, and `Memory` where memory runs out; nothing changes then.
 pub fn step<N: Naming, P: Placer>(
     state: &mut State<N>,
     placers: &mut [P],

@@ -3,7 +3,7 @@
 //! Each function is over a state and answers what came of the event; its contract is that of the
 //! event in a book of that state, whatever else the book has. A step finds the causes to refuse
 //! it, takes its room, forces what stands in its way and makes one change. It takes room first,
-//! so that nothing has changed where memory is wanting, and never needs any afterwards.
+//! so that nothing has changed where memory runs out, and never needs any afterwards.
 //! It stands on the crates that change a state, and on `book_room`; the book calls it. A step costs a look at each
 //! dispatched task where it is an access, and what it takes back.
 #![tactic(auto)]

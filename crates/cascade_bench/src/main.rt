@@ -2,6 +2,7 @@
 //!
 //! The words are the number of nodes, the shape of the relation (`rising`, `falling` or `star`) and how often to
 //! close the set of one node, as in `1024 falling 100`. It prints the size of the closed set. `bench/run` calls it.
+//! It stands on `abort_cascade`. A round costs one `close`; two slices of that many items are taken once.
 #![tactic(auto)]
 
 mod shape;
@@ -24,7 +25,7 @@ fn main(rt: HostRuntime) -> ExitCode {
     }
 }
 
-/// Does what the words ask for. None where they ask for nothing, or memory is wanting.
+/// Does what the words ask for. None where they ask for nothing, or memory runs out.
 fn run(rt: &HostRuntime, alloc: Global) -> Option<usize> {
     let mut args = env::args(rt).ok()?;
     let _program = args.next();

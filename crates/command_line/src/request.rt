@@ -41,7 +41,7 @@ pub enum Refusal {
     /// They are outside the grammar.
     #[error("usage")]
     Usage,
-    /// Memory was wanting.
+    /// Out of memory.
     #[error("out of memory")]
     Memory,
 }

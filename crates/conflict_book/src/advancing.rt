@@ -218,8 +218,8 @@ impl<N: Naming, P: Placer, T: Tap> Book<N, P, T> {
     }
 
     /// Makes the event for the least task: a split where it is spilled, a dispatch where it is idle, a leg where it
-    /// runs, and its commit where it is finished. `Ended` where the run is over, and `Memory` where memory is
-    /// wanting or the book was stopped; nothing changes then. Less is left up to the next commit after each event
+    /// runs, and its commit where it is finished. `Ended` where the run is over, and `Memory` where memory runs
+    /// out or the book was stopped; nothing changes then. Less is left up to the next commit after each event
     /// but that.
     pub fn advance(&mut self, image: &Image) -> Advance
         requires image { image.now ≡ N.image }
@@ -234,7 +234,7 @@ impl<N: Naming, P: Placer, T: Tap> Book<N, P, T> {
         self.advance_once(image)
     }
 
-    /// Makes events for the least tasks until the run is over or memory is wanting, which a stopped book answers too.
+    /// Makes events for the least tasks until the run is over or memory runs out, which a stopped book answers too.
     pub fn run_least(&mut self, image: &Image) -> Halt
         requires image { image.now ≡ N.image }
         ensures { let old = view_of P.policy T.reading self.old in

@@ -203,8 +203,8 @@ fn sound_opening<N: Naming, P: Placer>(
 
 impl<N: Naming, P: Placer, T: Tap> Book<N, P, T> {
     /// The book of a machine of valid settings at its opening: the tasks of the image are placed one after another,
-    /// each in the tile that the serving placer picks for its place among them. `AllocError` where memory is
-    /// wanting.
+    /// each in the tile that the serving placer picks for its place among them. `AllocError` where memory runs
+    /// out.
     pub fn begin(
         alloc: Global,
         image: &Image,

@@ -21,7 +21,7 @@ pub(crate) struct Loading {
 pub(crate) enum Finding {
     /// The words are refused.
     Usage,
-    /// Memory was wanting before a run began.
+    /// Out of memory before a run began.
     Memory,
     /// The source failed.
     Unread,

@@ -2,6 +2,9 @@
 //! comes from standard input or is generated, and the report, or a line that says what is wrong, goes to standard
 //! output. Everything is found before anything is written; a run takes memory for its tasks, its journal and its
 //! output, and one copy of the data memory.
+//!
+//! It stands on `machine_run`, on the readers of words, images and scripts, and on the writers of texts. A person, the
+//! launcher or a script calls it. It costs what the run does, and a look at each byte of the input and of the text.
 #![tactic(auto)]
 
 mod checking;
@@ -29,7 +32,7 @@ use std::thread::Threads;
 use tile_worker::OpenGate;
 use trace_tap::{LastN, LineProfile, Tap};
 
-/// The exit status where memory was wanting.
+/// The exit status where memory ran out.
 const NO_MEMORY: u8 = 5;
 
 /// How many events the first tap keeps, and how many lines the second one counts by.

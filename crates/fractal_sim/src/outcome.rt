@@ -13,8 +13,8 @@ pub struct Outcome {
     pub memory: Bytes,
     /// The bytes that the run emitted; empty where there is none.
     pub output: Bytes,
-    /// The end of the run, or of the report that was accepted; None where there is neither, and where memory was
-    /// wanting.
+    /// The end of the run, or of the report that was accepted; None where there is neither, and where memory ran
+    /// out.
     pub end: Option<End>,
     /// How many events made the run, up to 2^64 - 1; None where no image was run, and where workers ran it.
     pub steps: Option<u64>,

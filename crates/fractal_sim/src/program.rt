@@ -28,7 +28,7 @@ use trace_tap::Tap;
 /// The outcome holds nothing, or a run of the serial machine from the image that was read or generated: its
 /// journal, the memory and the output that it leads to, and its end. The run meets the laws of runs. The status
 /// tells what was found, and the sink took the text that tells it and no other byte; where the sink failed it took
-/// a front of that text. Where the words are refused or ask for a generated image the source is left alone; else at
+/// a prefix of that text. Where the words are refused or ask for a generated image the source is left alone; else at
 /// most 67,108,864 of its bytes are taken, or one more where it has more than that.
 pub fn top<R: Threads + Wait + Sync, S: Source, K: Sink, G: Gate + Sync>(
     rt: &R,

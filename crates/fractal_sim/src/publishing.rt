@@ -61,7 +61,7 @@ pub(crate) fn accept<K: Sink>(sink: &mut K, run: SerialRun) -> Outcome
     }
 }
 
-/// Writes the report of a run; none where memory was wanting.
+/// Writes the report of a run; none where memory ran out.
 pub(crate) fn publish<K: Sink>(sink: &mut K, image: &Image, ran: Ran, steps: Option<u64>) -> Outcome
     requires { HasWindow image.now ran }
     ensures { TellsFinding (Finding.Ran image.now ran steps) (K.state sink.old) (K.state sink.new) result }
@@ -75,7 +75,7 @@ pub(crate) fn publish<K: Sink>(sink: &mut K, image: &Image, ran: Ran, steps: Opt
     }
 }
 
-/// Writes the report of a generated image's run; none where memory was wanting.
+/// Writes the report of a generated image's run; none where memory ran out.
 pub(crate) fn publish_load<K: Sink>(
     sink: &mut K,
     load: Loading,
@@ -95,7 +95,7 @@ pub(crate) fn publish_load<K: Sink>(
     }
 }
 
-/// Writes the replies to a script's acts and the report behind them; nothing where memory was wanting.
+/// Writes the replies to a script's acts and the report behind them; nothing where memory ran out.
 pub(crate) fn publish_played<K: Sink>(sink: &mut K, image: &Image, played: Played) -> Outcome
     requires { HasWindow image.now played.ran }
     ensures { TellsFinding (Finding.Played image.now played) (K.state sink.old) (K.state sink.new) result }
@@ -111,7 +111,7 @@ pub(crate) fn publish_played<K: Sink>(sink: &mut K, image: &Image, played: Playe
     }
 }
 
-/// Writes what the taps saw; nothing where memory was wanting.
+/// Writes what the taps saw; nothing where memory ran out.
 pub(crate) fn publish_trace<K: Sink>(sink: &mut K, traced: Traced) -> Outcome
     ensures { TellsFinding (Finding.Traced traced) (K.state sink.old) (K.state sink.new) result }
 {

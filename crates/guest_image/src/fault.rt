@@ -46,7 +46,7 @@ pub enum ImageFault {
     /// There is no initial task.
     #[error("there is no initial task")]
     NoTask,
-    /// Memory is wanting.
+    /// Out of memory.
     #[error("out of memory")]
     Memory,
 }
@@ -70,7 +70,7 @@ impl<T: Drop> From<AllocFailed<T>> for ImageFault {
 impl ImageFault {
     ghost use Rattle.guest_image.specs.Fault.{fault_number, fault_offset};
 
-    /// The fault's number, 1 to 7 in the order of the variants; 0 for want of memory.
+    /// The fault's number, 1 to 7 in the order of the variants; 0 when out of memory.
     pub fn number(&self) -> u8
         ensures { result ≡ fault_number self.now }
     {
@@ -86,7 +86,7 @@ impl ImageFault {
         }
     }
 
-    /// The offset of the field at fault; for `Short` the number of bytes, and 0 for want of memory.
+    /// The offset of the field at fault; for `Short` the number of bytes, and 0 when out of memory.
     pub fn offset(&self) -> u64
         ensures { result ≡ fault_offset self.now }
     {

@@ -14,7 +14,7 @@ use run_journal::{Closed, End};
 use rv_core::Naming;
 use trace_tap::Tap;
 
-/// A run that was made: what its closed book leaves, and its end; None where memory was wanting.
+/// A run that was made: what its closed book leaves, and its end; None where memory ran out.
 #[derive(Drop)]
 pub struct Ran {
     /// What the closed book leaves.

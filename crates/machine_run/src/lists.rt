@@ -32,7 +32,7 @@ fn list_of<N: Naming, P: Placer, T: Tap>(
     Ok(Some(list))
 }
 
-/// The lists of all taps. `AllocError` where memory is wanting for them, as for those of 2^32 - 1 taps.
+/// The lists of all taps. `AllocError` where memory runs out for them, as for those of 2^32 - 1 taps.
 pub(crate) fn lists_of<N: Naming, P: Placer, T: Tap>(
     alloc: Global,
     book: &Book<N, P, T>,

@@ -22,8 +22,8 @@ use std::alloc::{AllocError, Global};
 use step_script::{Act, Said, play};
 use trace_tap::Tap;
 
-/// A script that was played: the run that it left, and what was said of each act; the end is None where memory was
-/// wanting on the way.
+/// A script that was played: the run that it left, and what was said of each act; the end is None where memory ran
+/// out on the way.
 #[derive(Drop)]
 pub struct Played {
     /// The run.
@@ -33,7 +33,7 @@ pub struct Played {
 }
 
 /// A script that was played: the run that it left, and the numbers of each tap's list; the end is None where memory
-/// was wanting on the way.
+/// ran out on the way.
 #[derive(Drop)]
 pub struct Traced {
     /// The run.
@@ -43,7 +43,7 @@ pub struct Traced {
 }
 
 /// Plays a script on the machine of these settings, from its opening with an image, these placers and these taps.
-/// `AllocError` where memory is wanting before the first act.
+/// `AllocError` where memory runs out before the first act.
 pub fn play_script<N: Naming, P: Placer, T: Tap>(
     alloc: Global,
     image: &Image,

@@ -25,7 +25,7 @@ use tile_worker::{Gate, run_tiles};
 use trace_tap::Tap;
 
 /// Runs an image up to its end, or as far as memory goes: with no workers by the events of the least tasks, one
-/// after another; else by so many workers, each of whose legs passes the gate. `AllocError` where memory is wanting
+/// after another; else by so many workers, each of whose legs passes the gate. `AllocError` where memory runs out
 /// before the first event.
 pub fn run<
     N: Naming + Send + Sync,
@@ -102,7 +102,7 @@ fn run_by_workers<
     leave(drained.book, end_of(drained.halt))
 }
 
-/// The end of a run that halted so; None where memory was wanting.
+/// The end of a run that halted so; None where memory ran out.
 fn end_of(halt: Halt) -> Option<End>
     ensures { result ≡ end_of halt }
 {

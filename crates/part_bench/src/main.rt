@@ -1,5 +1,8 @@
 //! Works one part of the machine for so many rounds, so that `bench/run` can time it by the difference of two runs: an
 //! index that tasks leave and enter, or a block that is filled and emptied. What it prints is the same at each run.
+//!
+//! It stands on the index and the block. A round costs one removal and one insertion in an index, or a block of that
+//! size that is filled and emptied.
 #![tactic(auto)]
 
 ghost use Rattle.std.specs.Prelude.{◌≤◌, IfSome};

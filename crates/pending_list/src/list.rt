@@ -79,7 +79,7 @@ impl PendingList {
     }
 
     /// Makes room for so many more tasks. A list that is full moves into fresh slots, about twice as many as it has
-    /// tasks; more than 4,294,967,295 slots are refused as memory that is wanting.
+    /// tasks; more than 4,294,967,295 slots are refused as out of memory.
     pub fn reserve(&mut self, more: usize) -> Result<(), AllocError>
         ensures tasks { self.new.tasks ≡ self.old.tasks }
         ensures room { OnOk result (more ≤ self.new.room) }

@@ -94,7 +94,7 @@ fn write_front<K: Sink>(sink: &mut K, lists: &[Vec<u64>]) -> Result<(), Failed>
 }
 
 /// Writes the lists of taps, which are counted from 0: for each a line with how many numbers it has, and a line for
-/// each number. After `Failed` a front of the text was taken.
+/// each number. After `Failed` a prefix of the text was taken.
 pub fn write_trace<K: Sink>(sink: &mut K, lists: &[Vec<u64>]) -> Result<(), Failed>
     ensures { Writes (K.state sink.old) (K.state sink.new) result (trace_text (map (λ list. list.items) lists.now)) }
 {

@@ -168,7 +168,7 @@ fn is_word_at(window: &[WindowWord], place: u32, word: WindowWord) -> bool
     }
 }
 
-// Whether a run of `count` turns that led to this machine ends so; None for want of memory. The
+// Whether a run of `count` turns that led to this machine ends so; None when out of memory. The
 // machine is as it was where it does.
 fn ends(image: &Image, commits: u32, count: u32, serial: &mut Serial, end: End) -> Option<bool>
     requires count { serial.old.state.count ≡ count }

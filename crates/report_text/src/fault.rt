@@ -11,7 +11,7 @@ pub enum JournalFault {
         /// The number of the line, from 1 on.
         line: u32,
     },
-    /// Memory was wanting.
+    /// Out of memory.
     #[error("out of memory")]
     Memory,
 }

@@ -15,7 +15,7 @@ pub enum Verdict {
         /// that is no legal turn.
         why: Option<TurnFault>,
     },
-    /// Memory was wanting.
+    /// Out of memory.
     Memory,
 }
 
@@ -31,7 +31,7 @@ pub enum Examined {
         /// Why the turn is refused, as in [`Verdict::Illegal`].
         why: Option<TurnFault>,
     },
-    /// Memory was wanting.
+    /// Out of memory.
     Memory,
 }
 

@@ -19,7 +19,7 @@ use sim_io::{Failed, Sink, write_all};
 use task_desc::Name;
 
 /// Writes the report of a closed run: its journal, the image's window of its memory, its output, and how it ended.
-/// After `Failed` a front of the text was taken.
+/// After `Failed` a prefix of the text was taken.
 #[tactic(auto, unfolding(crate::specs::Report::report))]
 pub fn write_report<K: Sink>(
     sink: &mut K,
@@ -112,7 +112,7 @@ fn put_name(line: &mut Line, name: Name)
 }
 
 /// Writes the line of the output and those of the window, which is read from the memory. After
-/// `Failed` a front of the text was taken.
+/// `Failed` a prefix of the text was taken.
 pub fn write_body<K: Sink>(
     sink: &mut K,
     image: &Image,
@@ -213,7 +213,7 @@ fn window_text(word: WindowWord) -> Line
     line
 }
 
-/// Writes the last line, which says how the run ended. After `Failed` a front of it was taken.
+/// Writes the last line, which says how the run ended. After `Failed` a prefix of it was taken.
 pub fn write_end<K: Sink>(sink: &mut K, end: &End) -> Result<(), Failed>
     ensures { Writes (K.state sink.old) (K.state sink.new) result (end_line end.now) }
 {

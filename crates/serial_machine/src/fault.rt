@@ -27,7 +27,7 @@ pub enum TurnFault {
         /// The address of the instruction that traps.
         pc: u32,
     },
-    /// Memory is wanting.
+    /// Out of memory.
     Memory,
 }
 

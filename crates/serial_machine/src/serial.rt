@@ -74,7 +74,7 @@ impl Serial {
 
     /// The turn of a name: its task runs whole on the image's text, and its children join their domains.
     ///
-    /// A turn that is refused leaves the machine as it was; want of memory may come in place of another refusal.
+    /// A turn that is refused leaves the machine as it was; `Memory` may come in place of another refusal.
     pub fn turn(&mut self, image: &Image, name: Name) -> Result<Entry, TurnFault>
         requires { self.old.state.count < MAX_COMMITS }
         ensures ok { IfOk result (TakesTurn image.now self.old.budget self.old.state name self.new.state) }

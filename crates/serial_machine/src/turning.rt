@@ -118,7 +118,8 @@ fn run_done(
     }
 }
 
-/// The children of a task that is done join their domains, and its bytes the output. Want of memory changes nothing.
+/// The children of a task that is done join their domains, and its bytes the output. Nothing changes where memory
+/// runs out.
 fn join_all(
     alloc: Global,
     stack: &mut Vec<Bag>,

@@ -12,7 +12,7 @@ use run_journal::{Bytes, End, Entry, Journal};
 use std::alloc::{AllocError, Global};
 use task_desc::Name;
 
-/// A run that is over, or that stopped for want of memory.
+/// A run that is over, or that stopped as memory ran out.
 #[derive(Drop)]
 pub struct SerialRun {
     /// The tasks that took their turns.
@@ -21,7 +21,7 @@ pub struct SerialRun {
     pub memory: Bytes,
     /// The bytes that they emitted.
     pub output: Bytes,
-    /// How the run ended; None where memory was wanting.
+    /// How the run ended; None where memory ran out.
     pub end: Option<End>,
 }
 
@@ -32,12 +32,12 @@ pub(crate) enum Advance {
     Taken,
     /// No task takes a turn any more.
     Over(End),
-    /// Memory was wanting.
+    /// Out of memory.
     Wanting,
 }
 
 /// Runs an image for at most `commits` turns, each task with this budget of instructions. Of the tasks that may
-/// take the next turn it takes the first of the innermost bag that isn't empty. Where memory is wanting on the way
+/// take the next turn it takes the first of the innermost bag that isn't empty. Where memory runs out on the way
 /// the run has no end.
 pub fn run_image(
     alloc: Global,
@@ -106,7 +106,7 @@ fn take_one(image: &Image, serial: &mut Serial, journal: &mut Vec<Entry>) -> Adv
     }
 }
 
-/// What comes of a trap, or of want of memory.
+/// What comes of a trap, or of running out of memory.
 fn stopped_by(name: Name, fault: TurnFault) -> Advance
     requires { IsTrapOrMemory fault }
     ensures { IsStopOf name fault result }

@@ -14,7 +14,7 @@ pub enum ReadEnd {
     Failed,
     /// It has more bytes than the limit.
     Long,
-    /// Memory was wanting.
+    /// Out of memory.
     Memory,
 }
 

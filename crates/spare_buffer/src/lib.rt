@@ -2,8 +2,9 @@
 //!
 //! A `Buffer` is an empty vector of a capacity that contracts see. A list that is full moves its items into the
 //! buffer, and the two vectors change places: so a push after a reservation takes no memory, whichever list it is.
-//! The layers that keep lists of their own (a task's log, its children, the output) call it. To reserve costs an
-//! allocation at most, and a push amortized a constant: a move of all items only where the list was full.
+//! It stands on nothing. The layers that keep lists of their own (a task's log, its children, the output) call it.
+//! To reserve costs an allocation at most, and a push amortized a constant: a move of all items only where the list
+//! was full.
 #![tactic(auto)]
 
 ghost use Rattle.std.specs.Prelude.{◌≡◌, ◌≤◌, ◌+◌, [], vec_len, vec_capacity, IsOk, OnOk, OnErr};

@@ -1,5 +1,5 @@
-//! Loads and stores. Each takes its room first, so that nothing has changed where memory is
-//! wanting.
+//! Loads and stores. Each takes its room first, so that nothing has changed where memory runs
+//! out.
 
 ghost use Rattle.std.specs.Prelude.{◌≡◌, ℕ, IsOk, IsSome, OnOk, OnErr};
 ghost use Rattle.memory_law.specs.Notes.{notes_of};
@@ -66,7 +66,7 @@ fn load_reserved<N: Naming>(
 
 /// A task loads from the data: the register `rd` has what the memory has from `offset` on, counted
 /// from the start of the data, as many bytes as the width says, and the access joins its log and
-/// its lines. `AllocError` where memory is wanting; nothing has changed then.
+/// its lines. `AllocError` where memory runs out; nothing has changed then.
 pub fn read<N: Naming>(
     state: &mut State<N>,
     id: TaskId,
@@ -125,7 +125,7 @@ fn store_reserved<N: Naming>(
 
 /// A task stores to the data: the low bytes of the value, 1, 2 or 4 of them, are written from
 /// `offset` on, counted from the start of the data, and the access joins its log and its lines.
-/// `AllocError` where memory is wanting; nothing has changed then.
+/// `AllocError` where memory runs out; nothing has changed then.
 pub fn write<N: Naming>(
     state: &mut State<N>,
     id: TaskId,

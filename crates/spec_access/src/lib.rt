@@ -3,7 +3,8 @@
 //!
 //! What a step may wait for is forced before it: its caller has taken back what conflicts, and made
 //! a free entry. A call that lengthens a list takes the room for it before its first change, and
-//! needs no memory where the state has that room; no other call takes any. None copies the data.
+//! needs no memory where the state has that room; no other call takes any. None copies the data: an
+//! access costs one read or write of it, and a child one entry of the index.
 //! It stands on the state; `book_step` calls it.
 #![tactic(auto)]
 

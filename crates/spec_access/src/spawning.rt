@@ -1,4 +1,4 @@
-//! An enqueue. It takes its room first, so that nothing has changed where memory is wanting.
+//! An enqueue. It takes its room first, so that nothing has changed where memory runs out.
 
 ghost use Rattle.std.specs.Prelude.{◌≡◌, ◌<◌, ◌∷◌, ◌++◌, [], ℕ, length, IsOk, IsSome, OnOk, OnErr};
 ghost use Rattle.task_step.specs.declared.request.Request.TheVariants.{Enqueue};
@@ -68,7 +68,7 @@ fn spawn_reserved<N: Naming>(
 }
 
 /// A task enqueues a child: an idle task, which stands last in the task queue of this tile, where
-/// an entry is free. `AllocError` where memory is wanting; nothing has changed then.
+/// an entry is free. `AllocError` where memory runs out; nothing has changed then.
 pub fn spawn<N: Naming>(
     state: &mut State<N>,
     id: TaskId,

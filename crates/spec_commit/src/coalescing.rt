@@ -38,7 +38,7 @@ fn spilled_desc(task: &Task, count: u32) -> Desc
     }
 }
 
-/// Makes room for as many pushes into the block of a tile as move at once. `AllocError` where memory is wanting;
+/// Makes room for as many pushes into the block of a tile as move at once. `AllocError` where memory runs out;
 /// the view stays in any case.
 fn reserve_pushes<N: Naming>(state: &mut State<N>, tile: u32) -> Result<(), AllocError>
     requires tile { tile < state.old.view.settings.tiles }
@@ -98,7 +98,7 @@ fn spill_all<N: Naming>(state: &mut State<N>, tile: u32, ids: &[usize])
 }
 
 /// Moves the latest idle firm tasks of a tile, which has one, into its block: at most eight, the least of them
-/// first. Their number, or `AllocError` where memory is wanting, and then nothing has moved.
+/// first. Their number, or `AllocError` where memory runs out, and then nothing has moved.
 pub fn coalesce<N: Naming>(state: &mut State<N>, tile: u32) -> Result<u32, AllocError>
     requires tile { tile < state.old.view.settings.tiles }
     requires some { (id : ℕ) × IsMovable state.old.view tile id }

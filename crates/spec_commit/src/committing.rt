@@ -176,7 +176,7 @@ fn entry_of(task: &Task) -> Entry
     }
 }
 
-/// Makes room in the output for the bytes of a task. `AllocError` where memory is wanting; the view stays in any case.
+/// Makes room in the output for the bytes of a task. `AllocError` where memory runs out; the view stays in any case.
 fn reserve_output<N: Naming>(state: &mut State<N>, id: TaskId) -> Result<(), AllocError>
     requires live { IsSome (task_at state.old.view id.0) }
     ensures view { state.new.view ≡ state.old.view }
@@ -210,7 +210,7 @@ fn record_commit<N: Naming>(state: &mut State<N>, entry: Entry, task: &Task)
 
 /// Commits the least task, which is finished and was made by the image or a committed task: its entry joins the
 /// history, its bytes the output, and its levels are the path. `AllocError` where the output has no room for the
-/// bytes and memory is wanting; nothing has changed then.
+/// bytes and memory runs out; nothing has changed then.
 pub fn commit<N: Naming>(state: &mut State<N>, id: TaskId) -> Result<Entry, AllocError>
     requires least { (task : Task) × IsLeastTask state.old.view id.0 task × (task.status ≡ Finished)
         × ((turn : ℕ) × (index : ℕ) × (task.creator ≡ Committed turn index)) }

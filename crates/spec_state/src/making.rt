@@ -97,7 +97,7 @@ fn entries_of(settings: &Settings) -> u32
 impl<N: Naming> State<N> {
     /// A state without a task, of a machine of valid settings, with the image's data. It has room for all tasks of
     /// its queues, for the whole history, for the marks of a cascade and for a renumbering; `AllocError` where
-    /// memory is wanting.
+    /// memory runs out.
     pub fn new(alloc: Global, image: &Image, settings: Settings) -> Result<State<N>, AllocError>
         requires valid { IsValid settings }
         requires image { image.now ≡ N.image }

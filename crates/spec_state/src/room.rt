@@ -70,7 +70,7 @@ fn cover_task(
 impl<N: Naming> State<N> {
     /// Makes room for what one event adds: an access and a child of this task, if one is given, and so many tasks
     /// in the tile's block as move at once. A new task needs none: the slab has a slot for each entry of the task
-    /// queues, with room for the task's bytes. `AllocError` where memory is wanting. The view stays in any case.
+    /// queues, with room for the task's bytes. `AllocError` where memory runs out. The view stays in any case.
     pub fn reserve(&mut self, task: Option<TaskId>, tile: u32) -> Result<(), AllocError>
         requires live { IfSome task (λ id. IsSome (task_at self.old.view id.0)) }
         requires tile { tile < self.old.view.settings.tiles }

@@ -1,6 +1,9 @@
-//! A script of the machine as a text: one act a line, read against its grammar for a machine of so many tiles with so
-//! many cores each. Who plays a schedule by hand reads it here first; nothing of the machine is known here. Reading
-//! takes memory for the acts and time linear in the text.
+//! Scripts of the machine: read from a text, one act a line, for a machine of so many tiles with so many cores each,
+//! and played on a book, with what is said of each act.
+//!
+//! Between the acts it keeps the legs that are held back. It stands on lines of texts and on the book, which it knows
+//! by its public calls alone; `machine_run` plays by it, and the program reads by it. Reading takes memory for the
+//! acts and time linear in the text. An act costs its event and, where it is a step, the leg.
 #![tactic(auto)]
 
 mod act;

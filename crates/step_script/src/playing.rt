@@ -215,7 +215,7 @@ fn play_act<N: Naming, P: Placer, T: Tap>(
     }
 }
 
-/// Plays acts one after another; tells what is said of each. Where memory is wanting the book stands as the acts
+/// Plays acts one after another; tells what is said of each. Where memory runs out the book stands as the acts
 /// before left it.
 pub fn play<N: Naming, P: Placer, T: Tap>(
     alloc: Global,

@@ -34,7 +34,7 @@ pub(crate) enum Found {
     Core(Running),
     /// None of its cores has a leg to be computed.
     Nothing,
-    /// It has nothing more to do: the run is over, memory is wanting, or as many events were made as may be.
+    /// It has nothing more to do: the run is over, memory runs out, or as many events were made as may be.
     Done,
 }
 
@@ -47,11 +47,11 @@ pub(crate) enum Tried {
     Waits,
     /// It was refused, as there is nothing for it any more.
     Missed,
-    /// The run is over, or memory is wanting.
+    /// The run is over, or memory runs out.
     Over,
 }
 
-/// Hands in an event on a tile and a core that are there. Where memory is wanting the book is stopped.
+/// Hands in an event on a tile and a core that are there. Where memory runs out the book is stopped.
 fn try_event<N: Naming, P: Placer, T: Tap>(book: &mut Book<N, P, T>, event: Event<N>) -> Tried
     requires given { IsInRange (view_of P.policy T.reading book.old).view.settings event }
     ensures { let old = view_of P.policy T.reading book.old in
@@ -69,7 +69,7 @@ fn try_event<N: Naming, P: Placer, T: Tap>(book: &mut Book<N, P, T>, event: Even
     }
 }
 
-/// Makes the event for the least task. Where memory is wanting the book is stopped.
+/// Makes the event for the least task. Where memory runs out the book is stopped.
 fn try_advance<N: Naming, P: Placer, T: Tap>(book: &mut Book<N, P, T>, image: &Image) -> Tried
     requires image { image.now ≡ N.image }
     ensures { let old = view_of P.policy T.reading book.old in

@@ -4,6 +4,9 @@
 //! Worker `w` of `n` drives the tiles `t` with `t % n == w`. In each hold of the lock it makes at most one event,
 //! counts that to its part, and copies the core of its next leg. The type of the lock's value keeps that all parts
 //! together are the book's steps.
+//!
+//! It stands on the book and on the lock of the standard library; `machine_run` calls it. A hold costs one event and a
+//! look at each core of the worker's own tiles. Where no thread can be started, the caller does the same work.
 #![tactic(auto)]
 
 mod fanning;

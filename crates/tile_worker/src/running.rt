@@ -75,7 +75,7 @@ fn work_all<
     Worked { book, shares }
 }
 
-/// Why a book stands where it does: its end, or want of memory.
+/// Why a book stands where it does: its end, or that memory ran out.
 fn halt_of<N: Naming, P: Placer, T: Tap>(book: &Book<N, P, T>) -> Halt
     ensures { HaltsAt (view_of P.policy T.reading book.now).view result }
 {
@@ -85,7 +85,7 @@ fn halt_of<N: Naming, P: Placer, T: Tap>(book: &Book<N, P, T>) -> Halt
     }
 }
 
-/// Makes the events of the least tasks until the run is over or memory is wanting, and tells how many they are.
+/// Makes the events of the least tasks until the run is over or memory runs out, and tells how many they are.
 fn run_out<N: Naming, P: Placer, T: Tap>(book: &mut Book<N, P, T>, image: &Image) -> u64
     requires image { image.now ≡ N.image }
     ensures rise { let before = (view_of P.policy T.reading book.old).steps in

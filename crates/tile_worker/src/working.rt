@@ -29,7 +29,7 @@ fn compute<N: Naming>(image: &Image, settings: &Settings, running: &Running) -> 
 }
 
 /// Drives the tiles `t` with `t % workers == worker`, one event in each hold of the lock, until the run is over,
-/// memory is wanting, or the book has 2^63 events; and gives back its part, to which each event that it made is
+/// memory runs out, or the book has 2^63 events; and gives back its part, to which each event that it made is
 /// counted.
 ///
 /// It hands in legs of its running cores, each after it passed the gate, and dispatches where an own tile has an

@@ -44,7 +44,7 @@ pub fn store(
     // What stood before the log was begun can still be had back.
     ensures kept { undone log.new memory.new ≡ undone log.old memory.old }
 
-    // Want of memory changes nothing.
+    // Running out of memory changes nothing.
     ensures err_memory { OnErr result (memory.new ≡ memory.old) }
     ensures err_log { OnErr result (log.new ≡ log.old) }
 {
