@@ -60,7 +60,7 @@ fn write_reply<K: Sink>(sink: &mut K, said: Said) -> Result<(), Failed>
 }
 
 /// Writes what was said of acts: a line for each, with its word and how many tasks it took back. After `Failed` a
-/// front of the text was taken.
+/// prefix of the text was taken.
 pub fn write_replies<K: Sink>(sink: &mut K, said: &[Said]) -> Result<(), Failed>
     ensures { Writes (K.state sink.old) (K.state sink.new) result (reply_lines said.now) }
 {

@@ -55,7 +55,7 @@ fn write_front<K: Sink>(sink: &mut K, image: &Image, closed: &Closed) -> Result<
 }
 
 /// Writes the first line and those of the entries, which are numbered from 1. After `Failed` a
-/// front of the text was taken.
+/// prefix of the text was taken.
 pub fn write_entries<K: Sink>(sink: &mut K, journal: &Journal) -> Result<(), Failed>
     ensures { Writes (K.state sink.old) (K.state sink.new) result (entry_lines journal.now) }
 {
