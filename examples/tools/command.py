@@ -69,7 +69,7 @@ def say(name, sentence):
 def told(error):
     """An error of the system as a sentence."""
     if isinstance(error, MemoryError):
-        return "memory is wanting."
+        return "out of memory."
     if isinstance(error, BrokenPipeError):
         return "nobody reads what it writes."
     place = f"{error.filename}: " if error.filename else ""

@@ -2,6 +2,7 @@
 import dataclasses
 import struct
 
+BITS = 1
 NO_BITS = 8
 SYMBOLS = 2
 IS_ALLOCATED = 2

@@ -21,6 +21,8 @@ PLACES = {
     ".data": (".data", ".sdata"),
     ".bss": (".bss", ".sbss"),
 }
+# What assemblers write beside the program.
+NOT_FOR_MEMORY = (".debug", ".comment", ".note")
 WORD = 0xFFFFFFFF
 
 
@@ -112,7 +114,12 @@ def assemble(sources):
 
 def section_names(source, data):
     """The sections of an object that have bytes in the image; one that has no place there is refused."""
-    names = [it.name for it in elf.read_elf(data)[0] if it.is_allocated and it.size > 0]
+    sections = [it for it in elf.read_elf(data)[0] if it.size > 0]
+    for it in sections:
+        if it.kind in (elf.BITS, elf.NO_BITS) and not it.is_allocated and not it.name.startswith(NOT_FOR_MEMORY):
+            raise Refused(f"{source.path}: the section {it.name} has no flags, so it is no part of memory; "
+                          f'write .section {it.name}, "aw", or "a" for constants.')
+    names = [it.name for it in sections if it.is_allocated]
     known = [place for places in PLACES.values() for place in places]
     for name in names:
         if not any(is_part(name, place) for place in known):

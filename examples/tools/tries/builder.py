@@ -137,6 +137,13 @@ def other_sections_are_refused(place):
     nothing_is_written(folder)
 
 
+def sections_without_flags_are_refused(place):
+    """a section that the assembler would leave out of memory is refused, and nothing is written"""
+    folder = folder_with(place, "flags", task=GOOD + "    .section .sdata\n    .word 1\n")
+    place.call("examples/build", str(folder)).sentence("task.s", ".sdata", "flags")
+    nothing_is_written(folder)
+
+
 def misshapen_lines_are_refused(place):
     """each unknown or misshapen line is refused with its file and line, and nothing is written"""
     for number, (line, part) in enumerate(MISSHAPEN):
@@ -228,6 +235,7 @@ def interrupts_leave_nothing(place):
 
 TRIES = (
     examples_are_rebuilt, folders_are_anywhere, sources_are_linked, sections_are_placed, other_sections_are_refused,
+    sections_without_flags_are_refused,
     misshapen_lines_are_refused, second_lines_are_refused, odd_windows_are_refused, missing_tasks_are_told,
     faults_of_the_source_are_told, bad_words_are_refused, missing_assembler_is_told, unwritable_folders_are_told,
     interrupts_leave_nothing,
