@@ -2,9 +2,9 @@
 //! return, and the task that makes way in a full queue.
 //!
 //! Each call changes a state as its definition says and keeps what the state's type keeps. What takes memory takes
-//! it before its first change, so that a want of it leaves the state as it was. Whether an event is allowed is
-//! decided above. It stands on the state; `book_move` and `book_room` call it. A commit of a task with children
-//! costs a look at each slot of tasks.
+//! it before its first change, so that the state stays as it was where memory runs out. Whether an event is allowed
+//! is decided above. It stands on the state; `book_move` and `book_room` call it. A commit of a task with children
+//! costs a look at each child where it was put, and at each slot of tasks only where one of them was spilled.
 #![tactic(auto)]
 
 mod choosing;

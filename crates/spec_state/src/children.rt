@@ -13,7 +13,7 @@ pub struct Children {
 }
 
 impl Children {
-    /// Nothing noted, for the children of so many tasks: at most 4,096. `AllocError` where memory is wanting.
+    /// Nothing noted, for the children of so many tasks: at most 4,096. `AllocError` where memory runs out.
     pub(crate) fn new(alloc: Global, tasks: u32) -> Result<Self, AllocError>
         requires { tasks ≤ 4096 }
     {
