@@ -1,4 +1,4 @@
-"""Tries of schedules, pictures and sums of them, generated images, studies, and runs with host threads."""
+"""Tries of schedules, pictures and sums of them, generated images, studies, and runs with threads or scarce memory."""
 import re
 import xml.etree.ElementTree
 
@@ -182,6 +182,27 @@ def swept_threads_are_checked(place):
     expect(len(lines) == 4 and all(line.endswith(",0") for line in lines[1:]), "three accepted reports", answer)
 
 
+def scarce_memory_is_answered(place):
+    """under a falling limit of address space each run answers whole or with status 5, and any other program fails"""
+    place.needs_program()
+    answer = place.call("examples/memory", "check", "load")
+    told = re.findall(r"(\w+): [\d,]+ runs: [\d,]+ whole answers, ([\d,]+) out of memory, ", answer.output.decode())
+    expect((answer.status, [name for name, _ in told]) == (0, ["check", "load"]), "two lines", answer)
+    expect(all(count != "0" for _, count in told), "status 5", told)
+    scarce = 'cat >/dev/null; limit=$(ulimit -v); [ "$limit" = unlimited ] || [ "$limit" -gt 60000 ]'
+    for text, part in (("echo part; exit 5", "status 5 and `part`"), ("exit 3", "status 3 and ``"),
+                       ("echo whole", "status 5 never came")):
+        stub = place.stub(place.root / "stub", f"{scarce} || {{ {text}; exit; }}; echo whole\n")
+        answer = place.call("examples/memory", "load", "--program", str(stub))
+        expect(answer.status == 1 and part in answer.output.decode(), f"`{part}`", answer)
+    one_sentence_each([
+        (place.call("examples/memory", "mine"), ["`mine`", "run, workers"]),
+        (place.call("examples/memory", "--program"), ["value is missing"]),
+        (place.call("examples/memory", "--program", "nowhere"), ["nowhere", "isn't built"]),
+        (place.call("examples/memory", "--program", str(place.clone / "README.md")), ["README.md", "can't be run"]),
+    ])
+
+
 def benches_are_told(place):
     """the bench tells its words, refuses others, and wants the built program"""
     expect(b"--lockstep" in place.call("bench/run", "--help").output, "a help page")
@@ -193,12 +214,12 @@ def benches_are_told(place):
 
 
 def interrupted_plays_leave_nothing(place):
-    """a study, runs with host threads and a bench that are interrupted say so, and end their programs"""
+    """a study, runs with threads or scarce memory, and a bench that are interrupted say so, and end their programs"""
     mark = place.root / "started"
     place.stub(place.program, f"touch '{mark}'; exec sleep 100\n")
     image = files_of(place, "hello")[0]
     for words in (["examples/study", image, "--jobs", "2", "--line", "4,8"], ["examples/workers", "hello"],
-                  ["bench/run", "--workers"]):
+                  ["examples/memory", "steps"], ["bench/run", "--workers"]):
         mark.unlink(missing_ok=True)
         place.interrupted(*words, ready=mark.exists).sentence("interrupted", status=130)
     place.is_clean()
@@ -207,5 +228,5 @@ def interrupted_plays_leave_nothing(place):
 TRIES = (
     schedules_are_drawn, long_schedules_are_drawn, schedules_are_summed_up, other_outputs_are_refused,
     lockstep_is_written, images_are_generated, studies_are_made, threads_are_checked, swept_threads_are_checked,
-    benches_are_told, interrupted_plays_leave_nothing,
+    scarce_memory_is_answered, benches_are_told, interrupted_plays_leave_nothing,
 )
