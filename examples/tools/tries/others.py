@@ -152,20 +152,25 @@ def lying_programs_fail(place):
     expect(answer == Answer(1, b"trap: its run has the status 0\n", ""), "a failure", answer)
 
 
-def either_fails_the_gate(place):
-    """the gate runs plain `rt ci` first, then the examples where the program was built, and fails where either does"""
+def each_fails_the_gate(place):
+    """the gate runs plain `rt ci`, then the lint, then the examples where the program was built; each may fail it"""
     place.stub_tool("rt", f'echo "$@" >>"{place.root}/words"; exit $(cat "{place.root}/proved")\n')
     names = {False: "hello", True: "trap"}
     reports = {is_spoiled: pathlib.Path(files_of(place, name)[1]).read_bytes() for is_spoiled, name in names.items()}
-    for proved, is_built, is_spoiled, wanted in ((0, False, True, 0), (0, True, False, 0), (0, True, True, 1),
-                                                 (2, True, False, 2), (2, True, True, 2), (2, False, False, 2)):
+    source = place.clone / "crates" / "rv_core" / "src" / "lib.rt"
+    text = source.read_text()
+    for proved, is_built, is_spoiled, is_wide, wanted in (
+            (0, False, True, False, 0), (0, True, False, False, 0), (0, True, True, False, 1), (2, True, False, False, 2),
+            (2, True, True, True, 2), (2, False, False, False, 2), (0, True, False, True, 1), (0, False, False, True, 1)):
         (place.root / "proved").write_text(str(proved))
         shutil.rmtree(place.program.parent, ignore_errors=True)
         if is_built:
             place.needs_program()
         (place.clone / "examples" / "hello" / "report").write_bytes(reports[is_spoiled])
+        source.write_text(f"{text}{'// wide' * 20 * is_wide}\n")
         answer = place.call(".ci/run", cwd="/")
         expect(answer.status == wanted, f"status {wanted}", answer)
+        expect((b"columns" in answer.output) == is_wide, "a line that is told where it is too wide", answer)
     expect(set((place.root / "words").read_text().split("\n")) == {"ci", ""}, "plain rt ci")
 
 
@@ -297,7 +302,7 @@ def programs_are_handed_on(place):
 TRIES = (
     reports_are_explained, traps_are_explained, pictures_are_drawn, faults_are_explained, other_runs_are_told,
     explain_refuses_bad_files, closed_pipes_are_borne, accepted_examples_are_named, other_reports_fail,
-    lying_programs_fail, either_fails_the_gate, grids_are_swept, broken_programs_are_rows, shards_are_joined,
+    lying_programs_fail, each_fails_the_gate, grids_are_swept, broken_programs_are_rows, shards_are_joined,
     loads_are_swept, progress_is_shown, sweep_refuses_bad_words, interrupted_sweeps_leave_nothing,
     programs_are_handed_on,
 )
