@@ -92,7 +92,7 @@ def first_look_is_unproved(place):
         expect((answer.status, answer.output) == (status, report), "the report", answer)
         # A machine that is at other work takes longer.
         is_idle = os.getloadavg()[0] < os.cpu_count() / 2
-        expect(time.monotonic() - start < 60 or not is_idle, "an answer in a minute")
+        expect(time.monotonic() - start < 70 or not is_idle, "an answer in the time that is told")
     place.is_clean()
 
 
