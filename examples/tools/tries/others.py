@@ -122,9 +122,11 @@ def accepted_examples_are_named(place):
     place.needs_program()
     (place.clone / "examples" / "mine").mkdir()
     wanted = "".join(f"{name}: accepted\n" for name in EXAMPLES + SCHEDULES).encode()
-    expect(place.call("examples/check", cwd="/") == Answer(0, wanted, ""), "all examples")
+    answer = place.call("examples/check", cwd="/")
+    expect(answer == Answer(0, wanted, ""), "all examples", answer)
     place.make_unwritable()
-    expect(place.call("examples/check") == Answer(0, wanted, ""), "all examples where nothing can be written")
+    answer = place.call("examples/check")
+    expect(answer == Answer(0, wanted, ""), "all examples where nothing can be written", answer)
 
 
 def other_reports_fail(place):
