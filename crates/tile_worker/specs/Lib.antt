@@ -1,3 +1,4 @@
 pub mod Halts
 pub mod Counts
 pub mod Founds
+pub mod Rounds

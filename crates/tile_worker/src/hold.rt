@@ -146,7 +146,7 @@ fn next_running<N: Naming, P: Placer, T: Tap>(
 {
     let settings = book.settings();
     let steps = book.steps();
-    for _ in 0..round.own_cores(settings.tiles, settings.cores) {
+    for _ in 0..round.own_tiles(settings.tiles) * settings.cores {
         let place = round.next_core(settings.tiles, settings.cores)?;
         if round.tries_core(place, steps) {
             if let Some(core) = book.core_at(place.tile, place.core) {

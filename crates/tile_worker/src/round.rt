@@ -1,6 +1,7 @@
 //! What a worker keeps for itself between its holds of the lock.
 
-ghost use Rattle.std.specs.Prelude.{◌≡◌, ◌<◌, ◌≤◌, ◌%◌, IfSome, IsTrue};
+ghost use Rattle.std.specs.Prelude.{◌≡◌, ◌↔◌, ◌<◌, ◌≤◌, ◌+◌, ◌*◌, ◌%◌, ℕ, IfSome, IsTrue, slice_index_or, slice_set};
+ghost use Rattle.tile_worker.specs.Rounds.{index_of, rested};
 
 /// How many events are made before a core that stalled, or a tile that had nothing to dispatch, is tried again. In
 /// so many events for the least tasks all that a commit queue may hold can commit, so that what stalled doesn't
@@ -34,7 +35,8 @@ pub(crate) struct Round {
 fn index_of(place: Place) -> usize
     requires tile { place.tile < 16 }
     requires core { place.core < 4 }
-    ensures { result < 64 }
+    ensures value { result ≡ index_of place }
+    ensures inside { result < 64 }
 {
     (place.tile * 4 + place.core) as usize
 }
@@ -62,7 +64,8 @@ impl Round {
     /// Whether the tile is the worker's own, and is to be tried at this count of events.
     pub(crate) fn tries_tile(&self, tile: u32, steps: u64) -> bool
         requires { tile < 16 }
-        ensures own { IsTrue result → tile % self.now.workers ≡ self.now.worker }
+        ensures { IsTrue result
+            ↔ (tile % self.now.workers ≡ self.now.worker) × (slice_index_or self.now.tiles tile 0 ≤ steps) }
     {
         tile % self.workers == self.worker && self.tiles[tile as usize] <= steps
     }
@@ -70,6 +73,7 @@ impl Round {
     /// Lets a tile be for a while.
     pub(crate) fn rest_tile(&mut self, tile: u32, steps: u64)
         requires { tile < 16 }
+        ensures { self.new ≡ record self.old { tiles = slice_set self.old.tiles tile (rested steps) } }
     {
         self.tiles[tile as usize] = steps.saturating_add(PATIENCE);
     }
@@ -78,6 +82,7 @@ impl Round {
     pub(crate) fn tries_core(&self, place: Place, steps: u64) -> bool
         requires tile { place.tile < 16 }
         requires core { place.core < 4 }
+        ensures { IsTrue result ↔ slice_index_or self.now.cores (index_of place) 0 ≤ steps }
     {
         self.cores[index_of(place)] <= steps
     }
@@ -86,17 +91,19 @@ impl Round {
     pub(crate) fn rest_core(&mut self, place: Place, steps: u64)
         requires tile { place.tile < 16 }
         requires core { place.core < 4 }
+        ensures { self.new ≡ record self.old { cores = slice_set self.old.cores (index_of place) (rested steps) } }
     {
         self.cores[index_of(place)] = steps.saturating_add(PATIENCE);
     }
 
-    /// How many cores the worker's own tiles have.
-    pub(crate) fn own_cores(&self, tiles: u32, cores: u32) -> u32
-        requires tiles { tiles ≤ 16 }
-        requires cores { cores ≤ 4 }
+    /// How many of so many tiles are the worker's own.
+    #[tactic(auto, using(crate::proofs::Tiles::own_count, crate::proofs::Tiles::own_few))]
+    pub(crate) fn own_tiles(&self, tiles: u32) -> u32
+        ensures count { (k : ℕ) → (k < result) ↔ (self.now.worker + k * self.now.workers < tiles) }
+        ensures few { result ≤ tiles }
     {
         if self.worker < tiles {
-            ((tiles - 1 - self.worker) / self.workers + 1) * cores
+            (tiles - 1 - self.worker) / self.workers + 1
         } else {
             0
         }

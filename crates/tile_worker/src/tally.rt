@@ -66,6 +66,8 @@ impl<N: Naming, L: Ledger, P: Placer, T: Tap> Tallied<N, L, P, T> {
     pub(crate) fn new(book: Book<N, P, T>, total: ledger::Book<L>) -> Tallied<N, L, P, T>
         requires counted { total.total ≡ (view_of P.policy T.reading book).steps }
         requires most { (view_of P.policy T.reading book).steps ≤ 2 ^ 63 }
+        ensures book { view_of P.policy T.reading result.book ≡ view_of P.policy T.reading book }
+        ensures total { result.total ≡ total }
     {
         Tallied { book, total }
     }
