@@ -31,7 +31,7 @@ fn tasks_of(alloc: Global, entries: &[(u32, u32)]) -> Result<Vec<ImageTask>, All
 }
 
 /// The ordered image of a program, with no window; or the first of the limits of an image that it exceeds, or
-/// `Memory` where memory is wanting.
+/// `Memory` where memory runs out.
 pub fn image_of(alloc: Global, program: &Program) -> Result<Image, ImageFault>
     ensures { (result ≡ Err faults.Memory) ⊎ (result ≡ image_made (value_of program.now)) }
 {
