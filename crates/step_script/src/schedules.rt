@@ -6,9 +6,10 @@ ghost use Rattle.spec_state.specs.Settings.{IsValid};
 use crate::{Said, Word, play, read_script};
 use book_event::Reply;
 use conflict_book::Book;
-use guest_image::{Image, ImageTask, Kind};
+use guest_image::Image;
 use place_policy::ByHint;
 use rv_core::Naming;
+use sample_image::{FIRST_MAKER, MAKER_TEXT, Program, READER_AND_WRITER};
 use spec_state::Settings;
 use std::alloc::{Alloc, Global};
 use std::marker::Brand;
@@ -86,41 +87,6 @@ const LONG_LINES: Settings = Settings {
     phase: 1_000_000,
 };
 
-/// A program with its data and its tasks, each an entry and a timestamp.
-#[derive(Clone, Copy)]
-struct Program {
-    text: &'static [u32],
-    initial: &'static [u8],
-    data_size: u32,
-    tasks: &'static [(u32, u32)],
-}
-
-/// A reader at timestamp 2: it loads the first word of the data, stores it plus 1 into the second, and enqueues a
-/// child, which ends at once, as it does itself then. A writer at timestamp 1: it stores 7 into the first word.
-const READER: Program = Program {
-    text: &[
-        0x1000_02b7,
-        0x0002_a303,
-        0x0013_0313,
-        0x0062_a223,
-        0x0010_0893,
-        0x0001_0537,
-        0x0245_0513,
-        0x0006_8593,
-        0x0000_0073,
-        0x0000_0893,
-        0x0000_0073,
-        0x1000_02b7,
-        0x0070_0313,
-        0x0062_a023,
-        0x0000_0893,
-        0x0000_0073,
-    ],
-    initial: &[],
-    data_size: 8,
-    tasks: &[(0x0001_0000, 2), (0x0001_002c, 1)],
-};
-
 /// A task at timestamp 2 that follows the pointer in the first word and emits what it finds, and a task at
 /// timestamp 1 that sets the pointer to the second word.
 const FOLLOWER: Program = Program {
@@ -151,39 +117,12 @@ const ENDERS: Program = Program {
     tasks: &[(0x0001_0000, 1), (0x0001_0000, 2)],
 };
 
-/// Makes 64 children at the timestamps 64 down to 1, each of which ends at once at 0x00010020.
-const MAKER_TEXT: [u32; 10] = [
-    0x0400_0493,
-    0x0001_0537,
-    0x0205_0513,
-    0x0010_0893,
-    0x0004_8593,
-    0x0000_0073,
-    0xfff4_8493,
-    0xfe04_9ae3,
-    0x0000_0893,
-    0x0000_0073,
-];
-
 /// The maker at timestamp 5, and a task at timestamp 1 that ends at once.
 const LATE_MAKER: Program = Program {
     text: &MAKER_TEXT,
     initial: &[],
     data_size: 0,
     tasks: &[(0x0001_0000, 5), (0x0001_0020, 1)],
-};
-
-/// The maker at timestamp 0, and three tasks that end at once at the timestamps 1, 2 and 3.
-const FIRST_MAKER: Program = Program {
-    text: &MAKER_TEXT,
-    initial: &[],
-    data_size: 0,
-    tasks: &[
-        (0x0001_0000, 0),
-        (0x0001_0020, 1),
-        (0x0001_0020, 2),
-        (0x0001_0020, 3),
-    ],
 };
 
 /// A task at timestamp 2 that loads the word at offset 16,384, and one at timestamp 1 that stores into the word at
@@ -271,7 +210,7 @@ struct Row {
 static ROWS: [Row; 12] = [
     Row {
         name: "a reader with a child, and a writer",
-        program: READER,
+        program: READER_AND_WRITER,
         settings: TWO_TILES,
         script: "dispatch 0\nstep 0 0\nstep 0 0\nstep 0 0\ndispatch 1\nstep 1 0\nstep 1 0\ncommit\n\
             dispatch 0\nstep 0 0\nstep 0 0\nstep 0 0\nstep 0 0\ncommit\ndispatch 0\nstep 0 0\ncommit\n",
@@ -281,21 +220,21 @@ static ROWS: [Row; 12] = [
     },
     Row {
         name: "a leg that comes too late",
-        program: READER,
+        program: READER_AND_WRITER,
         settings: TWO_TILES,
         script: "dispatch 0\ntake 0 0\nstep 0 0\nstep 0 0\ngive 0 0\n",
         said: &[OK, OK, OK, OK, STALE],
     },
     Row {
         name: "a leg that is held and handed in once",
-        program: READER,
+        program: READER_AND_WRITER,
         settings: TWO_TILES,
         script: "give 0 0\ntake 0 0\ndispatch 0\ntake 0 0\ngive 1 0\ngive 0 0\ngive 0 0\nstep 0 0\n",
         said: &[STALE, STALE, OK, OK, STALE, OK, STALE, OK],
     },
     Row {
         name: "a run by the least tasks, and what is said at its end",
-        program: READER,
+        program: READER_AND_WRITER,
         settings: TWO_TILES,
         script: "advance\nadvance\nadvance\nadvance\nadvance\nadvance\nadvance\nadvance\nadvance\nadvance\n\
             advance\nadvance\nadvance\nadvance\nstep 0 0\ntake 0 0\ngive 0 0\ncommit\n",
@@ -368,27 +307,9 @@ static ROWS: [Row; 12] = [
     },
 ];
 
-/// The ordered image of a program.
+/// The image of a program.
 fn image_of(alloc: Global, program: &Program) -> Result<Image, Fail> {
-    let mut text = Vec::new(alloc);
-    for word in program.text {
-        text.push(*word)?;
-    }
-    let mut initial = Vec::new(alloc);
-    for byte in program.initial {
-        initial.push(*byte)?;
-    }
-    let mut tasks = Vec::new(alloc);
-    for (entry, ts) in program.tasks {
-        tasks.push(ImageTask {
-            entry: *entry,
-            ts: *ts,
-            args: [0; 3],
-        })?;
-    }
-    Image::new(Kind::Ordered, text, initial, program.data_size, 0, 0, tasks).map_err(|_| Fail::from(
-        "no image",
-    ))
+    sample_image::image_of(alloc, program).map_err(|_| Fail::from("no image"))
 }
 
 /// The script of a row says of its acts what the row has.
