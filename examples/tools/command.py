@@ -2,11 +2,14 @@
 import contextlib
 import os
 import pathlib
+import re
 import signal
 import sys
 import tempfile
 
 REFUSED = 1
+# Nothing that the program takes or writes is longer.
+MOST_READ = 1 << 28
 
 
 class Refused(Exception):
@@ -78,12 +81,23 @@ def told(error):
 
 def read_bytes(path):
     """The whole of a file; `-` is standard input."""
-    return sys.stdin.buffer.read() if str(path) == "-" else pathlib.Path(path).read_bytes()
+    if str(path) == "-" and sys.stdin is None:
+        raise Refused("standard input is closed.")
+    with contextlib.nullcontext(sys.stdin.buffer) if str(path) == "-" else open(path, "rb") as file:
+        data = file.read(MOST_READ + 1)
+    if len(data) > MOST_READ:
+        raise Refused(f"{path}: it has more than {MOST_READ:,} bytes.")
+    return data
 
 
 def read_text(path):
     """The whole of a file as text; bytes that are no text are told apart by nothing."""
     return read_bytes(path).decode("utf-8", "replace")
+
+
+def read_written(path):
+    """The whole of a text that people write: its lines may end as on any system."""
+    return re.sub("\r\n?", "\n", read_text(path))
 
 
 def write_whole(files):

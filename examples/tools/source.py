@@ -8,7 +8,7 @@ import subprocess
 import tempfile
 
 from tools import elf
-from tools.command import Refused, number_in
+from tools.command import Refused, number_in, read_written
 from tools.image import DATA, DATA_BYTES, INITIAL_TASKS, TEXT, TEXT_WORDS, WINDOW_WORDS, Image, InitialTask
 
 PREFIXES = ("riscv64-linux-gnu-", "riscv64-unknown-elf-", "riscv32-unknown-elf-")
@@ -69,7 +69,7 @@ def sources_in(folder):
 
 
 def source_at(path):
-    text = path.read_text(encoding="utf-8", errors="replace")
+    text = read_written(path)
     return Source(path, text.split("\n"))
 
 

@@ -82,7 +82,7 @@ def other_runs_are_told(place):
 
 
 def explain_refuses_bad_files(place):
-    """bad words, missing files, other files and another image's source are told in a sentence"""
+    """bad words, missing, endless and other files, and another image's source are told in a sentence"""
     image, report = files_of(place, "hello")
     other = place.clone / "examples" / "trap"
     explain = "examples/explain"
@@ -100,6 +100,10 @@ def explain_refuses_bad_files(place):
         (place.call(explain, image, report, str(other)), ["isn't the image's"]),
         (place.call(explain, image, report, report), ["no listing"]),
         (place.call(explain, image, report, "nowhere.s"), ["nowhere.s", "no such file"]),
+        (place.call(explain, "/dev/zero", report), ["/dev/zero", "more than 268,435,456 bytes"]),
+        (place.call(explain, image, report, "/dev/zero"), ["/dev/zero", "more than"]),
+        (place.call("examples/sweep", "--rows", "/dev/zero"), ["/dev/zero", "more than"]),
+        (place.call("/bin/sh", "-c", '"$0" "$1" - <&-', str(place.clone / explain), image), ["standard input is closed"]),
     ])
 
 
