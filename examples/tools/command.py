@@ -65,8 +65,10 @@ def say(name, sentence):
         return
     # A line of progress may stand on a terminal.
     clear = "\r\x1b[K" if sys.stderr.isatty() else ""
+    # A sentence may cite what stands in a file.
+    shown = "".join(it if it.isprintable() or it == "\n" else ascii(it)[1:-1] for it in str(sentence))
     with contextlib.suppress(OSError):
-        print(f"{clear}{name}: {sentence}", file=sys.stderr, flush=True)
+        print(f"{clear}{name}: {shown}", file=sys.stderr, flush=True)
 
 
 def told(error):

@@ -81,6 +81,7 @@ def other_outputs_are_refused(place):
             (place.call(name, "-", said, stdin=b"dispatch 16\n"), ["-:1:", "16 tiles"]),
             (place.call(name, "-", said, stdin=b"dispatch 00\n"), ["-:1:", "`dispatch 00`"]),
             (place.call(name, "-", said, stdin=b"commit\n\ncommit\n"), ["-:2:"]),
+            (place.call(name, "-", said, stdin=b"commit\x1b[2J\n"), ["-:1:", "`commit\\x1b[2J`"]),
         ])
     one_sentence_each([
         (place.call("examples/draw", script, said, said), ["SCRIPT", "OUTPUT"]),
