@@ -4,9 +4,10 @@ ghost use Rattle.step_script.specs.Ranges.{IsWithin};
 
 use crate::{Played, Ran, Traced, play_script, run, trace_script};
 use book_event::Reply;
-use guest_image::{Image, ImageTask, Kind};
+use guest_image::Image;
 use place_policy::ByHint;
 use rv_core::Naming;
+use sample_image::READER_AND_WRITER;
 use serial_machine::End;
 use spec_state::Settings;
 use std::alloc::{Alloc, Global};
@@ -33,28 +34,6 @@ const SETTINGS: Settings = Settings {
     phase: 1_000_000,
 };
 
-/// A reader at 0x00010000: it loads the first word of the data, stores it plus 1 into the second, and enqueues a
-/// child at 0x00010024, which ends at once, as it does itself then. A writer at 0x0001002c: it stores 7 into the
-/// first word.
-static READER_AND_WRITER: [u32; 16] = [
-    0x1000_02b7,
-    0x0002_a303,
-    0x0013_0313,
-    0x0062_a223,
-    0x0010_0893,
-    0x0001_0537,
-    0x0245_0513,
-    0x0006_8593,
-    0x0000_0073,
-    0x0000_0893,
-    0x0000_0073,
-    0x1000_02b7,
-    0x0070_0313,
-    0x0062_a023,
-    0x0000_0893,
-    0x0000_0073,
-];
-
 /// The reader is stepped three times on the first tile, and then the writer, which comes first, on the second.
 static SCRIPT: [Act; 6] = [
     Act::Dispatch(0),
@@ -65,26 +44,9 @@ static SCRIPT: [Act; 6] = [
     Act::Step(1, 0),
 ];
 
-/// An ordered image with 8 bytes of data and two tasks: the reader at timestamp 2 and the writer at timestamp 1.
+/// The image of the reader and the writer.
 fn image_of(alloc: Global) -> Result<Image, Fail> {
-    let mut text = Vec::new(alloc);
-    for word in &READER_AND_WRITER {
-        text.push(*word)?;
-    }
-    let mut tasks = Vec::new(alloc);
-    tasks.push(ImageTask {
-        entry: 0x0001_0000,
-        ts: 2,
-        args: [0; 3],
-    })?;
-    tasks.push(ImageTask {
-        entry: 0x0001_002c,
-        ts: 1,
-        args: [0; 3],
-    })?;
-    Image::new(Kind::Ordered, text, Vec::new(alloc), 8, 0, 2, tasks).map_err(|_| Fail::from(
-        "no image",
-    ))
+    sample_image::image_of(alloc, &READER_AND_WRITER).map_err(|_| Fail::from("no image"))
 }
 
 /// One tap, which keeps the last four records.
