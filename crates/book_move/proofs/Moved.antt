@@ -13,9 +13,9 @@ use Rattle.step_law.proofs.Proved.{coalesce_is_granted}
 use Rattle.book_move.specs.Moving.{ComesSo, book_of}
 
 module _ (N : Type 0) (view : View) (going : IsOver view → ⊥) (tile id : ℕ) (moves : IsMovable view tile id) where
-  -- memory is wanting
-  pub coalesce_wants : (new : View) → new ≡ view → ComesSo N view (event.Coalesce tile) (Refused reply.Memory) new
-  coalesce_wants new same placers taps steps =
+  -- memory runs out
+  pub coalesce_runs_out : (new : View) → new ≡ view → ComesSo N view (event.Coalesce tile) (Refused reply.Memory) new
+  coalesce_runs_out new same placers taps steps =
       (coalesce_is_granted N (book_of view placers taps steps) going tile id moves, tt, (same, refl))
 
   -- its idle firm tasks move

@@ -21,7 +21,7 @@ use Rattle.spec_state.specs.Tasks.{context_of}
 use Rattle.spec_state.specs.Filters.{Lines, HasNotes}
 use Rattle.spec_state.specs.Changes.{Accesses}
 use Rattle.spec_access.specs.Asking.{Asks}
-use Rattle.spec_access.proofs.Slots.{changed, others}
+use Rattle.spec_state.proofs.Proved.{others_set, task_set}
 
 -- what is asked for at a stop inside the data lies in the data
 pub asks_inside : (size : ℕ) (view : View) (leg : LegValue) (id : ℕ) (request : Request) → Asks view leg id request
@@ -68,9 +68,9 @@ module _ (id : ℕ) (found task : Task) (call : Call) (core : List ℕ → Core)
         lines = lines;
         notes = noted view.settings.line found.log (access_of view.memory call) found.lines lines marked had;
         changes = record {
-          changed = changed view.tasks id found (record found { core = at; log = log; lines = lines }) there
+          changed = task_set view.tasks id found (record found { core = at; log = log; lines = lines }) there
               ∙ (λ i. Some (record found { core = core_is i; log = log_is i; lines = lines }));
-          others = others view.tasks id found (record found { core = at; log = log; lines = lines }) there;
+          others = others_set view.tasks id (record found { core = at; log = log; lines = lines });
         };
         memory = memory_is;
         rest = refl;

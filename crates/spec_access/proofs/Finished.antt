@@ -1,11 +1,11 @@
 -- A task that leaves its core for its commit queue: the lists still hold what they should.
-use Rattle.std.proofs.Common.{◌≡◌, ◌≢◌, ◌<◌, ◌∷◌, ◌++◌, ℕ, zero, suc, List, [], length, map, Option, Some, None, refl}
-use Rattle.std.proofs.Common.{sym, ap, subst, ◌∙◌, inl, inr, arith, length-set, slice_get, slice_index_or, option_map}
+use Rattle.std.proofs.Common.{◌≡◌, ◌≢◌, ◌<◌, ◌∷◌, ◌++◌, ℕ, List, [], length, map, Option, Some, None, refl}
+use Rattle.std.proofs.Common.{sym, ap, subst, ◌∙◌, inl, inr, slice_get, slice_index_or, option_map}
 use Rattle.std.specs.Prelude.{All, Contains, slice_set}
 use Rattle.std.proofs.lemmas.Bool.{cases_eq}
 use Rattle.std.proofs.lemmas.List.{get_or-set_same, get_or-set_other, get_or-map, map-set}
 use Rattle.std.proofs.lemmas.List.Elements.{Contains-push, Contains-push_cases, Contains-append_left}
-use Rattle.std.proofs.lemmas.Option.{same_Some, slice_get-get_or, slice_get_within}
+use Rattle.std.proofs.lemmas.Option.{same_Some, slice_get_within}
 use Rattle.spec_state.specs.declared.task.Status.TheVariants.{Running, Finished}
 use Rattle.spec_state.specs.declared.task.Task.{Task}
 use Rattle.spec_state.specs.declared.task.TaskId.{TaskId}
@@ -18,22 +18,9 @@ use Rattle.spec_state.specs.Changes.{with_core, TakesLeg, Finishes}
 use Rattle.rv_core.specs.declared.state.Core.{Core}
 use Rattle.rv_core.specs.LegValue.{LegValue}
 use Rattle.rv_core.specs.Legs.{after_other_of}
-use Rattle.spec_state.proofs.Proved.{within_lists}
+use Rattle.spec_state.proofs.Proved.{others_set, set_here, set_there, task_set, within_lists}
 use Rattle.spec_access.specs.Asking.{HasCommitEntry}
-use Rattle.spec_access.proofs.Slots.{changed, others}
 use Rattle.spec_access.proofs.Kept.{place_forth, place_back, formed_all}
-
-get_set_same : {X : Type 0} (xs : List X) (i : ℕ) (a : X) → i < length xs → slice_get (slice_set xs i a) i ≡ Some a
-get_set_same xs i a within =
-    slice_get-get_or (slice_set xs i a) i a (omega (arith, length-set xs i a, within))
-    ∙ ap Some (get_or-set_same xs i a a within)
-
-get_set_other : {X : Type 0} (xs : List X) (i k : ℕ) (a : X) → k ≢ i → slice_get (slice_set xs i a) k ≡ slice_get xs k
-get_set_other [] i k a other = refl
-get_set_other (x ∷ xs) zero zero a other = absurd (other refl)
-get_set_other (x ∷ xs) zero (suc k) a other = refl
-get_set_other (x ∷ xs) (suc i) zero a other = refl
-get_set_other (x ∷ xs) (suc i) (suc k) a other = get_set_other xs i k a (λ same. other (ap suc same))
 
 module _ (size : ℕ) (old : View) (id tile core : ℕ) (task now : Task) (stored : IsStored size old)
     (there : task_at old id ≡ Some task)
@@ -47,7 +34,7 @@ module _ (size : ℕ) (old : View) (id tile core : ℕ) (task now : Task) (store
   }
 
   changes : ChangesTask old new id (Some now)
-  changes = record { changed = changed old.tasks id task now there; others = others old.tasks id task now there }
+  changes = record { changed = task_set old.tasks id task now there; others = others_set old.tasks id now }
 
   -- it was on its core
   was_held : slice_get (cores_at old tile) core ≡ Some (Some id)
@@ -64,14 +51,14 @@ module _ (size : ℕ) (old : View) (id tile core : ℕ) (task now : Task) (store
 
   own_core : slice_get (cores_at new tile) core ≡ Some None
   own_core = ap (λ held. slice_get held core) own_cores
-      ∙ get_set_same (cores_at old tile) core None (slice_get_within (cores_at old tile) core (Some id) was_held)
+      ∙ set_here (cores_at old tile) core None (slice_get_within (cores_at old tile) core (Some id) was_held)
 
   -- each other core holds what it held
   other_core : (t c : ℕ) → ((t ≡ tile) × (c ≡ core) → ⊥) → slice_get (cores_at new t) c ≡ slice_get (cores_at old t) c
   other_core t c apart = elim (cases_eq t tile) [
     | inl own ↦
         ap (λ n. slice_get (cores_at new n) c) own ∙ ap (λ held. slice_get held c) own_cores
-        ∙ get_set_other (cores_at old tile) core c None (λ same. apart (own, same))
+        ∙ set_there (cores_at old tile) core c None (λ same. apart (own, same))
         ∙ ap (λ n. slice_get (cores_at old n) c) (sym own)
     | inr other ↦ ap (λ held. slice_get held c)
         (get_or-set_other old.cores tile t (slice_set (cores_at old tile) core None) [] other)
@@ -246,9 +233,9 @@ ends size old seen id core held tile found task leg at finished cores same store
     })) same
     (record {
       changes = record {
-        changed = changed seen.tasks id found now there
+        changed = task_set seen.tasks id found now there
             ∙ (λ i. Some (record (it i) { core = at_is i; status = Finished }));
-        others = others seen.tasks id found now there;
+        others = others_set seen.tasks id now;
       };
       finished = finished_is ∙ ap (λ t. slice_set seen.finished t (finished_at seen t ++ id ∷ [])) on_tile;
       cores = cores_is ∙ ap (λ t. with_core seen t held None) on_tile ∙ ap (λ c. with_core seen tile c None) on;

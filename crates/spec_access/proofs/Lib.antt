@@ -1,4 +1,3 @@
-pub mod Slots
 pub mod Kept
 pub mod Asked
 pub mod Accessed

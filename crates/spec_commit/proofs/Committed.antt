@@ -1,6 +1,6 @@
 -- The least task leaves by a commit, and its children have a committed creator.
-use Rattle.std.proofs.Common.{◌≡◌, ◌≢◌, ◌⊎◌, ◌<◌, ◌≤◌, ◌+◌, ◌∷◌, ◌++◌, ◌==◌, ℕ, Bool, true, false, cond, List, [], length, Option, Some, None, refl, sym, ap, subst, ◌∙◌, inl, inr, arith, slice_index_or}
-use Rattle.std.specs.Prelude.{count_by, is_some, if◌then◌else◌}
+use Rattle.std.proofs.Common.{◌≡◌, ◌≢◌, ◌⊎◌, ◌<◌, ◌≤◌, ◌+◌, ◌∷◌, ◌++◌, ◌==◌, ℕ, Bool, true, false, cond, List, [], length, Option, Some, None, refl, sym, ap, subst, ◌∙◌, inl, inr, arith, slice_get, slice_index_or}
+use Rattle.std.specs.Prelude.{IsTrue, count_by, is_some, if◌then◌else◌}
 use Rattle.std.proofs.lemmas.Bool.{cases_eq, ne_eqb}
 use Rattle.std.proofs.lemmas.Bool.Decides.{nat_tests}
 use Rattle.std.proofs.lemmas.List.{length_push}
@@ -14,6 +14,7 @@ use Rattle.spec_state.specs.declared.task.Creator.TheVariants.{Committed, Live}
 use Rattle.spec_state.specs.declared.task.Status.TheVariants.{Finished}
 use Rattle.spec_state.specs.declared.task.Task.{Task}
 use Rattle.spec_state.specs.Changes.{Commits, creator_after, after_commit}
+use Rattle.spec_state.specs.Children.{AreNoted, ChildrenValue, IsChildAt, noted_of}
 use Rattle.spec_state.specs.Fits.{HasSlots}
 use Rattle.spec_state.specs.Least.{IsLeastTask}
 use Rattle.spec_state.specs.Leaving.{Leaves}
@@ -21,7 +22,7 @@ use Rattle.spec_state.specs.Stored.{IsStored, IsWellFormed, IsIndexed}
 use Rattle.spec_state.specs.Tasks.{depth_of, own_level}
 use Rattle.spec_state.specs.View.{View, task_at}
 use Rattle.spec_state.proofs.Proved.{AreKept, formed_later, indexed_kept, keeps_none, KeepsKey, KeepsPlace, kept_all, same_place, slots_kept, stored_kept}
-use Rattle.spec_commit.specs.Committing.{ChildrenAreMade, HasChildren, IsAdopted, IsAdoptedOrSame, IsChildAt, adopted}
+use Rattle.spec_commit.specs.Committing.{IsAdoptedOrSame, adopted}
 use Rattle.spec_commit.proofs.Moving.{cores_stay}
 
 -- with more in the history what is stored is stored still
@@ -94,20 +95,48 @@ child_or_same id n (Some t) = by_creator t.creator refl
           inr (ap (λ c. Some (record t { creator = c })) (ap (creator_after id n) is ∙ stays ∙ sym is))
     ]
 
--- where the child at each place was found and adopted, all are
-pub all_adopted : (id n made : ℕ) (old new : ℕ → Option Task) → HasChildren old id made
-    → ((k : ℕ) → IsAdoptedOrSame id n (old k) (new k)) → ((place : ℕ) → place < made → IsAdopted id n place old new)
-    → (k : ℕ) → new k ≡ adopted id n (old k)
-all_adopted id n made old new has each found k = elim (each k) [
+-- where all that is noted for the task was adopted, all its children are
+pub all_adopted : (id n : ℕ) (tasks now : List (Option Task)) (children : ChildrenValue) (keys : List ℕ) → AreNoted tasks children
+    → IsTrue children.complete → keys ≡ noted_of children id
+    → ((k : ℕ) → IsAdoptedOrSame id n (slice_index_or tasks k None) (slice_index_or now k None))
+    → ((place k : ℕ) → slice_get keys place ≡ Some k → slice_index_or now k None ≡ adopted id n (slice_index_or tasks k None))
+    → (k : ℕ) → slice_index_or now k None ≡ adopted id n (slice_index_or tasks k None)
+all_adopted id n tasks now children keys noted complete are each found k = elim (each k) [
   | inr is ↦ is
-  | inl same ↦ elim (child_or_same id n (old k)) [
+  | inl same ↦ elim (child_or_same id n (slice_index_or tasks k None)) [
     | inr stays ↦ same ∙ sym stays
-    | inl child ↦
-        let one : IsAdopted id n child.0 old new = found child.0 (has.placed k child.0 child.1) in
-        let here : k ≡ one.key = has.apart k one.key child.0 child.1 one.child in
-        subst (λ j. new j ≡ adopted id n (old j)) (sym here) one.now
+    | inl child ↦ found child.0 k (ap (λ ids. slice_get ids child.0) are ∙ noted complete k id child.0 child.1)
   ]
 ]
+
+-- what is a child once others are adopted was one before
+was_child : (id n c place : ℕ) (o : Option Task) → IsChildAt c place (adopted id n o) → IsChildAt c place o
+was_child id n c place None is = is
+was_child id n c place (Some t) is =
+    let same : child_of id n t ≡ is.child = cc (is.there) in
+    record { child = t; there = refl; made_by = by_creator t.creator (ap (λ (x : Task). x.creator) same ∙ is.made_by) }
+  where
+    by_creator : (creator : Creator) → creator_after id n creator ≡ Live (record { 0 = c }) place → creator ≡ Live (record { 0 = c }) place
+    by_creator (Committed turn index) at = absurd (cc (at))
+    by_creator (Live task index) at = go (task.0 == id) at
+      where
+        go : (b : Bool) → (if b then Committed n index else Live task index) ≡ Live (record { 0 = c }) place → Live task index ≡ Live (record { 0 = c }) place
+        go true at = absurd (cc (at))
+        go false at = at
+
+-- the children of all others are noted as before
+pub noted_adopted : (id n : ℕ) (tasks now : List (Option Task)) (children after : ChildrenValue)
+    → ((k : ℕ) → slice_index_or now k None ≡ adopted id n (slice_index_or tasks k None))
+    → after.complete ≡ children.complete → ((k : ℕ) → k ≢ id → noted_of after k ≡ noted_of children k)
+    → AreNoted tasks children → AreNoted now after
+noted_adopted id n tasks now children after each same others noted complete k c place is =
+    let here : IsChildAt c place (adopted id n (slice_index_or tasks k None)) = subst (IsChildAt c place) (each k) is in
+    elim (cases_eq c id) [
+      | inl own ↦ absurd (adopted_is_no_child id n place (slice_index_or tasks k None) (subst (λ j. IsChildAt j place (adopted id n (slice_index_or tasks k None))) own here))
+      | inr other ↦
+          ap (λ ids. slice_get ids place) (others c other)
+          ∙ noted (subst IsTrue same complete) k c place (was_child id n c place (slice_index_or tasks k None) here)
+    ]
 
 -- the children that were adopted so far, and then all: all are
 pub then_all : (id n : ℕ) (old mid new : Option Task) → IsAdoptedOrSame id n old mid → new ≡ adopted id n mid → new ≡ adopted id n old
@@ -115,26 +144,21 @@ then_all id n old mid new (inl same) is = is ∙ ap (adopted id n) same
 then_all id n old mid new (inr was) is = is ∙ ap (adopted id n) was ∙ adopted_once id n old
 
 -- what was done to the slots of a state is done to the tasks of its view
-pub adopts_seen : (slots now : List (Option Task)) (view : View) (id n made wanted : ℕ) → slots ≡ view.tasks → n ≡ length view.history → made ≡ wanted
-    → (HasChildren (λ k. slice_index_or slots k None) id made → (k : ℕ) → slice_index_or now k None ≡ adopted id n (slice_index_or slots k None))
-    → HasChildren (task_at view) id wanted → (k : ℕ) → slice_index_or now k None ≡ adopted id (length view.history) (task_at view k)
-adopts_seen slots now view id n made wanted same turn count adopts has k =
-    adopts (subst (λ tasks. HasChildren (λ j. slice_index_or tasks j None) id made) (sym same) (subst (HasChildren (task_at view) id) (sym count) has)) k
+pub adopts_seen : (slots now : List (Option Task)) (view : View) (id n : ℕ) → slots ≡ view.tasks → n ≡ length view.history
+    → ((k : ℕ) → slice_index_or now k None ≡ adopted id n (slice_index_or slots k None))
+    → (k : ℕ) → slice_index_or now k None ≡ adopted id (length view.history) (task_at view k)
+adopts_seen slots now view id n same turn adopts k =
+    adopts k
     ∙ ap (λ t. adopted id t (slice_index_or slots k None)) turn
     ∙ ap (λ tasks. adopted id (length view.history) (slice_index_or tasks k None)) same
 
--- the child at one more place is adopted
-module _ (id n place : ℕ) (old now new : ℕ → Option Task) (each : (k : ℕ) → IsAdoptedOrSame id n (old k) (now k))
-    (found : (j : ℕ) → j < place → IsAdopted id n j old now) (key : ℕ) (child : IsChildAt id place (now key))
+-- what stands under one more key is adopted
+module _ (id n place key : ℕ) (keys : List ℕ) (old now new : ℕ → Option Task) (here : slice_get keys place ≡ Some key)
+    (each : (k : ℕ) → IsAdoptedOrSame id n (old k) (now k))
+    (noted : (p k : ℕ) → p < place → slice_get keys p ≡ Some k → now k ≡ adopted id n (old k))
     (changed : new key ≡ adopted id n (now key)) (others : (k : ℕ) → k ≢ key → new k ≡ now k) where
-  was : now key ≡ old key
-  was = elim (each key) [
-    | inl same ↦ same
-    | inr is ↦ absurd (adopted_is_no_child id n place (old key) (subst (IsChildAt id place) is child))
-  ]
-
   own : new key ≡ adopted id n (old key)
-  own = changed ∙ ap (adopted id n) was
+  own = then_all id n (old key) (now key) (new key) (each key) changed
 
   pub each_more : (k : ℕ) → IsAdoptedOrSame id n (old k) (new k)
   each_more k = elim (cases_eq k key) [
@@ -142,20 +166,16 @@ module _ (id n place : ℕ) (old now new : ℕ → Option Task) (each : (k : ℕ
     | inr other ↦ subst (IsAdoptedOrSame id n (old k)) (sym (others k other)) (each k)
   ]
 
-  kept : (j : ℕ) → IsAdopted id n j old now → IsAdopted id n j old new
-  kept j is = record {
-    key = is.key;
-    child = is.child;
-    now = elim (cases_eq is.key key) [
-      | inl same ↦ subst (λ k. new k ≡ adopted id n (old k)) (sym same) own
-      | inr other ↦ others is.key other ∙ is.now
-    ];
-  }
-
-  pub found_more : (j : ℕ) → j < place + 1 → IsAdopted id n j old new
-  found_more j below = elim (cases_eq j place) [
-    | inl same ↦ subst (λ p. IsAdopted id n p old new) (sym same) (record { key = key; child = subst (IsChildAt id place) was child; now = own })
-    | inr other ↦ kept j (found j (grind arith))
+  pub noted_more : (p k : ℕ) → p < place + 1 → slice_get keys p ≡ Some k → new k ≡ adopted id n (old k)
+  noted_more p k below at = elim (cases_eq k key) [
+    | inl same ↦ subst (λ j. new j ≡ adopted id n (old j)) (sym same) own
+    | inr other ↦ elim (cases_eq p place) [
+      | inl last ↦
+          let both : Some k ≡ Some key = sym at ∙ ap (slice_get keys) last ∙ here in
+          let one : k ≡ key = cc in
+          absurd (other one)
+      | inr before ↦ others k other ∙ noted p k (grind arith) at
+    ]
   ]
 
 module _ (id n : ℕ) (tasks now : List (Option Task)) (each : (k : ℕ) → IsAdoptedOrSame id n (slice_index_or tasks k None) (slice_index_or now k None)) where
@@ -216,31 +236,18 @@ after_own id n k (Some t) same = (let is : (k == id) ≡ true = grind (arith, na
 
 module _ (size id : ℕ) (old left noted new : View) (task : Task) (entry : Entry) (stored : IsStored size old) (there : task_at old id ≡ Some task) (leaves : Leaves id old left)
     (noted_is : noted ≡ record left { history = left.history ++ entry ∷ []; output = left.output ++ task.bytes; path = task.key.domain ++ own_level task ∷ [] })
-    (adopts : HasChildren (task_at noted) id (length task.spawns) → (k : ℕ) → task_at new k ≡ adopted id (length noted.history) (task_at noted k))
+    (adopts : (k : ℕ) → task_at new k ≡ adopted id (length noted.history) (task_at noted k))
     (rest : new ≡ record noted { tasks = new.tasks })
     (named : (turn index : ℕ) → task.creator ≡ Committed turn index → entry ≡ record { name = record { creator = turn; index = index }; depth = depth_of task; ts = task.key.ts }) where
   noted_at : (k : ℕ) → task_at noted k ≡ task_at left k
   noted_at k = ap (λ v. task_at v k) noted_is
 
-  -- a child that is left was there
-  was_child : (k place : ℕ) → IsChildAt id place (task_at noted k) → IsChildAt id place (task_at old k)
-  was_child k place is = elim (cases_eq k id) [
-    | inl same ↦ absurd (cc (is.there, noted_at k, ap (task_at left) same, leaves.changes.changed))
-    | inr other ↦ subst (IsChildAt id place) (noted_at k ∙ leaves.changes.others k other) is
-  ]
-
-  has_left : HasChildren (task_at old) id (length task.spawns) → HasChildren (task_at noted) id (length task.spawns)
-  has_left has = record {
-    placed = λ k place is. has.placed k place (was_child k place is);
-    apart = λ k l place one other. has.apart k l place (was_child k place one) (was_child l place other);
-  }
-
   count : length noted.history ≡ length old.history + 1
   count = ap (λ (v : View). length v.history) noted_is ∙ length_push left.history entry ∙ ap (λ (v : View). length v.history + 1) leaves.rest
 
-  each : ChildrenAreMade old id → (k : ℕ) → task_at new k ≡ after_commit id (length old.history + 1) k (task_at old k)
-  each made k =
-      adopts (has_left (made task there)) k
+  each : (k : ℕ) → task_at new k ≡ after_commit id (length old.history + 1) k (task_at old k)
+  each k =
+      adopts k
       ∙ ap (λ n. adopted id n (task_at noted k)) count
       ∙ ap (adopted id (length old.history + 1)) (noted_at k)
       ∙ go (cases_eq k id)
@@ -264,9 +271,9 @@ module _ (size id : ℕ) (old left noted new : View) (task : Task) (entry : Entr
   finished : new.finished ≡ left.finished
   finished = ap (λ (v : View). v.finished) rest ∙ ap (λ (v : View). v.finished) noted_is
 
-  committed_task : ChildrenAreMade old id → IsLeastTask old id task → task.status ≡ Finished → (turn index : ℕ) → task.creator ≡ Committed turn index
+  committed_task : IsLeastTask old id task → task.status ≡ Finished → (turn index : ℕ) → task.creator ≡ Committed turn index
       → Commits old new × (new.history ≡ old.history ++ entry ∷ [])
-  committed_task made least done turn index creator =
+  committed_task least done turn index creator =
       let cores : left.cores ≡ old.cores = leaves.cores ∙ cores_stay size old stored id task there (keeps_none task.status (inr done)) in (
         record {
           id = id;
@@ -276,7 +283,7 @@ module _ (size id : ℕ) (old left noted new : View) (task : Task) (entry : Entr
           turn = turn;
           index = index;
           creator = creator;
-          each = each made;
+          each = each;
           history = history ∙ ap (λ e. old.history ++ e ∷ []) (named turn index creator);
           output = output;
           path = path;
@@ -293,14 +300,14 @@ module _ (size id : ℕ) (old left noted new : View) (task : Task) (entry : Entr
 -- a commit by its parts
 pub commits : (size id : ℕ) (old made left noted new : View) (task : Task) (entry : Entry) → made ≡ old → IsStored size made → task_at made id ≡ Some task → Leaves id made left
     → noted ≡ record left { history = left.history ++ entry ∷ []; output = left.output ++ task.bytes; path = task.key.domain ++ own_level task ∷ [] }
-    → (HasChildren (task_at noted) id (length task.spawns) → (k : ℕ) → task_at new k ≡ adopted id (length noted.history) (task_at noted k))
+    → ((k : ℕ) → task_at new k ≡ adopted id (length noted.history) (task_at noted k))
     → new ≡ record noted { tasks = new.tasks }
     → ((turn index : ℕ) → task.creator ≡ Committed turn index → entry ≡ record { name = record { creator = turn; index = index }; depth = depth_of task; ts = task.key.ts })
     → (t : Task) × IsLeastTask old id t × (t.status ≡ Finished) × ((turn : ℕ) × (index : ℕ) × (t.creator ≡ Committed turn index))
-    → ChildrenAreMade old id → Commits old new × (new.history ≡ old.history ++ entry ∷ [])
-commits size id old made left noted new task entry same stored there leaves noted_is adopts rest named least children =
+    → Commits old new × (new.history ≡ old.history ++ entry ∷ [])
+commits size id old made left noted new task entry same stored there leaves noted_is adopts rest named least =
     let there_old : task_at old id ≡ Some task = subst (λ v. task_at v id ≡ Some task) same there in
     let both : Some least.0 ≡ Some task = sym least.1.at.there ∙ there_old in
     let one : least.0 ≡ task = cc in
     committed_task size id old left noted new task entry (subst (IsStored size) same stored) there_old (subst (λ v. Leaves id v left) same leaves) noted_is adopts rest named
-    children (subst (IsLeastTask old id) one least.1) (ap (λ (t : Task). t.status) (sym one) ∙ least.2) least.3.0 least.3.1 (ap (λ (t : Task). t.creator) (sym one) ∙ least.3.2)
+    (subst (IsLeastTask old id) one least.1) (ap (λ (t : Task). t.status) (sym one) ∙ least.2) least.3.0 least.3.1 (ap (λ (t : Task). t.creator) (sym one) ∙ least.3.2)

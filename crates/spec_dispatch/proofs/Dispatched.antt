@@ -8,7 +8,7 @@ use Rattle.spec_state.specs.View.{View, task_at, cores_at}
 use Rattle.spec_state.specs.Changes.{Dispatches, with_core}
 use Rattle.spec_state.specs.Stored.{HasCore, IsThere, IsWellFormed, IsStored}
 use Rattle.spec_dispatch.specs.Started.{started}
-use Rattle.spec_dispatch.proofs.Cored.{holder_now, others_now, this_or_other}
+use Rattle.spec_state.proofs.Proved.{holder_now, others_now, this_or_other}
 
 module _ (old new : View) (tile : ℕ) (d : Dispatches tile old new) (size : ℕ) (stored : IsStored size old) where
   -- the view after the dispatch

@@ -1,4 +1,3 @@
-pub mod Cored
 pub mod Dispatched
 pub mod Rekeyed
 pub mod Placed

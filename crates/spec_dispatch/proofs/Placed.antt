@@ -1,11 +1,9 @@
 -- A task that is put on a core, by the parts of a state.
-use Rattle.std.proofs.Common.{◌≡◌, ◌≢◌, ◌<◌, ◌≤◌, ◌+◌, ℕ, Vec, Global, cond, List, [], length, map, Option, Some, None, refl, sym, ap, subst, ◌∙◌, inl, inr, arith, slice_get, slice_index_or, get_or-set_same, get_or-set_other}
-use Rattle.std.specs.Prelude.{All, slice_set, is_some, count_by, option_map, vec_len}
+use Rattle.std.proofs.Common.{◌≡◌, ◌<◌, ◌+◌, ℕ, Vec, Global, List, [], length, map, Option, Some, None, refl, sym, ap, subst, ◌∙◌, arith, slice_get, slice_index_or}
+use Rattle.std.specs.Prelude.{All, slice_set, option_map, vec_len}
 use Rattle.std.specs.Vec.{with_item}
-use Rattle.std.proofs.lemmas.List.{length-map, map-set, get_or-map, get_or_past, get_or_default}
+use Rattle.std.proofs.lemmas.List.{length-map, map-set, get_or-map, get_or_default}
 use Rattle.std.proofs.lemmas.List.Elements.{All-set}
-use Rattle.std.proofs.lemmas.List.Sums.{sum_by-set}
-use Rattle.std.proofs.lemmas.Bool.{cases_lt}
 use Rattle.std.proofs.lemmas.Option.{slice_get_within, same_Some}
 use Rattle.fractal_vt.specs.declared.level.Level.{Level}
 use Rattle.run_journal.specs.declared.journal.Entry.{Entry}
@@ -18,10 +16,11 @@ use Rattle.spec_state.specs.declared.settings.Settings.{Settings}
 use Rattle.spec_state.specs.declared.task.Task.{Task}
 use Rattle.spec_state.specs.declared.task.TaskId.{TaskId}
 use Rattle.spec_state.specs.View.{View, core_ids}
-use Rattle.spec_state.specs.Fits.{seen, HasSlots}
+use Rattle.spec_state.specs.Fits.{seen}
 use Rattle.spec_state.specs.Changes.{Dispatches}
 use Rattle.spec_state.specs.Queries.{IsLeastIdle, IsLowestFree}
 use Rattle.spec_state.specs.Stored.{IsIndexed}
+use Rattle.spec_state.proofs.Proved.{others_set, task_set}
 use Rattle.spec_dispatch.specs.Started.{started}
 use Rattle.spec_dispatch.proofs.Rekeyed.{rekeyed}
 
@@ -60,46 +59,6 @@ pub cores_counted : (cores : List Cores) (tile core count : ℕ) (id : TaskId) (
 cores_counted cores tile core count id held within is all =
     All-set (λ (h : Cores). vec_len h ≡ count) cores tile (with_item held core (Some id)) (ap vec_len is ∙ all tile held within) all
 
--- an id with a task is one of the slots
-pub slot_within : (tasks : List (Option Task)) (id : ℕ) (task : Task) → slice_index_or tasks id None ≡ Some task → id < length tasks
-slot_within tasks id task at = elim (cases_lt id (length tasks)) [
-  | inl within ↦ within
-  | inr past ↦ absurd (cc (get_or_past tasks id None past, at))
-]
-
--- as many slots are in use as before
-pub as_many : (tasks : List (Option Task)) (id : ℕ) (task now : Task) → slice_index_or tasks id None ≡ Some task
-    → count_by is_some (slice_set tasks id (Some now)) ≡ count_by is_some tasks
-as_many tasks id task now at =
-    let set = sum_by-set (λ (slot : Option Task). cond (is_some slot) 1 0) tasks id (Some now) None (slot_within tasks id task at) in
-    let weight : Option Task → ℕ = λ slot. cond (is_some slot) 1 0 in
-    let one : weight (slice_index_or tasks id None) ≡ weight (Some task) = ap weight at in
-    omega (arith, set, one)
-
--- slots and entries are as many as they should be
-pub slots_stay : (settings : Settings) (tasks : List (Option Task)) (queues : List QueueValue) (slots indexed entries marks members arrivals room : ℕ)
-    → HasSlots settings tasks slots queues indexed entries marks members arrivals room → (now : List (Option Task)) (indexed_now entries_now : ℕ)
-    → count_by is_some now ≡ count_by is_some tasks → indexed_now ≤ indexed → entries_now ≡ entries
-    → HasSlots settings now slots queues indexed_now entries_now marks members arrivals room
-slots_stay settings tasks queues slots indexed entries marks members arrivals room has now indexed_now entries_now many fewer same = record {
-  enough = has.enough;
-  used = many ∙ has.used;
-  short = has.short;
-  index = same ∙ has.index;
-  indexed_are = omega (arith, has.indexed_are, fewer);
-  marks = has.marks;
-  members = has.members;
-  arrivals = has.arrivals;
-  numbers = has.numbers;
-}
-
--- the task is another one under its id, and all others stay
-pub task_now : (tasks : List (Option Task)) (id : ℕ) (task now : Task) → slice_index_or tasks id None ≡ Some task → slice_index_or (slice_set tasks id (Some now)) id None ≡ Some now
-task_now tasks id task now at = get_or-set_same tasks id (Some now) None (slot_within tasks id task at)
-
-pub others_stay : (tasks : List (Option Task)) (id : ℕ) (now : Task) (k : ℕ) → k ≢ id → slice_index_or (slice_set tasks id (Some now)) k None ≡ slice_index_or tasks k None
-others_stay tasks id now k other = get_or-set_other tasks id k (Some now) None other
-
 -- it has its entry in the index
 pub indexed_placed : (tasks : List (Option Task)) (lists : List (List ℕ)) (arrivals : List ℕ) (next id arrival : ℕ) (entries entries_now : List Indexed) (task now kept : Task)
     → IsIndexed tasks lists arrivals next entries → slice_index_or tasks id None ≡ Some task → slice_index_or (slice_set tasks id (Some now)) id None ≡ Some kept
@@ -110,7 +69,7 @@ indexed_placed tasks lists arrivals next id arrival entries entries_now task now
     let same : arrival ≡ slice_index_or arrivals id 0 = number ∙ get_or_default arrivals id arrival 0 below in
     subst (IsIndexed (slice_set tasks id (Some now)) lists arrivals next)
     (sym (entries_are ∙ ap (λ n. inserted entry_cmp (record { key = kept.key; tile = kept.tile; arrival = n; id = id }) (without id entries)) same))
-    (rekeyed tasks (slice_set tasks id (Some now)) lists arrivals next id entries kept is found (others_stay tasks id now))
+    (rekeyed tasks (slice_set tasks id (Some now)) lists arrivals next id entries kept is found (others_set tasks id now))
 
 -- the dispatch, by the parts
 pub dispatches_seen : (version : ℕ) (settings : Settings) (tasks : List (Option Task)) (memory : List ℕ) (history : List Entry) (output : List ℕ) (next : ℕ) (path : List Level)
@@ -131,8 +90,8 @@ dispatches_seen version settings tasks memory history output next path queues fi
       core = core;
       free = its_free;
       changes = record {
-        changed = task_now tasks id.0 was now there ∙ ap Some (starts ∙ ap (started core next) one);
-        others = others_stay tasks id.0 now;
+        changed = task_set tasks id.0 was now there ∙ ap Some (starts ∙ ap (started core next) one);
+        others = others_set tasks id.0 now;
       };
       next = refl;
       cores = cores_set cores tile core id held within is;

@@ -22,9 +22,10 @@ use Rattle.spec_state.specs.View.{View, task_at}
 use Rattle.spec_state.specs.Settings.{IsValid}
 use Rattle.spec_state.specs.Tasks.{depth_of}
 use Rattle.spec_state.specs.Fits.{seen, entries_in, queued_count, HasTiles, HasSlots}
+use Rattle.spec_state.specs.Children.{AreNoted, ChildrenValue, IsChildAt}
 use Rattle.spec_state.specs.Numbers.{IsInUse, IsPathsOrTasks, IsNumberTable, Renumbers, renumbered_task, on_path, of_task}
 use Rattle.spec_state.specs.Stored.{HasCore, IsThere, IsWellFormed, IsStored, IsIndexed, entry_of}
-use Rattle.spec_state.proofs.Proved.{table_holds_spilled, table_holds_task}
+use Rattle.spec_state.proofs.Proved.{noted_back, table_holds_spilled, table_holds_task}
 use Rattle.spec_dispatch.specs.Table.{held_numbers}
 use Rattle.spec_dispatch.proofs.Tabled.{held_are}
 
@@ -221,6 +222,18 @@ pub indexed_after : (table : List ℕ) (tasks now : List (Option Task)) (lists :
 indexed_after table tasks now lists arrivals next entries entries_now is tasks_are entries_are =
     subst (λ ts. IsIndexed ts lists arrivals next entries_now) (sym tasks_are)
     (subst (IsIndexed (map (option_map (renumbered_task table)) tasks) lists arrivals next) (sym entries_are) (indexed_renumbered table tasks lists arrivals next entries is))
+
+-- children stay noted
+pub noted_after : (table : List ℕ) (tasks now : List (Option Task)) (children : ChildrenValue)
+    → now ≡ map (option_map (renumbered_task table)) tasks → AreNoted tasks children → AreNoted now children
+noted_after table tasks now children is = noted_back tasks now children back
+  where
+    back : (k id place : ℕ) → IsChildAt id place (slice_index_or now k None) → IsChildAt id place (slice_index_or tasks k None)
+    back k id place one =
+        let each : slice_index_or now k None ≡ option_map (renumbered_task table) (slice_index_or tasks k None) =
+        ap (λ ts. slice_index_or ts k None) is ∙ option_mapped (renumbered_task table) tasks k in
+        let was = mapped_some (renumbered_task table) (slice_index_or tasks k None) one.child (sym each ∙ one.there) in
+        record { child = was.0; there = was.1; made_by = ap (λ (t : Task). t.creator) (sym was.2) ∙ one.made_by }
 
 -- what the blocks hold, once they were lent as a slice
 pub blocks_after : (table : List ℕ) (blocks lent now : List BlockValue) (count : ℕ) → lent ≡ blocks → length lent ≡ count → length now ≡ length lent

@@ -5,6 +5,5 @@ pub mod Order
 pub mod Memory
 pub mod Tasks
 pub mod Sound
-pub mod Cored
 pub mod Sizes
 pub mod Heir

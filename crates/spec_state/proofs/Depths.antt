@@ -1,5 +1,5 @@
 -- The kinds of the domains on a path, by the bits of a number.
-use Rattle.std.proofs.Common.{◌≡◌, ◌+◌, ◌/◌, ◌%◌, ◌^◌, ◌∷◌, ◌++◌, ℕ, zero, suc, Bool, true, false, List, [], refl, sym, ap, ◌∙◌, arith, ◌==◌}
+use Rattle.std.proofs.Common.{◌≡◌, ◌/◌, ◌%◌, ◌^◌, ◌∷◌, ◌++◌, ℕ, zero, suc, true, false, List, [], refl, sym, ap, ◌∙◌, arith, ◌==◌}
 use Rattle.std.proofs.Math.Nat.{div-div-eq-div-mul, mul_comm, pow-suc, div-one}
 use Rattle.fractal_vt.specs.declared.level.Level.{Level}
 use Rattle.std.proofs.Common.{◌≢◌}

@@ -1,5 +1,5 @@
 -- A state without a task: its lists hold nothing.
-use Rattle.std.proofs.Common.{◌≡◌, ◌<◌, ◌≤◌, ◌+◌, ◌*◌, ◌-◌, ◌++◌, ℕ, zero, suc, List, [], length, map, replicate, Option, Some, None, refl, sym, ap, subst, ◌∙◌, arith, slice_get, slice_index_or}
+use Rattle.std.proofs.Common.{◌≡◌, ◌≤◌, ◌*◌, ◌-◌, ◌++◌, ℕ, zero, suc, List, [], length, map, replicate, Option, Some, None, refl, sym, ap, subst, ◌∙◌, arith, slice_get, slice_index_or}
 use Rattle.std.specs.Prelude.{All, Contains}
 use Rattle.std.proofs.lemmas.List.Sums.{sum_by-le}
 use Rattle.std.proofs.lemmas.List.{length-append, length-replicate}
@@ -8,7 +8,7 @@ use Rattle.tile_queues.specs.Queue.{QueueValue}
 use Rattle.spec_state.specs.declared.task.Status.{Status}
 use Rattle.spec_state.specs.declared.task.Status.TheVariants.{Finished}
 use Rattle.spec_state.specs.declared.task.Task.{Task}
-use Rattle.spec_state.specs.View.{View, task_at, queue_at, finished_at, cores_at}
+use Rattle.spec_state.specs.View.{View, task_at}
 use Rattle.spec_state.specs.Fits.{queued_count}
 use Rattle.spec_state.specs.Stored.{HasCore, IsThere, IsStored, IsIndexed}
 use Rattle.spec_state.proofs.Joined.{ids_at}

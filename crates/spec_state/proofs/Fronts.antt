@@ -1,7 +1,7 @@
 -- The first of the queued tasks and the first of the spilled ones.
-use Rattle.std.proofs.Common.{◌≡◌, ◌≢◌, ◌<◌, ◌≤◌, ◌+◌, ◌∷◌, ◌++◌, ℕ, zero, suc, Bool, true, false, List, [], length, map, take, Option, Some, None, refl, sym, ap, subst, ◌∙◌, inl, inr, arith, slice_get, slice_index_or}
+use Rattle.std.proofs.Common.{◌≡◌, ◌≢◌, ◌<◌, ◌≤◌, ◌+◌, ℕ, true, false, List, [], length, map, take, Some, refl, sym, ap, subst, ◌∙◌, inl, inr, arith, slice_get, slice_index_or}
 use Rattle.std.specs.Cmp.{IsTotalOrder}
-use Rattle.std.specs.Ordering.{nat_cmp, ordering_then, ordering_reverse, on, then_cmp, is_gt, is_lt}
+use Rattle.std.specs.Ordering.{nat_cmp, ordering_then, ordering_reverse, is_gt, is_lt}
 use Rattle.std.specs.declared.cmp.Ordering.{Ordering}
 use Rattle.std.specs.declared.cmp.Ordering.TheVariants.{Less, Equal, Greater}
 use Rattle.std.proofs.lemmas.Bool.{cases_eq, cases_lt}
@@ -12,10 +12,9 @@ use Rattle.std.proofs.lemmas.Option.{slice_get_within, slice_get-map, get_or_fro
 use Rattle.std.proofs.Common.{option_map, length-take-le}
 use Rattle.fractal_vt.specs.declared.key.Key.{Key}
 use Rattle.fractal_vt.specs.Keys.{key_cmp}
-use Rattle.fractal_vt.specs.Least.{IsFirstLeast}
 use Rattle.fractal_vt.proofs.Proved.{key_cmp_total, least_at}
-use Rattle.spill_store.specs.Entries.{Entry as Spilled, BlockValue, open_key, IsLeastKey, IsLeastEntry}
-use Rattle.spec_state.specs.Least.{Queued, Spilled_at, ranked_cmp, place_cmp}
+use Rattle.spill_store.specs.Entries.{Entry as Spilled, BlockValue, open_key, IsLeastKey}
+use Rattle.spec_state.specs.Least.{Spilled_at, ranked_cmp, place_cmp}
 use Rattle.spec_state.specs.Fronts.{IsFirstSpilled, HoldNone}
 
 not_gt : (o : Ordering) → o ≢ Greater → is_gt o ≡ false

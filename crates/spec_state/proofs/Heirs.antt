@@ -1,15 +1,12 @@
 -- There is one least task at most, and what is firm.
-use Rattle.std.proofs.Common.{◌≡◌, ◌≢◌, ◌≤◌, ◌+◌, ℕ, true, false, Option, Some, None, refl, sym, ap, subst, ◌∙◌, inl, inr, arith, slice_get}
+use Rattle.std.proofs.Common.{◌≡◌, ◌≢◌, ◌≤◌, ℕ, true, false, Option, Some, None, refl, sym, ap, subst, ◌∙◌, inl, inr, slice_get}
 use Rattle.std.specs.Prelude.{is_some, length, ◌↔◌, IfSome, IsNone, IsTrue, Bool}
 use Rattle.std.specs.Ordering.{nat_cmp, ordering_then, ordering_reverse}
 use Rattle.std.specs.declared.cmp.Ordering.{Ordering}
 use Rattle.std.specs.declared.cmp.Ordering.TheVariants.{Less, Equal, Greater}
 use Rattle.std.proofs.lemmas.Cmp.{nat_cmp_total}
-use Rattle.fractal_vt.specs.declared.key.Key.{Key}
 use Rattle.fractal_vt.specs.Keys.{key_cmp}
 use Rattle.fractal_vt.proofs.Proved.{key_cmp_total}
-use Rattle.task_desc.specs.declared.desc.Name.{Name}
-use Rattle.rv_core.specs.declared.state.Core.{Core}
 use Rattle.spec_state.specs.declared.task.Creator.{Creator}
 use Rattle.spec_state.specs.declared.task.Creator.TheVariants.{Committed, Live}
 use Rattle.spec_state.specs.declared.task.Status.{Status}
@@ -19,7 +16,7 @@ use Rattle.spec_state.specs.declared.task.Where.{Where}
 use Rattle.spec_state.specs.declared.task.Where.TheVariants as where_
 use Rattle.spec_state.specs.View.{View, task_at}
 use Rattle.spec_state.specs.Tasks.{is_dispatched, kept_core}
-use Rattle.spec_state.specs.Least.{Spot, Queued, Spilled_at, ranked_cmp, spot_cmp, place_cmp, IsLeastSpot, IsLeastTask, IsLeastSpilled, IsAllCommitted, IsHeir, IsFirm, HasName, IsLeast}
+use Rattle.spec_state.specs.Least.{Queued, Spilled_at, place_cmp, IsLeastTask, IsLeastSpilled, IsAllCommitted, IsHeir, IsFirm, HasName, IsLeast}
 use Rattle.spec_state.specs.Stored.{IsStored}
 use Rattle.spec_state.specs.Fronts.{IsFirmBy, dispatched_in, name_given}
 use Rattle.spec_state.proofs.Leasts.{equal_numbers}

@@ -3,6 +3,7 @@
 use Rattle.std.proofs.Common.{cond, ◌≡◌, ◌≢◌, ◌⊎◌, ◌<◌, ◌≤◌, ◌+◌, ◌^◌, ℕ, List, [], length, Option, Some, None, refl, sym, ap, subst, ◌∙◌, inl, inr, arith, slice_get, slice_index_or}
 use Rattle.std.specs.Prelude.{◌↔◌, Contains, IsSome, slice_set, is_some, count_by}
 use Rattle.std.proofs.lemmas.Bool.{cases_eq}
+use Rattle.std.proofs.lemmas.List.{get_or-set_same, get_or-set_other}
 use Rattle.std.proofs.lemmas.List.Sums.{sum_by-set}
 use Rattle.commit_arbiter.specs.declared.entry.Entry.{Entry}
 use Rattle.fractal_vt.specs.declared.key.Key.{Key}
@@ -174,6 +175,36 @@ slots_kept settings tasks now slots queues indexed indexed_now entries entries_n
   arrivals = has.arrivals;
   numbers = has.numbers;
 }
+
+-- a task is written over: it stands there now,
+pub task_set : (tasks : List (Option Task)) (id : ℕ) (task now : Task) → slice_index_or tasks id None ≡ Some task
+    → slice_index_or (slice_set tasks id (Some now)) id None ≡ Some now
+task_set tasks id task now there = get_or-set_same tasks id (Some now) None (below_slots tasks id task there)
+
+-- and all others stay,
+pub others_set : (tasks : List (Option Task)) (id : ℕ) (now : Task) (k : ℕ) → k ≢ id → slice_index_or (slice_set tasks id (Some now)) k None ≡ slice_index_or tasks k None
+others_set tasks id now k other = get_or-set_other tasks id k (Some now) None other
+
+-- so slots and entries are as many,
+pub slots_set : (settings : Settings) (tasks : List (Option Task)) (slots : ℕ) (queues : List QueueValue) (indexed entries marks members arrivals room id : ℕ) (task now : Task)
+    → HasSlots settings tasks slots queues indexed entries marks members arrivals room → slice_index_or tasks id None ≡ Some task
+    → HasSlots settings (slice_set tasks id (Some now)) slots queues indexed entries marks members arrivals room
+slots_set settings tasks slots queues indexed entries marks members arrivals room id task now has there =
+    slots_kept settings tasks (slice_set tasks id (Some now)) slots queues indexed indexed entries entries marks members arrivals room has (same_count tasks id task now there) (omega arith) refl
+
+-- the lists hold what they should, where it keeps its place,
+pub stored_set : (size : ℕ) (old : View) (id : ℕ) (task now : Task) (memory : List ℕ) → IsStored size old → task_at old id ≡ Some task → KeepsPlace task now
+    → IsWellFormed size (length old.history) now → length memory ≡ size → IsStored size (record old { tasks = slice_set old.tasks id (Some now); memory = memory })
+stored_set size old id task now memory stored there keeps formed long =
+    stored_but_one size old (record old { tasks = slice_set old.tasks id (Some now); memory = memory }) id task now stored there
+    (record { changed = task_set old.tasks id task now there; others = others_set old.tasks id now }) refl refl refl refl (long ∙ sym stored.memory) keeps formed
+
+-- and so does the index, where it keeps its key
+pub indexed_set : (tasks : List (Option Task)) (queues : List (List ℕ)) (arrivals : List ℕ) (next : ℕ) (entries : List Entry) (id : ℕ) (task now : Task)
+    → IsIndexed tasks queues arrivals next entries → slice_index_or tasks id None ≡ Some task → now.key ≡ task.key → now.tile ≡ task.tile
+    → IsIndexed (slice_set tasks id (Some now)) queues arrivals next entries
+indexed_set tasks queues arrivals next entries id task now is there key tile =
+    indexed_but_one tasks (slice_set tasks id (Some now)) queues arrivals next entries id task now there (task_set tasks id task now there) (others_set tasks id now) tile key is
 
 -- whether a task keeps a core doesn't depend on which core it is
 pub keeps_some : (status : Status) (a b : Core) → is_some (kept_core status a) ≡ is_some (kept_core status b)

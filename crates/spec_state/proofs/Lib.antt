@@ -7,8 +7,10 @@ pub mod Empty
 pub mod Reserved
 pub mod Moved
 pub mod Without
+pub mod Cored
 pub mod Vacated
 pub mod Kept
+pub mod Noted
 pub mod Left
 pub mod Renumbered
 pub mod Fresh

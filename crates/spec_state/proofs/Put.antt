@@ -1,7 +1,7 @@
 -- A task that is put into slab, queue and index, by the parts of a state.
 use Rattle.std.proofs.Common.{◌≡◌, ◌≢◌, ◌<◌, ◌≤◌, ◌+◌, ◌*◌, ◌∷◌, ◌++◌, ℕ, List, [], length, map, Option, Some, None, refl, sym, ap, subst, ◌∙◌, arith, slice_index_or}
-use Rattle.std.specs.Prelude.{All, Contains, slice_set, is_some, count_by}
-use Rattle.std.proofs.lemmas.List.{length-set, length-map, get_or_default}
+use Rattle.std.specs.Prelude.{Contains, slice_set, is_some, count_by}
+use Rattle.std.proofs.lemmas.List.{length-map, get_or_default}
 use Rattle.std.proofs.lemmas.List.Sums.{sum_by-le}
 use Rattle.fractal_vt.specs.declared.level.Level.{Level}
 use Rattle.run_journal.specs.declared.journal.Entry.{Entry}
@@ -13,16 +13,15 @@ use Rattle.fractal_vt.specs.Sorted.{inserted}
 use Rattle.std.proofs.lemmas.Option.{same_Some}
 use Rattle.spec_state.specs.declared.settings.Settings.{Settings}
 use Rattle.spec_state.specs.declared.task.Task.{Task}
-use Rattle.spec_state.specs.View.{View, task_at, queue_at}
+use Rattle.spec_state.specs.View.{View}
 use Rattle.spec_state.specs.Fits.{seen, queued_count, HasTiles, HasSlots}
-use Rattle.spec_state.specs.Stored.{IsStored, IsIndexed, IsWellFormed}
+use Rattle.spec_state.specs.Stored.{IsIndexed, IsWellFormed}
 use Rattle.fractal_vt.proofs.Proved.{length-inserted}
 use Rattle.task_desc.specs.declared.desc.Desc.{Desc}
 use Rattle.spec_state.specs.declared.task.Creator.TheVariants.{Committed}
 use Rattle.spec_state.specs.Tasks.{idle_task, root_descriptor}
 use Rattle.spec_state.specs.Opening.{Adds, IsOfImage}
-use Rattle.spec_state.specs.Room.{HasFreeEntry}
-use Rattle.spec_state.proofs.Joined.{ids_at, queued, not_queued}
+use Rattle.spec_state.proofs.Joined.{ids_at, queued}
 use Rattle.spec_state.proofs.Counted.{still_short, one_more, has_room}
 use Rattle.spec_state.proofs.Entered.{entered}
 

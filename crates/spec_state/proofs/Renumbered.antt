@@ -1,9 +1,9 @@
 -- The tasks of one queue get their places as arrival numbers, one after another.
-use Rattle.std.proofs.Common.{◌≡◌, ◌≢◌, ◌<◌, ◌≤◌, ◌+◌, ℕ, List, [], length, Option, Some, None, refl, sym, ap, subst, ◌∙◌, inl, inr, arith, length-set, slice_get, slice_index_or}
-use Rattle.std.specs.Prelude.{Contains, IsSome, slice_set}
+use Rattle.std.proofs.Common.{◌≡◌, ◌<◌, ◌≤◌, ◌+◌, ℕ, List, [], length, Option, Some, None, refl, sym, ap, subst, ◌∙◌, inl, inr, arith, length-set, slice_get, slice_index_or}
+use Rattle.std.specs.Prelude.{Contains, slice_set}
 use Rattle.std.proofs.lemmas.Bool.{cases_eq}
 use Rattle.std.proofs.lemmas.List.{get_or-set_same, get_or-set_other, get_or_past}
-use Rattle.std.proofs.lemmas.Option.{slice_get_within, get_or_from_slice_get, slice_get-get_or}
+use Rattle.std.proofs.lemmas.Option.{slice_get-get_or}
 use Rattle.commit_arbiter.specs.declared.entry.Entry.{Entry}
 use Rattle.commit_arbiter.specs.Indexed.{entry_cmp, without}
 use Rattle.fractal_vt.specs.Sorted.{inserted}

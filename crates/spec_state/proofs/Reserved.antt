@@ -1,5 +1,5 @@
 -- A block with more room: what is seen of the blocks stays, and no room is less.
-use Rattle.std.proofs.Common.{◌≡◌, ◌<◌, ◌≤◌, ◌∷◌, ℕ, zero, suc, List, [], length, map, refl, sym, ap, subst, ◌∙◌, arith, slice_index_or}
+use Rattle.std.proofs.Common.{◌≡◌, ◌<◌, ◌≤◌, ◌∷◌, ℕ, zero, suc, List, [], length, map, refl, sym, ap, ◌∙◌, arith, slice_index_or}
 use Rattle.std.specs.Prelude.{slice_set, IfSome, OnOk, Result, Ok, Err}
 use Rattle.std.proofs.Common.{Option}
 use Rattle.std.specs.declared.alloc.AllocError.{AllocError}

@@ -2,6 +2,7 @@ pub mod Settings
 pub mod View
 pub mod StateValue
 pub mod Fits
+pub mod Children
 pub mod Filters
 pub mod Stored
 pub mod Tasks

@@ -1,6 +1,6 @@
 -- What contracts see of a state: the machine, the room that it keeps for what the next event adds, and its notes of
 -- a cascade.
-use Rattle.std.specs.Prelude.{◌<◌, ◌≤◌, ℕ, Bool, List, Option, length, IfSome, slice_index_or}
+use Rattle.std.specs.Prelude.{◌<◌, ◌≤◌, ◌+◌, ℕ, Bool, List, Option, length, IfSome, slice_index_or}
 use Rattle.spec_state.specs.declared.task.TaskId.{TaskId}
 use Rattle.spec_state.specs.View.{View, task_at}
 
@@ -30,6 +30,11 @@ CoversLog state id = IfSome (task_at state.view id) (λ task. length task.log < 
 -- a child more of the task has room among its children
 abbrev pub CoversChild : StateValue → ℕ → Type 0
 CoversChild state id = IfSome (task_at state.view id) (λ task. length task.spawns < state.room.spawns)
+
+-- the bytes of the task have room in the output
+abbrev pub CoversOutput : StateValue → ℕ → Type 0
+CoversOutput state id = IfSome (task_at state.view id)
+    (λ task. length state.view.output + length task.bytes ≤ state.room.output)
 
 -- so many pushes are spare in the tile's block
 abbrev pub CoversPushes : StateValue → ℕ → ℕ → Type 0

@@ -1,5 +1,5 @@
 -- What the type of a state keeps of its tasks and lists, so that what reads or changes a state has it for each state.
-use Rattle.std.specs.Prelude.{◌≡◌, ◌↔◌, ◌≢◌, ◌<◌, ◌≤◌, ◌^◌, ℕ, List, [], All, Contains, Option, Some, None, IsSome}
+use Rattle.std.specs.Prelude.{◌≡◌, ◌↔◌, ◌<◌, ◌≤◌, ◌^◌, ℕ, List, [], Contains, Option, Some, None, IsSome}
 use Rattle.std.specs.Prelude.{is_some, length, slice_get, slice_index_or}
 use Rattle.commit_arbiter.specs.declared.entry.Entry.{Entry}
 use Rattle.undo_log.specs.Undo.{AllAccessible}
@@ -8,7 +8,7 @@ use Rattle.spec_state.specs.declared.task.Creator.TheVariants.{Committed}
 use Rattle.spec_state.specs.declared.task.Status.{Status}
 use Rattle.spec_state.specs.declared.task.Status.TheVariants.{Idle, Running, Trapped, Finished}
 use Rattle.spec_state.specs.declared.task.Task.{Task}
-use Rattle.spec_state.specs.View.{View, task_at, queue_at, finished_at, cores_at}
+use Rattle.spec_state.specs.View.{View, task_at, finished_at, cores_at}
 use Rattle.spec_state.specs.Tasks.{depth_of, is_dispatched, kept_core}
 use Rattle.spec_state.specs.Queries.{IsQueued}
 

@@ -68,7 +68,6 @@ impl<N: Naming> State<N> {
         ensures room { self.new.room ≡ self.old.room }
     {
         let tile = task.tile;
-        let creator = task.creator;
         let arrival = fresh_arrival(
             &mut self.index,
             &mut self.arrivals,
@@ -82,7 +81,7 @@ impl<N: Naming> State<N> {
         self.arrivals[id] = arrival;
         self.index.insert(&self.tasks[id].key, tile, arrival, id);
         self.next_arrival = arrival + 1;
-        self.children.note(creator, id);
+        self.children.note(&self.tasks, id);
         TaskId(id)
     }
 

@@ -1,47 +1,216 @@
-ghost use Rattle.std.specs.Prelude.{◌≤◌};
+//! Where the children of each task stand.
 
-use crate::task::Creator;
+ghost use Rattle.std.specs.Prelude.{◌≡◌, ◌≢◌, ◌↔◌, ℕ, [], true, replicate, IsTrue, IfOk, IfSome, Some, slice_get};
+ghost use Rattle.slab.specs.Slab.{get};
+ghost use Rattle.spec_state.specs.Children.{AreNoted, AreNotedBut, IsChildAt, Notes, NotesAt, noted_of};
+
+use crate::task::{Creator, Task};
+use arrayvec::ArrayVec;
+use slab::Slab;
 use std::alloc::{AllocError, Global};
+use std::marker::Model;
 use task_desc::MAX_CHILDREN;
 
-/// Where the children of each task were put last, so that they are found without a search. It is a hint: whoever asks
-/// tests what stands there, so nothing is kept of it and nothing promised.
+/// How many children of a task are noted: all that it may have.
+const MAX_NOTED: usize = MAX_CHILDREN as usize;
+
+/// The ids under which the children of one task were put last, by their places among its children: at most
+/// `MAX_NOTED`. The room for all of them is in it from the start.
+#[derive(Drop)]
+struct Places {
+    ids: ArrayVec<u32, MAX_NOTED>,
+}
+
+impl Model for Places {
+    ghost use Rattle.std.specs.Prelude.{List, ℕ};
+
+    ghost Value = { List ℕ };
+
+    ghost view = { λ p. p.ids.items };
+}
+
+impl Places {
+    /// No child.
+    fn new() -> Self
+        ensures { result ≡ [] }
+    {
+        Places {
+            ids: ArrayVec::new(),
+        }
+    }
+
+    /// The id that was noted for the child at this place, if one was.
+    fn get(&self, place: usize) -> Option<usize>
+        ensures { result ≡ slice_get self.now place }
+    {
+        self.ids.as_slice().get(place).map(|id| *id as usize)
+    }
+
+    /// Notes the id of the child at this place. It tells whether there is room for it: each place below it has been
+    /// noted, and it is below `MAX_NOTED`.
+    fn note(&mut self, place: usize, id: u32) -> bool
+        ensures { IsTrue result → NotesAt place id self.old self.new }
+    {
+        let noted = self.ids.len();
+        if place < noted {
+            self.ids[place] = id;
+            true
+        } else if place == noted && noted < MAX_NOTED {
+            self.ids.push(id);
+            true
+        } else {
+            false
+        }
+    }
+
+    /// The ids.
+    fn as_slice(&self) -> &[u32]
+        ensures { result.now ≡ self.now }
+    {
+        self.ids.as_slice()
+    }
+
+    /// Forgets all children.
+    fn clear(&mut self)
+        ensures { self.new ≡ [] }
+    {
+        self.ids.clear();
+    }
+}
+
+/// Whether the child at this place of the task of this id stands under this key.
+fn is_child_at(tasks: &Slab<Task>, key: usize, id: usize, place: usize) -> bool
+    ensures { IsTrue result ↔ IsChildAt id place (get tasks.now key) }
+{
+    match tasks.get(key) {
+        Some(task) => match task.creator {
+            Creator::Live {
+                task: creator,
+                index,
+            } => creator.0 == id && index as usize == place,
+            Creator::Committed { .. } => false,
+        },
+        None => false,
+    }
+}
+
+/// Where the children of each task were put last, so that they are found without a search. The notes are complete as
+/// long as no two children of a task stand at one place, and each is put after those before it, as events put them;
+/// afterwards they serve no more.
 #[derive(Drop)]
 pub struct Children {
-    /// The id that was noted, for each task and place among its children.
-    ids: Vec<u32>,
+    /// The children of each task that may be.
+    places: Vec<Places>,
+    /// Whether each child is noted where it stands.
+    complete: bool,
+}
+
+impl Model for Children {
+    ghost use Rattle.spec_state.specs.Children.{ChildrenValue};
+
+    ghost Value = { ChildrenValue };
+
+    ghost view = { λ c. record { lists = c.places.items; complete = c.complete } };
 }
 
 impl Children {
-    /// Nothing noted, for the children of so many tasks: at most 4,096. `AllocError` where memory runs out.
+    /// No child noted of so many tasks. `AllocError` where memory runs out.
     pub(crate) fn new(alloc: Global, tasks: u32) -> Result<Self, AllocError>
-        requires { tasks ≤ 4096 }
+        ensures { IfOk result (λ children. children ≡ record { lists = replicate tasks []; complete = true }) }
     {
+        let mut places = Vec::with_capacity(alloc, tasks as usize)?;
+        for _ in 0..tasks {
+            places.push(Places::new())?;
+        }
         Ok(Children {
-            ids: vec![in alloc; 0; tasks as usize * MAX_CHILDREN as usize]?,
+            places,
+            complete: true,
         })
     }
 
-    /// Notes that a task of this creator was put under this id.
-    pub(crate) fn note(&mut self, creator: Creator, id: usize) {
-        if let Creator::Live { task, index } = creator {
-            let place = place_of(task.0, index as usize);
-            if let (Some(noted), Ok(id)) = (self.ids.get_mut(place), u32::try_from(id)) {
-                *noted = id;
+    /// The id that was noted for the child at this place of the task of this id, if one was.
+    fn noted(&self, id: usize, place: usize) -> Option<usize>
+        ensures { result ≡ slice_get (noted_of self.now id) place }
+    {
+        match self.places.get(id) {
+            Some(places) => places.get(place),
+            None => None,
+        }
+    }
+
+    /// Whether no other child than the one of this id stands where the child at this place of this creator was noted.
+    fn is_free(&self, tasks: &Slab<Task>, id: usize, creator: usize, place: usize) -> bool
+        ensures { IsTrue result → (k : ℕ) → slice_get (noted_of self.now creator) place ≡ Some k → k ≢ id
+            → IsChildAt creator place (get tasks.now k) → ⊥ }
+    {
+        match self.noted(creator, place) {
+            Some(noted) => noted == id || !is_child_at(tasks, noted, creator, place),
+            None => true,
+        }
+    }
+
+    /// Notes that the child at this place of this creator stands under the id. It tells whether there is room for it.
+    fn put(&mut self, id: usize, creator: usize, place: usize) -> bool
+        ensures complete { self.new.complete ≡ self.old.complete }
+        ensures notes { IsTrue result → Notes creator place id self.old self.new }
+    {
+        match u32::try_from(id) {
+            Ok(id) if creator < self.places.len() => self.places[creator].note(place, id),
+            _ => false,
+        }
+    }
+
+    /// Notes the child at this place of this creator, which stands under the id, where all others are noted.
+    fn note_child(&mut self, tasks: &Slab<Task>, id: usize, creator: usize, place: usize)
+        requires child { IsChildAt creator place (get tasks.now id) }
+        requires others { AreNotedBut id tasks.now.slots self.old }
+        ensures { AreNoted tasks.now.slots self.new }
+    {
+        let free = self.is_free(tasks, id, creator, place);
+        let put = self.put(id, creator, place);
+        if !(free && put) {
+            self.complete = false;
+        }
+    }
+
+    /// Notes what stands under the id, where all others are noted.
+    pub(crate) fn note(&mut self, tasks: &Slab<Task>, id: usize)
+        requires { AreNotedBut id tasks.now.slots self.old }
+        ensures { AreNoted tasks.now.slots self.new }
+    {
+        if let Some(task) = tasks.get(id) {
+            if let Creator::Live {
+                task: creator,
+                index,
+            } = task.creator
+            {
+                self.note_child(tasks, id, creator.0, index as usize);
             }
         }
     }
 
-    /// The id under which the child at this place of the task of this id was put last, if there may be one.
-    pub fn hint(&self, id: usize, place: usize) -> Option<usize> {
-        match self.ids.get(place_of(id, place)) {
-            Some(noted) => Some(*noted as usize),
+    /// The ids that are noted for the children of a task, by their places: each of its children stands under one of
+    /// them, and one of them may be another task's, or none's. None where the notes aren't complete.
+    pub fn of(&self, id: usize) -> Option<&[u32]>
+        ensures { IfSome result (λ ids. IsTrue self.now.complete × (ids.now ≡ noted_of self.now id)) }
+    {
+        if !self.complete {
+            return None;
+        }
+        match self.places.get(id) {
+            Some(places) => Some(places.as_slice()),
             None => None,
         }
     }
-}
 
-/// The place of a child's note. Where it wraps another note is told, which is tested as each is.
-fn place_of(id: usize, place: usize) -> usize {
-    id.wrapping_mul(MAX_CHILDREN as usize).wrapping_add(place)
+    /// Forgets the children of a task.
+    pub fn forget(&mut self, id: usize)
+        ensures complete { self.new.complete ≡ self.old.complete }
+        ensures none { noted_of self.new id ≡ [] }
+        ensures others { (k : ℕ) → k ≢ id → noted_of self.new k ≡ noted_of self.old k }
+    {
+        if id < self.places.len() {
+            self.places[id].clear();
+        }
+    }
 }

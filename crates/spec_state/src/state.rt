@@ -21,8 +21,9 @@ use undo_log::Memory;
 /// names, that each tile has its queues, of the capacities of the settings, its cores and its
 /// block, that queues, commit queues and cores hold the tasks of their tile and nothing else, each
 /// as its status says, that each task is well formed, that the data has the image's size, that the
-/// history has room for all commits, and (`IsIndexed`) that the index holds the queued tasks in
-/// their order. So a free entry of a queue is a free slot and a free entry of the index too.
+/// history has room for all commits, (`IsIndexed`) that the index holds the queued tasks in their
+/// order, and (`AreNoted`) that each child is noted where it stands. So a free entry of a queue is
+/// a free slot and a free entry of the index too.
 #[derive(Drop)]
 pub struct State<N: Naming> {
     /// How large it is and how far it runs.
@@ -53,7 +54,7 @@ pub struct State<N: Naming> {
     pub arrivals: Vec<u64>,
     /// The next arrival number.
     pub next_arrival: u64,
-    /// Where the children of each task were put: a hint, of which nothing is kept.
+    /// Where the children of each task stand.
     pub children: Children,
     /// Room for the marks of a cascade: one for each id that a task may have.
     pub marks: Vec<bool>,
@@ -75,6 +76,7 @@ impl<N: Naming> Model for State<N> {
     ghost use Rattle.spec_state.specs.StateValue.{StateValue};
     ghost use Rattle.spec_state.specs.Fits.{seen, HasLimits, HasTiles, HasSlots};
     ghost use Rattle.spec_state.specs.Stored.{IsStored, IsIndexed};
+    ghost use Rattle.spec_state.specs.Children.{AreNoted};
 
     ghost Value = { StateValue };
 
@@ -101,5 +103,6 @@ impl<N: Naming> Model for State<N> {
         × HasSlots s.settings s.tasks.slots s.tasks.capacity s.queues.items (length s.index.entries) s.index.capacity
         (vec_len s.marks) (vec_len s.members) (length s.arrivals.items) (vec_capacity s.numbers)
         × IsStored N.image.data_size view
-        × IsIndexed s.tasks.slots view.queues s.arrivals.items s.next_arrival s.index.entries };
+        × IsIndexed s.tasks.slots view.queues s.arrivals.items s.next_arrival s.index.entries
+        × AreNoted s.tasks.slots s.children };
 }

@@ -9,7 +9,8 @@ use Rattle.spec_state.specs.View.{View, task_at, queue_at}
 use Rattle.spec_state.specs.Tasks.{idle_again, is_dispatched}
 use Rattle.spec_state.specs.Least.{Spot, Queued, Spilled_at, HasKey, IsHeir, IsLeastTask, spot_cmp}
 use Rattle.spec_state.specs.Opening.{Adds}
-use Rattle.spec_law.proofs.Adds.One.{added_to, still_there, is_new, place_stays, place_was, runs_was, was_there}
+use Rattle.spec_state.proofs.Proved.{is_new, still_there, was_there}
+use Rattle.spec_law.proofs.Adds.One.{added_to, place_stays, place_was, runs_was}
 use Rattle.spec_law.proofs.Aborted.Spared.{least_key}
 use Rattle.std.proofs.lemmas.Bool.{cases_eq}
 

@@ -1,7 +1,6 @@
 -- A task that comes to be, idle, as the last one of its tile's task queue: where it stands, and that memory reads nothing of it.
-use Rattle.std.proofs.Common.{◌≡◌, ◌≢◌, ◌⊎◌, ◌<◌, ◌∷◌, ◌++◌, ℕ, true, false, [], length, Some, sym, ap, subst, ◌∙◌, inl, inr, option_map, slice_get, slice_index_or}
+use Rattle.std.proofs.Common.{◌≡◌, ◌⊎◌, ◌<◌, ◌∷◌, ℕ, true, false, [], length, Some, sym, ap, subst, ◌∙◌, inl, inr, option_map, slice_get}
 use Rattle.std.proofs.lemmas.Bool.{cases_eq}
-use Rattle.std.proofs.lemmas.List.{get_or-set_same, get_or-set_other}
 use Rattle.guest_image.specs.ImageValue.{ImageValue}
 use Rattle.memory_law.specs.Notes.{notes_of}
 use Rattle.memory_law.specs.Tasks.{Logged}
@@ -16,6 +15,7 @@ use Rattle.spec_state.specs.Filters.{HasNotes}
 use Rattle.spec_state.specs.Tasks.{idle_again, is_dispatched}
 use Rattle.spec_state.specs.Groups.{logged, logged_task}
 use Rattle.spec_state.specs.Opening.{Adds}
+use Rattle.spec_state.proofs.Proved.{is_new, other_queue, own_queue, still_there, was_there}
 use Rattle.spec_law.specs.Sound.{StandsAs, SoundMemory}
 use Rattle.spec_law.proofs.Accesses.Noted.{none_noted}
 use Rattle.spec_law.proofs.Steps.One.{each_stepped}
@@ -33,46 +33,25 @@ undispatched_idle image budget t (Trapped core cause) stands off = absurd (cc (s
 undispatched_idle image budget t Finished stands off = absurd (cc (stands.0, off))
 
 module _ (old new : View) (id : ℕ) (task : Task) (adds : Adds id task old new) where
-  -- a task that was there is there still, under another id
-  pub other_id : (k : ℕ) (t : Task) → task_at old k ≡ Some t → k ≢ id
-  other_id k t at same = absurd (cc (at, ap (task_at old) same, adds.vacant))
-
-  pub still_there : (k : ℕ) (t : Task) → task_at old k ≡ Some t → task_at new k ≡ Some t
-  still_there k t at = adds.changes.others k (other_id k t at) ∙ at
-
-  -- the new task stands under its own id alone
-  pub is_new : (k : ℕ) (t : Task) → k ≡ id → task_at new k ≡ Some t → t ≡ task
-  is_new k t same at = let both : Some t ≡ Some task = sym at ∙ ap (task_at new) same ∙ adds.changes.changed in cc
-
-  pub was_there : (k : ℕ) (t : Task) → k ≢ id → task_at new k ≡ Some t → task_at old k ≡ Some t
-  was_there k t other at = sym (adds.changes.others k other) ∙ at
-
-  -- it stands last in its tile's queue, and the others stay
-  pub own_queue : task.tile < length old.queues → queue_at new task.tile ≡ queue_at old task.tile ++ id ∷ []
-  own_queue within = ap (λ queues. slice_index_or queues task.tile []) adds.queues ∙ get_or-set_same old.queues task.tile (queue_at old task.tile ++ id ∷ []) [] within
-
-  pub other_queue : (tile : ℕ) → tile ≢ task.tile → queue_at new tile ≡ queue_at old tile
-  other_queue tile other = ap (λ queues. slice_index_or queues tile []) adds.queues ∙ get_or-set_other old.queues task.tile tile (queue_at old task.tile ++ id ∷ []) [] other
-
   -- who stood at a place of a queue stands there
   pub place_stays : task.tile < length old.queues → (tile place k : ℕ) → slice_get (queue_at old tile) place ≡ Some k → slice_get (queue_at new tile) place ≡ Some k
   place_stays within tile place k at = elim (cases_eq tile task.tile) [
     | inl own ↦
         subst (λ n. slice_get (queue_at new n) place ≡ Some k) (sym own)
-        (ap (λ ids. slice_get ids place) (own_queue within) ∙ get_front (queue_at old task.tile) (id ∷ []) place k (subst (λ n. slice_get (queue_at old n) place ≡ Some k) own at))
-    | inr other ↦ ap (λ ids. slice_get ids place) (other_queue tile other) ∙ at
+        (ap (λ ids. slice_get ids place) (own_queue old new id task adds within) ∙ get_front (queue_at old task.tile) (id ∷ []) place k (subst (λ n. slice_get (queue_at old n) place ≡ Some k) own at))
+    | inr other ↦ ap (λ ids. slice_get ids place) (other_queue old new id task adds tile other) ∙ at
   ]
 
   -- who stands at a place stood there, or is the new task
   pub place_was : task.tile < length old.queues → (tile place k : ℕ) → slice_get (queue_at new tile) place ≡ Some k → (slice_get (queue_at old tile) place ≡ Some k) ⊎ (k ≡ id)
   place_was within tile place k at = elim (cases_eq tile task.tile) [
     | inl own ↦
-        let here = ap (λ ids. slice_get ids place) (sym (own_queue within)) ∙ subst (λ n. slice_get (queue_at new n) place ≡ Some k) own at in
+        let here = ap (λ ids. slice_get ids place) (sym (own_queue old new id task adds within)) ∙ subst (λ n. slice_get (queue_at new n) place ≡ Some k) own at in
         elim (get_cases (queue_at old task.tile) id place k here) [
           | inl was ↦ inl (subst (λ n. slice_get (queue_at old n) place ≡ Some k) (sym own) was)
           | inr last ↦ inr (sym last.1)
         ]
-    | inr other ↦ inl (ap (λ ids. slice_get ids place) (sym (other_queue tile other)) ∙ at)
+    | inr other ↦ inl (ap (λ ids. slice_get ids place) (sym (other_queue old new id task adds tile other)) ∙ at)
   ]
 
   module _ (idle : task ≡ idle_again old.version task) where
@@ -81,7 +60,7 @@ module _ (old new : View) (id : ℕ) (task : Task) (adds : Adds id task old new)
 
     -- a dispatched task was there
     pub runs_was : (k : ℕ) (t : Task) → task_at new k ≡ Some t → is_dispatched t ≡ true → task_at old k ≡ Some t
-    runs_was k t at runs = was_there k t (λ same. absurd (cc (ap (λ x. is_dispatched x) (is_new k t same at), undispatched, runs))) at
+    runs_was k t at runs = was_there old new id task adds k t (λ same. absurd (cc (ap (λ x. is_dispatched x) (is_new old new id task adds k t same at), undispatched, runs))) at
 
     module _ (image : ImageValue) (serial : State) (stands : (k : ℕ) (t : Task) → task_at old k ≡ Some t → StandsAs image old.settings.budget t t.status) where
       idle_log : (k : ℕ) (x : Logged) → logged new k ≡ Some x → x.dispatched ≡ false → x.log ≡ []
@@ -95,7 +74,7 @@ module _ (old new : View) (id : ℕ) (task : Task) (adds : Adds id task old new)
 
       logs_stay : (k : ℕ) (x : Logged) → x.dispatched ≡ true → logged old k ≡ Some x → logged new k ≡ Some x
       logs_stay k x runs at =
-          let read = mapped_some logged_task (task_at old k) x at in ap (option_map logged_task) (still_there k read.0 read.1) ∙ ap Some (sym read.2)
+          let read = mapped_some logged_task (task_at old k) x at in ap (option_map logged_task) (still_there old new id task adds k read.0 read.1) ∙ ap Some (sym read.2)
 
       logs_were : (k : ℕ) (x : Logged) → x.dispatched ≡ true → logged new k ≡ Some x → logged old k ≡ Some x
       logs_were k x runs at =

@@ -10,7 +10,8 @@ use Rattle.spec_state.specs.View.{View, task_at}
 use Rattle.spec_state.specs.Groups.{all_keyed, all_spilled, keyed, keyed_spilled, keyed_task, live_creator}
 use Rattle.spec_state.specs.Opening.{Adds}
 use Rattle.spec_law.specs.Sound.{SoundOrder}
-use Rattle.spec_law.proofs.Adds.One.{added_to, still_there}
+use Rattle.spec_state.proofs.Proved.{still_there}
+use Rattle.spec_law.proofs.Adds.One.{added_to}
 use Rattle.spec_law.proofs.Tasks.Rebound.{rebound, entry_idle, task_there, low_is, high_is}
 use Rattle.spec_law.proofs.Tasks.Beside.{id_below, low_test, mapped_some}
 

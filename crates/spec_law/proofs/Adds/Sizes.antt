@@ -16,7 +16,8 @@ use Rattle.spec_state.specs.Opening.{Adds}
 use Rattle.spec_state.specs.Queries.{IsQueued}
 use Rattle.spec_state.specs.Room.{HasFreeEntry}
 use Rattle.spec_law.specs.Sound.{HoldsCore, HasTask, SoundSizes}
-use Rattle.spec_law.proofs.Adds.One.{added_to, still_there, is_new, was_there, own_queue, other_queue}
+use Rattle.spec_state.proofs.Proved.{is_new, other_queue, own_queue, still_there, was_there}
+use Rattle.spec_law.proofs.Adds.One.{added_to}
 use Rattle.spec_law.proofs.Steps.One.{each_stepped}
 use Rattle.spec_law.proofs.Tasks.Distinct.{distinct_at}
 

@@ -9,7 +9,7 @@ use Rattle.spec_state.specs.View.{View, task_at, cores_at}
 use Rattle.spec_state.specs.Tasks.{depth_of}
 use Rattle.spec_state.specs.Changes.{Dispatches}
 use Rattle.spec_law.specs.Sound.{HoldsCore, HasTask, SoundSizes}
-use Rattle.spec_law.proofs.Dispatches.Cored.{holder_now, others_now, counts_now, this_or_other}
+use Rattle.spec_state.proofs.Proved.{holder_now, others_now, counts_now, this_or_other}
 use Rattle.spec_law.proofs.Dispatches.One.{after, now, was, was_this, which, each_after}
 
 module _ (old new : View) (tile : ℕ) (d : Dispatches tile old new) (sizes : SoundSizes old) where

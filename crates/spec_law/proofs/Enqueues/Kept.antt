@@ -28,7 +28,8 @@ use Rattle.spec_state.specs.Opening.{Adds}
 use Rattle.spec_state.specs.Room.{HasFreeEntry}
 use Rattle.spec_law.specs.Sound.{IsMadeBy, Sound, SoundMemory, SoundOrder, SoundSizes, SoundTasks, StandsAs, StaysSound}
 use Rattle.spec_law.proofs.Adds.Heir.{add_keeps_heir}
-use Rattle.spec_law.proofs.Adds.One.{add_keeps_memory, added_to, still_there}
+use Rattle.spec_state.proofs.Proved.{still_there}
+use Rattle.spec_law.proofs.Adds.One.{add_keeps_memory, added_to}
 use Rattle.spec_law.proofs.Adds.Order.{add_keeps_order}
 use Rattle.spec_law.proofs.Adds.Sizes.{add_keeps_sizes}
 use Rattle.spec_law.proofs.Aborted.Spared.{heir_is_least, not_below_least}

@@ -1,7 +1,7 @@
 use Rattle.std.proofs.Common.{◌≡◌, subst}
 use Rattle.std.specs.Prelude.{IfSome}
 use Rattle.step_law.proofs.Proved.{below_limit, least_is_committed}
-use Rattle.book_move.proofs.Committed.{children_are_made, commit_wants, committed}
+use Rattle.book_move.proofs.Committed.{commit_runs_out, committed}
 use Rattle.book_move.proofs.committing.make_commit.Goals as goal
 
 pub commit-requires-clause-least : goal.commit-requires-clause-least
@@ -18,12 +18,11 @@ commit-requires-clause-more g c =
 pub returns-in-Ok : goal.returns-in-Ok
 returns-in-Ok g c =
     let is = c.requires.finished in
-    let made = children_are_made g.N.Naming.image c.args.state.now.view c.requires.sound c.args.id.0 in
     committed g.row.N.Denot c.args.state.now.view c.requires.goes_on c.args.id.0 is.0 is.1 is.2 c.tile_of-tile.result c.commit.new.state.view
-    c.record_of.result (c.in-Ok.ensures.ok made).0
+    c.record_of.result c.in-Ok.ensures.ok.0
     (subst (λ o. IfSome o (λ t. c.tile_of-tile.result ≡ t.tile)) is.1.at.there c.tile_of-tile.ensures) c.record_of.ensures
 
 pub returns-in-Err : goal.returns-in-Err
 returns-in-Err g c =
     let is = c.requires.finished in
-    commit_wants g.row.N.Denot c.args.state.now.view c.requires.goes_on c.args.id.0 is.0 is.1 is.2 c.commit.new.state.view c.in-Err.ensures.err
+    commit_runs_out g.row.N.Denot c.args.state.now.view c.requires.goes_on c.args.id.0 is.0 is.1 is.2 c.commit.new.state.view c.in-Err.ensures.err

@@ -1,4 +1,4 @@
-use Rattle.book_move.proofs.Moved.{coalesce_wants, coalesced}
+use Rattle.book_move.proofs.Moved.{coalesce_runs_out, coalesced}
 use Rattle.book_move.proofs.spilling.make_coalesce.Goals as goal
 
 pub returns-in-Ok : goal.returns-in-Ok
@@ -8,5 +8,5 @@ returns-in-Ok g c =
 
 pub returns-in-Err : goal.returns-in-Err
 returns-in-Err g c =
-    coalesce_wants g.row.N.Denot c.args.state.now.view c.requires.goes_on c.args.tile c.requires.some.0 c.requires.some.1 c.coalesce.new.state.view
+    coalesce_runs_out g.row.N.Denot c.args.state.now.view c.requires.goes_on c.args.tile c.requires.some.0 c.requires.some.1 c.coalesce.new.state.view
     c.in-Err.ensures.err

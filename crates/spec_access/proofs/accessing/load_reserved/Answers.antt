@@ -4,7 +4,7 @@ use Rattle.rv_core.specs.Memory.{load_bytes}
 use Rattle.undo_log.specs.Number.{number_at, IsAccessible}
 use Rattle.undo_log.specs.Undo.{Load, access_of}
 use Rattle.spec_state.specs.StateValue.{StateValue}
-use Rattle.spec_access.proofs.Kept.{slots_kept, indexed_kept, stored_set, formed_kept, same_stands, any_core}
+use Rattle.spec_state.proofs.Proved.{formed_kept, indexed_set, keeps_some, noted_set, same_place, slots_set, stored_set}
 use Rattle.spec_access.proofs.Accessed.{asks_inside, log_accessible, accessed}
 use Rattle.spec_access.proofs.accessing.load_reserved.Goals as goal
 
@@ -25,11 +25,12 @@ invariant_of-state g c =
       c.state.invariant.0,
       c.state.invariant.1,
       c.state.invariant.2,
-      slots_kept _ _ _ _ _ _ _ _ _ _ _ _ _ c.state.invariant.3 found,
-      stored_set _ _ c.args.id.0 _ _ _ c.state.invariant.4 found refl (same_stands _ _ refl)
-          (formed_kept _ _ _ _ was refl refl refl (any_core _ _ _) was.inner was.children log)
+      slots_set _ _ _ _ _ _ _ _ _ _ _ _ _ c.state.invariant.3 found,
+      stored_set _ _ c.args.id.0 _ _ _ c.state.invariant.4 found (same_place _ _ refl refl)
+          (formed_kept _ _ _ _ was refl refl refl (keeps_some _ _ _) was.inner was.children log)
           c.state.invariant.4.memory,
-      indexed_kept _ _ _ _ _ _ _ _ c.state.invariant.5 found refl refl,
+      indexed_set _ _ _ _ _ _ _ _ c.state.invariant.5 found refl refl,
+      noted_set _ _ _ _ _ found refl c.state.invariant.6,
     )
 
 pub returns-clause-loads : goal.returns-clause-loads

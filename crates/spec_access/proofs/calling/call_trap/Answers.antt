@@ -1,5 +1,6 @@
 use Rattle.std.proofs.Common.{refl}
-use Rattle.spec_access.proofs.Kept.{slots_kept, indexed_kept, stored_set, formed_kept, trap_stands, running_has}
+use Rattle.spec_state.proofs.Proved.{formed_kept, indexed_set, noted_set, slots_set, stored_set, trapped_place}
+use Rattle.spec_access.proofs.Kept.{running_has}
 use Rattle.spec_access.proofs.calling.call_trap.Goals as goal
 
 pub invariant_of-state : goal.invariant_of-state
@@ -9,10 +10,11 @@ invariant_of-state g c =
       c.state.invariant.0,
       c.state.invariant.1,
       c.state.invariant.2,
-      slots_kept _ _ _ _ _ _ _ _ _ _ _ _ _ c.state.invariant.3 found,
-      stored_set _ _ c.args.id.0 _ _ _ c.state.invariant.4 found refl (trap_stands _ _ _ c.held_core-core.ensures)
+      slots_set _ _ _ _ _ _ _ _ _ _ _ _ _ c.state.invariant.3 found,
+      stored_set _ _ c.args.id.0 _ _ _ c.state.invariant.4 found (trapped_place _ _ _ _ refl c.held_core-core.ensures refl)
           (formed_kept _ _ _ _ was refl refl refl
           (running_has _ _ _ c.held_core-core.ensures) was.inner was.children was.accesses)
           c.state.invariant.4.memory,
-      indexed_kept _ _ _ _ _ _ _ _ c.state.invariant.5 found refl refl,
+      indexed_set _ _ _ _ _ _ _ _ c.state.invariant.5 found refl refl,
+      noted_set _ _ _ _ _ found refl c.state.invariant.6,
     )

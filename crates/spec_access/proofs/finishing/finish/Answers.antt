@@ -3,7 +3,8 @@ use Rattle.std.proofs.lemmas.List.{length-map}
 use Rattle.tile_queues.specs.Queue.{QueueValue}
 use Rattle.spec_state.specs.View.{core_ids}
 use Rattle.spec_state.specs.StateValue.{StateValue}
-use Rattle.spec_access.proofs.Kept.{slots_kept, indexed_kept, formed_kept, running_has}
+use Rattle.spec_state.proofs.Proved.{formed_kept, indexed_set, noted_set, slots_set}
+use Rattle.spec_access.proofs.Kept.{running_has}
 use Rattle.spec_access.proofs.Finished.{in_queues, is_core, not_finished, has_entry, tiles_kept, stored_ended, ends}
 use Rattle.spec_access.proofs.finishing.finish.Goals as goal
 
@@ -60,7 +61,7 @@ invariant_of-state g c =
       tiles_kept _ _ _ _ _ _ _ tiles c.put_finished.ensures.count
           (c.put_finished.ensures.capacities _ tiles.commit_queues) c.free_core.ensures.tiles,
       c.free_core.ensures.counts _ c.state.invariant.2,
-      slots_kept _ _ _ _ _ _ _ _ _ _ _ _ _ c.state.invariant.3 found,
+      slots_set _ _ _ _ _ _ _ _ _ _ _ _ _ c.state.invariant.3 found,
       stored_ended _ _ c.args.id.0 _ _ _ _ _ c.state.invariant.4 found runs
           (omega (arith, queued, queues_are, ids_are, tiles.queue_count, tiles.finished_count))
           (omega (
@@ -75,7 +76,8 @@ invariant_of-state g c =
           refl refl (formed_kept _ _ _ _ was refl refl refl
           (running_has _ _ _ runs) was.inner was.children was.accesses)
           c.put_finished.ensures.ids c.free_core.ensures.held,
-      indexed_kept _ _ _ _ _ _ _ _ c.state.invariant.5 found refl refl,
+      indexed_set _ _ _ _ _ _ _ _ c.state.invariant.5 found refl refl,
+      noted_set _ _ _ _ _ found refl c.state.invariant.6,
     )
 
 pub returns-clause-finishes : goal.returns-clause-finishes

@@ -1,8 +1,7 @@
-use Rattle.std.proofs.Common.{refl}
-use Rattle.slab.specs.Slab.{get}
 use Rattle.spec_commit.proofs.Committed.{all_adopted}
 use Rattle.spec_commit.proofs.committing.adopt.Goals as goal
 
-pub returns-else-not-adopt_noted-clause-all : goal.returns-else-not-adopt_noted-clause-all
-returns-else-not-adopt_noted-clause-all c has =
-    all_adopted c.args.id c.args.turn c.args.made (get c.args.tasks.now) (get c.adopt_noted.new.tasks) has c.adopt_noted.ensures.each (c.if-not-adopt_noted.ensures.found refl)
+pub returns-in-Some-clause-each : goal.returns-in-Some-clause-each
+returns-in-Some-clause-each c =
+    all_adopted c.args.id c.args.turn c.args.tasks.now.slots c.adopt_noted.new.tasks.slots c.args.children.now c.in-Some.keys.now c.requires.noted
+    c.in-Some.ensures.0 c.in-Some.ensures.1 c.adopt_noted.ensures.each c.adopt_noted.ensures.noted

@@ -1,15 +1,17 @@
-use Rattle.std.proofs.Common.{refl, ◌∙◌}
+use Rattle.std.proofs.Common.{◌∙◌, ℕ, slice_index_or}
 use Rattle.slab.specs.Slab.{get}
-use Rattle.spec_commit.proofs.Committed.{each_more, found_more}
+use Rattle.std.proofs.lemmas.Option.{slice_get-get_or}
+use Rattle.spec_commit.proofs.Committed.{each_more, noted_more}
 use Rattle.spec_commit.proofs.committing.adopt_noted.Goals as goal
 
-pub loop-place-preserved : goal.loop-place-preserved
-loop-place-preserved c =
-    let was = c.loop-place.invariant in
-    let here = c.if-not-adopt_child.ensures.found refl in
+pub loop-key-preserved : goal.loop-key-preserved
+loop-key-preserved c =
+    let was = c.loop-key.invariant in
+    let key : ℕ = slice_index_or c.args.keys.now c.loop-key.key-index 0 in
+    let here = slice_get-get_or c.args.keys.now c.loop-key.key-index 0 c.loop-key-test.true in
     record {
-      each = each_more c.args.id c.args.turn c.loop-place.place (get c.args.tasks.now) (get c.loop-place.tasks) (get c.adopt_child.new.tasks) was.each was.found here.0 here.1 here.2 here.3;
-      found = found_more c.args.id c.args.turn c.loop-place.place (get c.args.tasks.now) (get c.loop-place.tasks) (get c.adopt_child.new.tasks) was.each was.found here.0 here.1 here.2 here.3;
-      len = c.adopt_child.ensures.len ∙ was.len;
-      capacity = c.adopt_child.ensures.capacity ∙ was.capacity;
+      each = each_more c.args.id c.args.turn c.loop-key.key-index key c.args.keys.now (get c.args.tasks.now) (get c.loop-key.tasks) (get c.adopt_at.new.tasks) here was.each was.noted c.adopt_at.ensures.changed c.adopt_at.ensures.others;
+      noted = noted_more c.args.id c.args.turn c.loop-key.key-index key c.args.keys.now (get c.args.tasks.now) (get c.loop-key.tasks) (get c.adopt_at.new.tasks) here was.each was.noted c.adopt_at.ensures.changed c.adopt_at.ensures.others;
+      len = c.adopt_at.ensures.len ∙ was.len;
+      capacity = c.adopt_at.ensures.capacity ∙ was.capacity;
     }

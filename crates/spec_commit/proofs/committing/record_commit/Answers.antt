@@ -13,4 +13,5 @@ invariant_of-state g c =
       c.state.invariant.3,
       stored_longer g.N.Naming.image.data_size _ c.push.new.self.entries c.append_with.new.self c.as_domain-state-inside.result c.state.invariant.4 (omega (arith, entries)),
       c.state.invariant.5,
+      c.state.invariant.6,
     )

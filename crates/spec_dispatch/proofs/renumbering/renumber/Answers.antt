@@ -5,7 +5,7 @@ use Rattle.commit_arbiter.specs.Indexed.{renumbered_entry as renumbered_indexed}
 use Rattle.spill_store.specs.Entries.{BlockValue, HoldsEntries}
 use Rattle.spec_state.specs.Fits.{entries_in}
 use Rattle.spec_state.specs.StateValue.{StateValue}
-use Rattle.spec_dispatch.proofs.Renumbers.{blocks_after, blocks_held, few_tasks, index_held, indexed_after, is_table_here, renumbers_seen, slots_renumbered, stored_renumbered}
+use Rattle.spec_dispatch.proofs.Renumbers.{blocks_after, blocks_held, few_tasks, index_held, indexed_after, is_table_here, noted_after, renumbers_seen, slots_renumbered, stored_renumbered}
 use Rattle.spec_dispatch.proofs.renumbering.renumber.Goals as goal
 
 pub fill-requires : goal.fill-requires
@@ -54,4 +54,5 @@ invariant_of-state g c =
       stored_renumbered _ _ renumbers g.N.Naming.image.data_size c.state.invariant.4,
       indexed_after c.as_slice-table.result.now c.state.inside.tasks.slots c.renumber_tasks.new.tasks.slots _ _ _ c.state.inside.index.entries c.renumber.new.self.entries c.state.invariant.5
           c.renumber_tasks.ensures.slots c.renumber.ensures.entries,
+      noted_after c.as_slice-table.result.now c.state.inside.tasks.slots c.renumber_tasks.new.tasks.slots _ c.renumber_tasks.ensures.slots c.state.invariant.6,
     )

@@ -22,7 +22,7 @@ pub invariant_of-state : goal.invariant_of-state
 invariant_of-state g c =
     let stored = stored_memory g.N.Naming.image.data_size _ c.undo_latest_first.new.memory c.state.invariant.4
     c.undo_latest_first.ensures.size in
-    (c.state.invariant.0, c.state.invariant.1, c.state.invariant.2, c.state.invariant.3, stored, c.state.invariant.5)
+    (c.state.invariant.0, c.state.invariant.1, c.state.invariant.2, c.state.invariant.3, stored, c.state.invariant.5, c.state.invariant.6)
 
 pub returns-clause-listed : goal.returns-clause-listed
 returns-clause-listed g c =

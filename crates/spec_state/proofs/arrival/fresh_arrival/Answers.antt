@@ -1,4 +1,4 @@
-use Rattle.std.proofs.Common.{rules, ◌≡◌, ◌<◌, ◌≤◌, ◌∙◌, ℕ, List, [], refl, ap, sym, subst, length, map, slice_index_or, arith}
+use Rattle.std.proofs.Common.{rules, ◌<◌, [], ap, length, arith}
 use Rattle.std.proofs.lemmas.List.{length-map}
 use Rattle.tile_queues.specs.Queue.{QueueValue}
 use Rattle.spec_state.proofs.Joined.{ids_at}

@@ -1,4 +1,4 @@
-use Rattle.std.proofs.Common.{◌≡◌, ◌≤◌, [], length, map, slice_index_or}
+use Rattle.std.proofs.Common.{◌≡◌, ◌≤◌, length, map}
 use Rattle.spec_state.specs.Stored.{IsIndexed}
 use Rattle.spec_state.proofs.Fresh.{AllBelow}
 use Rattle.spec_state.proofs.arrival.fresh_arrival.Given as goal

@@ -1,11 +1,6 @@
-use Rattle.std.proofs.Common.{rules, ◌≡◌, ◌<◌, ◌≤◌, ◌∙◌, ℕ, List, [], Option, Some, None, ap, sym, subst, length, map, slice_index_or, slice_get, arith}
-use Rattle.std.specs.Prelude.{Contains, is_some}
-use Rattle.std.proofs.lemmas.List.Elements.{Contains-get_or}
-use Rattle.std.proofs.lemmas.Option.{slice_get-get_or}
+use Rattle.std.proofs.Common.{rules, ◌≡◌, [], ap, length, map, slice_index_or, arith}
+use Rattle.std.specs.Prelude.{is_some}
 use Rattle.tile_queues.specs.Queue.{QueueValue}
-use Rattle.spec_state.specs.declared.task.Task.{Task}
-use Rattle.spec_state.specs.Stored.{AreTheirs}
-use Rattle.spec_state.proofs.Joined.{ids_at}
 use Rattle.spec_state.proofs.Moved.{has_entry}
 use Rattle.spec_state.proofs.Renumbered.{begun, one_more, all_below, below_slots, task_at_place, ids_of_tile}
 use Rattle.spec_state.proofs.arrival.renumber_queue.Goals as goal

@@ -1,6 +1,5 @@
-use Rattle.std.proofs.Common.{rules, ◌≡◌, ◌∙◌, ℕ, List, [], None, Some, Option, true, false, map, ap, sym, subst, slice_index_or}
+use Rattle.std.proofs.Common.{rules, ◌∙◌, List, Option, map, ap, sym, subst}
 use Rattle.std.specs.Prelude.{IfSome, is_some}
-use Rattle.std.proofs.lemmas.List.{get_or-map}
 use Rattle.spill_store.specs.Entries.{Entry as Spilled, BlockValue, IsLeastKey}
 use Rattle.spec_state.specs.declared.leading.Front.{Front}
 use Rattle.spec_state.specs.Fronts.{IsFirstSpilled}

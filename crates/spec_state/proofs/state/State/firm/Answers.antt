@@ -1,4 +1,4 @@
-use Rattle.std.proofs.Common.{sym, subst, option_map}
+use Rattle.std.proofs.Common.{option_map}
 use Rattle.spec_state.proofs.Heirs.{firm_seen}
 use Rattle.spec_state.proofs.state.State.firm.Goals as goal
 

@@ -1,5 +1,5 @@
-use Rattle.std.proofs.Common.{rules, ◌≡◌, ◌∙◌, ℕ, List, map, length, sym, subst, ap}
-use Rattle.spill_store.specs.Entries.{Entry as Spilled, BlockValue}
+use Rattle.std.proofs.Common.{◌≡◌, ◌∙◌, List, map, ap}
+use Rattle.spill_store.specs.Entries.{BlockValue}
 use Rattle.spec_state.specs.StateValue.{StateValue}
 use Rattle.spec_state.proofs.Leasts.{front_seen, none_seen}
 use Rattle.spec_state.proofs.state.State.first_front.Goals as goal

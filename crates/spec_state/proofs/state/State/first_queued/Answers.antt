@@ -1,4 +1,4 @@
-use Rattle.std.proofs.Common.{rules, ◌≡◌, ◌∙◌, ℕ, sym, subst, ap}
+use Rattle.std.proofs.Common.{rules, ℕ, subst}
 use Rattle.spec_state.specs.declared.task.Task.{Task}
 use Rattle.spec_state.specs.StateValue.{StateValue}
 use Rattle.spec_state.specs.Queries.{IsQueued}

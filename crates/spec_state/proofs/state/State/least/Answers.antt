@@ -1,10 +1,7 @@
-use Rattle.std.proofs.Common.{rules, ◌≡◌, ◌∙◌, ℕ, Option, refl, sym, subst, ap}
-use Rattle.std.specs.Prelude.{IfSome, is_some}
-use Rattle.spec_state.specs.declared.task.Task.{Task}
-use Rattle.spec_state.specs.declared.task.TaskId.{TaskId}
+use Rattle.std.proofs.Common.{rules, refl, ap}
+use Rattle.std.specs.Prelude.{is_some}
 use Rattle.spec_state.specs.View.{queue_at}
 use Rattle.spec_state.specs.Least.{IsAllCommitted}
-use Rattle.spec_state.specs.Fronts.{IsFirstQueued, IsFirstSpilled, HoldNone}
 use Rattle.spec_state.proofs.Entered.{held_at}
 use Rattle.spec_state.proofs.Leasts.{least_spilled, all_committed, not_all_queued, not_all_spilled, stands_alone, stands_before, spilled_before}
 use Rattle.spec_state.proofs.state.State.least.Goals as goal

@@ -1,4 +1,4 @@
-use Rattle.std.proofs.Common.{rules, ◌≡◌, ◌∙◌, ℕ, Option, Some, option_map, length, ap, sym, subst}
+use Rattle.std.proofs.Common.{rules, ◌≡◌, ◌∙◌, option_map, length, ap, sym, subst}
 use Rattle.spec_state.specs.declared.task.TaskId.{TaskId}
 use Rattle.std.specs.Prelude.{IsTrue, IfSome, false}
 use Rattle.spec_state.specs.View.{task_at}

@@ -4,6 +4,7 @@ use Rattle.commit_arbiter.specs.Indexed.{IndexValue}
 use Rattle.guest_image.specs.ImageValue.{ImageValue}
 use Rattle.spec_state.specs.Fits.{HistoryValue}
 use Rattle.spec_state.proofs.Empty.{stored_empty, indexed_empty, short_empty, count_empty, size_opening}
+use Rattle.spec_state.proofs.Noted.{none_noted}
 use Rattle.spec_state.proofs.state.State.new.Goals as goal
 
 pub invariant_of-result : goal.invariant_of-result
@@ -31,4 +32,5 @@ invariant_of-result g c =
       stored_empty _ _ _ _ c.in_ok-tasks.ensures.empty c.in_ok-empty_queues.ensures.ids c.in_ok-empty_queues-2.ensures.ids c.in_ok-all_free_cores.ensures.free
           (size_opening c.initial.result.now _ c.data_size.result c.in_ok-new.ensures (search rules) ∙ c.data_size.ensures ∙ ap (λ (i : ImageValue). i.data_size) c.requires.image),
       indexed_empty _ _ _ _ _ _ c.in_ok-tasks.ensures.empty c.in_ok-empty_queues.ensures.ids (ap (λ (x : IndexValue). x.entries) c.in_ok-new-3.ensures),
+      none_noted _ _ c.in_ok-tasks.ensures.empty,
     )

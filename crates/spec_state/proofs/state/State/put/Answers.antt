@@ -1,17 +1,12 @@
-use Rattle.std.proofs.Common.{rules, ◌≡◌, ◌≢◌, ◌<◌, ◌+◌, ◌∷◌, ◌++◌, ℕ, List, [], map, sym, ap, subst, refl, ◌∙◌, None, Some, Option, slice_index_or, slice_set, length, arith}
+use Rattle.std.proofs.Common.{rules, ◌≡◌, ◌<◌, ◌∷◌, ◌++◌, ℕ, List, [], map, sym, ap, subst, refl, ◌∙◌, slice_index_or, length, arith}
 use Rattle.std.specs.Prelude.{Contains}
 use Rattle.std.proofs.Common.{length-set}
 use Rattle.tile_queues.specs.Queue.{QueueValue}
-use Rattle.commit_arbiter.specs.Indexed.{entry_cmp}
-use Rattle.fractal_vt.specs.Sorted.{inserted}
-use Rattle.spec_state.specs.declared.task.Task.{Task}
-use Rattle.spec_state.specs.View.{task_at}
-use Rattle.spec_state.specs.Room.{HasFreeEntry}
-use Rattle.spec_state.specs.Opening.{Adds}
 use Rattle.spec_state.specs.StateValue.{StateValue}
 use Rattle.spec_state.specs.Stored.{IsWellFormed, IsIndexed, AreTheirs}
 use Rattle.spec_state.proofs.Joined.{ids_at, not_queued, stored_added}
 use Rattle.spec_state.proofs.Entered.{no_entry}
+use Rattle.spec_state.proofs.Noted.{noted_others}
 use Rattle.spec_state.proofs.Put.{in_lists, slots_after, adds_seen, entered_put, has_slot, few_indexed, few_more}
 use Rattle.spec_state.proofs.state.State.put.Goals as goal
 
@@ -42,6 +37,9 @@ insert-requires-clause-room g c =
 
 pub insert-requires-clause-other : goal.insert-requires-clause-other
 insert-requires-clause-other g c = no_entry _ _ _ _ _ _ c.fresh_arrival-arrival.ensures.indexed c.insert_reserved-id.ensures.was_vacant
+
+pub note-requires : goal.note-requires
+note-requires g c = noted_others _ _ _ _ c.insert_reserved-id.ensures.updates.others c.self.invariant.6
 
 pub returns-clause-adds : goal.returns-clause-adds
 returns-clause-adds g c =
@@ -81,4 +79,5 @@ invariant_of-self g c =
           (subst (λ n. id < n) (sym (c.fresh_arrival-arrival.ensures.slots ∙ c.self.invariant.3.arrivals)) (subst (λ n. id < n) c.insert_reserved-id.ensures.capacity c.insert_reserved-id.ensures.key_in_range))
           (λ t k has same. not_queued g.N.Naming.image.data_size _ t id c.self.invariant.4 c.insert_reserved-id.ensures.was_vacant (subst (Contains _) same has))
           c.index.ensures c.insert.ensures.entries,
+      c.note.ensures,
     )

@@ -1,4 +1,4 @@
-use Rattle.std.proofs.Common.{rules, ◌≡◌, ◌<◌, ap, sym, subst, ◌∙◌, ◌≤◌, ℕ, List, map, length, slice_set, arith}
+use Rattle.std.proofs.Common.{rules, ◌<◌, ap, subst, ◌∙◌, List, map, length, slice_set, arith}
 use Rattle.spec_state.specs.View.{core_ids, version_of}
 use Rattle.spill_store.specs.Entries.{Entry as Spilled, BlockValue}
 use Rattle.spec_state.specs.StateValue.{StateValue, HasNoLessRoom}

@@ -2,6 +2,7 @@ use Rattle.std.proofs.Common.{rules, ◌≡◌, ◌<◌, [], map, sym, ap, subst
 use Rattle.std.specs.Prelude.{Contains}
 use Rattle.std.specs.Vec.{with_items}
 use Rattle.std.proofs.lemmas.List.{with_items_is, get_or_read, get_or-set_same, get_or-set_other}
+use Rattle.spec_state.specs.declared.task.Task.{Task}
 use Rattle.spec_state.specs.Leaving.{freed_of, IsHeldAs}
 use Rattle.spec_state.specs.StateValue.{StateValue}
 use Rattle.spec_state.specs.View.{core_ids}
@@ -11,6 +12,7 @@ use Rattle.spec_state.proofs.Renumbered.{below_slots, ids_of_tile}
 use Rattle.spec_state.proofs.Without.{seen_at}
 use Rattle.spec_state.proofs.Vacated.{own_finished, own_held, stored_back}
 use Rattle.spec_state.proofs.Kept.{same_count, slots_kept}
+use Rattle.spec_state.proofs.Noted.{noted_set}
 use Rattle.spec_state.proofs.Left.{task_within, back_in, back_seen, again_put}
 use Rattle.spec_state.proofs.state.State.set_back.Goals as goal
 
@@ -84,4 +86,5 @@ invariant_of-self g c =
           (λ k other. get_or-set_other c.self.inside.tasks.slots c.args.id.0 k (Some c.reset.new.task) None other) c.reset.new.task
           (get_or-set_same c.self.inside.tasks.slots c.args.id.0 (Some c.reset.new.task) None below) c.index.result.now c.index-arrival.result.now _
           c.index.ensures arrival c.enter_again.ensures.entries,
+      noted_set c.self.inside.tasks.slots _ c.args.id.0 _ c.reset.new.task c.index_mut-task.ensures.value (ap (λ (t : Task). t.creator) c.reset.ensures) c.self.invariant.6,
     )

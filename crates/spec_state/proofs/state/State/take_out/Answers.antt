@@ -7,6 +7,7 @@ use Rattle.spec_state.specs.Leaving.{freed_of, IsHeldAs}
 use Rattle.spec_state.specs.StateValue.{StateValue}
 use Rattle.spec_state.specs.View.{core_ids}
 use Rattle.spec_state.proofs.Moved.{fewer, has_entry}
+use Rattle.spec_state.proofs.Noted.{noted_left}
 use Rattle.spec_state.proofs.Renumbered.{ids_of_tile}
 use Rattle.spec_state.proofs.Without.{seen_at}
 use Rattle.spec_state.proofs.Vacated.{own_queued, own_finished, own_held, stored_left}
@@ -80,4 +81,5 @@ invariant_of-self g c =
           (subst (λ n. n < length c.self.inside.index.entries) (sym (ap length c.remove.ensures.entries)) less) c.remove.ensures.capacity,
       stored_left g.N.Naming.image.data_size _ _ c.args.id.0 leaves c.self.invariant.4,
       indexed_gone _ c.remove-task.new.self.slots _ _ _ _ c.args.id.0 c.self.invariant.5 updates.others updates.changed _ _ leaves.queues c.remove.ensures.entries,
+      noted_left _ c.remove-task.new.self.slots _ c.args.id.0 updates.changed updates.others c.self.invariant.6,
     )

@@ -7,27 +7,31 @@ use Rattle.std.proofs.lemmas.List.Elements.{All-set}
 use Rattle.std.proofs.lemmas.Option.{slice_get_within}
 use Rattle.spec_state.specs.View.{View, cores_at}
 use Rattle.spec_state.specs.Changes.{with_core}
-use Rattle.spec_law.proofs.Tasks.Contained.{list_within}
-use Rattle.spec_law.proofs.Tasks.Places.{get_contains}
 
 -- what stands at the place that is written
-set_here : {X : Type 0} (xs : List X) (i : ℕ) (x : X) → i < length xs → slice_get (slice_set xs i x) i ≡ Some x
+pub set_here : {X : Type 0} (xs : List X) (i : ℕ) (x : X) → i < length xs → slice_get (slice_set xs i x) i ≡ Some x
 set_here [] i x below = absurd (omega (arith, below))
 set_here (y ∷ xs) zero x below = refl
 set_here (y ∷ xs) (suc i) x below = set_here xs i x (omega (arith, below))
 
 -- and at any other
-set_there : {X : Type 0} (xs : List X) (i j : ℕ) (x : X) → j ≢ i → slice_get (slice_set xs i x) j ≡ slice_get xs j
+pub set_there : {X : Type 0} (xs : List X) (i j : ℕ) (x : X) → j ≢ i → slice_get (slice_set xs i x) j ≡ slice_get xs j
 set_there [] i j x other = refl
 set_there (y ∷ xs) zero zero x other = absurd (other refl)
 set_there (y ∷ xs) zero (suc j) x other = refl
 set_there (y ∷ xs) (suc i) zero x other = refl
 set_there (y ∷ xs) (suc i) (suc j) x other = set_there xs i j x (λ same. other (ap suc same))
 
+-- a list with something at a place stands within all
+list_within : {X : Type 0} (lists : List (List X)) (k i : ℕ) (x : X) → slice_get (slice_index_or lists k []) i ≡ Some x → k < length lists
+list_within [] k i x has = absurd (cc (has))
+list_within (xs ∷ lists) zero i x has = omega arith
+list_within (xs ∷ lists) (suc k) i x has = let rest = list_within lists k i x has in omega (arith, rest)
+
 module _ (view : View) (tile core : ℕ) (was holder : Option ℕ) (there : slice_get (cores_at view tile) core ≡ Some was) where
   -- the tile has cores
   tile_below : tile < length view.cores
-  tile_below = list_within view.cores tile was (get_contains (cores_at view tile) core was there)
+  tile_below = list_within view.cores tile core was there
 
   -- the cores of the tile are those with the holder
   tile_cores : slice_index_or (with_core view tile core holder) tile [] ≡ slice_set (cores_at view tile) core holder
