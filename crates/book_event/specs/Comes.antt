@@ -16,7 +16,7 @@ abbrev pub IsAsBefore : BookView → View → List Policy → Type 0
 IsAsBefore book view placers = (view ≡ book.view) × (placers ≡ book.placers)
 
 -- from a book the event leads to this view and these placers, and the taps are told so; or it is refused with this
--- reply, or memory is wanting for an event that takes it and that nothing else refuses, and view and placers are as
+-- reply, or memory runs out for an event that takes it and that nothing else refuses, and view and placers are as
 -- they were
 abbrev pub Comes : {N : Type 0} → BookView → Event N → Came → View → List Policy → Type 0
 Comes book event (Made seen) view placers =

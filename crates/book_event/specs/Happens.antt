@@ -27,10 +27,10 @@ pub record IsUnchanged (old : BookView) (aborted : ℕ) (new : BookView) : Type 
   pub none : aborted ≡ 0
   pub same : new ≡ old
 
--- memory is wanting: in a stopped book always, and else at most where the event takes memory and nothing else
+-- memory runs out: in a stopped book always, and else at most where the event takes memory and nothing else
 -- refuses it
-abbrev pub MayWantMemory : {N : Type 0} → BookView → Event N → Type 0
-MayWantMemory book event = (book.stopped ≡ true) ⊎ (IsGranted book event × TakesMemory book event)
+abbrev pub MayRunOutOfMemory : {N : Type 0} → BookView → Event N → Type 0
+MayRunOutOfMemory book event = (book.stopped ≡ true) ⊎ (IsGranted book event × TakesMemory book event)
 
 -- the event is refused with this reply
 pub record Refuses {N : Type 0} (old : BookView) (event : Event N) (answer : Reply) (aborted : ℕ)
@@ -42,7 +42,7 @@ pub record Refuses {N : Type 0} (old : BookView) (event : Event N) (answer : Rep
 -- from a book the event has this reply, takes so many tasks back, and leaves this book
 abbrev pub Happens : {N : Type 0} → BookView → Event N → Reply → ℕ → BookView → Type 0
 Happens old event reply.Ok aborted new = IsMade old event aborted new
-Happens old event reply.Memory aborted new = MayWantMemory old event × IsUnchanged old aborted new
+Happens old event reply.Memory aborted new = MayRunOutOfMemory old event × IsUnchanged old aborted new
 Happens old event answer aborted new = Refuses old event answer aborted new
 
 -- these events, one after another, have these answers

@@ -87,7 +87,7 @@ module _ (N : Type 0) (old : View) (placers : List Policy) (taps : List Reading)
     (refl, refl),
   )
 
-  -- memory may be wanting for it
+  -- memory may run out for it
   pub wants_child : (Stalls old target (Enqueuer id) → ⊥) → (new : View) → new ≡ old
       → Comes {N = N} (book_of old placers taps steps) (event.Step tile core leg) (Refused reply.Memory) new
       placers

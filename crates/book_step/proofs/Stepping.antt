@@ -101,7 +101,7 @@ module _ (N : Type 0) (old : View) (placers : List Policy) (taps : List Reading)
         ),
       )
 
-  -- memory is wanting for a granted step
+  -- memory runs out for a granted step
   pub wants_memory : (new : View) → IsGranted {N = N} book (event.Step tile core leg) → RequestTakesMemory request
       → new ≡ old → Comes {N = N} book (event.Step tile core leg) (Refused reply.Memory) new placers
   wants_memory new may memory same = (

@@ -203,11 +203,11 @@ took call f o text found kept is status written = inr (inr (inr record {
 }))
 
 -- want of memory, where nothing was run
-wanting : (call : Call) (o : Outcome) → IsEmpty o → o.status ≡ 5 → ReadsSome call.input.source_before call.input.source_after input_limit
+ran_out : (call : Call) (o : Outcome) → IsEmpty o → o.status ≡ 5 → ReadsSome call.input.source_before call.input.source_after input_limit
     → call.sink_after ≡ call.sink_before → TellsOutcome call o
-wanting call o kept status read untouched = inl record { status_is = status; end = kept.end; held = inl kept; read = read; untouched = untouched }
+ran_out call o kept status read untouched = inl record { status_is = status; end = kept.end; held = inl kept; read = read; untouched = untouched }
 
--- a run that is told by its end; without one, memory was wanting
+-- a run that is told by its end; without one, memory ran out
 by_end : (call : Call) (f : Finding) (o : Outcome) (text : End → List ℕ) (status : End → ℕ) (ran : Ran) (steps : Option ℕ)
     → text_of f ≡ option_map text ran.end → status_of f ≡ status_by status ran.end → HoldsRunSoFar call.input o → HoldsRun (whole ran) steps o
     → ReadsSome call.input.source_before call.input.source_after input_limit → IsFound call.input f → Keeps f o
@@ -230,7 +230,7 @@ no_check request command is other check = other (sym is ∙ check)
 -- where the sink didn't fail
 well_told : (call : Call) (f : Finding) (o : Outcome) → IsFound call.input f → Keeps f o → o.status ≡ status_of f → TakesText call.sink_before call.sink_after (text_of f) → TellsOutcome call o
 well_told call finding.Usage o found kept s w = took call finding.Usage o _ found kept refl s w
-well_told call finding.Memory o found kept s w = wanting call o kept s found w
+well_told call finding.Memory o found kept s w = ran_out call o kept s found w
 well_told call finding.Unread o found kept s w = inr (inl record { status_is = s; empty = kept; unread = found; untouched = w })
 well_told call finding.Long o found kept s w = took call finding.Long o _ found kept refl s w
 well_told call (finding.NoImage fault) o found kept s w = took call (finding.NoImage fault) o _ found kept refl s w

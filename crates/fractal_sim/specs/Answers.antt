@@ -62,7 +62,7 @@ pub record HoldsRunSoFar (input : Input) (o : Outcome) : Type 0 where
   pub held : HoldsRunOfInput input o
   pub makes : held.request.command ≡ Check → ⊥
 
--- memory was wanting (5): at most as many bytes as are read were taken, nothing is held but a run so far, which has no
+-- memory ran out (5): at most as many bytes as are read were taken, nothing is held but a run so far, which has no
 -- end, and the sink was left alone
 pub record TellsWant (call : Call) (o : Outcome) : Type 0 where
   pub status_is : o.status ≡ 5

@@ -95,7 +95,7 @@ status_of (finding.Loaded load image ran steps) = status_by end_status ran.end
 status_of (finding.Played image played) = status_by played_status played.ran.end
 status_of (finding.Traced traced) = status_by (λ end. 0) traced.ran.end
 
--- the text that tells what was found; none where memory was wanting or the source failed
+-- the text that tells what was found; none where memory ran out or the source failed
 abbrev pub text_of : Finding → Option (List ℕ)
 text_of finding.Usage = Some (codes "fault usage\n")
 text_of finding.Memory = None

@@ -34,7 +34,7 @@ pub record IsLeastRun (N : Type 0) (image : ImageValue) (settings : Settings)
 abbrev pub run_of : Closed → Option End → SerialRun
 run_of closed end = record { journal = closed.journal; memory = closed.memory; output = closed.output; end = end }
 
--- the end of a run that halted so; none where memory was wanting
+-- the end of a run that halted so; none where memory ran out
 abbrev pub end_of : Halt → Option End
 end_of (halts.Ended end) = Some end
 end_of halts.Memory = None

@@ -60,7 +60,7 @@ acts_at tiles cores k (l ∷ ls) = after_act k (act_in tiles cores l) (acts_at t
 abbrev pub acts_of : List ℕ → ℕ → ℕ → Result (List Act) ℕ
 acts_of text tiles cores = acts_at tiles cores 1 (lines_of text)
 
--- a fault is what reading gives, unless memory was wanting
+-- a fault is what reading gives, unless memory ran out
 abbrev pub IsFaultOf : Result (List Act) ℕ → ScriptFault → Type 0
 IsFaultOf read faults.Memory = Unit {0}
 IsFaultOf read (faults.Line line) = read ≡ Err line

@@ -57,7 +57,7 @@ pub record Played : Type 0 where
 abbrev pub plainly : Reply → Said
 plainly answer = record { word = words.Plain answer; aborted = 0 }
 
--- the event is handed in, and its reply is said, which isn't that memory was wanting
+-- the event is handed in, and its reply is said, which isn't that memory ran out
 pub record HandsIn {N : Type 0} (event : Event N) (old : BookView) (said : Said) (new : BookView) : Type 0 where
   pub answer : Reply
   pub word : said.word ≡ words.Plain answer
@@ -114,7 +114,7 @@ pub data Gives (N : Type 0) (tile core : ℕ) (old : Played) (said : Said) (new 
   give_stale : (IsOver old.book.view → ⊥) → held_for tile core old.held ≡ None → Stays reply.Stale old said new
       → Gives N tile core old said new
 
--- what is said of an advance; nothing where memory was wanting
+-- what is said of an advance; nothing where memory ran out
 abbrev pub said_of : Advance → Option Said
 said_of (answers.Moved aborted) = Some (record { word = words.Moved; aborted = aborted })
 said_of answers.Committed = Some (record { word = words.Committed; aborted = 0 })
@@ -154,7 +154,7 @@ Plays N image script old said new =
     (held : List HeldLeg)
     × DoesAll N image script (record { book = old; held = [] }) said (record { book = new; held = held })
 
--- so many acts of the script were played, and then memory was wanting
+-- so many acts of the script were played, and then memory ran out
 pub record PlaysSome (N : Type 0) (image : ImageValue) (script : List Act) (old new : BookView) : Type 0 where
   pub count : ℕ
   pub said : List Said

@@ -40,7 +40,7 @@ fn hand_in<N: Naming, P: Placer, T: Tap>(
     ensures hands_in { let old = view_of P.policy T.reading book.old in
         let new = view_of P.policy T.reading book.new in
         IfOk result (λ said. HandsIn event old said new) }
-    ensures wanting { OnErr result (view_of P.policy T.reading book.new ≡ view_of P.policy T.reading book.old) }
+    ensures out_of_memory { OnErr result (view_of P.policy T.reading book.new ≡ view_of P.policy T.reading book.old) }
     ensures settings { let old = view_of P.policy T.reading book.old in
         (view_of P.policy T.reading book.new).view.settings ≡ old.view.settings }
 {
@@ -89,7 +89,7 @@ fn step<N: Naming, P: Placer, T: Tap>(
         let new = view_of P.policy T.reading book.new in
         IfOk result (λ said. (held : List HeldLeg) → Steps N N.image tile core
         (record { book = old; held = held }) said (record { book = new; held = held })) }
-    ensures wanting { OnErr result (view_of P.policy T.reading book.new ≡ view_of P.policy T.reading book.old) }
+    ensures out_of_memory { OnErr result (view_of P.policy T.reading book.new ≡ view_of P.policy T.reading book.old) }
     ensures settings { let old = view_of P.policy T.reading book.old in
         (view_of P.policy T.reading book.new).view.settings ≡ old.view.settings }
 {
@@ -143,7 +143,7 @@ fn give<N: Naming, P: Placer, T: Tap>(
         let new = view_of P.policy T.reading book.new in
         IfOk result (λ said. Gives N tile core (record { book = old; held = held.old.items }) said
         (record { book = new; held = held.new.items })) }
-    ensures wanting { OnErr result (view_of P.policy T.reading book.new ≡ view_of P.policy T.reading book.old) }
+    ensures out_of_memory { OnErr result (view_of P.policy T.reading book.new ≡ view_of P.policy T.reading book.old) }
     ensures settings { let old = view_of P.policy T.reading book.old in
         (view_of P.policy T.reading book.new).view.settings ≡ old.view.settings }
 {
@@ -166,7 +166,7 @@ fn advance<N: Naming, P: Placer, T: Tap>(
         let new = view_of P.policy T.reading book.new in
         IfOk result (λ said. (held : List HeldLeg) → DoesAdvance N N.image
         (record { book = old; held = held }) said (record { book = new; held = held })) }
-    ensures wanting { OnErr result (view_of P.policy T.reading book.new ≡ view_of P.policy T.reading book.old) }
+    ensures out_of_memory { OnErr result (view_of P.policy T.reading book.new ≡ view_of P.policy T.reading book.old) }
     ensures settings { let old = view_of P.policy T.reading book.old in
         (view_of P.policy T.reading book.new).view.settings ≡ old.view.settings }
 {
@@ -198,7 +198,7 @@ fn play_act<N: Naming, P: Placer, T: Tap>(
         let new = view_of P.policy T.reading book.new in
         IfOk result (λ said. Does N N.image act (record { book = old; held = held.old.items }) said
         (record { book = new; held = held.new.items })) }
-    ensures wanting { OnErr result (view_of P.policy T.reading book.new ≡ view_of P.policy T.reading book.old) }
+    ensures out_of_memory { OnErr result (view_of P.policy T.reading book.new ≡ view_of P.policy T.reading book.old) }
     ensures settings { let old = view_of P.policy T.reading book.old in
         (view_of P.policy T.reading book.new).view.settings ≡ old.view.settings }
 {
@@ -229,7 +229,7 @@ pub fn play<N: Naming, P: Placer, T: Tap>(
     ensures plays { let old = view_of P.policy T.reading book.old in
         let new = view_of P.policy T.reading book.new in
         IfOk result (λ said. Plays N N.image acts.now old said.items new) }
-    ensures wanting { let old = view_of P.policy T.reading book.old in
+    ensures out_of_memory { let old = view_of P.policy T.reading book.old in
         let new = view_of P.policy T.reading book.new in
         OnErr result (PlaysSome N N.image acts.now old new) }
 {

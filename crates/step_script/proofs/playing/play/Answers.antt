@@ -3,20 +3,20 @@ use Rattle.conflict_book.specs.Seen.{view_of}
 use Rattle.step_script.proofs.Played.{one_more, some_played}
 use Rattle.step_script.proofs.playing.play.Goals as goal
 
-pub returns-in_err-said-clause-wanting : goal.returns-in_err-said-clause-wanting
-returns-in_err-said-clause-wanting g c =
+pub returns-in_err-said-clause-out_of_memory : goal.returns-in_err-said-clause-out_of_memory
+returns-in_err-said-clause-out_of_memory g c =
     let old = view_of g.P.Placer.policy g.T.Tap.reading c.args.book.now in
     some_played g.row.N.Denot g.N.Naming.image c.args.acts.now 0 old old old [] [] c.from_residual.result refl refl
 
-pub returns-in_err-one-clause-wanting : goal.returns-in_err-one-clause-wanting
-returns-in_err-one-clause-wanting g c =
+pub returns-in_err-one-clause-out_of_memory : goal.returns-in_err-one-clause-out_of_memory
+returns-in_err-one-clause-out_of_memory g c =
     let seen = view_of g.P.Placer.policy g.T.Tap.reading in
     some_played g.row.N.Denot g.N.Naming.image c.args.acts.now c.loop-act.act-index (seen c.args.book.now) (seen c.loop-act.book)
     (seen c.play_act.new.book) c.loop-act.said.items c.loop-act.held.items c.from_residual-in_err-one.result
-    c.loop-act.invariant.played c.in_err-one.ensures.wanting
+    c.loop-act.invariant.played c.in_err-one.ensures.out_of_memory
 
-pub returns-in_err-push-clause-wanting : goal.returns-in_err-push-clause-wanting
-returns-in_err-push-clause-wanting g c =
+pub returns-in_err-push-clause-out_of_memory : goal.returns-in_err-push-clause-out_of_memory
+returns-in_err-push-clause-out_of_memory g c =
     let seen = view_of g.P.Placer.policy g.T.Tap.reading in
     let told = c.loop-act.said.items ++ c.in_ok-one.one ∷ [] in
     let inside : c.loop-act.act-index < length c.args.acts.now = search rules in
