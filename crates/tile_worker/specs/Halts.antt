@@ -4,7 +4,7 @@ use Rattle.book_event.specs.declared.event.Halt.{Halt}
 use Rattle.book_event.specs.declared.event.Halt.TheVariants as halts
 use Rattle.book_event.specs.End.{HasEnd, IsOver}
 
--- the run is over and ended so, or memory was wanting and it isn't over
+-- the run is over and ended so, or memory ran out and it isn't over
 abbrev pub HaltsAt : View → Halt → Type 0
 HaltsAt view (halts.Ended end) = HasEnd view end
 HaltsAt view halts.Memory = IsOver view → ⊥

@@ -1,6 +1,7 @@
 //! What a worker keeps for itself between its holds of the lock.
 
-ghost use Rattle.std.specs.Prelude.{◌≡◌, ◌↔◌, ◌<◌, ◌≤◌, ◌+◌, ◌*◌, ◌%◌, ℕ, IfSome, IsTrue, slice_index_or, slice_set};
+ghost use Rattle.std.specs.Prelude.{◌≡◌, ◌↔◌, ◌<◌, ◌≤◌, ◌+◌, ◌*◌, ◌%◌, ℕ, IfSome, IsNone, IsTrue};
+ghost use Rattle.std.specs.Prelude.{slice_index_or, slice_set};
 ghost use Rattle.tile_worker.specs.Rounds.{index_of, rested};
 
 /// How many events are made before a core that stalled, or a tile that had nothing to dispatch, is tried again. In
@@ -118,6 +119,10 @@ impl Round {
         ensures tile { IfSome result (λ place. place.tile < tiles) }
         ensures core { IfSome result (λ place. place.core < cores) }
         ensures own { IfSome result (λ place. place.tile % self.old.workers ≡ self.old.worker) }
+        ensures last { IfSome result
+            (λ place. (self.new.last.tile ≡ place.tile) × (self.new.last.core ≡ place.core)) }
+        ensures rests { (self.new.tiles ≡ self.old.tiles) × (self.new.cores ≡ self.old.cores) }
+        ensures none { IsNone result ↔ (tiles ≤ self.old.worker) }
     {
         if self.worker >= tiles {
             return None;
