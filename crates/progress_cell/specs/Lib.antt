@@ -1,0 +1,4 @@
+pub mod Board
+pub mod Readings
+pub mod Rule
+pub mod Steps

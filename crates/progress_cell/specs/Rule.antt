@@ -1,0 +1,57 @@
+-- What always holds of the two words of a board's cell and of what its passes know.
+use Rattle.std.specs.Prelude.{◌≡◌, ℕ, ◌<◌, ◌^◌, List, [], All, length, slice_index}
+use mathlib.Core.Option.{some}
+use lib.ListN.{get_elem?}
+use Rattle.progress_cell.specs.Readings.{IsAtMost, NeverFalls, StandsIn, last_of}
+use Rattle.progress_cell.specs.declared.reading.Reading.{Reading}
+use Rattle.progress_cell.specs.declared.view.View.{View}
+use Rattle.progress_cell.specs.declared.view.View.TheVariants.{Writes, Reads, Spent}
+
+-- the reading that two words are
+abbrev pub reading_of : List ℕ → Reading
+reading_of words = record { commits = slice_index words 0; output = slice_index words 1 }
+
+-- the readings that a pass told or saw
+abbrev pub known : View → List Reading
+known (Writes told joined) = told
+known (Reads seen) = seen
+known Spent = []
+
+-- the lists that the writer took in
+abbrev pub joined_of : View → List (List Reading)
+joined_of (Writes told joined) = joined
+joined_of (Reads seen) = []
+joined_of Spent = []
+
+-- the writer's pass, the readings that it told and the lists that it took in
+pub record Telling : Type 0 where
+  pub writer : ℕ
+  pub told : List Reading
+  pub joined : List (List Reading)
+
+-- the words are the last reading of `told`, which never falls, and the first of them has 32 bits; each list that the
+-- writer took in stands in `told`
+pub record IsTold (telling : Telling) (words : List ℕ) : Type 0 where
+  pub some : 0 < length telling.told
+  pub last : reading_of words ≡ last_of telling.told
+  pub narrow : slice_index words 0 < 2 ^ 32
+  pub never_falls : NeverFalls telling.told
+  pub joined_stand : All (λ seen. StandsIn seen telling.told) telling.joined
+
+-- what a pass may know: the writer's, and no other, knows what was told and taken in; what a reader saw stands in
+-- `told`, and its last reading isn't above the words; of a spent pass nothing is asked
+abbrev pub Fits : Telling → List ℕ → ℕ → View → Type 0
+Fits telling words pass (Writes told joined) =
+    (pass ≡ telling.writer) × (told ≡ telling.told) × (joined ≡ telling.joined)
+Fits telling words pass (Reads seen) = StandsIn seen telling.told × IsAtMost (last_of seen) (reading_of words)
+Fits telling words pass Spent = Unit {0}
+
+-- what each pass knows fits
+abbrev pub AllFit : Telling → List ℕ → List View → Type 0
+AllFit telling words views = (pass : ℕ) (v : View) → get_elem? views pass ≡ some v → Fits telling words pass v
+
+-- the rule: something was told that the words and all that is known fit
+pub record Kept (words : List ℕ) (views : List View) : Type 0 where
+  pub telling : Telling
+  pub told : IsTold telling words
+  pub fit : AllFit telling words views

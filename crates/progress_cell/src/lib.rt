@@ -1,0 +1,26 @@
+//! A board on which one writer tells how far a run has come, and from which any number of readers see it with no
+//! lock around the run.
+//!
+//! What is told is a reading: two numbers, neither of which ever falls. Contracts see the list of all that the writer
+//! told, and for each reader the list of all that it saw. A reader never goes back. Once it is joined to the writer,
+//! the caller knows that whatever it saw was told, in this order. Not promised is that a reader sees each reading, or
+//! how fresh one is.
+//!
+//! It stands on the ruled cell of two words of `crossbeam_utils`; `specs/Rule` says what always holds of the words and
+//! of what is known of them, and `specs/Steps` what each step does. Nothing of the program uses it yet: a library's
+//! caller does, which follows a run from a thread of its own.
+//!
+//! `Board::new` alone takes memory. Where no other call comes between, a call makes 1 to 7 atomic steps on the words.
+//! `publish` takes the words' own lock for these steps, and so does a `read` or a `join` that was overtaken by it; they
+//! wait for each other's steps and for nothing else. After 2^63 readings were told, that lock is taken no more.
+#![tactic(auto)]
+
+mod board;
+mod reading;
+mod steps;
+#[cfg(test)]
+mod tests;
+mod view;
+
+pub use board::{Board, Reader, Writer};
+pub use reading::Reading;
