@@ -5,7 +5,7 @@ use Rattle.std.proofs.lemmas.Bool.{cases_eq}
 use Rattle.spec_state.specs.declared.task.Creator.TheVariants.{Committed, Live}
 use Rattle.spec_state.specs.declared.task.Task.{Task}
 use Rattle.spec_state.specs.declared.task.TaskId.{TaskId}
-use Rattle.spec_state.specs.Children.{AreNoted, AreNotedBut, ChildrenValue, IsChildAt, Notes, noted_of}
+use Rattle.spec_state.specs.Children.{AreNoted, AreNotedBut, ChildrenValue, IsChildAt, IsNotable, Notes, noted_of}
 use Rattle.spec_state.proofs.Kept.{others_set, task_set}
 
 -- where each child that stands now stood there before
@@ -104,6 +104,14 @@ same_creator a b p q stands one other =
 
 same_place : (a b p q : ℕ) (stands : Option Task) → IsChildAt a p stands → IsChildAt b q stands → p ≡ q
 same_place a b p q stands one other = (let made = same_maker a b p q stands one other in cc (made))
+
+-- whichever way the child is told, it can be noted
+pub notable_as : (tasks : List (Option Task)) (children : ChildrenValue) (id creator place : ℕ)
+    → IsChildAt creator place (slice_index_or tasks id None) → IsNotable tasks id creator place children
+    → (c p : ℕ) → IsChildAt c p (slice_index_or tasks id None) → IsNotable tasks id c p children
+notable_as tasks children id creator place child notable c p is =
+    subst (λ j. IsNotable tasks id j p children) (same_creator creator c place p (slice_index_or tasks id None) child is)
+    (subst (λ q. IsNotable tasks id creator q children) (same_place creator c place p (slice_index_or tasks id None) child is) notable)
 
 -- the child under the id is noted where no other child is noted at its place
 module _ (tasks : List (Option Task)) (old new : ChildrenValue) (id creator place : ℕ)

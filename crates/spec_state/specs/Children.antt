@@ -1,5 +1,6 @@
 -- Where the children of each task stand, so that a commit finds them without a search.
-use Rattle.std.specs.Prelude.{◌≡◌, ◌≢◌, ℕ, Bool, List, [], Option, Some, None, IsTrue, slice_get, slice_index_or}
+use Rattle.std.specs.Prelude.{◌≡◌, ◌≢◌, ◌<◌, ◌≤◌, ◌^◌, ℕ, Bool, List, [], length, Option, Some, None, IsTrue, slice_get, slice_index_or}
+use Rattle.task_desc.specs.declared.calls.TheConstants.{MAX_CHILDREN}
 use Rattle.spec_state.specs.declared.task.Creator.TheVariants.{Live}
 use Rattle.spec_state.specs.declared.task.Task.{Task}
 
@@ -37,3 +38,20 @@ pub record NotesAt (place id : ℕ) (old new : List ℕ) : Type 0 where
 pub record Notes (creator place id : ℕ) (old new : ChildrenValue) : Type 0 where
   pub own : NotesAt place id (noted_of old creator) (noted_of new creator)
   pub others : (k : ℕ) → k ≢ creator → noted_of new k ≡ noted_of old k
+
+-- no other child than the one of this id stands where the child at this place of this task was noted
+abbrev pub IsFree : List (Option Task) → ℕ → ℕ → ℕ → ChildrenValue → Type 0
+IsFree tasks id creator place children = (k : ℕ) → slice_get (noted_of children creator) place ≡ Some k → k ≢ id
+    → IsChildAt creator place (slice_index_or tasks k None) → ⊥
+
+-- the notes have room for this id at this place of this task: each place below it is noted
+pub record HasPlace (id creator place : ℕ) (children : ChildrenValue) : Type 0 where
+  pub short : id < 2 ^ 32
+  pub known : creator < length children.lists
+  pub next : place ≤ length (noted_of children creator)
+  pub fits : place < MAX_CHILDREN
+
+-- the child under this id can be noted at this place of this task
+pub record IsNotable (tasks : List (Option Task)) (id creator place : ℕ) (children : ChildrenValue) : Type 0 where
+  pub free : IsFree tasks id creator place children
+  pub room : HasPlace id creator place children

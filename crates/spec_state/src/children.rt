@@ -1,8 +1,10 @@
 //! Where the children of each task stand.
 
-ghost use Rattle.std.specs.Prelude.{◌≡◌, ◌≢◌, ◌↔◌, ℕ, [], true, replicate, IsTrue, IfOk, IfSome, Some, slice_get};
+ghost use Rattle.std.specs.Prelude.{◌≡◌, ◌≢◌, ◌≤◌, ◌<◌, ◌↔◌, ℕ, [], true, length, replicate, IsTrue, IfOk, IsSome, IfSome};
+ghost use Rattle.std.specs.Prelude.{slice_get};
 ghost use Rattle.slab.specs.Slab.{get};
-ghost use Rattle.spec_state.specs.Children.{AreNoted, AreNotedBut, IsChildAt, Notes, NotesAt, noted_of};
+ghost use Rattle.spec_state.specs.Children.{AreNoted, AreNotedBut, HasPlace, IsChildAt, IsFree, IsNotable, Notes, NotesAt};
+ghost use Rattle.spec_state.specs.Children.{noted_of};
 
 use crate::task::{Creator, Task};
 use arrayvec::ArrayVec;
@@ -49,7 +51,8 @@ impl Places {
     /// Notes the id of the child at this place. It tells whether there is room for it: each place below it has been
     /// noted, and it is below `MAX_NOTED`.
     fn note(&mut self, place: usize, id: u32) -> bool
-        ensures { IsTrue result → NotesAt place id self.old self.new }
+        ensures notes { IsTrue result → NotesAt place id self.old self.new }
+        ensures room { IsTrue result ↔ ((place ≤ length self.old) × (place < MAX_NOTED)) }
     {
         let noted = self.ids.len();
         if place < noted {
@@ -140,8 +143,7 @@ impl Children {
 
     /// Whether no other child than the one of this id stands where the child at this place of this creator was noted.
     fn is_free(&self, tasks: &Slab<Task>, id: usize, creator: usize, place: usize) -> bool
-        ensures { IsTrue result → (k : ℕ) → slice_get (noted_of self.now creator) place ≡ Some k → k ≢ id
-            → IsChildAt creator place (get tasks.now k) → ⊥ }
+        ensures { IsTrue result ↔ IsFree tasks.now.slots id creator place self.now }
     {
         match self.noted(creator, place) {
             Some(noted) => noted == id || !is_child_at(tasks, noted, creator, place),
@@ -153,6 +155,7 @@ impl Children {
     fn put(&mut self, id: usize, creator: usize, place: usize) -> bool
         ensures complete { self.new.complete ≡ self.old.complete }
         ensures notes { IsTrue result → Notes creator place id self.old self.new }
+        ensures room { IsTrue result ↔ HasPlace id creator place self.old }
     {
         match u32::try_from(id) {
             Ok(id) if creator < self.places.len() => self.places[creator].note(place, id),
@@ -160,11 +163,14 @@ impl Children {
         }
     }
 
-    /// Notes the child at this place of this creator, which stands under the id, where all others are noted.
+    /// Notes the child at this place of this creator, which stands under the id, where all others are noted. The notes
+    /// stay complete exactly where it can be noted.
     fn note_child(&mut self, tasks: &Slab<Task>, id: usize, creator: usize, place: usize)
         requires child { IsChildAt creator place (get tasks.now id) }
         requires others { AreNotedBut id tasks.now.slots self.old }
-        ensures { AreNoted tasks.now.slots self.new }
+        ensures noted { AreNoted tasks.now.slots self.new }
+        ensures complete { IsTrue self.new.complete ↔ (IsTrue self.old.complete
+            × IsNotable tasks.now.slots id creator place self.old) }
     {
         let free = self.is_free(tasks, id, creator, place);
         let put = self.put(id, creator, place);
@@ -173,10 +179,14 @@ impl Children {
         }
     }
 
-    /// Notes what stands under the id, where all others are noted.
+    /// Notes what stands under the id, where all others are noted. The notes stay complete exactly where that is no
+    /// child, or can be noted.
     pub(crate) fn note(&mut self, tasks: &Slab<Task>, id: usize)
         requires { AreNotedBut id tasks.now.slots self.old }
-        ensures { AreNoted tasks.now.slots self.new }
+        ensures noted { AreNoted tasks.now.slots self.new }
+        ensures complete { IsTrue self.new.complete ↔ (IsTrue self.old.complete
+            × ((creator place : ℕ) → IsChildAt creator place (get tasks.now id)
+            → IsNotable tasks.now.slots id creator place self.old)) }
     {
         if let Some(task) = tasks.get(id) {
             if let Creator::Live {
@@ -190,9 +200,11 @@ impl Children {
     }
 
     /// The ids that are noted for the children of a task, by their places: each of its children stands under one of
-    /// them, and one of them may be another task's, or none's. None where the notes aren't complete.
+    /// them, and one of them may be another task's, or none's. None exactly where the notes aren't complete, or there
+    /// is none of this id.
     pub fn of(&self, id: usize) -> Option<&[u32]>
-        ensures { IfSome result (λ ids. IsTrue self.now.complete × (ids.now ≡ noted_of self.now id)) }
+        ensures ids { IfSome result (λ ids. ids.now ≡ noted_of self.now id) }
+        ensures complete { IsSome result ↔ (IsTrue self.now.complete × (id < length self.now.lists)) }
     {
         if !self.complete {
             return None;

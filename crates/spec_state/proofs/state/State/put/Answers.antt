@@ -79,5 +79,5 @@ invariant_of-self g c =
           (subst (λ n. id < n) (sym (c.fresh_arrival-arrival.ensures.slots ∙ c.self.invariant.3.arrivals)) (subst (λ n. id < n) c.insert_reserved-id.ensures.capacity c.insert_reserved-id.ensures.key_in_range))
           (λ t k has same. not_queued g.N.Naming.image.data_size _ t id c.self.invariant.4 c.insert_reserved-id.ensures.was_vacant (subst (Contains _) same has))
           c.index.ensures c.insert.ensures.entries,
-      c.note.ensures,
+      c.note.ensures.noted,
     )
