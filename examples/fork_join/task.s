@@ -1,4 +1,4 @@
-# Fork and join by timestamps: four workers at timestamp 1, and behind them one task that adds up their results.
+# Fork and join by timestamps: four workers at timestamp 1, and after them one task that adds up their results.
 #
 # image: root ordered
 # image: window squares 5

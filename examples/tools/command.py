@@ -138,7 +138,7 @@ def umask():
 
 
 def number_in(word, least, most):
-    """The number that a word is, in decimal or in hexadecimal behind 0x; None where it isn't one from least to most."""
+    """The number that a word is, in decimal or in hexadecimal after 0x; None where it isn't one from least to most."""
     digits, base = (word[2:], 16) if word[:2] in ("0x", "0X") else (word, 10)
     allowed = "0123456789abcdefABCDEF" if base == 16 else "0123456789"
     if not 0 < len(digits) <= 20 or any(digit not in allowed for digit in digits):
@@ -169,7 +169,7 @@ def take_option(words, name):
     if len(values) > 1:
         raise Refused(f"`{name}` stands twice.")
     if values == [None]:
-        raise Refused(f"a value is missing behind `{name}`.")
+        raise Refused(f"a value is missing after `{name}`.")
     return (values or [None])[0], rest
 
 

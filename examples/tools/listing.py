@@ -21,7 +21,7 @@ class Listing:
     source_lines: dict
 
     def label(self, address):
-        """An address by its label, with the distance behind it; None in front of all labels of its range."""
+        """An address by its label, with the distance after it; None before all labels of its range."""
         place = bisect.bisect_right(self.places, address) - 1
         start = TEXT if address < DATA else DATA
         if place < 0 or self.places[place] < start:

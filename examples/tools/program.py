@@ -12,7 +12,7 @@ STATUSES = {"normal": 0, "trap": 3, "limit": 4, "open": 0}
 
 
 def end_of(report):
-    """The word behind `end` of a report's bytes, or nothing."""
+    """The word after `end` of a report's bytes, or nothing."""
     return report.rpartition(b"\nend ")[2].partition(b" ")[0].strip().decode("ascii", "replace")
 
 

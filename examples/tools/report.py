@@ -64,7 +64,7 @@ class Lines:
 
 
 def read_report(text, name, start=0):
-    """The report that a text is, behind so many lines of something else."""
+    """The report that a text is, after so many lines of something else."""
     lines = Lines(name, text.removesuffix("\n").split("\n"), start)
     lines.need("fractal 1", "the line `fractal 1`")
     entries = []
@@ -81,6 +81,6 @@ def read_report(text, name, start=0):
     trap = rf"trap {NUMBER} ([0-9a-f]{{8}}) {NUMBER}\.{NUMBER}"
     end = lines.need(f"end (normal|limit|open|{trap})", "a word of the window or the end")
     if lines.taken < len(lines.texts):
-        lines.refuse("nothing is wanted behind the end")
+        lines.refuse("nothing is wanted after the end")
     trap = Trap(int(end[2]), int(end[3], 16), Name(int(end[4]), int(end[5]))) if end[2] else None
     return Report(entries, b"" if output == "-" else bytes.fromhex(output), window, end[1].split()[0], trap)

@@ -8,7 +8,7 @@ from tools.command import Refused
 from tools.report import Report, read_report
 
 MOST_TILES, MOST_CORES = 16, 4
-# How many numbers stand behind each act's word: a tile, and a core of it.
+# How many numbers come after each act's word: a tile, and a core of it.
 NUMBERS = {"dispatch": 1, "step": 2, "take": 2, "give": 2, "abort": 1, "commit": 0, "coalesce": 1, "split": 1,
            "advance": 0}
 # What an act is answered where it was done, and where it wasn't.
@@ -74,7 +74,7 @@ def read_act(line, place):
 
 
 def read_played(acts, text, name):
-    """What the program said to a script, and the report behind it."""
+    """What the program said to a script, and the report after it."""
     lines = text.split("\n")
     if lines[0].startswith("fault "):
         raise Refused(f"{name}: the program played nothing, and said `{lines[0]}`.")
@@ -108,7 +108,7 @@ def read_trace(text, name):
         if not found or len(numbers) < int(found[1]) or not all(re.fullmatch("[0-9]{1,20}", it) for it in numbers):
             break
         taps.append([int(it) for it in numbers])
-    raise Refused(f"{name}: this is no trace: behind {len(taps)} taps it has something else.")
+    raise Refused(f"{name}: this is no trace: after {len(taps)} taps it has something else.")
 
 
 def lockstep(tiles, cores, rounds, seed=None):

@@ -47,7 +47,7 @@ class Instruction:
 
 @dataclasses.dataclass
 class Assembled:
-    """What the linker made of the sources; `size` is that of all data, with the zeros behind the initial bytes."""
+    """What the linker made of the sources; `size` is that of all data, with the zeros after the initial bytes."""
     text: bytes
     initial: bytes
     size: int
@@ -132,7 +132,7 @@ def is_part(name, place):
 
 
 def linker_script(contents):
-    """Where each section of each object goes: those of one source behind those of the one before, at multiples of 4."""
+    """Where each section of each object goes: those of one source after those of the one before, at multiples of 4."""
     def placed(output):
         inputs = [f". = ALIGN(4); {number}.o(\"{name}\")" for place in PLACES[output]
                   for number, names in enumerate(contents) for name in names if is_part(name, place)]
@@ -174,7 +174,7 @@ def joined(sections, labels, instructions):
 
 @dataclasses.dataclass
 class Line:
-    """A line of a source that describes the image: its words behind `# image:`, and where it stands."""
+    """A line of a source that describes the image: its words after `# image:`, and where it stands."""
     source: Source
     number: int
     words: list
@@ -185,7 +185,7 @@ class Line:
     def number_of(self, word, what, most):
         number = number_in(word, 0, most)
         if number is None:
-            self.refuse(f"{what} is a number from 0 to {most}, in decimal or behind 0x, and not `{word}`")
+            self.refuse(f"{what} is a number from 0 to {most}, in decimal or after 0x, and not `{word}`")
         return number
 
 
@@ -204,7 +204,7 @@ def description(sources):
             if found := re.match(r"\s*#+\s*image\s*:(.*)", text, re.IGNORECASE):
                 yield Line(source, number, found[1].split())
             elif found := re.match(r"\s*#+\s*image\s+(root|data|window|task)\b", text):
-                Line(source, number, []).refuse(f"a colon is missing behind `image`: {FORMS[found[1]]}")
+                Line(source, number, []).refuse(f"a colon is missing after `image`: {FORMS[found[1]]}")
 
 
 def described(sources, assembled):
@@ -278,7 +278,7 @@ def window_of(line, assembled, size):
     if offset % 4:
         line.refuse(f"the label `{line.words[1]}` doesn't stand at a multiple of 4: `.balign 4` above it helps")
     if offset + 4 * count > size:
-        line.refuse(f"the window ends behind the data, which has {size} bytes")
+        line.refuse(f"the window ends after the data, which has {size} bytes")
     return offset, count
 
 
@@ -291,12 +291,12 @@ def initial_task(line, assembled):
     timestamp, arguments, rest = 0, [], words[1:]
     if rest[:1] == ["ts"]:
         if len(rest) == 1:
-            line.refuse("a number is missing behind `ts`")
+            line.refuse("a number is missing after `ts`")
         timestamp = line.number_of(rest[1], "the timestamp", WORD)
         rest = rest[2:]
     if rest[:1] == ["args"]:
         if not 1 <= len(rest[1:]) <= 3:
-            line.refuse(f"`args` has one to three numbers behind it, and not {len(rest[1:])}")
+            line.refuse(f"`args` has one to three numbers after it, and not {len(rest[1:])}")
         arguments = [line.number_of(word, "an argument", WORD) for word in rest[1:]]
         rest = []
     if rest:

@@ -1,4 +1,4 @@
-# A reader, at timestamp 2, of a word 16,384 bytes behind the one that the writer, at timestamp 1, stores to.
+# A reader, at timestamp 2, of a word 16,384 bytes after the one that the writer, at timestamp 1, stores to.
 #
 # image: root ordered
 # image: task reader ts 2
