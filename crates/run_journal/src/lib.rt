@@ -9,6 +9,7 @@ mod closed;
 mod end;
 mod items;
 mod journal;
+mod pending;
 #[cfg(test)]
 mod tests;
 
@@ -16,3 +17,4 @@ pub use closed::Closed;
 pub use end::End;
 pub use items::Items;
 pub use journal::{Bytes, Entry, Journal};
+pub use pending::{Frozen, Pending, Pendings};

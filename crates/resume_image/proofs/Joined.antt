@@ -1,0 +1,120 @@
+-- A run and one that went on from its saved image are one run.
+use Rattle.std.proofs.Common.{◌≡◌, refl, sym, ap, ◌∙◌, subst, ℕ, ◌<◌, ◌||◌, Bool, true, false, List, [], ◌∷◌, ◌++◌, length, map, All, arith}
+use Rattle.std.specs.List.{list_any}
+use Rattle.std.proofs.lemmas.Bool.Decides.{nat_tests}
+use Rattle.std.proofs.lemmas.Grind.{common_steps}
+use Rattle.guest_image.specs.ImageValue.{ImageValue, IsImage}
+use Rattle.task_desc.specs.declared.desc.Name.{Name}
+use Rattle.pending_list.specs.declared.task.PendingTask.{PendingTask}
+use Rattle.run_journal.specs.declared.journal.Entry.{Entry}
+use Rattle.run_journal.specs.declared.pending.Pending.{Pending}
+use Rattle.serial_machine.specs.BagValue.{BagValue}
+use Rattle.serial_machine.specs.Run.{IsRun, Runs, opening}
+use Rattle.serial_machine.specs.State.{State}
+use Rattle.serial_machine.specs.Turn.{inner, is_named, is_pending}
+use Rattle.serial_machine.proofs.Proved.{is_pending-inner}
+use Rattle.resume_image.specs.Pendings.{Leaves}
+use Rattle.resume_image.specs.Saved.{saved_image, saved_task}
+use Rattle.resume_image.specs.Joined.{IsJoinedRun, shifted, shifted_entry}
+use Rattle.resume_image.proofs.Followed.{runs_followed}
+use Rattle.resume_image.proofs.Opened.{saved_opens}
+use Rattle.resume_image.proofs.Shifted.{AreShifted, shifted_task}
+
+runs_more : (image : ImageValue) (budget : ℕ) (es more : List Entry) (s mid after : State) → Runs image budget s es mid → Runs image budget mid more after
+    → Runs image budget s (es ++ more) after
+runs_more image budget [] more s mid after done on = subst (λ st. Runs image budget st more after) (sym done) on
+runs_more image budget (e ∷ es) more s mid after (next, turned, rest) on = (next, turned, runs_more image budget es more next mid after rest on)
+
+-- a task has the name under which it is found
+own_name : (name : Name) (t : PendingTask) → is_named name t ≡ true → t.name ≡ name
+own_name name t is =
+    let creator : t.name.creator ≡ name.creator = grind (arith, nat_tests, common_steps) in
+    let index : t.name.index ≡ name.index = grind (arith, nat_tests, common_steps) in
+    λ i. record { creator = creator i; index = index i }
+
+named_own : (name : Name) (t : PendingTask) → t.name ≡ name → is_named name t ≡ true
+named_own name t same =
+    let creator : t.name.creator ≡ name.creator = ap (λ (n : Name). n.creator) same in
+    let index : t.name.index ≡ name.index = ap (λ (n : Name). n.index) same in
+    grind (arith, nat_tests, common_steps)
+
+module _ (turns : ℕ) (pendings : List Pending) where
+  -- a name that pends in the second state, and its shifted name
+  abbrev Pends : (Name → Bool) → Name → Type 0
+  Pends pends name = (own : Name) × (pends own ≡ true) × (name ≡ shifted turns pendings own)
+
+  either : (a b : Bool) → (a || b) ≡ true → (P : Type 0) → (a ≡ true → P) → (b ≡ true → P) → P
+  either true b is P one other = one refl
+  either false b is P one other = other is
+
+  right_holds : (a b : Bool) → b ≡ true → (a || b) ≡ true
+  right_holds true b is = refl
+  right_holds false b is = is
+
+  left_holds : (a b : Bool) → a ≡ true → (a || b) ≡ true
+  left_holds a b is = ap (λ x. x || b) is
+
+  bag_back : (name : Name) (ts : List PendingTask) → list_any (is_named name) (map (shifted_task turns pendings) ts) ≡ true
+      → Pends (λ own. list_any (is_named own) ts) name
+  bag_back name [] is = absurd (cc (is))
+  bag_back name (t ∷ ts) is =
+      either (is_named name (shifted_task turns pendings t)) (list_any (is_named name) (map (shifted_task turns pendings) ts)) is
+      (Pends (λ own. list_any (is_named own) (t ∷ ts)) name)
+      (λ here. (t.name, left_holds (is_named t.name t) (list_any (is_named t.name) ts) (named_own t.name t refl), sym (own_name name (shifted_task turns pendings t) here)))
+      (λ there. (let rest = bag_back name ts there in
+      (rest.0, right_holds (is_named rest.0 t) (list_any (is_named rest.0) ts) rest.1, rest.2)))
+
+  bag_there : (own : Name) (ts : List PendingTask) → list_any (is_named own) ts ≡ true
+      → list_any (is_named (shifted turns pendings own)) (map (shifted_task turns pendings) ts) ≡ true
+  bag_there own [] is = absurd (cc (is))
+  bag_there own (t ∷ ts) is =
+      either (is_named own t) (list_any (is_named own) ts) is
+      (list_any (is_named (shifted turns pendings own)) (map (shifted_task turns pendings) (t ∷ ts)) ≡ true)
+      (λ here. left_holds _ _ (named_own (shifted turns pendings own) (shifted_task turns pendings t) (ap (shifted turns pendings) (own_name own t here))))
+      (λ there. right_holds (is_named (shifted turns pendings own) (shifted_task turns pendings t)) _ (bag_there own ts there))
+
+  stack_back : (name : Name) (xs ys : List BagValue) → AreShifted turns pendings xs ys → is_pending name xs ≡ true → Pends (λ own. is_pending own ys) name
+  stack_back name [] [] same is = absurd (cc (is))
+  stack_back name [] (y ∷ ys) same is = absurd same
+  stack_back name (x ∷ xs) [] same is = absurd same
+  stack_back name (x ∷ xs) (y ∷ ys) same is =
+      either (list_any (is_named name) x.tasks) (is_pending name xs) is (Pends (λ own. is_pending own (y ∷ ys)) name)
+      (λ here. (let one = bag_back name y.tasks (sym (ap (λ (b : BagValue). list_any (is_named name) b.tasks) same.0) ∙ here) in
+      (one.0, left_holds (list_any (is_named one.0) y.tasks) (is_pending one.0 ys) one.1, one.2)))
+      (λ there. (let rest = stack_back name xs ys same.1 there in
+      (rest.0, right_holds (list_any (is_named rest.0) y.tasks) (is_pending rest.0 ys) rest.1, rest.2)))
+
+  stack_there : (own : Name) (xs ys : List BagValue) → AreShifted turns pendings xs ys → is_pending own ys ≡ true
+      → is_pending (shifted turns pendings own) xs ≡ true
+  stack_there own [] [] same is = absurd (cc (is))
+  stack_there own [] (y ∷ ys) same is = absurd same
+  stack_there own (x ∷ xs) [] same is = absurd same
+  stack_there own (x ∷ xs) (y ∷ ys) same is =
+      either (list_any (is_named own) y.tasks) (is_pending own ys) is (is_pending (shifted turns pendings own) (x ∷ xs) ≡ true)
+      (λ here. left_holds _ _ (ap (λ (b : BagValue). list_any (is_named (shifted turns pendings own)) b.tasks) same.0 ∙ bag_there own y.tasks here))
+      (λ there. right_holds (list_any (is_named (shifted turns pendings own)) x.tasks) _ (stack_there own xs ys same.1 there))
+
+pub runs_join : (image : ImageValue) → IsImage image → (budget : ℕ) → (one two : List Entry) → (memory output : List ℕ) → (pendings : List Pending)
+    → Leaves image budget one memory output pendings → 0 < length pendings → All (λ (p : Pending). p.depth ≡ 1) pendings
+    → (second : State) → IsRun (saved_image image memory pendings) budget two second
+    → IsJoinedRun image budget one two output pendings second
+runs_join image within budget one two memory output pendings left some root second run =
+    let opened = saved_opens image budget one memory output pendings within left some root in
+    let on = runs_followed image budget memory (map saved_task pendings) (length one) output pendings opened.saved
+    left.state (opening (saved_image image memory pendings)) two second opened.follows run in
+    record {
+      state = on.after;
+      run = runs_more image budget one (map (shifted_entry (length one) pendings) two) (opening image) left.state on.after left.run on.runs;
+      memory_is = on.follows.memory;
+      output_is = on.follows.output;
+      pending = λ name. (
+        λ is. (let there = stack_back (length one) pendings name (inner on.after.stack) (inner second.stack) on.follows.stack
+            (is_pending-inner name on.after.stack ∙ is) in
+            (there.0, sym (is_pending-inner there.0 second.stack) ∙ there.1, there.2)),
+        λ found.
+            ap (λ n. is_pending n on.after.stack) found.2
+            ∙ sym (is_pending-inner (shifted (length one) pendings found.0) on.after.stack)
+            ∙ stack_there (length one) pendings found.0 (inner on.after.stack) (inner second.stack) on.follows.stack
+            (is_pending-inner found.0 second.stack ∙ found.1),
+      );
+    }

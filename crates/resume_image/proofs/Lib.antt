@@ -1,0 +1,15 @@
+pub mod Same
+pub mod Names
+pub mod Bags
+pub mod Shifted
+pub mod Followed
+pub mod Settled
+pub mod Rising
+pub mod Standing
+pub mod Sorted
+pub mod Opened
+pub mod Joined
+pub mod Creators
+pub mod Frozen
+pub mod Made
+pub mod Unstarted
