@@ -9,3 +9,4 @@ mod Leading
 mod Nexts
 mod Lists
 mod Settled
+mod Few

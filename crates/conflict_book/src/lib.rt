@@ -2,8 +2,9 @@
 //! that note its events.
 //!
 //! Its type keeps that the state is sound. A book keeps its state beside the placers, so that to pick a tile costs
-//! one call of a placer. It stands on all crates of the machine; scripts, workers and runs call it. An event costs
-//! a look at the least task beside its own change; no call copies the data.
+//! one call of a placer. It stands on all crates of the machine, and on the readings of a board, as one of which it
+//! tells how far its run has come (`counts`); scripts, workers and runs call it. An event costs a look at the least
+//! task beside its own change; no call copies the data.
 #![tactic(auto)]
 
 mod advancing;

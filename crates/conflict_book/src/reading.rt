@@ -8,6 +8,7 @@ ghost use Rattle.spec_state.specs.Settings.{IsValid};
 ghost use Rattle.spec_state.specs.View.{loads};
 ghost use Rattle.spec_state.specs.Queries.{IsFreeCore, IsIdle, IsRunning};
 ghost use Rattle.book_event.specs.End.{HasEnd, IsOver};
+ghost use Rattle.conflict_book.specs.Counts.{counts_of};
 ghost use Rattle.conflict_book.specs.Seen.{view_of};
 ghost use Rattle.conflict_book.specs.Ready.{HasRunning, IsReady};
 
@@ -15,6 +16,7 @@ use crate::book::Book;
 use crate::events::has_limits;
 use book_room::end_of;
 use place_policy::Placer;
+use progress_cell::Reading;
 use rv_core::{Core, Naming};
 use serial_machine::{End, Entry};
 use spec_dispatch::free_core;
@@ -28,6 +30,18 @@ fn limited_settings<N: Naming>(state: &State<N>) -> &Settings
     ensures budget { result.now.budget ≡ N.budget }
 {
     &state.settings
+}
+
+/// How many tasks of a sound state are committed, and how many bytes these emitted.
+#[tactic(auto, using(crate::proofs::Few::few_commits))]
+fn counts<N: Naming>(state: &State<N>) -> Reading
+    requires { Sound N.image state.now.view }
+    ensures { result ≡ counts_of state.now.view }
+{
+    Reading {
+        commits: state.history().len() as u32,
+        output: state.output().len() as u64,
+    }
 }
 
 /// The core of a running task that a core of a tile holds; None exactly where no running task is there.
@@ -93,6 +107,13 @@ impl<N: Naming, P: Placer, T: Tap> Book<N, P, T> {
         ensures { result.now ≡ (view_of P.policy T.reading self.now).view.history }
     {
         self.sound.state().history()
+    }
+
+    /// How far the run has come: how many tasks are committed, and how many bytes these emitted.
+    pub fn counts(&self) -> Reading
+        ensures { result ≡ counts_of (view_of P.policy T.reading self.now).view }
+    {
+        counts(self.sound.state())
     }
 
     /// How many tasks each tile's task queue holds, the lowest tile first.

@@ -1,3 +1,5 @@
 mod Rising
 mod Sums
 mod Tiles
+mod Growing
+mod Told

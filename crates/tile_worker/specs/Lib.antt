@@ -2,3 +2,5 @@ pub mod Halts
 pub mod Counts
 pub mod Founds
 pub mod Rounds
+pub mod Grows
+pub mod Readings

@@ -4,16 +4,16 @@ ghost use Rattle.std.specs.Prelude.{◌≡◌, ◌≤◌, ◌<◌, ◌+◌, ◌-
 ghost use Rattle.std.specs.Thread.{IsSync};
 
 use crate::gate::Gate;
+use crate::hold::Handed;
+use crate::locks::BookLock;
 use crate::shares::Shares;
-use crate::tally::{Part, Tallied};
-use crate::working::work;
+use crate::tally::Part;
+use crate::working::drive;
 use guest_image::Image;
-use place_policy::Placer;
 use rv_core::Naming;
+use std::sync::Wait;
 use std::sync::ledger::{Ledger, Share};
-use std::sync::{Mutex, Wait};
 use std::thread::{Threads, join};
-use trace_tap::Tap;
 
 /// What some workers hand back: how many events each of them made, and their shares of the ledger as one.
 #[derive(Drop)]
@@ -63,14 +63,13 @@ impl<L: Ledger> Gathered<L> {
 pub(crate) fn fan<
     N: Naming + Send + Sync,
     L: Ledger + Send + Sync,
-    P: Placer + Send,
-    T: Tap + Send,
+    K: BookLock<N, Part<L>, Handed<N>> + Sync,
     G: Gate + Sync,
     R: Threads + Wait + Sync,
 >(
     rt: &R,
     image: &Image,
-    lock: &Mutex<Tallied<N, L, P, T>>,
+    lock: &K,
     share: Share<L>,
     first: u32,
     count: u32,
@@ -84,7 +83,8 @@ pub(crate) fn fan<
     ensures { length result.shares ≡ count }
 {
     if count == 1 {
-        return Gathered::one(work(rt, image, lock, Part::new(share), first, workers, gate));
+        let part = Part::new(share);
+        return Gathered::one(drive::<N, L, K, G, R>(rt, image, lock, part, first, workers, gate));
     }
     let half = count / 2;
     let mut mine = share;
@@ -92,16 +92,16 @@ pub(crate) fn fan<
     let (left, right) = join(
         rt,
         move || -> Gathered<L>
-            requires { IsSync R.row × IsSync G.row × (image.now ≡ N.image) × (theirs.parts ≡ half) × (theirs.amount ≡ 0)
-                × (0 < half) × (first + half ≤ workers) × (workers ≤ 16) }
+            requires { IsSync R.row × IsSync G.row × IsSync K.row × (image.now ≡ N.image)
+                × (theirs.parts ≡ half) × (theirs.amount ≡ 0) × (0 < half) × (first + half ≤ workers) × (workers ≤ 16) }
             ensures { length result.shares ≡ half }
-        { fan(rt, image, lock, theirs, first, half, workers, gate) },
+        { fan::<N, L, K, G, R>(rt, image, lock, theirs, first, half, workers, gate) },
         move || -> Gathered<L>
-            requires { IsSync R.row × IsSync G.row × (image.now ≡ N.image) × (mine.parts ≡ count - half)
+            requires { IsSync R.row × IsSync G.row × IsSync K.row × (image.now ≡ N.image) × (mine.parts ≡ count - half)
                 × (mine.amount ≡ 0) × (0 < count - half) × (half ≤ count) × (first + count ≤ workers) × (workers ≤ 16) }
             ensures { length result.shares ≡ count - half }
         {
-            fan(
+            fan::<N, L, K, G, R>(
                 rt,
                 image,
                 lock,

@@ -6,6 +6,7 @@ ghost use Rattle.conflict_book.specs.Ranges.{IsInRange};
 ghost use Rattle.conflict_book.specs.Seen.{view_of};
 ghost use Rattle.tile_worker.specs.Counts.{CountsSo};
 ghost use Rattle.tile_worker.specs.Founds.{IsWithin};
+ghost use Rattle.tile_worker.specs.Grows.{Grows};
 
 use crate::round::{Place, Round};
 use conflict_book::{Advance, Book, Event, Reply};
@@ -200,6 +201,8 @@ pub(crate) fn serve<N: Naming, P: Placer, T: Tap>(
         old.steps ≤ (view_of P.policy T.reading book.new).steps }
     ensures at_most { let old = view_of P.policy T.reading book.old in
         (view_of P.policy T.reading book.new).steps ≤ old.steps + 1 }
+    ensures grows { let old = view_of P.policy T.reading book.old in
+        Grows old.view (view_of P.policy T.reading book.new).view }
     ensures found { IsWithin N.budget result }
 {
     let made = match serve_own(book, round, handed) {

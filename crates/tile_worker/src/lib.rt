@@ -5,23 +5,34 @@
 //! counts that to its part, and copies the core of its next leg. The type of the lock's value keeps that all parts
 //! together are the book's steps.
 //!
-//! It stands on the book and on the lock of the standard library; `machine_run` calls it. A hold costs one event and a
-//! look at each core of the worker's own tiles. Where no thread can be started, the caller does the same work.
+//! With a board, the workers tell how far the run has come (`run_watched`): in the hold in which a task was committed,
+//! and once more at the end. The type of the lock's value then keeps that all that was told are readings of the book's
+//! history, the last one its counts.
+//!
+//! It stands on the book, on the board and on the lock of the standard library; `machine_run` calls it, with no board.
+//! A hold costs one event and a look at each core of the worker's own tiles, and with a board, after a commit, what
+//! it costs to tell a reading. Where no thread can be started, the caller does the same work.
 #![tactic(auto)]
 
 mod fanning;
+mod followed;
 mod gate;
 mod hold;
+mod laws;
+mod locks;
 mod round;
 mod running;
 mod shares;
 mod tally;
 #[cfg(test)]
 mod tests;
+mod watching;
 mod working;
 
 pub use gate::{Gate, OpenGate};
+pub use laws::{opening_is_reading, seen_are_readings};
 pub use running::{Drained, run_tiles};
 pub use shares::Shares;
 pub use tally::{Part, Tallied};
+pub use watching::{Watched, run_watched};
 pub use working::work;

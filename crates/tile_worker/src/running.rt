@@ -2,6 +2,7 @@
 
 ghost use Rattle.std.specs.Prelude.{◌≡◌, ◌≤◌, ◌<◌, ◌+◌, ◌^◌, length, sum};
 ghost use Rattle.conflict_book.specs.Seen.{view_of};
+ghost use Rattle.tile_worker.specs.Grows.{Grows};
 ghost use Rattle.tile_worker.specs.Halts.{HaltsAt};
 
 use crate::fanning::{Gathered, fan};
@@ -13,8 +14,8 @@ use guest_image::Image;
 use place_policy::Placer;
 use rv_core::Naming;
 use std::marker::Brand;
-use std::sync::ledger::{Blank, Ledger};
-use std::sync::{Mutex, Wait};
+use std::sync::ledger::{Blank, Ledger, Share};
+use std::sync::{Mutex, Wait, ledger};
 use std::thread::Threads;
 use trace_tap::Tap;
 
@@ -30,9 +31,51 @@ pub struct Drained<N: Naming, P: Placer = Box<dyn Placer + Send>, T: Tap = Box<d
 }
 
 /// A book that workers have left, and how many events each of them made.
-struct Worked<N: Naming, P: Placer, T: Tap> {
-    book: Book<N, P, T>,
-    shares: Shares,
+pub(crate) struct Worked<N: Naming, P: Placer, T: Tap> {
+    pub(crate) book: Book<N, P, T>,
+    pub(crate) shares: Shares,
+}
+
+/// Opens a ledger that has a part for each worker and one for the events before, which are counted to the latter:
+/// its total, that part, and those of the workers as one share.
+pub(crate) fn open_ledger<L: Ledger>(
+    blank: Blank,
+    workers: u32,
+    steps: u64,
+) -> (ledger::Book<L>, Share<L>, Share<L>)
+    requires name { blank.name ≡ L.name }
+    requires parts { blank.parts ≡ L.parts }
+    requires one_more { blank.parts ≡ workers + 1 }
+    ensures total { result.0.total ≡ steps }
+    ensures before { (result.1.parts ≡ 1) × (result.1.amount ≡ steps) }
+    ensures theirs { (result.2.parts ≡ workers) × (result.2.amount ≡ 0) }
+{
+    let (mut total, mut mine) = blank.open::<L>();
+    total.add(&mut mine, steps);
+    let theirs = mine.split_off(u64::from(workers), 0);
+    (total, mine, theirs)
+}
+
+/// What workers leave of a book, with the share of the events before and what they hand back: a count of all events.
+pub(crate) fn settle<N: Naming, L: Ledger, P: Placer, T: Tap>(
+    tallied: Tallied<N, L, P, T>,
+    mine: Share<L>,
+    gathered: Gathered<L>,
+) -> Worked<N, P, T>
+    requires parts { mine.parts + length gathered.shares ≡ L.parts }
+    ensures book { view_of P.policy T.reading result.book ≡ view_of P.policy T.reading tallied.book }
+    ensures workers { length result.shares ≡ length gathered.shares }
+    ensures shares { sum result.shares + mine.amount ≡ (view_of P.policy T.reading result.book).steps }
+{
+    let Tallied { book, mut total } = tallied;
+    let Gathered {
+        shares,
+        ledger_share,
+    } = gathered;
+    let mut all = mine;
+    all.merge(ledger_share);
+    total.audit(&mut all);
+    Worked { book, shares }
 }
 
 /// Runs the workers on a book, with a ledger that has a part for each of them and one for the events before.
@@ -61,18 +104,10 @@ fn work_all<
     ensures shares { let before = (view_of P.policy T.reading book).steps in
         sum result.shares + before ≡ (view_of P.policy T.reading result.book).steps }
 {
-    let (mut total, mut all) = blank.open::<L>();
-    total.add(&mut all, book.steps());
-    let share = all.split_off(u64::from(workers), 0);
+    let (total, mine, theirs) = open_ledger(blank, workers, book.steps());
     let lock = Mutex::new(Tallied::new(book, total));
-    let Gathered {
-        shares,
-        ledger_share,
-    } = fan(rt, image, &lock, share, 0, workers, workers, gate);
-    let Tallied { book, mut total } = lock.into_inner();
-    all.merge(ledger_share);
-    total.audit(&mut all);
-    Worked { book, shares }
+    let gathered = fan::<N, L, _, G, R>(rt, image, &lock, theirs, 0, workers, workers, gate);
+    settle(lock.into_inner(), mine, gathered)
 }
 
 /// Why a book stands where it does: its end, or that memory ran out.
@@ -91,6 +126,7 @@ fn run_out<N: Naming, P: Placer, T: Tap>(book: &mut Book<N, P, T>, image: &Image
     ensures rise { let before = (view_of P.policy T.reading book.old).steps in
         result + before ≡ (view_of P.policy T.reading book.new).steps }
     ensures bounded { (view_of P.policy T.reading book.new).steps < 2 ^ 64 }
+    ensures grows { Grows (view_of P.policy T.reading book.old).view (view_of P.policy T.reading book.new).view }
 {
     let before = book.steps();
     let _halt = book.run_least(image);
@@ -98,7 +134,7 @@ fn run_out<N: Naming, P: Placer, T: Tap>(book: &mut Book<N, P, T>, image: &Image
 }
 
 /// Runs a book on, after its workers, by the events of the least tasks, which count to the first worker.
-fn run_rest<N: Naming, P: Placer, T: Tap>(
+pub(crate) fn run_rest<N: Naming, P: Placer, T: Tap>(
     image: &Image,
     worked: Worked<N, P, T>,
 ) -> Drained<N, P, T>
@@ -109,6 +145,7 @@ fn run_rest<N: Naming, P: Placer, T: Tap>(
     ensures workers { length result.shares ≡ length worked.shares }
     ensures shares { let before = (view_of P.policy T.reading worked.book).steps in
         sum result.shares + before ≡ sum worked.shares + (view_of P.policy T.reading result.book).steps }
+    ensures grows { Grows (view_of P.policy T.reading worked.book).view (view_of P.policy T.reading result.book).view }
 {
     let Worked {
         mut book,

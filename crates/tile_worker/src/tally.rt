@@ -4,6 +4,7 @@ ghost use Rattle.std.specs.Prelude.{◌≡◌, ◌≤◌, ◌+◌, ◌^◌};
 ghost use Rattle.spec_state.specs.Settings.{IsValid};
 ghost use Rattle.conflict_book.specs.Seen.{view_of};
 ghost use Rattle.tile_worker.specs.Founds.{IsWithin};
+ghost use Rattle.tile_worker.specs.Grows.{Grows};
 
 use crate::hold::{Found, Handed, serve};
 use crate::round::Round;
@@ -81,6 +82,7 @@ impl<N: Naming, L: Ledger, P: Placer, T: Tap> Tallied<N, L, P, T> {
     }
 
     /// One hold of a worker: makes at most one event of the book, and counts it to the worker's part.
+    #[tactic(auto, using(crate::proofs::Growing::grows_refl))]
     pub(crate) fn hold(
         &mut self,
         image: &Image,
@@ -93,6 +95,8 @@ impl<N: Naming, L: Ledger, P: Placer, T: Tap> Tallied<N, L, P, T> {
         ensures booked { let old = view_of P.policy T.reading self.old.book in
             part.new.amount + old.steps ≡ part.old.amount + (view_of P.policy T.reading self.new.book).steps }
         ensures found { IsWithin N.budget result }
+        ensures grows { let old = view_of P.policy T.reading self.old.book in
+            Grows old.view (view_of P.policy T.reading self.new.book).view }
     {
         let Tallied { book, total } = self;
         let Part { amount, share } = part;

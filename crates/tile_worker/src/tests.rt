@@ -1,10 +1,15 @@
-ghost use Rattle.std.specs.Prelude.{◌≡◌, ◌≤◌};
+ghost use Rattle.std.specs.Prelude.{◌≡◌, ◌≤◌, ◌^◌};
+ghost use Rattle.progress_cell.specs.Readings.{last_of};
+ghost use Rattle.conflict_book.specs.Counts.{counts_of};
+ghost use Rattle.conflict_book.specs.Seen.{view_of};
+ghost use Rattle.tile_worker.specs.Readings.{AreReadings};
 ghost use Rattle.spec_state.specs.Settings.{IsValid};
 
-use crate::{Gate, OpenGate, run_tiles};
+use crate::{Gate, OpenGate, Watched, run_tiles, run_watched};
 use conflict_book::{Book, Halt};
 use guest_image::{Image, ImageTask, Kind};
-use place_policy::ByHint;
+use place_policy::{ByHint, Placer};
+use progress_cell::{Board, Reader, Reading, Writer};
 use rv_core::Naming;
 use serial_machine::End;
 use spec_state::Settings;
@@ -13,8 +18,11 @@ use std::marker::Brand;
 use std::process::Abort;
 use std::sync::Wait;
 use std::test::Fail;
-use std::thread::Threads;
-use trace_tap::LastN;
+use std::thread::{Threads, join};
+use trace_tap::{LastN, Tap};
+
+/// How many readings a reader takes.
+const ROUNDS: u32 = 1_000;
 
 /// Two tiles of one core.
 const SETTINGS: Settings = Settings {
@@ -52,6 +60,21 @@ fn image_of(alloc: Global) -> Result<Image, Fail> {
     ))
 }
 
+/// The book of an image before its first event.
+fn book_of<N: Naming>(
+    alloc: Global,
+    image: &Image,
+    settings: Settings,
+) -> Result<Book<N, ByHint, LastN>, Fail>
+    requires valid { IsValid settings }
+    requires image { image.now ≡ N.image }
+    requires budget { settings.budget ≡ N.budget }
+    requires commits { settings.commits ≡ N.commits }
+{
+    let book = Book::begin(alloc, image, settings, Vec::new(alloc), Vec::new(alloc))?;
+    Ok(book)
+}
+
 /// So many workers end the run, and their shares are the book's steps.
 fn run_by<N: Naming + Send + Sync>(
     rt: &(impl Abort + Alloc<A = Global> + Threads + Wait + Sync),
@@ -65,14 +88,7 @@ fn run_by<N: Naming + Send + Sync>(
     requires commits { settings.commits ≡ N.commits }
     requires workers { (1 ≤ workers) × (workers ≤ 16) }
 {
-    let alloc = rt.alloc();
-    let book = Book::<N, ByHint, LastN>::begin(
-        alloc,
-        image,
-        settings,
-        Vec::new(alloc),
-        Vec::new(alloc),
-    )?;
+    let book = book_of::<N>(rt.alloc(), image, settings)?;
     if book.steps() != 0 {
         return Err(Fail::from("events at the opening"));
     }
@@ -97,6 +113,100 @@ fn two_workers_end_a_run(rt: HostRuntime) -> Result<(), Fail> {
 fn more_workers_than_tiles_end_a_run(rt: HostRuntime) -> Result<(), Fail> {
     let image = image_of(rt.alloc())?;
     run_by::<Brand>(&rt, &image, SETTINGS, 16)
+}
+
+/// Takes as many readings as there are rounds, and tells the most commits and the most output that it saw.
+fn follow<R: Wait>(rt: &R, board: &Board, mut reader: Reader) -> (Reader, Reading)
+    requires { reader.board ≡ board.now }
+    ensures { result.0.board ≡ board.now }
+{
+    let mut most = Reading {
+        commits: 0,
+        output: 0,
+    };
+    for _ in 0..ROUNDS {
+        let seen = board.read(rt, &mut reader);
+        most.commits = most.commits.max(seen.commits);
+        most.output = most.output.max(seen.output);
+    }
+    (reader, most)
+}
+
+/// So many workers run a book, while a reader follows it in a thread of its own.
+fn watch<N: Naming + Send + Sync, P: Placer + Send, T: Tap + Send, R: Threads + Wait + Sync>(
+    rt: &R,
+    image: &Image,
+    book: Book<N, P, T>,
+    workers: u32,
+    board: &Board,
+    writer: Writer,
+    reader: Reader,
+) -> (Watched<N, P, T>, (Reader, Reading))
+    requires image { image.now ≡ N.image }
+    requires workers { (1 ≤ workers) × (workers ≤ 16) }
+    requires steps { (view_of P.policy T.reading book).steps ≤ 2 ^ 63 }
+    requires belongs { writer.board ≡ board.now }
+    requires readings { AreReadings N.image N.budget (view_of P.policy T.reading book).view.history writer.told }
+    requires last { last_of writer.told ≡ counts_of (view_of P.policy T.reading book).view }
+    requires reader { reader.board ≡ board.now }
+    ensures belongs { result.0.writer.board ≡ board.now }
+    ensures reader { result.1.0.board ≡ board.now }
+{
+    join(
+        rt,
+        move || -> Watched<N, P, T>
+            requires { (image.now ≡ N.image) × ((1 ≤ workers) × (workers ≤ 16))
+                × ((view_of P.policy T.reading book).steps ≤ 2 ^ 63)
+                × (writer.board ≡ board.now)
+                × AreReadings N.image N.budget (view_of P.policy T.reading book).view.history writer.told
+                × (last_of writer.told ≡ counts_of (view_of P.policy T.reading book).view) }
+            ensures { result.writer.board ≡ board.now }
+        { run_watched(rt, image, book, workers, &OpenGate, board, writer) },
+        move || -> (Reader, Reading)
+            requires { reader.board ≡ board.now }
+            ensures { result.0.board ≡ board.now }
+        { follow(rt, board, reader) },
+    )
+}
+
+/// So many workers end the run, and no reading of a reader that follows them is above the end.
+#[tactic(auto, using(crate::proofs::Told::opening_told))]
+fn watch_by<N: Naming + Send + Sync>(
+    rt: &(impl Abort + Alloc<A = Global> + Threads + Wait + Sync),
+    image: &Image,
+    settings: Settings,
+    workers: u32,
+) -> Result<(), Fail>
+    requires valid { IsValid settings }
+    requires image { image.now ≡ N.image }
+    requires budget { settings.budget ≡ N.budget }
+    requires commits { settings.commits ≡ N.commits }
+    requires workers { (1 ≤ workers) × (workers ≤ 16) }
+{
+    let (board, mut writer) = Board::new(rt.alloc())?;
+    let reader = board.reader(&mut writer);
+    let book = book_of::<N>(rt.alloc(), image, settings)?;
+    if book.steps() != 0 || book.counts() != writer.last() {
+        return Err(Fail::from("events at the opening"));
+    }
+    let (watched, (reader, most)) = watch(rt, image, book, workers, &board, writer, reader);
+    let Watched {
+        drained,
+        mut writer,
+    } = watched;
+    assert_eq!(rt; drained.halt, Halt::Ended(End::Normal));
+    assert_eq!(rt; drained.book.counts(), writer.last());
+    assert_eq!(rt; writer.last().commits, 2);
+    assert_eq!(rt; writer.last().output, 0);
+    assert!(rt; most.commits <= 2 && most.output == 0);
+    board.join(rt, &mut writer, reader);
+    Ok(())
+}
+
+#[test]
+fn a_reader_follows_two_workers(rt: HostRuntime) -> Result<(), Fail> {
+    let image = image_of(rt.alloc())?;
+    watch_by::<Brand>(&rt, &image, SETTINGS, 2)
 }
 
 #[test]

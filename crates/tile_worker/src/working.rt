@@ -5,6 +5,7 @@ ghost use Rattle.spec_state.specs.Settings.{IsValid};
 
 use crate::gate::Gate;
 use crate::hold::{Found, Handed, Running};
+use crate::locks::BookLock;
 use crate::round::Round;
 use crate::tally::{Part, Tallied};
 use guest_image::Image;
@@ -28,6 +29,40 @@ fn compute<N: Naming>(image: &Image, settings: &Settings, running: &Running) -> 
     }
 }
 
+/// Drives the tiles of a worker, as `work` says, over any lock in which a book stands.
+pub(crate) fn drive<
+    N: Naming,
+    L: Ledger,
+    K: BookLock<N, Part<L>, Handed<N>>,
+    G: Gate + Sync,
+    R: Wait,
+>(rt: &R, image: &Image, lock: &K, part: Part<L>, worker: u32, workers: u32, gate: &G) -> Part<L>
+    requires image { image.now ≡ N.image }
+    requires workers { (worker < workers) × (workers ≤ 16) }
+    ensures { K.amount part ≤ K.amount result }
+{
+    let mut part = part;
+    let settings = lock.settings(rt);
+    let mut round = Round::new(worker, workers);
+    let mut legs = 0u64;
+    let mut handed = None;
+    for _ in rt.forever() {
+        // The lock is free again once the hold returns, so that the leg is computed outside it.
+        let found = lock.hold(rt, image, &mut part, &mut round, handed);
+        handed = match found {
+            Found::Done => break,
+            Found::Nothing => None,
+            Found::Core(running) => {
+                let leg = compute(image, &settings, &running);
+                legs = legs.saturating_add(1);
+                gate.pass(worker, legs);
+                Some(leg)
+            }
+        };
+    }
+    part
+}
+
 /// Drives the tiles `t` with `t % workers == worker`, one event in each hold of the lock, until the run is over,
 /// memory runs out, or the book has 2^63 events; and gives back its part, to which each event that it made is
 /// counted.
@@ -48,24 +83,5 @@ pub fn work<N: Naming, L: Ledger, P: Placer, T: Tap, G: Gate + Sync, R: Wait>(
     requires workers { (worker < workers) × (workers ≤ 16) }
     ensures { part.amount ≤ result.amount }
 {
-    let mut part = part;
-    let settings = lock.lock(rt).settings();
-    let mut round = Round::new(worker, workers);
-    let mut legs = 0u64;
-    let mut handed = None;
-    for _ in rt.forever() {
-        // The guard is dropped here, so that the leg is computed outside the lock.
-        let found = lock.lock(rt).hold(image, &mut part, &mut round, handed);
-        handed = match found {
-            Found::Done => break,
-            Found::Nothing => None,
-            Found::Core(running) => {
-                let leg = compute(image, &settings, &running);
-                legs = legs.saturating_add(1);
-                gate.pass(worker, legs);
-                Some(leg)
-            }
-        };
-    }
-    part
+    drive::<N, L, _, G, R>(rt, image, lock, part, worker, workers, gate)
 }

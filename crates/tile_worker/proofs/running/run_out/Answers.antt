@@ -1,5 +1,6 @@
 use Rattle.std.proofs.Common.{arith, rules, ◌≤◌}
 use Rattle.conflict_book.specs.Seen.{view_of}
+use Rattle.tile_worker.proofs.Growing.{runs_grow}
 use Rattle.tile_worker.proofs.Rising.{runs_later}
 use Rattle.tile_worker.proofs.running.run_out.Goals as goal
 
@@ -19,3 +20,8 @@ returns-clause-rise g c =
     let before = c.steps-before.ensures in
     let after = c.steps.ensures in
     omega (arith, up, before, after)
+
+pub returns-clause-grows : goal.returns-clause-grows
+returns-clause-grows g c =
+    runs_grow g.row.N.Denot g.N.Naming.image (view_of g.P.Placer.policy g.T.Tap.reading c.args.book.now)
+    (view_of g.P.Placer.policy g.T.Tap.reading c.run_least-halt.new.self) c.run_least-halt.result c.run_least-halt.ensures

@@ -1,0 +1,138 @@
+//! A book under a lock, with the writer of a board on which its readings are told.
+
+ghost use Rattle.std.specs.Prelude.{◌≡◌, ◌≤◌, [], List, length, take};
+ghost use Rattle.atomic_table.specs.Seated.{TableId};
+ghost use Rattle.progress_cell.specs.Readings.{IsAtMost, last_of};
+ghost use Rattle.progress_cell.specs.declared.reading.Reading.{Reading};
+ghost use Rattle.spec_state.specs.Settings.{IsValid};
+ghost use Rattle.conflict_book.specs.Counts.{counts_of};
+ghost use Rattle.conflict_book.specs.Seen.{view_of};
+ghost use Rattle.tile_worker.specs.Founds.{IsWithin};
+ghost use Rattle.tile_worker.specs.Readings.{AreReadings};
+
+use crate::hold::{Found, Handed};
+use crate::locks::BookLock;
+use crate::round::Round;
+use crate::tally::{Part, Tallied};
+use conflict_book::Book;
+use guest_image::Image;
+use place_policy::Placer;
+use progress_cell::{Board, Writer};
+use rv_core::Naming;
+use spec_state::Settings;
+use std::marker::Brand;
+use std::sync::ledger::Ledger;
+use std::sync::{Mutex, Wait};
+use trace_tap::Tap;
+
+/// A ledger of events that also names the board on which a run is told, and what was told before the run.
+pub(crate) trait Followable: Ledger {
+    ghost board: { TableId };
+
+    ghost before: { List Reading };
+}
+
+impl Followable for Brand {
+    ghost board = { record { words = 0; slots = 0; views_name = 0; atom = 0; block = 0; offset = 0; slot_names = [] } };
+
+    ghost before = { [] };
+}
+
+/// What stands in the lock of a run that is told: a book with its ledger, and the writer of the board. All that was
+/// told are readings of the book's history, and the last one is the book's counts.
+#[derive(Drop)]
+pub(crate) struct Followed<N: Naming, L: Followable, P: Placer, T: Tap> {
+    pub(crate) tallied: Tallied<N, L, P, T>,
+    pub(crate) writer: Writer,
+    ghost belongs: { writer.board ≡ L.board },
+    ghost goes_on: { take (length L.before) writer.told ≡ L.before },
+    ghost readings: { AreReadings N.image N.budget tallied.book.sound.view.history writer.told },
+    ghost last: { last_of writer.told ≡ counts_of tallied.book.sound.view },
+}
+
+/// Tells how far a book has come.
+#[tactic(auto, using(crate::proofs::Told::goes_on, crate::proofs::Told::readings_told, crate::proofs::Told::last_told),)]
+pub(crate) fn tell<N: Naming, P: Placer, T: Tap, R: Wait>(
+    rt: &R,
+    board: &Board,
+    writer: &mut Writer,
+    book: &Book<N, P, T>,
+)
+    requires belongs { writer.old.board ≡ board.now }
+    requires rises { IsAtMost (last_of writer.old.told) (counts_of (view_of P.policy T.reading book.now).view) }
+    requires readings { let view = (view_of P.policy T.reading book.now).view in
+        AreReadings N.image N.budget view.history writer.old.told }
+    ensures belongs { writer.new.board ≡ writer.old.board }
+    ensures goes_on { (before : List Reading) → take (length before) writer.old.told ≡ before
+        → take (length before) writer.new.told ≡ before }
+    ensures readings { let view = (view_of P.policy T.reading book.now).view in
+        AreReadings N.image N.budget view.history writer.new.told }
+    ensures last { last_of writer.new.told ≡ counts_of (view_of P.policy T.reading book.now).view }
+{
+    book.is_sound();
+    board.publish(rt, writer, book.counts());
+}
+
+impl<N: Naming, L: Followable, P: Placer, T: Tap> Followed<N, L, P, T> {
+    /// One hold of a worker, as that of a book that isn't told; where a task was committed, it tells how far the book
+    /// has come.
+    #[tactic(auto, using(crate::proofs::Told::readings_grow, crate::proofs::Told::counts_rise))]
+    fn hold<R: Wait>(
+        &mut self,
+        rt: &R,
+        board: &Board,
+        image: &Image,
+        part: &mut Part<L>,
+        round: &mut Round,
+        handed: Option<Handed<N>>,
+    ) -> Found
+        requires board { board.now ≡ L.board }
+        requires image { image.now ≡ N.image }
+        ensures amount { part.old.amount ≤ part.new.amount }
+        ensures found { IsWithin N.budget result }
+    {
+        let Followed { tallied, writer } = self;
+        let found = tallied.hold(image, part, round, handed);
+        if tallied.book.counts() != writer.last() {
+            tell(rt, board, writer, &tallied.book);
+        }
+        found
+    }
+}
+
+/// The lock of a run that is told, with the board on which it is.
+#[derive(Drop)]
+pub(crate) struct FollowedLock<'a, N: Naming, L: Followable, P: Placer, T: Tap> {
+    pub(crate) lock: &'a Mutex<Followed<N, L, P, T>>,
+    pub(crate) board: &'a Board,
+    ghost named: { board.now ≡ L.board },
+}
+
+impl<'a, N: Naming, L: Followable, P: Placer, T: Tap> BookLock<N, Part<L>, Handed<N>>
+    for FollowedLock<'a, N, L, P, T> {
+    ghost amount = { λ part. part.amount };
+
+    fn settings<R: Wait>(&self, rt: &R) -> Settings
+        ensures valid { IsValid result }
+        ensures budget { result.budget ≡ N.budget }
+    {
+        self.lock.lock(rt).tallied.settings()
+    }
+
+    fn hold<R: Wait>(
+        &self,
+        rt: &R,
+        image: &Image,
+        part: &mut Part<L>,
+        round: &mut Round,
+        handed: Option<Handed<N>>,
+    ) -> Found
+        requires image { image.now ≡ N.image }
+        ensures amount { part.old.amount ≤ part.new.amount }
+        ensures found { IsWithin N.budget result }
+    {
+        self.lock
+            .lock(rt)
+            .hold(rt, self.board, image, part, round, handed)
+    }
+}

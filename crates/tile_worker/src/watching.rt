@@ -1,0 +1,135 @@
+//! Workers run a book to its end, and tell on a board how far it has come.
+
+ghost use Rattle.std.specs.Prelude.{◌≡◌, ◌≤◌, ◌+◌, ◌^◌, length, sum, take};
+ghost use Rattle.progress_cell.specs.Readings.{last_of};
+ghost use Rattle.conflict_book.specs.Counts.{counts_of};
+ghost use Rattle.conflict_book.specs.Seen.{view_of};
+ghost use Rattle.tile_worker.specs.Halts.{HaltsAt};
+ghost use Rattle.tile_worker.specs.Readings.{AreReadings};
+
+use crate::fanning::fan;
+use crate::followed::{Followable, Followed, FollowedLock, tell};
+use crate::gate::Gate;
+use crate::running::{Drained, Worked, open_ledger, run_rest, settle};
+use crate::tally::Tallied;
+use conflict_book::Book;
+use guest_image::Image;
+use place_policy::Placer;
+use progress_cell::{Board, Writer};
+use rv_core::Naming;
+use std::marker::Brand;
+use std::sync::ledger::Blank;
+use std::sync::{Mutex, Wait};
+use std::thread::Threads;
+use trace_tap::Tap;
+
+/// A book that workers ran and told of, and the writer by which they did.
+#[derive(Drop)]
+pub struct Watched<N: Naming, P: Placer = Box<dyn Placer + Send>, T: Tap = Box<dyn Tap + Send>> {
+    /// The book, how many events each worker made, and why they stopped.
+    pub drained: Drained<N, P, T>,
+    /// The writer, which has told the book's counts last.
+    pub writer: Writer,
+}
+
+/// Runs the workers on a book, with a ledger that has a part for each of them and one for the events before, and tells
+/// of each commit.
+fn watch_all<
+    N: Naming + Send + Sync,
+    L: Followable + Send + Sync,
+    P: Placer + Send,
+    T: Tap + Send,
+    G: Gate + Sync,
+    R: Threads + Wait + Sync,
+>(
+    rt: &R,
+    blank: Blank,
+    image: &Image,
+    book: Book<N, P, T>,
+    workers: u32,
+    gate: &G,
+    board: &Board,
+    writer: Writer,
+) -> (Worked<N, P, T>, Writer)
+    requires name { blank.name ≡ L.name }
+    requires parts { blank.parts ≡ L.parts }
+    requires one_more { blank.parts ≡ workers + 1 }
+    requires image { image.now ≡ N.image }
+    requires workers { (1 ≤ workers) × (workers ≤ 16) }
+    requires steps { (view_of P.policy T.reading book).steps ≤ 2 ^ 63 }
+    requires board { board.now ≡ L.board }
+    requires before { writer.told ≡ L.before }
+    requires belongs { writer.board ≡ board.now }
+    requires readings { AreReadings N.image N.budget (view_of P.policy T.reading book).view.history writer.told }
+    requires last { last_of writer.told ≡ counts_of (view_of P.policy T.reading book).view }
+    ensures workers { length result.0.shares ≡ workers }
+    ensures shares { let before = (view_of P.policy T.reading book).steps in
+        sum result.0.shares + before ≡ (view_of P.policy T.reading result.0.book).steps }
+    ensures belongs { result.1.board ≡ board.now }
+    ensures goes_on { take (length writer.told) result.1.told ≡ writer.told }
+    ensures readings { let view = (view_of P.policy T.reading result.0.book).view in
+        AreReadings N.image N.budget view.history result.1.told }
+    ensures last { last_of result.1.told ≡ counts_of (view_of P.policy T.reading result.0.book).view }
+{
+    let (total, mine, theirs) = open_ledger(blank, workers, book.steps());
+    let tallied = Tallied::new(book, total);
+    let lock = Mutex::new(Followed { tallied, writer });
+    let gathered = fan::<N, L, _, G, R>(
+        rt,
+        image,
+        &FollowedLock { lock: &lock, board },
+        theirs,
+        0,
+        workers,
+        workers,
+        gate,
+    );
+    let Followed { tallied, writer } = lock.into_inner();
+    (settle(tallied, mine, gathered), writer)
+}
+
+/// Runs a book by 1 to 16 workers up to the end of the run, or as far as memory goes, and tells on the writer's board
+/// how far the book has come: in the hold of the lock in which a task was committed, and once more at the end. So
+/// each reading that stands on the board meanwhile is one of the book's history.
+///
+/// What the writer has told before has to be readings of the book's history, the last one its counts, as with a new
+/// board's writer and a new book.
+pub fn run_watched<
+    N: Naming + Send + Sync,
+    P: Placer + Send,
+    T: Tap + Send,
+    G: Gate + Sync,
+    R: Threads + Wait + Sync,
+>(
+    rt: &R,
+    image: &Image,
+    book: Book<N, P, T>,
+    workers: u32,
+    gate: &G,
+    board: &Board,
+    writer: Writer,
+) -> Watched<N, P, T>
+    requires image { image.now ≡ N.image }
+    requires workers { (1 ≤ workers) × (workers ≤ 16) }
+    requires steps { (view_of P.policy T.reading book).steps ≤ 2 ^ 63 }
+    requires belongs { writer.board ≡ board.now }
+    requires readings { AreReadings N.image N.budget (view_of P.policy T.reading book).view.history writer.told }
+    requires last { last_of writer.told ≡ counts_of (view_of P.policy T.reading book).view }
+    ensures halt { HaltsAt (view_of P.policy T.reading result.drained.book).view result.drained.halt }
+    ensures workers { length result.drained.shares ≡ workers }
+    ensures shares { let before = (view_of P.policy T.reading book).steps in
+        sum result.drained.shares + before ≡ (view_of P.policy T.reading result.drained.book).steps }
+    ensures belongs { result.writer.board ≡ board.now }
+    ensures goes_on { take (length writer.told) result.writer.told ≡ writer.told }
+    ensures readings { let view = (view_of P.policy T.reading result.drained.book).view in
+        AreReadings N.image N.budget view.history result.writer.told }
+    ensures last { last_of result.writer.told ≡ counts_of (view_of P.policy T.reading result.drained.book).view }
+{
+    let blank = Blank::new(u64::from(workers) + 1);
+    let (worked, mut writer) = watch_all::<N, Brand, P, T, G, R>(
+        rt, blank, image, book, workers, gate, board, writer,
+    );
+    let drained = run_rest(image, worked);
+    tell(rt, board, &mut writer, &drained.book);
+    Watched { drained, writer }
+}
