@@ -160,11 +160,11 @@ fn watch<N: Naming + Send + Sync, P: Placer + Send, T: Tap + Send, R: Threads + 
                 × (writer.board ≡ board.now)
                 × AreReadings N.image N.budget (view_of P.policy T.reading book).view.history writer.told
                 × (last_of writer.told ≡ counts_of (view_of P.policy T.reading book).view) }
-            ensures { result.writer.board ≡ board.now }
+            ensures { result.writer.board ≡ board.entry.now }
         { run_watched(rt, image, book, workers, &OpenGate, board, writer) },
         move || -> (Reader, Reading)
             requires { reader.board ≡ board.now }
-            ensures { result.0.board ≡ board.now }
+            ensures { result.0.board ≡ board.entry.now }
         { follow(rt, board, reader) },
     )
 }
