@@ -5,7 +5,7 @@ use Rattle.std.specs.Prelude.{IfSome, IsSomeAnd, option_map, unwrap_or}
 use Rattle.std.specs.declared.marker.Brand.{Brand}
 use Rattle.std.proofs.lemmas.Bool.Decides.{nat_tests}
 use Rattle.std.proofs.lemmas.Grind.{common_steps}
-use Rattle.sim_io.specs.Parts.{ReadsSome, TakesFront}
+use Rattle.sim_io.specs.Parts.{TakesFront}
 use Rattle.sim_io.specs.Streams.{SinkState}
 use Rattle.guest_image.specs.ImageValue.{ImageValue}
 use Rattle.run_journal.specs.declared.end.End.{End}
@@ -25,7 +25,7 @@ use Rattle.fractal_sim.specs.declared.finding.Finding.TheVariants as finding
 use Rattle.fractal_sim.specs.declared.finding.Loading.{Loading}
 use Rattle.fractal_sim.specs.declared.outcome.Outcome.{Outcome}
 use Rattle.fractal_sim.specs.Call.{Call, Input}
-use Rattle.fractal_sim.specs.Given.{HasImage, IsRead, IsGenerated, input_limit}
+use Rattle.fractal_sim.specs.Given.{HasImage, IsRead, IsGenerated, ReadsAsAsked, ReadsImage, input_limit}
 use Rattle.fractal_sim.specs.Runs.{closed_of, IsEmpty, HoldsRunOfInput, HoldsRunOrNothing, HoldsLawfulRun, RunsToEnd, LoadsToEnd, PlaysToEnd, TracesToEnd}
 use Rattle.fractal_sim.specs.Checks.{IsAccepted}
 use Rattle.fractal_sim.specs.Texts.{end_status, played_status, accepted_line, run_text, load_text, played_text}
@@ -33,7 +33,7 @@ use Rattle.fractal_sim.specs.Answers as table
 use Rattle.fractal_sim.specs.Answers.{IsAnswer, HoldsRunSoFar, TellsOutcome}
 use Rattle.fractal_sim.specs.Deciding.{whole, lists_of}
 use Rattle.fractal_sim.specs.Finding.{IsFound, IsRan, IsLoaded, IsPlayed, IsTraced, HoldsRun, Keeps, status_by, status_of, text_of, TakesText, TellsFinding}
-use Rattle.fractal_sim.proofs.Found.{read_some, read_none}
+use Rattle.fractal_sim.proofs.Found.{asked_for, left_alone, read_some}
 
 pub same_some : {A : Type 0} (a b : A) → Some a ≡ Some b → a ≡ b
 same_some a b h = ap (λ o. unwrap_or o a) h
@@ -202,15 +202,20 @@ took call f o text found kept is status written = inr (inr (inr record {
   took = subst (TakesText call.sink_before call.sink_after) is written;
 }))
 
+-- what was taken where an image was read
+was_read : (input : Input) (request : Request) (image : ImageValue) (rest : List ℕ) → ReadsImage input request image rest → ReadsAsAsked input
+was_read input request image rest given =
+    asked_for input request given.read.asked given.read.reads (read_some input.source_before input.source_after input_limit given.bytes given.read.read)
+
 -- want of memory, where nothing was run
-ran_out : (call : Call) (o : Outcome) → IsEmpty o → o.status ≡ 5 → ReadsSome call.input.source_before call.input.source_after input_limit
+ran_out : (call : Call) (o : Outcome) → IsEmpty o → o.status ≡ 5 → ReadsAsAsked call.input
     → call.sink_after ≡ call.sink_before → TellsOutcome call o
 ran_out call o kept status read untouched = inl record { status_is = status; end = kept.end; held = inl kept; read = read; untouched = untouched }
 
 -- a run that is told by its end; without one, memory ran out
 by_end : (call : Call) (f : Finding) (o : Outcome) (text : End → List ℕ) (status : End → ℕ) (ran : Ran) (steps : Option ℕ)
     → text_of f ≡ option_map text ran.end → status_of f ≡ status_by status ran.end → HoldsRunSoFar call.input o → HoldsRun (whole ran) steps o
-    → ReadsSome call.input.source_before call.input.source_after input_limit → IsFound call.input f → Keeps f o
+    → ReadsAsAsked call.input → IsFound call.input f → Keeps f o
     → o.status ≡ status_of f → TakesText call.sink_before call.sink_after (text_of f) → TellsOutcome call o
 by_end call f o text status ran steps text_is status_is held holding read found kept s w = go ran.end refl where
   go : (e : Option End) → ran.end ≡ e → TellsOutcome call o
@@ -242,28 +247,28 @@ well_told call (finding.Ran image ran steps) o found kept s w =
       held = ran_held call.input image ran steps o found kept;
       makes = no_check found.request commands.Run found.command (λ clash. cc);
     } in
-    let read = read_some call.input.source_before call.input.source_after input_limit found.given.bytes found.given.read.read in
+    let read = was_read call.input found.request image found.rest found.given in
     by_end call (finding.Ran image ran steps) o (run_text image (whole ran)) end_status ran steps refl refl held kept read found kept s w
 well_told call (finding.Loaded load image ran steps) o found kept s w =
     let held : HoldsRunSoFar call.input o = record {
       held = loaded_held call.input load image ran steps o found kept;
       makes = no_check found.request (commands.Load load.load load.seed load.size) found.given.command (λ clash. cc);
     } in
-    let read = read_none call.input.source_before call.input.source_after input_limit found.given.untouched in
+    let read = left_alone call.input found.given.untouched in
     by_end call (finding.Loaded load image ran steps) o (load_text load.load load.seed load.size image (whole ran)) end_status ran steps refl refl held kept read found kept s w
 well_told call (finding.Played image p) o found kept s w =
     let held : HoldsRunSoFar call.input o = record {
       held = played_held call.input image p o found kept;
       makes = no_check found.request commands.Steps found.command (λ clash. cc);
     } in
-    let read = read_some call.input.source_before call.input.source_after input_limit found.given.bytes found.given.read.read in
+    let read = was_read call.input found.request image found.rest found.given in
     by_end call (finding.Played image p) o (played_text p.said.items image (whole p.ran)) played_status p.ran (Some p.ran.closed.steps) refl refl held kept read found kept s w
 well_told call (finding.Traced t) o found kept s w =
     let held : HoldsRunSoFar call.input o = record {
       held = traced_held call.input t o found kept;
       makes = no_check found.request commands.Trace found.command (λ clash. cc);
     } in
-    let read = read_some call.input.source_before call.input.source_after input_limit found.given.bytes found.given.read.read in
+    let read = was_read call.input found.request found.image found.rest found.given in
     by_end call (finding.Traced t) o (λ end. trace_text (lists_of t)) (λ end. 0) t.ran (Some t.ran.closed.steps) refl refl held kept read found kept s w
 
 -- the text of a finding whose text the sink failed on

@@ -24,7 +24,7 @@ use Rattle.fractal_sim.specs.declared.finding.Finding.{Finding}
 use Rattle.fractal_sim.specs.declared.finding.Finding.TheVariants as finding
 use Rattle.fractal_sim.specs.declared.finding.Loading.{Loading}
 use Rattle.fractal_sim.specs.Call.{Input}
-use Rattle.fractal_sim.specs.Given.{Reads, ReadsImage, input_limit}
+use Rattle.fractal_sim.specs.Given.{Reads, ReadsAsAsked, ReadsImage, input_limit}
 use Rattle.fractal_sim.specs.Finding.{IsFound, IsLoaded, IsPlayed, IsRan}
 use Rattle.fractal_sim.specs.Deciding.{IsFoundBehind, IsLoadedSo, IsClosedReport}
 
@@ -65,11 +65,21 @@ holds-report image commits budget report closed a k = record {
 
 -- ---- findings
 
+-- what was taken for words that ask for what reads the source
+pub asked_for : (input : Input) (request : Request) → request_of input.words ≡ Some request → Reads request.command
+    → ReadsSome input.source_before input.source_after input_limit → ReadsAsAsked input
+asked_for input request asked reads some = record { read = some; untouched = λ none. absurd (none request asked reads) }
+
+-- nothing was taken
+pub left_alone : (input : Input) → input.source_after ≡ input.source_before → ReadsAsAsked input
+left_alone input same = record { read = read_none input.source_before input.source_after input_limit same; untouched = λ none. same }
+
 -- what is found behind the image that was read is found
 pub found_given : (input : Input) (request : Request) (image : ImageValue) (rest : List ℕ) (f : Finding) → ReadsImage input request image rest
     → IsFoundBehind request image rest input.placers input.taps f → IsFound input f
 found_given input request image rest finding.Usage g h = absurd h
-found_given input request image rest finding.Memory g h = read_some input.source_before input.source_after input_limit g.bytes g.read.read
+found_given input request image rest finding.Memory g h =
+    asked_for input request g.read.asked g.read.reads (read_some input.source_before input.source_after input_limit g.bytes g.read.read)
 found_given input request image rest finding.Unread g h = absurd h
 found_given input request image rest finding.Long g h = absurd h
 found_given input request image rest (finding.NoImage fault) g h = absurd h
@@ -102,7 +112,7 @@ pub found_loaded : (input : Input) (request : Request) (load : Loading) (f : Fin
     → request.command ≡ commands.Load load.load load.seed load.size → input.source_after ≡ input.source_before
     → IsLoadedSo load request.settings input.placers input.taps f → IsFound input f
 found_loaded input request load finding.Usage asked command untouched h = absurd h
-found_loaded input request load finding.Memory asked command untouched h = read_none input.source_before input.source_after input_limit untouched
+found_loaded input request load finding.Memory asked command untouched h = left_alone input untouched
 found_loaded input request load finding.Unread asked command untouched h = absurd h
 found_loaded input request load finding.Long asked command untouched h = absurd h
 found_loaded input request load (finding.NoImage fault) asked command untouched h = absurd h

@@ -1,7 +1,7 @@
 -- The table of answers: which status and which text tell an outcome, and why.
 use Rattle.std.specs.Prelude.{◌≡◌, ◌⊎◌, ℕ, List, length, codes, None}
 use Rattle.sim_io.specs.Causes.{Rose}
-use Rattle.sim_io.specs.Parts.{ReadsSome, Takes, TakesFront}
+use Rattle.sim_io.specs.Parts.{Takes, TakesFront}
 use Rattle.guest_image.specs.ImageValue.{ImageValue}
 use Rattle.guest_image.specs.declared.fault.ImageFault.{ImageFault}
 use Rattle.run_journal.specs.declared.end.End.{End}
@@ -11,7 +11,7 @@ use Rattle.command_line.specs.declared.request.Command.TheVariants.{Check}
 use Rattle.play_text.specs.Traces.{trace_text}
 use Rattle.fractal_sim.specs.declared.outcome.Outcome.{Outcome}
 use Rattle.fractal_sim.specs.Call.{Call, Input}
-use Rattle.fractal_sim.specs.Given.{input_limit, IsUsage, IsUnread, IsLong, IsNoImage}
+use Rattle.fractal_sim.specs.Given.{ReadsAsAsked, IsUsage, IsUnread, IsLong, IsNoImage}
 use Rattle.fractal_sim.specs.Checks.{IsAccepted, IsRefused, IsNoScript}
 use Rattle.fractal_sim.specs.Runs.{closed_of, IsEmpty, HoldsRunOfInput, RunsToEnd, LoadsToEnd, PlaysToEnd, TracesToEnd}
 use Rattle.fractal_sim.specs.Texts.{end_status, played_status, image_fault_line, journal_fault_line, script_fault_line}
@@ -62,13 +62,13 @@ pub record HoldsRunSoFar (input : Input) (o : Outcome) : Type 0 where
   pub held : HoldsRunOfInput input o
   pub makes : held.request.command ≡ Check → ⊥
 
--- memory ran out (5): at most as many bytes as are read were taken, nothing is held but a run so far, which has no
--- end, and the sink was left alone
+-- memory ran out (5): nothing more was read than the words ask for, nothing is held but a run so far, which has no end,
+-- and the sink was left alone
 pub record TellsWant (call : Call) (o : Outcome) : Type 0 where
   pub status_is : o.status ≡ 5
   pub end : o.end ≡ None
   pub held : IsEmpty o ⊎ HoldsRunSoFar call.input o
-  pub read : ReadsSome call.input.source_before call.input.source_after input_limit
+  pub read : ReadsAsAsked call.input
   pub untouched : call.sink_after ≡ call.sink_before
 
 -- what the status of an outcome says of the call

@@ -16,7 +16,7 @@ use Rattle.command_line.specs.declared.request.Request.{Request}
 use Rattle.command_line.specs.Requests.{request_of}
 use Rattle.fractal_sim.specs.declared.outcome.Outcome.{Outcome}
 use Rattle.fractal_sim.specs.Call.{Call, Input}
-use Rattle.fractal_sim.specs.Given.{input_limit, Reads}
+use Rattle.fractal_sim.specs.Given.{input_limit, NeedsNoInput, Reads}
 use Rattle.fractal_sim.specs.Checks.{IsNoScriptAt, IsWrongLine}
 use Rattle.fractal_sim.specs.Runs.{IsScript, PlaysScript}
 use Rattle.fractal_sim.specs.Texts.{end_status, played_status}
@@ -64,10 +64,6 @@ pub data IsDue (words : List (List ℕ)) (bytes : List ℕ) : ℕ → Type 0 whe
 pub record IsFaultless (call : Call) : Type 0 where
   pub source : Rose call.input.source_before.faults call.input.source_after.faults → ⊥
   pub sink : Rose call.sink_before.faults call.sink_after.faults → ⊥
-
--- the words ask for nothing that reads the source
-abbrev pub NeedsNoInput : List (List ℕ) → Type 0
-NeedsNoInput words = (request : Request) → request_of words ≡ Some request → Reads request.command → ⊥
 
 -- these are the bytes that the source has, or whatever they are none is needed
 abbrev pub IsKnown : Input → List ℕ → Type 0

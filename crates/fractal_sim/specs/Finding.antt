@@ -2,7 +2,7 @@
 use Rattle.std.specs.Prelude.{◌≡◌, ◌≢◌, ℕ, List, codes, length, Some, None, IsSomeAnd, option_map}
 use Rattle.std.specs.declared.option.Option.{Option}
 use Rattle.sim_io.specs.Causes.{Rose}
-use Rattle.sim_io.specs.Parts.{ReadsSome, Takes, TakesFront}
+use Rattle.sim_io.specs.Parts.{Takes, TakesFront}
 use Rattle.sim_io.specs.Streams.{SinkState}
 use Rattle.guest_image.specs.ImageValue.{ImageValue}
 use Rattle.run_journal.specs.declared.end.End.{End}
@@ -18,7 +18,7 @@ use Rattle.fractal_sim.specs.declared.finding.Loading.{Loading}
 use Rattle.fractal_sim.specs.declared.finding.Finding.TheVariants as finding
 use Rattle.fractal_sim.specs.declared.outcome.Outcome.{Outcome}
 use Rattle.fractal_sim.specs.Call.{Input}
-use Rattle.fractal_sim.specs.Given.{input_limit, ReadsImage, Generates, IsUsage, IsUnread, IsLong, IsNoImage}
+use Rattle.fractal_sim.specs.Given.{ReadsImage, ReadsAsAsked, Generates, IsUsage, IsUnread, IsLong, IsNoImage}
 use Rattle.fractal_sim.specs.Runs.{closed_of, IsEmpty}
 use Rattle.fractal_sim.specs.Checks.{IsAccepted, IsRefused, IsNoScript}
 use Rattle.fractal_sim.specs.Texts.{end_status, played_status, image_fault_line, journal_fault_line, script_fault_line}
@@ -61,7 +61,7 @@ pub record IsTraced (input : Input) (traced : Traced) : Type 0 where
 -- why something was found
 abbrev pub IsFound : Input → Finding → Type 0
 IsFound input finding.Usage = IsUsage input
-IsFound input finding.Memory = ReadsSome input.source_before input.source_after input_limit
+IsFound input finding.Memory = ReadsAsAsked input
 IsFound input finding.Unread = IsUnread input
 IsFound input finding.Long = IsLong input
 IsFound input (finding.NoImage fault) = IsNoImage input fault

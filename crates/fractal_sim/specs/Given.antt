@@ -22,6 +22,15 @@ abbrev pub Reads : Command → Type 0
 Reads (commands.Load load seed size) = ⊥
 Reads other = Unit {0}
 
+-- the words ask for nothing that reads the source
+abbrev pub NeedsNoInput : List (List ℕ) → Type 0
+NeedsNoInput words = (request : Request) → request_of words ≡ Some request → Reads request.command → ⊥
+
+-- at most as many bytes as are read were taken, and none where the words ask for nothing that reads the source
+pub record ReadsAsAsked (input : Input) : Type 0 where
+  pub read : ReadsSome input.source_before input.source_after input_limit
+  pub untouched : NeedsNoInput input.words → input.source_after ≡ input.source_before
+
 -- the words ask for this, which reads the source, and these are all the bytes that the source had left
 pub record ReadsInput (input : Input) (request : Request) (bytes : List ℕ) : Type 0 where
   pub asked : request_of input.words ≡ Some request
