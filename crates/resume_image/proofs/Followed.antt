@@ -13,7 +13,7 @@ use Rattle.task_desc.specs.declared.desc.Place.{Place}
 use Rattle.task_desc.specs.declared.desc.Place.TheVariants.{Same, Sub, Super}
 use Rattle.pending_list.specs.declared.task.PendingTask.{PendingTask}
 use Rattle.run_journal.specs.declared.journal.Entry.{Entry}
-use Rattle.run_journal.specs.declared.pending.Pending.{Pending}
+use Rattle.resume_image.specs.declared.frozen.Pending.{Pending}
 use Rattle.serial_machine.specs.BagValue.{BagValue}
 use Rattle.serial_machine.specs.State.{State}
 use Rattle.serial_machine.specs.TaskRun.{Done, task_run}

@@ -7,7 +7,7 @@ use Rattle.guest_image.specs.ImageValue.{ImageValue, IsImage}
 use Rattle.task_desc.specs.declared.desc.Name.{Name}
 use Rattle.pending_list.specs.declared.task.PendingTask.{PendingTask}
 use Rattle.run_journal.specs.declared.journal.Entry.{Entry}
-use Rattle.run_journal.specs.declared.pending.Pending.{Pending}
+use Rattle.resume_image.specs.declared.frozen.Pending.{Pending}
 use Rattle.serial_machine.specs.BagValue.{BagValue}
 use Rattle.serial_machine.specs.Run.{IsRun, Runs, opening}
 use Rattle.serial_machine.specs.State.{State}

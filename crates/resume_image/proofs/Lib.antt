@@ -10,6 +10,6 @@ pub mod Sorted
 pub mod Opened
 pub mod Joined
 pub mod Creators
-pub mod Frozen
+pub mod Remains
 pub mod Made
 pub mod Unstarted

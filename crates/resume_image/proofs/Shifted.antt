@@ -9,7 +9,7 @@ use Rattle.task_desc.specs.declared.desc.Spawn.{Spawn}
 use Rattle.task_desc.specs.declared.desc.Place.{Place}
 use Rattle.task_desc.specs.declared.desc.Place.TheVariants.{Same, Sub, Super}
 use Rattle.pending_list.specs.declared.task.PendingTask.{PendingTask}
-use Rattle.run_journal.specs.declared.pending.Pending.{Pending}
+use Rattle.resume_image.specs.declared.frozen.Pending.{Pending}
 use Rattle.serial_machine.specs.BagValue.{BagValue}
 use Rattle.serial_machine.specs.Turn.{child, children, context_of, find_named, inner, is_least, is_named, kind_outside, stack_after, sub_bags, with_super, without}
 use Rattle.resume_image.specs.Joined.{shifted}

@@ -5,7 +5,7 @@ use Rattle.std.proofs.lemmas.Bool.Decides.{nat_tests}
 use Rattle.std.proofs.lemmas.Grind.{common_steps}
 use Rattle.std.proofs.lemmas.List.Sorted.{Contains-permutation}
 use Rattle.std.proofs.lemmas.List.Elements.{recursion_from_All}
-use Rattle.run_journal.specs.declared.pending.Pending.{Pending}
+use Rattle.resume_image.specs.declared.frozen.Pending.{Pending}
 use Rattle.resume_image.specs.Pendings.{IsBefore}
 
 -- the task stands in the list

@@ -4,8 +4,8 @@ use Rattle.guest_image.specs.ImageValue.{ImageValue}
 use Rattle.pending_list.specs.declared.task.PendingTask.{PendingTask}
 use Rattle.pending_list.specs.Pending.{is_before}
 use Rattle.run_journal.specs.declared.journal.Entry.{Entry}
-use Rattle.run_journal.specs.declared.pending.Frozen.{Frozen}
-use Rattle.run_journal.specs.declared.pending.Pending.{Pending}
+use Rattle.resume_image.specs.declared.frozen.Frozen.{Frozen}
+use Rattle.resume_image.specs.declared.frozen.Pending.{Pending}
 use Rattle.serial_machine.specs.BagValue.{BagValue}
 use Rattle.serial_machine.specs.Run.{IsRun}
 use Rattle.serial_machine.specs.State.{State}

@@ -9,11 +9,13 @@
 #![tactic(auto)]
 
 mod fault;
+mod frozen;
 mod joining;
 mod saving;
 #[cfg(test)]
 mod tests;
 
 pub use fault::SaveFault;
+pub use frozen::{Frozen, Pending, Pendings};
 pub use joining::{join_runs, runs_join};
 pub use saving::snapshot;

@@ -7,8 +7,8 @@ ghost use Rattle.resume_image.specs.Pendings.{AreOfRoot, IsFrozenOf, IsGreatestD
 ghost use Rattle.resume_image.specs.Saved.{CannotSave, IsSavedOf, saved_task};
 
 use crate::fault::SaveFault;
+use crate::frozen::{Frozen, Pending};
 use guest_image::{Image, ImageTask, Kind};
-use run_journal::{Frozen, Pending};
 use std::alloc::{AllocError, Global};
 
 /// How many tasks an image has at most.

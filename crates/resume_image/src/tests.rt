@@ -5,9 +5,9 @@ ghost use Rattle.guest_image.specs.declared.image.Kind.TheVariants.{Ordered};
 ghost use Rattle.resume_image.specs.Pendings.{IsFrozenOf};
 
 use crate::saving::image_of;
-use crate::{join_runs, runs_join, snapshot};
+use crate::{Frozen, Pending, Pendings, join_runs, runs_join, snapshot};
 use guest_image::{Image, ImageTask, Kind};
-use run_journal::{Bytes, Closed, Frozen, Journal, Pending, Pendings};
+use run_journal::{Bytes, Closed, Journal};
 use serial_machine::run_image;
 use std::alloc::{AllocError, Global};
 use std::test::Fail;

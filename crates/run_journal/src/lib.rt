@@ -9,7 +9,6 @@ mod closed;
 mod end;
 mod items;
 mod journal;
-mod pending;
 #[cfg(test)]
 mod tests;
 
@@ -17,4 +16,3 @@ pub use closed::Closed;
 pub use end::End;
 pub use items::Items;
 pub use journal::{Bytes, Entry, Journal};
-pub use pending::{Frozen, Pending, Pendings};

@@ -1,4 +1,4 @@
-use Rattle.resume_image.proofs.Frozen.{left_deep, left_sized}
+use Rattle.resume_image.proofs.Remains.{left_deep, left_sized}
 use Rattle.resume_image.proofs.saving.frozen_fits.Goals as goal
 
 pub returns-clause-memory : goal.returns-clause-memory

@@ -1,5 +1,4 @@
-use crate::closed::Closed;
-use crate::items::Items;
+use run_journal::{Closed, Items};
 use task_desc::Name;
 
 /// A task that pends after a run: all that a later run needs of it.
