@@ -35,7 +35,6 @@ fn is_spilled_at(least: Where, tile: u32) -> bool
 }
 
 /// Whether the task of this id is the least uncommitted one. It costs what `least` does.
-
 pub fn is_least<N: Naming>(state: &State<N>, id: TaskId) -> bool
     ensures { IsTrue result ↔ IsTheLeast state.now.view id.0 }
 {
@@ -46,7 +45,6 @@ pub fn is_least<N: Naming>(state: &State<N>, id: TaskId) -> bool
 }
 
 /// Whether the least uncommitted task is spilled in this tile. It costs what `least` does.
-
 pub fn is_least_spilled<N: Naming>(state: &State<N>, tile: u32) -> bool
     ensures { IsTrue result ↔ IsLeastSpilled state.now.view tile }
 {

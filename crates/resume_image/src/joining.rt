@@ -37,7 +37,8 @@ fn joined_is_run(image: &Image, budget: u32, frozen: &Frozen, saved: &Image, two
     requires frozen { IsFrozenOf image.now budget frozen.now }
     requires saved { IsSavedOf image.now frozen.now saved.now }
     ensures { (second : State) → IsRun saved.now budget two.now second
-        → IsJoinedRun image.now budget frozen.now.closed.journal two.now frozen.now.closed.output frozen.now.pending second }
+        → IsJoinedRun image.now budget frozen.now.closed.journal two.now frozen.now.closed.output frozen.now.pending
+        second }
 {
     let _ = image.tasks();
 }
@@ -91,7 +92,8 @@ pub fn join_runs(
     requires second_fits { length two.now ≤ MAX_COMMITS }
     ensures journal { IfOk result (λ journal. journal ≡ joined frozen.now.closed.journal frozen.now.pending two.now) }
     ensures run { (second : State) → IsRun saved.now budget two.now second
-        → IsJoinedRun image.now budget frozen.now.closed.journal two.now frozen.now.closed.output frozen.now.pending second }
+        → IsJoinedRun image.now budget frozen.now.closed.journal two.now frozen.now.closed.output frozen.now.pending
+        second }
 {
     joined_is_run(image, budget, frozen, saved, two);
     creators_are_turns();

@@ -1,6 +1,7 @@
 //! The image from which a stopped run goes on.
 
-ghost use Rattle.std.specs.Prelude.{◌≡◌, ◌<◌, ◌≤◌, ◌↔◌, ◌-◌, ◌^◌, ℕ, All, Any, length, map, min, IfOk, IfErr, IsOk, OnOk};
+ghost use Rattle.std.specs.Prelude.{◌≡◌, ◌<◌, ◌≤◌, ◌↔◌, ◌-◌, ◌^◌, ℕ, All};
+ghost use Rattle.std.specs.Prelude.{Any, length, map, min, IfOk, IfErr, IsOk, OnOk};
 ghost use Rattle.guest_image.specs.ImageValue.{IsImage, image_value};
 ghost use Rattle.guest_image.specs.Limits.{AreInLimits};
 ghost use Rattle.resume_image.specs.Pendings.{AreOfRoot, IsFrozenOf, IsGreatestDepth};

@@ -4,7 +4,8 @@
 //! Each call changes a state as its definition says and keeps what the state's type keeps. What takes memory takes
 //! it before its first change, so that the state stays as it was where memory runs out. Whether an event is allowed
 //! is decided above. It stands on the state; `book_move` and `book_room` call it. A commit of a task with children
-//! costs a look at each child where it was put, and at each slot of tasks only where one of them was spilled.
+//! costs a look at each child where it was put, and at each slot of tasks only where the notes of children aren't
+//! complete; events leave them complete.
 #![tactic(auto)]
 
 mod choosing;

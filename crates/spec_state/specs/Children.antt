@@ -1,5 +1,6 @@
 -- Where the children of each task stand, so that a commit finds them without a search.
-use Rattle.std.specs.Prelude.{◌≡◌, ◌≢◌, ◌<◌, ◌≤◌, ◌^◌, ℕ, Bool, List, [], length, Option, Some, None, IsTrue, slice_get, slice_index_or}
+use Rattle.std.specs.Prelude.{◌≡◌, ◌≢◌, ◌<◌, ◌≤◌, ◌^◌, ℕ, Bool, List, [], length, Option, Some, None, IsTrue}
+use Rattle.std.specs.Prelude.{slice_get, slice_index_or}
 use Rattle.task_desc.specs.declared.calls.TheConstants.{MAX_CHILDREN}
 use Rattle.spec_state.specs.declared.task.Creator.TheVariants.{Live}
 use Rattle.spec_state.specs.declared.task.Task.{Task}

@@ -1,10 +1,10 @@
 //! Where the children of each task stand.
 
-ghost use Rattle.std.specs.Prelude.{◌≡◌, ◌≢◌, ◌≤◌, ◌<◌, ◌↔◌, ℕ, [], true, length, replicate, IsTrue, IfOk, IsSome, IfSome};
-ghost use Rattle.std.specs.Prelude.{slice_get};
+ghost use Rattle.std.specs.Prelude.{◌≡◌, ◌≢◌, ◌≤◌, ◌<◌, ◌↔◌, ℕ, [], true, length, replicate, slice_get};
+ghost use Rattle.std.specs.Prelude.{IsTrue, IfOk, IsSome, IfSome};
 ghost use Rattle.slab.specs.Slab.{get};
-ghost use Rattle.spec_state.specs.Children.{AreNoted, AreNotedBut, HasPlace, IsChildAt, IsFree, IsNotable, Notes, NotesAt};
-ghost use Rattle.spec_state.specs.Children.{noted_of};
+ghost use Rattle.spec_state.specs.Children.{AreNoted, AreNotedBut, HasPlace, IsChildAt, IsFree, IsNotable};
+ghost use Rattle.spec_state.specs.Children.{Notes, NotesAt, noted_of};
 
 use crate::task::{Creator, Task};
 use arrayvec::ArrayVec;

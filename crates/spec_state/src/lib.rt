@@ -4,7 +4,8 @@
 //! stand here what contracts see of a state (`View`), the words that its readers promise, and what each change does
 //! to it, for the crates that change it. A task is found by its id in one step, and nothing is copied to look at
 //! one. When a view is sound is said in the crate of its laws, so that what changes a state stands on definitions
-//! alone. It stands on the parts of the machine: keys, index, queues, blocks, filters and logs.
+//! alone. It stands on the parts of the machine: keys, index, queues, blocks, filters and logs. The crates that
+//! change it call it (`spec_access`, `spec_dispatch`, `spec_rollback`, `spec_commit`), and those of events.
 #![tactic(auto)]
 
 mod adding;

@@ -1,4 +1,4 @@
-//! Taps: observers that are told of every step of the machine.
+//! Taps: observers that are told of every event that is made.
 //!
 //! A tap is a list of numbers, which it changes by a rule of its own for each record that it is told; no call
 //! changes that rule. The list is read number by number. `LastN` keeps the last records in a ring, and
