@@ -1,5 +1,5 @@
 -- Events leave the history and the output as they are, but for a commit, which makes both longer.
-use Rattle.std.proofs.Common.{ℕ, zero, suc, ◌+◌, ◌≡◌, List, [], ◌∷◌, ◌++◌, refl, sym, ap, subst, ◌∙◌}
+use Rattle.std.proofs.Common.{ℕ, zero, suc, ◌≡◌, List, [], ◌++◌, refl, sym, ap, subst, ◌∙◌}
 use Rattle.std.proofs.lemmas.List.{append-nil, append_assoc}
 use Rattle.guest_image.specs.ImageValue.{ImageValue}
 use Rattle.place_policy.specs.Policy.{Policy}
@@ -20,7 +20,7 @@ use Rattle.book_event.specs.declared.event.Advance.{Advance}
 use Rattle.book_event.specs.declared.event.Advance.TheVariants as answers
 use Rattle.book_event.specs.declared.event.Halt.{Halt}
 use Rattle.book_event.specs.Advancing.{AdvanceAnswers, AdvancesBy}
-use Rattle.book_event.specs.Book.{BookView, counted}
+use Rattle.book_event.specs.Book.{BookView}
 use Rattle.book_event.specs.Events.{ComesTo, FreesCommit, FreesCore, Makes}
 use Rattle.book_event.specs.Events as events
 use Rattle.book_event.specs.Happens.{IsMade}

@@ -1,13 +1,13 @@
 -- Readings of a journal that goes on.
-use Rattle.std.proofs.Common.{arith, ◌≡◌, ◌≤◌, ◌<◌, ◌+◌, ◌++◌, ◌∷◌, [], ℕ, zero, suc, List, All, length, take, get_or, Some, refl, sym, ap, subst, ◌∙◌, le_refl, min}
+use Rattle.std.proofs.Common.{arith, ◌≡◌, ◌≤◌, ◌<◌, ◌+◌, ◌++◌, ◌∷◌, [], ℕ, List, All, length, take, get_or, refl, sym, ap, subst, ◌∙◌, le_refl, min}
 use mathlib.Core.Logic.{∥∥₁_map}
 use Rattle.std.proofs.Math.Nat.{min-le_right}
 use Rattle.std.specs.List.{AllZip}
 use Rattle.std.proofs.lemmas.List.{length-append, length-take, take-append-le, take_all}
-use Rattle.std.proofs.lemmas.List.Elements.{All-cons, All-contains, All-nil, All-push, All-weaker}
+use Rattle.std.proofs.lemmas.List.Elements.{All-cons, All-nil, All-push, All-weaker}
 use Rattle.std.proofs.lemmas.Option.{slice_get_within, get_or_from_slice_get}
 use Rattle.guest_image.specs.ImageValue.{ImageValue}
-use Rattle.progress_cell.specs.Readings.{IsAtMost, IsAtPlace, StandsIn, last_of, opening}
+use Rattle.progress_cell.specs.Readings.{IsAtMost, IsAtPlace, last_of, opening}
 use Rattle.progress_cell.specs.declared.reading.Reading.{Reading}
 use Rattle.run_journal.specs.declared.journal.Entry.{Entry}
 use Rattle.serial_machine.specs.Run as run
