@@ -1,5 +1,5 @@
 -- Few tasks are committed.
-use Rattle.std.proofs.Common.{arith, length, ◌<◌, ◌≤◌, ◌^◌, ℕ}
+use Rattle.std.proofs.Common.{arith, length, ◌<◌, ◌≤◌, ◌^◌}
 use Rattle.guest_image.specs.ImageValue.{ImageValue}
 use Rattle.serial_machine.specs.declared.limits.TheConstants.{MAX_COMMITS}
 use Rattle.spec_state.specs.View.{View}

@@ -1,9 +1,8 @@
 -- The event for the least task, by how it stands.
-use Rattle.std.proofs.Common.{ℕ, ◌≡◌, ◌≢◌, ◌≤◌, ◌<◌, inr, Some, sym, ap, subst, refl, ◌∙◌}
+use Rattle.std.proofs.Common.{ℕ, ◌≡◌, ◌≤◌, ◌<◌, Some, sym, ap, subst, refl, ◌∙◌}
 use Rattle.std.specs.Prelude.{IfSome}
 use Rattle.guest_image.specs.ImageValue.{ImageValue}
 use Rattle.rv_core.specs.LegValue.{LegValue}
-use Rattle.spec_state.specs.declared.task.Status.TheVariants.{Running}
 use Rattle.spec_state.specs.declared.task.Task.{Task}
 use Rattle.spec_state.specs.declared.task.TaskId.{TaskId}
 use Rattle.spec_state.specs.declared.task.Where.TheVariants as where_

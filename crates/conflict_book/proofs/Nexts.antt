@@ -1,5 +1,5 @@
 -- The events for the least tasks.
-use Rattle.std.proofs.Common.{ℕ, ◌≡◌, ◌≢◌, ◌+◌, ◌*◌, ◌≤◌, ◌<◌, ◌⊎◌, Bool, true, false, List, inl, inr, refl, sym, ap, subst, ◌∙◌, arith, add-one, suc, length}
+use Rattle.std.proofs.Common.{ℕ, ◌≡◌, ◌+◌, ◌*◌, ◌≤◌, ◌⊎◌, Bool, false, List, inl, inr, refl, sym, ap, subst, ◌∙◌, arith, add-one, suc, length}
 use Rattle.std.proofs.lemmas.Bool.{cases_eq}
 use Rattle.std.proofs.lemmas.Nat.{mul-le}
 use Rattle.guest_image.specs.ImageValue.{ImageValue}
@@ -7,7 +7,6 @@ use Rattle.place_policy.specs.Policy.{Policy}
 use Rattle.run_journal.specs.declared.end.End.TheVariants as ends
 use Rattle.task_step.specs.declared.request.Request.{Request}
 use Rattle.task_step.specs.declared.request.Request.TheVariants.{Continue, Load, Store, Enqueue, MakeSub, Emit, End, Trap}
-use Rattle.trace_tap.specs.declared.record.Deed.{Deed}
 use Rattle.trace_tap.specs.declared.record.Record.{Record}
 use Rattle.trace_tap.specs.Reading.{Reading}
 use Rattle.spec_state.specs.declared.task.TaskId.{TaskId}
@@ -25,17 +24,17 @@ use Rattle.book_event.specs.declared.event.Halt.{Halt}
 use Rattle.book_event.specs.declared.event.Halt.TheVariants as halts
 use Rattle.book_event.specs.declared.event.Reply.{Reply}
 use Rattle.book_event.specs.declared.event.Reply.TheVariants as reply
-use Rattle.book_event.specs.Advancing.{AdvanceAnswers, Advances, AdvancesBy, IsNextEvent}
+use Rattle.book_event.specs.Advancing.{AdvanceAnswers, AdvancesBy, IsNextEvent}
 use Rattle.book_event.specs.Book.{BookView, CountedView}
 use Rattle.book_event.specs.Comes.{Comes, IsAsBefore}
 use Rattle.book_event.specs.End.{IsOver}
-use Rattle.book_event.specs.Happens.{Happens, IsUnchanged}
+use Rattle.book_event.specs.Happens.{Happens}
 use Rattle.book_event.specs.Trace.{deed_of}
 use Rattle.book_law.proofs.Proved.{advances_fall, least_event_is_granted, least_events_are_few, next_event_is_given, rest_is_there}
 use Rattle.step_law.proofs.Proved.{comes_stays_sound, least_is_committed, limit_ends, trap_ends}
 use Rattle.conflict_book.specs.Halting.{FallsIfMoved, GoesOn, NextComes, RunsLeast, advance_by, advance_of, last_answer}
 use Rattle.conflict_book.specs.Seen.{going, told}
-use Rattle.conflict_book.proofs.Telling.{happens_made, moved, part_made}
+use Rattle.conflict_book.proofs.Telling.{happens_made, moved}
 
 -- where the least task is trapped the run is over
 pub trapped_is_over : (image : ImageValue) (view : View) (id : TaskId) → Sound image view → IsLeast view (where_.Trapped id) → IsOver view

@@ -1,5 +1,5 @@
 -- An advance leaves the settings as they are.
-use Rattle.std.proofs.Common.{◌≡◌, ◌⊎◌, inl, inr, refl, sym, ap, ℕ, true}
+use Rattle.std.proofs.Common.{◌≡◌, ◌⊎◌, inl, inr, refl, ap, ℕ, true}
 use Rattle.guest_image.specs.ImageValue.{ImageValue}
 use Rattle.spec_law.specs.Sound.{Sound}
 use Rattle.book_event.specs.declared.event.Advance.{Advance}

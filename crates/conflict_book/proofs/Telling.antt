@@ -1,9 +1,9 @@
 -- What is answered of what came of an event.
-use Rattle.std.proofs.Common.{◌≡◌, Bool, true, false, List, ℕ, map, inl, inr, refl, sym, ap, subst, ◌∙◌}
+use Rattle.std.proofs.Common.{◌≡◌, Bool, false, List, ℕ, inr, refl, sym, ap, subst, ◌∙◌}
 use Rattle.guest_image.specs.ImageValue.{ImageValue}
 use Rattle.place_policy.specs.Policy.{Policy}
 use Rattle.trace_tap.specs.declared.record.Record.{Record}
-use Rattle.trace_tap.specs.Reading.{Reading, noted}
+use Rattle.trace_tap.specs.Reading.{Reading}
 use Rattle.spec_state.specs.View.{View}
 use Rattle.spec_law.specs.Sound.{Sound}
 use Rattle.book_event.specs.declared.event.Came.{Came}
@@ -12,7 +12,6 @@ use Rattle.book_event.specs.declared.event.Event.{Event}
 use Rattle.book_event.specs.declared.event.Reply.{Reply}
 use Rattle.book_event.specs.declared.event.Reply.TheVariants as reply
 use Rattle.book_event.specs.Book.{BookView, CountedView}
-use Rattle.book_event.specs.Causes.{IsRefused}
 use Rattle.book_event.specs.Comes.{Comes, IsAsBefore}
 use Rattle.book_event.specs.Events.{IsGiven}
 use Rattle.book_event.specs.Happens.{Happens, IsUnchanged}

@@ -1,4 +1,3 @@
-use Rattle.std.proofs.Common.{subst, sym}
 use Rattle.book_event.specs.declared.event.Event.TheVariants as event
 use Rattle.conflict_book.proofs.Leading.{next_commit}
 use Rattle.conflict_book.proofs.Passing.{commit_comes}

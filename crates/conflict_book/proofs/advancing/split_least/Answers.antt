@@ -1,7 +1,5 @@
-use Rattle.std.proofs.Common.{inr}
 use Rattle.book_event.specs.declared.event.Event.TheVariants as event
-use Rattle.step_law.proofs.Proved.{least_in_block}
-use Rattle.conflict_book.proofs.Leading.{next_split, split_is_inside}
+use Rattle.conflict_book.proofs.Leading.{next_split}
 use Rattle.conflict_book.proofs.advancing.split_least.Goals as goal
 
 pub returns : goal.returns

@@ -1,5 +1,4 @@
-use Rattle.std.proofs.Common.{rules, arith, map}
-use Rattle.book_event.specs.Opening.{opened}
+use Rattle.std.proofs.Common.{rules, arith}
 use Rattle.conflict_book.proofs.Placing.{leads_more}
 use Rattle.conflict_book.proofs.opening.place_all.Goals as goal
 

@@ -1,4 +1,4 @@
-use Rattle.std.proofs.Common.{arith, ap, refl, subst, sym, ◌≡◌, ◌∙◌, ◌+◌, ◌*◌}
+use Rattle.std.proofs.Common.{arith, ap, refl, subst, ◌≡◌, ◌∙◌, ◌+◌, ◌*◌}
 use Rattle.spec_state.specs.declared.settings.Settings.{Settings}
 use Rattle.book_event.specs.Advancing.{AdvanceAnswers}
 use Rattle.conflict_book.specs.Seen.{view_of}
