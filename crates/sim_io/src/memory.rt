@@ -1,7 +1,7 @@
 //! Sources and a sink in memory.
 
 ghost use Rattle.std.specs.Prelude.{◌≡◌, ◌+◌, ◌-◌, ◌^◌, ◌<◌, ◌≤◌, ℕ, List, [], ◌++◌, Some, IfOk, drop, is_err};
-ghost use Rattle.std.specs.Prelude.{length, min, take, ◌==◌};
+ghost use Rattle.std.specs.Prelude.{if◌then◌else◌, is_ok, length, min, take, ◌==◌};
 ghost use Rattle.std.specs.List.{list_any};
 ghost use Rattle.std.specs.Io.{ReadsAtMost, WritesAtMost};
 ghost use Rattle.std.specs.Io.KnownBytes.{ReadConsumes, WriteAppends};
@@ -65,6 +65,7 @@ impl Source for MemSource {
         ensures bound { ReadsAtMost result buf.new }
         ensures bytes { ReadConsumes (Some self.old.left) (Some self.new.left) result buf.new }
         ensures cause { HasCause self.old.faults self.new.faults result }
+        ensures counted { self.new.faults ≡ (if is_ok result then self.old.faults else one_more self.old.faults) }
         ensures fails { is_err result ≡ is_listed self.old.calls self.old.fail_at }
         ensures most { IfOk result (λ n. n ≡ min (min (length self.old.left) self.old.piece) (length buf.new)) }
         ensures calls { self.new.calls ≡ one_more self.old.calls }
@@ -184,6 +185,7 @@ impl Sink for MemSink {
         ensures some { IfOk result (λ n. 0 < length piece.now → 0 < n) }
         ensures bytes { WriteAppends (Some self.old.bytes) (Some self.new.bytes) result piece.now }
         ensures cause { HasCause self.old.faults self.new.faults result }
+        ensures counted { self.new.faults ≡ (if is_ok result then self.old.faults else one_more self.old.faults) }
         ensures fails { is_err result ≡ is_refused self.old }
         ensures most { let free = self.old.room - length self.old.bytes in
             IfOk result (λ n. n ≡ min (min (length piece.now) self.old.piece) free) }
