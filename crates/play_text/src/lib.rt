@@ -1,6 +1,6 @@
 //! The text of what was said of the acts of a script, and of what taps saw: written line by line without memory.
 //! Each line is one piece for the sink, with its newline, and costs its digits. It stands on sinks, on the
-//! writing of numbers in `report_text`, and on the types of scripts; the program calls it.
+//! lines of `report_text`, and on the types of scripts; the program calls it.
 #![tactic(auto)]
 
 mod line;

@@ -138,6 +138,11 @@ fn the_first_wrong_line_is_told(rt: HostRuntime) -> Result<(), Fail> {
         ),
         (
             &emitting,
+            "fractal 1\n1 0.0 1 0\noutput 4A\nend normal\n",
+            outside(3),
+        ),
+        (
+            &emitting,
             "fractal 1\n01 0.0 1 0\noutput 41\nend normal\n",
             outside(2),
         ),

@@ -5,10 +5,7 @@ ghost use Rattle.report_text.specs.Report.{window_word};
 
 use crate::report::WindowWord;
 use byteorder::{ByteOrder, LittleEndian};
-use guest_image::Image;
-
-/// Where the data begins.
-const DATA_START: u32 = 0x1000_0000;
+use guest_image::{DATA_START, Image};
 
 /// How many words the window has.
 pub(crate) fn window_len(image: &Image) -> u32
