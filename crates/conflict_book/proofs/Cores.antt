@@ -1,11 +1,16 @@
 -- The task on a core.
-use Rattle.std.proofs.Common.{ℕ, ◌≡◌, Some, sym, ap, subst, is_some, ◌∙◌}
+use Rattle.std.proofs.Common.{ℕ, ◌≡◌, ◌<◌, ◌≤◌, ◌⊎◌, inl, inr, List, [], Option, Some, sym, ap, subst, is_some, ◌∙◌, length, arith}
+use Rattle.std.proofs.lemmas.Bool.{cases_lt}
+use Rattle.std.proofs.lemmas.List.{get_or_past}
+use Rattle.std.proofs.lemmas.List.Elements.{All-get_or}
+use Rattle.std.proofs.lemmas.Option.{slice_get_within}
 use Rattle.std.specs.Prelude.{IsSome, slice_get}
 use Rattle.spec_state.specs.declared.task.Status.TheVariants.{Running}
 use Rattle.spec_state.specs.declared.task.Task.{Task}
 use Rattle.spec_state.specs.Queries.{IsRunning}
 use Rattle.spec_state.specs.Stored.{HasCore, IsStored}
 use Rattle.spec_state.specs.View.{View, cores_at, task_at}
+use Rattle.spec_law.specs.Sound.{SoundSizes}
 
 module _ (size : ℕ) (view : View) (stored : IsStored size view) (tile core id : ℕ) (held : slice_get (cores_at view tile) core ≡ Some (Some id)) where
   -- a core holds a task that is there
@@ -23,3 +28,20 @@ module _ (size : ℕ) (view : View) (stored : IsStored size view) (tile core id 
       let on : HasCore task.status core = subst (λ (t : Task). HasCore t.status core) same has.3 in
       let one : at ≡ core = subst (λ s. HasCore s core) runs on in
       record { on = record { held = held; there = there }; running = runs ∙ ap Running one }
+
+-- where a task runs, the machine has that tile and that core
+pub runs_inside : (view : View) → SoundSizes view → (tile core id : ℕ) (task : Task) → IsRunning view tile core id task
+    → (tile < view.settings.tiles) × (core < view.settings.cores)
+runs_inside view sizes tile core id task runs = go (cases_lt tile view.settings.tiles) where
+  inside : core < length (cores_at view tile)
+  inside = slice_get_within (cores_at view tile) core (Some id) runs.on.held
+
+  go : (tile < view.settings.tiles) ⊎ (view.settings.tiles ≤ tile) → (tile < view.settings.tiles) × (core < view.settings.cores)
+  go (inl below) =
+      let has : tile < length view.cores = omega (arith, below, sizes.cores) in
+      let count : length (cores_at view tile) ≡ view.settings.cores = All-get_or (λ (held : List (Option ℕ)). length held ≡ view.settings.cores) view.cores tile [] has sizes.core_counts in
+      (below, omega (arith, inside, count))
+  go (inr past) =
+      let past_all : length view.cores ≤ tile = omega (arith, past, sizes.cores) in
+      let none : length (cores_at view tile) ≡ 0 = ap (λ (held : List (Option ℕ)). length held) (get_or_past view.cores tile [] past_all) in
+      absurd (omega (arith, inside, none))

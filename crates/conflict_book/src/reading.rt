@@ -124,10 +124,8 @@ impl<N: Naming, P: Placer, T: Tap> Book<N, P, T> {
     }
 
     /// The core to which the running task on a core of a tile has come, within the task budget; None exactly where
-    /// no running task is there.
+    /// no running task is there, so also of a tile or a core that the machine hasn't.
     pub fn core_at(&self, tile: u32, core: u32) -> Option<&Core>
-        requires tile { tile < (view_of P.policy T.reading self.now).view.settings.tiles }
-        requires core { core < (view_of P.policy T.reading self.now).view.settings.cores }
         ensures within { let view = (view_of P.policy T.reading self.now).view in
             IfSome result (λ c. c.now.used ≤ view.settings.budget) }
         ensures some { let view = (view_of P.policy T.reading self.now).view in
@@ -135,6 +133,11 @@ impl<N: Naming, P: Placer, T: Tap> Book<N, P, T> {
         ensures none { let view = (view_of P.policy T.reading self.now).view in
             IsNone result ↔ ((id : ℕ) (task : Task) → IsRunning view tile core id task → ⊥) }
     {
+        self.sound.is_sound();
+        let settings = self.settings();
+        if tile >= settings.tiles || core >= settings.cores {
+            return None;
+        }
         running_core(self.sound.state(), tile, core)
     }
 

@@ -9,7 +9,7 @@ use place_policy::{ByHint, Placer};
 use rv_core::{Naming, run_leg};
 use sample_image::{FIRST_MAKER, Program, READER_AND_WRITER};
 use serial_machine::End;
-use spec_state::Settings;
+use spec_state::{DISPATCH_NUMBERS, Settings};
 use std::alloc::{Alloc, Global};
 use std::marker::Brand;
 use std::process::Abort;
@@ -320,6 +320,12 @@ fn least_run<N: Naming>(
     assert_eq!(rt; book.history().len(), 3);
     book.stop();
     assert_eq!(rt; book.run_least(image), Halt::Memory);
+    Ok(())
+}
+
+#[test]
+fn dispatch_numbers_have_sixteen_bits(rt: HostRuntime) -> Result<(), Fail> {
+    assert_eq!(rt; DISPATCH_NUMBERS, 65_536);
     Ok(())
 }
 
