@@ -16,19 +16,13 @@ use Rattle.spec_state.specs.Room.{Asker, MakesRoom}
 use Rattle.spec_state.specs.Room as room
 use Rattle.book_event.specs.declared.event.Event.{Event}
 use Rattle.book_event.specs.declared.event.Event.TheVariants as event
-use Rattle.book_event.specs.declared.event.Advance.{Advance}
-use Rattle.book_event.specs.declared.event.Advance.TheVariants as answers
 use Rattle.book_event.specs.declared.event.Halt.{Halt}
-use Rattle.book_event.specs.Advancing.{AdvanceAnswers, AdvancesBy}
+use Rattle.book_event.specs.Advancing.{AdvancesBy}
 use Rattle.book_event.specs.Book.{BookView}
 use Rattle.book_event.specs.Events.{ComesTo, FreesCommit, FreesCore, Makes}
 use Rattle.book_event.specs.Events as events
-use Rattle.book_event.specs.Happens.{IsMade}
-use Rattle.conflict_book.specs.Halting.{GoesOn, RunsLeast}
-use Rattle.tile_worker.specs.Counts.{CountsSo}
+use Rattle.conflict_book.specs.Halting.{RunsLeast}
 use Rattle.tile_worker.specs.Grows.{Grows}
-use Rattle.tile_worker.specs.declared.hold.Tried.{Tried}
-use Rattle.tile_worker.specs.declared.hold.Tried.TheVariants as tried
 
 -- the committed tasks and what they emitted
 abbrev committed : View → List Entry × List ℕ
@@ -115,22 +109,3 @@ grows_by N image (suc made) old new is =
 -- so it does in a run by the least tasks
 pub runs_grow : (N : Type 0) (image : ImageValue) (old new : BookView) (halt : Halt) → RunsLeast N image old halt new → Grows old.view new.view
 runs_grow N image old new halt runs = grows_by N image runs.made old new runs.advances
-
--- an event that was made counts, and the run goes on
-pub made_counts : (N : Type 0) (old new : BookView) (e : Event N) (aborted : ℕ) → IsMade old e aborted new → CountsSo old tried.Made new
-made_counts N old new e aborted made = (made.steps, event_grows old aborted new.view new.placers N e made.makes)
-
--- so does one for the least task
-pub advance_counts : (N : Type 0) (image : ImageValue) (old : BookView) (answer : Advance) (new : BookView)
-    → AdvanceAnswers N image old answer new → GoesOn answer → CountsSo old tried.Made new
-advance_counts N image old (answers.Moved aborted) new is on = made_counts N old new is.0 aborted is.3
-advance_counts N image old answers.Committed new is on = made_counts N old new event.Commit 0 is.1
-advance_counts N image old (answers.Ended end) new is on = absurd on
-advance_counts N image old answers.Memory new is on = absurd on
-
--- however a try counts, the run goes on
-pub counts_grow : (old : BookView) (t : Tried) (new : BookView) → CountsSo old t new → Grows old.view new.view
-counts_grow old tried.Made new so = so.1
-counts_grow old tried.Waits new so = grows_by_none old.view new.view (ap (λ (b : BookView). committed b.view) so)
-counts_grow old tried.Missed new so = grows_by_none old.view new.view (ap (λ (b : BookView). committed b.view) so)
-counts_grow old tried.Over new so = grows_by_none old.view new.view (ap committed so.1)

@@ -2,4 +2,5 @@ mod Rising
 mod Sums
 mod Tiles
 mod Growing
+mod Holding
 mod Told

@@ -14,9 +14,12 @@ use Rattle.serial_machine.specs.Run as run
 use Rattle.serial_machine.specs.Run.{IsRun}
 use Rattle.spec_state.specs.View.{View}
 use Rattle.spec_law.specs.Sound.{Sound}
+use Rattle.book_event.specs.Book.{BookView}
 use Rattle.conflict_book.specs.Counts.{counts_of}
 use Rattle.tile_worker.specs.Grows.{Grows}
+use Rattle.tile_worker.specs.Holds.{HoldsOnce}
 use Rattle.tile_worker.specs.Readings.{IsReading, AreReadings, OpeningIsReading, SeenAreReadings}
+use Rattle.tile_worker.proofs.Holding.{holds_grow}
 
 -- a reading of a journal is one of each journal that goes on where this one ended
 longer : (image : ImageValue) (budget : ℕ) (journal more : List Entry) (reading : Reading) → IsReading image budget journal reading
@@ -46,6 +49,15 @@ counts_rise old new last grows is =
     let history : length new.history ≡ length old.history + length grows.entries = ap length grows.history ∙ length-append old.history grows.entries in
     let output : length new.output ≡ length old.output + length grows.bytes = ap length grows.output ∙ length-append old.output grows.bytes in
     subst (λ reading. IsAtMost reading (counts_of new)) (sym is) (omega (arith, history), omega (arith, output))
+
+-- both after a hold
+pub readings_held : (N : Type 0) (image : ImageValue) (budget : ℕ) (old new : BookView) (told : List Reading) → HoldsOnce N old new
+    → AreReadings image budget old.view.history told → AreReadings image budget new.view.history told
+readings_held N image budget old new told once are = readings_grow image budget old.view new.view told (holds_grow N old new once) are
+
+pub counts_held : (N : Type 0) (old new : BookView) (last : Reading) → HoldsOnce N old new → last ≡ counts_of old.view
+    → IsAtMost last (counts_of new.view)
+counts_held N old new last once is = counts_rise old.view new.view last (holds_grow N old new once) is
 
 -- the counts of a sound view are a reading of its history
 pub counts_are_reading : (image : ImageValue) (budget : ℕ) (view : View) → Sound image view → view.settings.budget ≡ budget

@@ -1,14 +1,15 @@
 -- How a try of an event counts.
-use Rattle.std.specs.Prelude.{◌≡◌}
-use Rattle.book_event.specs.Book.{BookView, counted}
-use Rattle.tile_worker.specs.Grows.{Grows}
+use Rattle.std.specs.Prelude.{◌≡◌, ◌⊎◌}
+use Rattle.book_event.specs.Book.{BookView}
+use Rattle.book_event.specs.End.{IsOver}
+use Rattle.tile_worker.specs.Holds.{MakesOne, RunsOut}
 use Rattle.tile_worker.specs.declared.hold.Tried.{Tried}
 use Rattle.tile_worker.specs.declared.hold.Tried.TheVariants as tried
 
--- an event that was made counts as one, and the run goes on; after one that is to be tried again nothing has changed,
--- and else count and view are as they were
-abbrev pub CountsSo : BookView → Tried → BookView → Type 0
-CountsSo old tried.Made new = (new.steps ≡ counted old.steps) × Grows old.view new.view
-CountsSo old tried.Waits new = new ≡ old
-CountsSo old tried.Missed new = new ≡ old
-CountsSo old tried.Over new = (new.steps ≡ old.steps) × (new.view ≡ old.view)
+-- one event was made; or it was refused, and the book is as it was; or the run is over and the book is as it was, or
+-- memory may run out and the book was stopped
+abbrev pub CountsSo : Type 0 → BookView → Tried → BookView → Type 0
+CountsSo N old tried.Made new = MakesOne N old new
+CountsSo N old tried.Waits new = new ≡ old
+CountsSo N old tried.Missed new = new ≡ old
+CountsSo N old tried.Over new = (IsOver old.view × (new ≡ old)) ⊎ RunsOut N old new

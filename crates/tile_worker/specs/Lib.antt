@@ -1,4 +1,5 @@
 pub mod Halts
+pub mod Holds
 pub mod Counts
 pub mod Founds
 pub mod Rounds

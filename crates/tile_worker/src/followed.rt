@@ -1,13 +1,14 @@
 //! A book under a lock, with the writer of a board on which its readings are told.
 
-ghost use Rattle.std.specs.Prelude.{◌≡◌, ◌≤◌, [], List, length, take};
+ghost use Rattle.std.specs.Prelude.{◌≡◌, ◌≢◌, ◌≤◌, [], List, MatchBool, length, take};
 ghost use Rattle.atomic_table.specs.Seated.{TableId};
 ghost use Rattle.progress_cell.specs.Readings.{IsAtMost, last_of};
 ghost use Rattle.progress_cell.specs.declared.reading.Reading.{Reading};
 ghost use Rattle.spec_state.specs.Settings.{IsValid};
 ghost use Rattle.conflict_book.specs.Counts.{counts_of};
 ghost use Rattle.conflict_book.specs.Seen.{view_of};
-ghost use Rattle.tile_worker.specs.Founds.{IsWithin};
+ghost use Rattle.tile_worker.specs.Founds.{IsDoneAt, IsWithin};
+ghost use Rattle.tile_worker.specs.Holds.{HoldsOnce};
 ghost use Rattle.tile_worker.specs.Readings.{AreReadings};
 
 use crate::hold::{Found, Handed};
@@ -73,10 +74,17 @@ pub(crate) fn tell<N: Naming, P: Placer, T: Tap, R: Wait>(
     board.publish(rt, writer, book.counts());
 }
 
+/// Whether what was told last is how far a book has come.
+fn is_told<N: Naming, P: Placer, T: Tap>(book: &Book<N, P, T>, writer: &Writer) -> bool
+    ensures { let counts = counts_of (view_of P.policy T.reading book.now).view in
+        MatchBool result (last_of writer.now.told ≡ counts) (last_of writer.now.told ≢ counts) }
+{
+    writer.last() == book.counts()
+}
+
 impl<N: Naming, L: Followable, P: Placer, T: Tap> Followed<N, L, P, T> {
     /// One hold of a worker, as that of a book that isn't told; where a task was committed, it tells how far the book
     /// has come.
-    #[tactic(auto, using(crate::proofs::Told::readings_grow, crate::proofs::Told::counts_rise))]
     fn hold<R: Wait>(
         &mut self,
         rt: &R,
@@ -90,10 +98,13 @@ impl<N: Naming, L: Followable, P: Placer, T: Tap> Followed<N, L, P, T> {
         requires image { image.now ≡ N.image }
         ensures amount { part.old.amount ≤ part.new.amount }
         ensures found { IsWithin N.budget result }
+        ensures once { let old = view_of P.policy T.reading self.old.tallied.book in
+            HoldsOnce N old (view_of P.policy T.reading self.new.tallied.book) }
+        ensures done { IsDoneAt (view_of P.policy T.reading self.new.tallied.book) result }
     {
         let Followed { tallied, writer } = self;
         let found = tallied.hold(image, part, round, handed);
-        if tallied.book.counts() != writer.last() {
+        if !is_told(&tallied.book, writer) {
             tell(rt, board, writer, &tallied.book);
         }
         found

@@ -1,12 +1,13 @@
 //! What a worker does with the book in one hold of the lock: at most one event, and a look for the core of its next
 //! leg.
 
-ghost use Rattle.std.specs.Prelude.{◌≡◌, ◌<◌, ◌≤◌, ◌+◌, ◌^◌, ℕ, IfSome};
+ghost use Rattle.std.specs.Prelude.{◌≡◌, ◌<◌, ◌≤◌, ℕ, IfSome};
+ghost use Rattle.book_event.specs.Book.{BookView};
 ghost use Rattle.conflict_book.specs.Ranges.{IsInRange};
 ghost use Rattle.conflict_book.specs.Seen.{view_of};
 ghost use Rattle.tile_worker.specs.Counts.{CountsSo};
-ghost use Rattle.tile_worker.specs.Founds.{IsWithin};
-ghost use Rattle.tile_worker.specs.Grows.{Grows};
+ghost use Rattle.tile_worker.specs.Founds.{IsDoneAt, IsWithin};
+ghost use Rattle.tile_worker.specs.Holds.{HoldsOnce};
 
 use crate::round::{Place, Round};
 use conflict_book::{Advance, Book, Event, Reply};
@@ -53,10 +54,11 @@ pub(crate) enum Tried {
 }
 
 /// Hands in an event on a tile and a core that are there. Where memory runs out the book is stopped.
+#[tactic(auto, using(crate::proofs::Holding::event_tries))]
 fn try_event<N: Naming, P: Placer, T: Tap>(book: &mut Book<N, P, T>, event: Event<N>) -> Tried
     requires given { IsInRange (view_of P.policy T.reading book.old).view.settings event }
     ensures { let old = view_of P.policy T.reading book.old in
-        CountsSo old result (view_of P.policy T.reading book.new) }
+        CountsSo N old result (view_of P.policy T.reading book.new) }
 {
     match book.apply(event).reply {
         Reply::Ok => Tried::Made,
@@ -71,10 +73,11 @@ fn try_event<N: Naming, P: Placer, T: Tap>(book: &mut Book<N, P, T>, event: Even
 }
 
 /// Makes the event for the least task. Where memory runs out the book is stopped.
+#[tactic(auto, using(crate::proofs::Holding::advance_tries))]
 fn try_advance<N: Naming, P: Placer, T: Tap>(book: &mut Book<N, P, T>, image: &Image) -> Tried
     requires image { image.now ≡ N.image }
     ensures { let old = view_of P.policy T.reading book.old in
-        CountsSo old result (view_of P.policy T.reading book.new) }
+        CountsSo N old result (view_of P.policy T.reading book.new) }
 {
     match book.advance(image) {
         Advance::Moved { .. } | Advance::Committed => Tried::Made,
@@ -93,7 +96,7 @@ fn hand_in<N: Naming, P: Placer, T: Tap>(
     handed: Handed<N>,
 ) -> Tried
     ensures { let old = view_of P.policy T.reading book.old in
-        CountsSo old result (view_of P.policy T.reading book.new) }
+        CountsSo N old result (view_of P.policy T.reading book.new) }
 {
     let Handed { place, leg } = handed;
     let Place { tile, core } = place;
@@ -110,9 +113,7 @@ fn hand_in<N: Naming, P: Placer, T: Tap>(
 }
 
 /// Whether a core of the tile may be free: no running task is there.
-fn may_have_free_core<N: Naming, P: Placer, T: Tap>(book: &Book<N, P, T>, tile: u32) -> bool
-    requires { tile < (view_of P.policy T.reading book.now).view.settings.tiles }
-{
+fn may_have_free_core<N: Naming, P: Placer, T: Tap>(book: &Book<N, P, T>, tile: u32) -> bool {
     for core in 0..book.settings().cores {
         if book.core_at(tile, core).is_none() {
             return true;
@@ -124,7 +125,7 @@ fn may_have_free_core<N: Naming, P: Placer, T: Tap>(book: &Book<N, P, T>, tile: 
 /// Dispatches in the first of the worker's own tiles that is ready.
 fn dispatch_own<N: Naming, P: Placer, T: Tap>(book: &mut Book<N, P, T>, round: &mut Round) -> Tried
     ensures { let old = view_of P.policy T.reading book.old in
-        CountsSo old result (view_of P.policy T.reading book.new) }
+        CountsSo N old result (view_of P.policy T.reading book.new) }
 {
     for tile in 0..book.settings().tiles {
         if round.tries_tile(tile, book.steps()) && may_have_free_core(book, tile) {
@@ -165,7 +166,7 @@ fn serve_own<N: Naming, P: Placer, T: Tap>(
     handed: Option<Handed<N>>,
 ) -> Tried
     ensures { let old = view_of P.policy T.reading book.old in
-        CountsSo old result (view_of P.policy T.reading book.new) }
+        CountsSo N old result (view_of P.policy T.reading book.new) }
 {
     match handed {
         None => dispatch_own(book, round),
@@ -179,7 +180,8 @@ fn serve_own<N: Naming, P: Placer, T: Tap>(
 
 /// Tells the core that was found.
 fn found_of(running: Option<Running>) -> Found
-    ensures { (budget : ℕ) → IfSome running (λ r. r.from.used ≤ budget) → IsWithin budget result }
+    ensures found { (budget : ℕ) → IfSome running (λ r. r.from.used ≤ budget) → IsWithin budget result }
+    ensures done { (book : BookView) → IsDoneAt book result }
 {
     match running {
         Some(running) => Found::Core(running),
@@ -187,8 +189,28 @@ fn found_of(running: Option<Running>) -> Found
     }
 }
 
+/// Makes the event for the least task, and then looks for the core of the next leg.
+#[tactic(auto, using(crate::proofs::Holding::counts_hold))]
+fn advance_least<N: Naming, P: Placer, T: Tap>(
+    book: &mut Book<N, P, T>,
+    image: &Image,
+    round: &mut Round,
+) -> Found
+    requires image { image.now ≡ N.image }
+    ensures once { let old = view_of P.policy T.reading book.old in
+        HoldsOnce N old (view_of P.policy T.reading book.new) }
+    ensures found { IsWithin N.budget result }
+    ensures done { IsDoneAt (view_of P.policy T.reading book.new) result }
+{
+    match try_advance(book, image) {
+        Tried::Over => Found::Done,
+        Tried::Made | Tried::Waits | Tried::Missed => found_of(next_running(book, round)),
+    }
+}
+
 /// One hold of the lock: the leg that is handed in, or a dispatch, or, where the worker has none of both, the event
 /// for the least task; and then a look for the core of its next leg. No more than one of these events is made.
+#[tactic(auto, using(crate::proofs::Holding::counts_hold, crate::proofs::Holding::refused_holds))]
 pub(crate) fn serve<N: Naming, P: Placer, T: Tap>(
     book: &mut Book<N, P, T>,
     image: &Image,
@@ -196,26 +218,17 @@ pub(crate) fn serve<N: Naming, P: Placer, T: Tap>(
     handed: Option<Handed<N>>,
 ) -> Found
     requires image { image.now ≡ N.image }
-    requires few { (view_of P.policy T.reading book.old).steps < 2 ^ 63 }
-    ensures at_least { let old = view_of P.policy T.reading book.old in
-        old.steps ≤ (view_of P.policy T.reading book.new).steps }
-    ensures at_most { let old = view_of P.policy T.reading book.old in
-        (view_of P.policy T.reading book.new).steps ≤ old.steps + 1 }
-    ensures grows { let old = view_of P.policy T.reading book.old in
-        Grows old.view (view_of P.policy T.reading book.new).view }
+    ensures once { let old = view_of P.policy T.reading book.old in
+        HoldsOnce N old (view_of P.policy T.reading book.new) }
     ensures found { IsWithin N.budget result }
+    ensures done { IsDoneAt (view_of P.policy T.reading book.new) result }
 {
-    let made = match serve_own(book, round, handed) {
-        Tried::Made => true,
-        Tried::Over => return Found::Done,
-        Tried::Waits | Tried::Missed => false,
-    };
-    let next = next_running(book, round);
-    if made || next.is_some() {
-        return found_of(next);
-    }
-    match try_advance(book, image) {
+    match serve_own(book, round, handed) {
         Tried::Over => Found::Done,
-        Tried::Made | Tried::Waits | Tried::Missed => found_of(next_running(book, round)),
+        Tried::Made => found_of(next_running(book, round)),
+        Tried::Waits | Tried::Missed => match next_running(book, round) {
+            Some(running) => Found::Core(running),
+            None => advance_least(book, image, round),
+        },
     }
 }

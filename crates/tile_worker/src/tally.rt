@@ -3,8 +3,8 @@
 ghost use Rattle.std.specs.Prelude.{◌≡◌, ◌≤◌, ◌+◌, ◌^◌};
 ghost use Rattle.spec_state.specs.Settings.{IsValid};
 ghost use Rattle.conflict_book.specs.Seen.{view_of};
-ghost use Rattle.tile_worker.specs.Founds.{IsWithin};
-ghost use Rattle.tile_worker.specs.Grows.{Grows};
+ghost use Rattle.tile_worker.specs.Founds.{IsDoneAt, IsWithin};
+ghost use Rattle.tile_worker.specs.Holds.{HoldsOnce};
 
 use crate::hold::{Found, Handed, serve};
 use crate::round::Round;
@@ -81,8 +81,9 @@ impl<N: Naming, L: Ledger, P: Placer, T: Tap> Tallied<N, L, P, T> {
         *self.book.settings()
     }
 
-    /// One hold of a worker: makes at most one event of the book, and counts it to the worker's part.
-    #[tactic(auto, using(crate::proofs::Growing::grows_refl))]
+    /// One hold of a worker: makes at most one event of the book, and counts it to the worker's part. The book is
+    /// stopped only where memory may run out.
+    #[tactic(auto, using(crate::proofs::Holding::rests, crate::proofs::Holding::holds_later))]
     pub(crate) fn hold(
         &mut self,
         image: &Image,
@@ -95,8 +96,9 @@ impl<N: Naming, L: Ledger, P: Placer, T: Tap> Tallied<N, L, P, T> {
         ensures booked { let old = view_of P.policy T.reading self.old.book in
             part.new.amount + old.steps ≡ part.old.amount + (view_of P.policy T.reading self.new.book).steps }
         ensures found { IsWithin N.budget result }
-        ensures grows { let old = view_of P.policy T.reading self.old.book in
-            Grows old.view (view_of P.policy T.reading self.new.book).view }
+        ensures once { let old = view_of P.policy T.reading self.old.book in
+            HoldsOnce N old (view_of P.policy T.reading self.new.book) }
+        ensures done { IsDoneAt (view_of P.policy T.reading self.new.book) result }
     {
         let Tallied { book, total } = self;
         let Part { amount, share } = part;

@@ -8,6 +8,7 @@ ghost use Rattle.spec_state.specs.Settings.{IsValid};
 use crate::{Gate, OpenGate, Watched, run_tiles, run_watched};
 use conflict_book::{Book, Halt};
 use guest_image::{Image, ImageTask, Kind};
+use load_gen::{Load, make};
 use place_policy::{ByHint, Placer};
 use progress_cell::{Board, Reader, Reading, Writer};
 use rv_core::Naming;
@@ -17,6 +18,7 @@ use std::alloc::{Alloc, Global};
 use std::marker::Brand;
 use std::process::Abort;
 use std::sync::Wait;
+use std::sync::atomic::{AtomicU64, Ordering};
 use std::test::Fail;
 use std::thread::{Threads, join};
 use trace_tap::{LastN, Tap};
@@ -36,6 +38,13 @@ const SETTINGS: Settings = Settings {
     commits: 1_000_000,
     budget: 65_536,
     phase: 1_000_000,
+};
+
+/// Four tiles of two cores.
+const FOUR_TILES: Settings = Settings {
+    tiles: 4,
+    cores: 2,
+    ..SETTINGS
 };
 
 /// A task that ends at once.
@@ -75,12 +84,46 @@ fn book_of<N: Naming>(
     Ok(book)
 }
 
-/// So many workers end the run, and their shares are the book's steps.
-fn run_by<N: Naming + Send + Sync>(
+/// A gate that keeps the number of each of two workers' last leg, and notes where one isn't the next number.
+#[derive(Drop)]
+struct CountingGate {
+    first: AtomicU64,
+    second: AtomicU64,
+    gaps: AtomicU64,
+}
+
+impl CountingGate {
+    /// A gate that no leg has passed.
+    fn new() -> CountingGate {
+        CountingGate {
+            first: AtomicU64::new(0),
+            second: AtomicU64::new(0),
+            gaps: AtomicU64::new(0),
+        }
+    }
+}
+
+impl Gate for CountingGate {
+    fn pass(&self, worker: u32, leg: u64) {
+        let last = if worker == 0 {
+            &self.first
+        } else {
+            &self.second
+        };
+        if leg != last.swap(leg, Ordering::SeqCst).saturating_add(1) {
+            self.gaps.store(1, Ordering::SeqCst);
+        }
+    }
+}
+
+/// So many workers end the run with so many commits, and their shares are the book's steps.
+fn run_by<N: Naming + Send + Sync, G: Gate + Sync>(
     rt: &(impl Abort + Alloc<A = Global> + Threads + Wait + Sync),
     image: &Image,
     settings: Settings,
     workers: u32,
+    gate: &G,
+    commits: usize,
 ) -> Result<(), Fail>
     requires valid { IsValid settings }
     requires image { image.now ≡ N.image }
@@ -92,9 +135,9 @@ fn run_by<N: Naming + Send + Sync>(
     if book.steps() != 0 {
         return Err(Fail::from("events at the opening"));
     }
-    let drained = run_tiles(rt, image, book, workers, &OpenGate);
+    let drained = run_tiles(rt, image, book, workers, gate);
     assert_eq!(rt; drained.halt, Halt::Ended(End::Normal));
-    assert_eq!(rt; drained.book.history().len(), 2);
+    assert_eq!(rt; drained.book.history().len(), commits);
     let mut sum = 0u64;
     for share in drained.shares.as_slice() {
         sum = sum.wrapping_add(*share);
@@ -106,13 +149,25 @@ fn run_by<N: Naming + Send + Sync>(
 #[test]
 fn two_workers_end_a_run(rt: HostRuntime) -> Result<(), Fail> {
     let image = image_of(rt.alloc())?;
-    run_by::<Brand>(&rt, &image, SETTINGS, 2)
+    run_by::<Brand, OpenGate>(&rt, &image, SETTINGS, 2, &OpenGate, 2)
 }
 
 #[test]
 fn more_workers_than_tiles_end_a_run(rt: HostRuntime) -> Result<(), Fail> {
     let image = image_of(rt.alloc())?;
-    run_by::<Brand>(&rt, &image, SETTINGS, 16)
+    run_by::<Brand, OpenGate>(&rt, &image, SETTINGS, 16, &OpenGate, 2)
+}
+
+#[test]
+fn legs_of_each_worker_are_numbered_without_a_gap(rt: HostRuntime) -> Result<(), Fail> {
+    let image = make(rt.alloc(), Load::Walk, 7, 200)?;
+    let gate = CountingGate::new();
+    run_by::<Brand, CountingGate>(&rt, &image, FOUR_TILES, 2, &gate, 400)?;
+    assert_eq!(rt; gate.gaps.load(Ordering::SeqCst), 0);
+    let first = gate.first.load(Ordering::SeqCst);
+    let second = gate.second.load(Ordering::SeqCst);
+    assert!(rt; first.max(second) > 1);
+    Ok(())
 }
 
 /// Takes as many readings as there are rounds, and tells the most commits and the most output that it saw.
@@ -169,13 +224,15 @@ fn watch<N: Naming + Send + Sync, P: Placer + Send, T: Tap + Send, R: Threads + 
     )
 }
 
-/// So many workers end the run, and no reading of a reader that follows them is above the end.
+/// So many workers end the run with so many commits and no output, and no reading of a reader that follows them is
+/// above that.
 #[tactic(auto, using(crate::proofs::Told::opening_told))]
 fn watch_by<N: Naming + Send + Sync>(
     rt: &(impl Abort + Alloc<A = Global> + Threads + Wait + Sync),
     image: &Image,
     settings: Settings,
     workers: u32,
+    commits: u32,
 ) -> Result<(), Fail>
     requires valid { IsValid settings }
     requires image { image.now ≡ N.image }
@@ -196,9 +253,9 @@ fn watch_by<N: Naming + Send + Sync>(
     } = watched;
     assert_eq!(rt; drained.halt, Halt::Ended(End::Normal));
     assert_eq!(rt; drained.book.counts(), writer.last());
-    assert_eq!(rt; writer.last().commits, 2);
+    assert_eq!(rt; writer.last().commits, commits);
     assert_eq!(rt; writer.last().output, 0);
-    assert!(rt; most.commits <= 2 && most.output == 0);
+    assert!(rt; most.commits <= commits && most.output == 0);
     board.join(rt, &mut writer, reader);
     Ok(())
 }
@@ -206,7 +263,13 @@ fn watch_by<N: Naming + Send + Sync>(
 #[test]
 fn a_reader_follows_two_workers(rt: HostRuntime) -> Result<(), Fail> {
     let image = image_of(rt.alloc())?;
-    watch_by::<Brand>(&rt, &image, SETTINGS, 2)
+    watch_by::<Brand>(&rt, &image, SETTINGS, 2, 2)
+}
+
+#[test]
+fn a_reader_follows_a_walk(rt: HostRuntime) -> Result<(), Fail> {
+    let image = make(rt.alloc(), Load::Walk, 7, 200)?;
+    watch_by::<Brand>(&rt, &image, FOUR_TILES, 2, 400)
 }
 
 #[test]

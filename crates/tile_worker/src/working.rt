@@ -69,7 +69,10 @@ pub(crate) fn drive<
 ///
 /// It hands in legs of its running cores, each after it passed the gate, and dispatches where an own tile has an
 /// idle task and a free core. Only where it has neither, or all of these were refused, it makes the event for the
-/// least task. A hold costs one event and a look at each core of its own tiles; a leg is computed outside the lock.
+/// least task. What was refused is let be for 64 events of the book: a core whose leg stalled gets no leg, and in a
+/// tile whose dispatch was refused none is tried, even if a task has come to stand there meanwhile.
+///
+/// A hold costs one event and a look at each core of its own tiles; a leg is computed outside the lock.
 pub fn work<N: Naming, L: Ledger, P: Placer, T: Tap, G: Gate + Sync, R: Wait>(
     rt: &R,
     image: &Image,
