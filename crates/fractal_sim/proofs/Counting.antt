@@ -33,11 +33,11 @@ counts_same : (words : List (List ℕ)) (a b : Request) → request_of words ≡
     → Counts a.settings.workers a.command
 counts_same words a b ha hb = subst (λ (r : Request). Counts r.settings.workers r.command) (sym (same_request words a b ha hb))
 
--- an outcome without a run tells no count, and has no end
+-- an outcome without a run tells no count, and is empty
 none_told : (input : Input) (o : Outcome) → IsEmpty o → TellsSteps input o
 none_told input o empty = record {
   made = subst (λ s. IfSome s (λ events. MakesRun input events (closed_of o))) (sym empty.steps) tt;
-  told = λ request asked counts ended. absurd (ended empty.end);
+  told = λ request asked counts none. empty;
 }
 
 -- a count that is told where there are no workers
@@ -69,7 +69,7 @@ run_told input o request image ran steps asked runs_image plain given made kept 
     } in
     record {
       made = subst (λ s. IfSome s (λ events. MakesRun input events (closed_of o))) (sym told_is) (counted workers events (λ events. MakesRun input events (closed_of o)) least);
-      told = λ other asks counts ended none. is_told workers events (plain (counts_same input.words request other asked asks counts)) (sym told_is ∙ none);
+      told = λ other asks counts none. absurd (is_told workers events (plain (counts_same input.words request other asked asks counts)) (sym told_is ∙ none));
     }
 
 -- a script was played, and this is its count
@@ -78,7 +78,7 @@ script_told : (input : Input) (o : Outcome) (request : Request) (image : ImageVa
 script_told input o request image run events asked kept made = record {
   made = subst (λ s. IfSome s (λ events. MakesRun input events (closed_of o))) (sym kept.steps_is)
       (record { request = request; asked = asked; image = image; made = subst (IsMadeBy input request image events) (sym kept.run_is) made });
-  told = λ other asks counts ended none. (let clash : Some events ≡ None = sym kept.steps_is ∙ none in cc);
+  told = λ other asks counts none. (let clash : Some events ≡ None = sym kept.steps_is ∙ none in absurd (cc (clash)));
 }
 
 -- what was found tells the events of its run
@@ -92,7 +92,7 @@ steps_told input (finding.Refused line) o found kept = none_told input o kept
 steps_told input (finding.NoScript line) o found kept = none_told input o kept
 steps_told input (finding.Accepted closed) o found kept = record {
   made = subst (λ s. IfSome s (λ events. MakesRun input events (closed_of o))) (sym kept.steps_is) tt;
-  told = λ request asked counts ended.
+  told = λ request asked counts none.
       absurd (subst (Counts found.request.settings.workers) found.command (counts_same input.words found.request request found.given.read.asked asked counts));
 }
 steps_told input (finding.Ran image ran steps) o found kept =
@@ -109,7 +109,7 @@ steps_told input (finding.Played image p) o found kept =
       go : (e : Option End) → p.ran.end ≡ e
           → IfSome e (λ end. IsPlayedRun Brand image found.request.settings found.made.script input.placers input.taps p.said.items p.ran.closed.steps end (whole p.ran))
           → IsMadeBy input found.request image p.ran.closed.steps (whole p.ran)
-      go None is h = runs.ByPart plays is
+      go None is h = runs.ByPart found.rest found.made.script plays found.given found.made.script_is (found.made.part is)
       go (Some end) is h = runs.ByScript found.rest found.made.script p.said.items end plays found.given found.made.script_is h
 steps_told input (finding.Traced t) o found kept =
     script_told input o found.request found.image (whole t.ran) t.ran.closed.steps found.given.read.asked kept (go t.ran.end refl found.made.traced) where
@@ -119,5 +119,5 @@ steps_told input (finding.Traced t) o found kept =
       go : (e : Option End) → t.ran.end ≡ e
           → IfSome e (λ end. IsTracedRun Brand found.image found.request.settings found.made.script input.placers input.taps (lists_of t) t.ran.closed.steps end (whole t.ran))
           → IsMadeBy input found.request found.image t.ran.closed.steps (whole t.ran)
-      go None is h = runs.ByPart plays is
+      go None is h = runs.ByPart found.rest found.made.script plays found.given found.made.script_is (found.made.part is)
       go (Some end) is h = runs.ByScript found.rest found.made.script h.said end plays found.given found.made.script_is h.played

@@ -17,7 +17,7 @@ use Rattle.step_script.specs.declared.act.Act.{Act}
 use Rattle.step_script.specs.declared.fault.ScriptFault.{ScriptFault}
 use Rattle.step_script.specs.declared.fault.ScriptFault.TheVariants as faults
 use Rattle.machine_run.specs.Least.{IsLeastRun, run_of}
-use Rattle.machine_run.specs.Played.{IsPlayedRun, IsTracedRun}
+use Rattle.machine_run.specs.Played.{IsPlayedInPart, IsPlayedRun, IsTracedRun}
 use Rattle.machine_run.specs.declared.left.Ran.{Ran}
 use Rattle.machine_run.specs.declared.playing.Played.{Played}
 use Rattle.machine_run.specs.declared.playing.Traced.{Traced}
@@ -65,6 +65,8 @@ pub record IsPlayedSo (request : Request) (image : ImageValue) (rest : List ℕ)
   pub run : IsRunOf image request.settings.commits request.settings.budget (whole p.ran)
   pub played : IfSome p.ran.end (λ end. IsPlayedRun Brand image request.settings script placers taps
       p.said.items p.ran.closed.steps end (whole p.ran))
+  pub part : p.ran.end ≡ None → IsPlayedInPart Brand image request.settings script placers taps
+      p.ran.closed.steps (whole p.ran)
 
 -- the text behind the image was played as a script, or as much of it as memory was there for, and the taps have these
 -- lists
@@ -75,6 +77,8 @@ pub record IsTracedSo (request : Request) (image : ImageValue) (rest : List ℕ)
   pub run : IsRunOf image request.settings.commits request.settings.budget (whole t.ran)
   pub traced : IfSome t.ran.end (λ end. IsTracedRun Brand image request.settings script placers taps
       (lists_of t) t.ran.closed.steps end (whole t.ran))
+  pub part : t.ran.end ≡ None → IsPlayedInPart Brand image request.settings script placers taps
+      t.ran.closed.steps (whole t.ran)
 
 -- the run of a report, which led to this state
 pub record IsClosedReport (state : State) (report : Report) (closed : SerialRun) : Type 0 where

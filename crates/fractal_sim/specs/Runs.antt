@@ -12,7 +12,7 @@ use Rattle.step_script.specs.declared.act.Act.{Act}
 use Rattle.step_script.specs.declared.saying.Said.{Said}
 use Rattle.step_script.specs.Grammar.{acts_of}
 use Rattle.machine_run.specs.Least.{IsLeastRun}
-use Rattle.machine_run.specs.Played.{IsPlayedRun, IsTracedRun}
+use Rattle.machine_run.specs.Played.{IsPlayedInPart, IsPlayedRun, IsTracedRun}
 use Rattle.command_line.specs.declared.request.Command.{Command}
 use Rattle.command_line.specs.declared.request.Command.TheVariants as commands
 use Rattle.command_line.specs.declared.request.Request.{Request}
@@ -126,8 +126,8 @@ pub record TracesToEnd (input : Input) (image : ImageValue) (lists : List (List 
 
 -- ---- events
 
--- so many events made the run: those of the least tasks of an image that is run without workers, or those of the script
--- behind an image; of a script that memory did not suffice for nothing is said
+-- so many events made the run: those of the least tasks of an image that is run without workers, those of the script
+-- behind an image, or those of as much of this script as memory was there for
 pub data IsMadeBy (input : Input) (request : Request) (image : ImageValue) (events : ℕ) (run : SerialRun) : Type 0 where
   ByLeast : RunsImage request.command → request.settings.workers ≡ 0 → HasImage input request image
       → IsLeastRun Brand image request.settings input.placers input.taps events run
@@ -136,7 +136,10 @@ pub data IsMadeBy (input : Input) (request : Request) (image : ImageValue) (even
       → ReadsImage input request image rest → IsScript request rest script
       → IsPlayedRun Brand image request.settings script input.placers input.taps said events end run
       → IsMadeBy input request image events run
-  ByPart : PlaysScript request.command → run.end ≡ None → IsMadeBy input request image events run
+  ByPart : (rest : List ℕ) (script : List Act) → PlaysScript request.command
+      → ReadsImage input request image rest → IsScript request rest script
+      → IsPlayedInPart Brand image request.settings script input.placers input.taps events run
+      → IsMadeBy input request image events run
 
 -- so many events made the run of the image that the words ask for, with the placers and taps that were handed in
 pub record MakesRun (input : Input) (events : ℕ) (run : SerialRun) : Type 0 where
@@ -145,10 +148,10 @@ pub record MakesRun (input : Input) (events : ℕ) (run : SerialRun) : Type 0 wh
   pub image : ImageValue
   pub made : IsMadeBy input request image events run
 
--- where a count is told, so many events made the run that the outcome holds; it is told of each run with an end for
--- which the words ask, unless workers make it
+-- where a count is told, so many events made the run that the outcome holds; where the words ask for a run that is told
+-- with its count, an outcome without one is empty
 pub record TellsSteps (input : Input) (o : Outcome) : Type 0 where
   pub made : IfSome o.steps (λ events. MakesRun input events (closed_of o))
   pub told : (request : Request) → request_of input.words ≡ Some request
       → Counts request.settings.workers request.command
-      → o.end ≢ None → o.steps ≢ None
+      → o.steps ≡ None → IsEmpty o

@@ -23,7 +23,8 @@ use trace_tap::Tap;
 /// without workers one event for its least task after another, with workers by so many host threads, each of which
 /// passes the gate outside the lock before it hands in a leg. A script is played act by act. The first of the
 /// placers picks tiles for a phase of commits, then the next one does, and each tap notes each event. Where the
-/// outcome tells how many events there were, they lead from the opening to the run that it holds.
+/// outcome tells how many events there were, they lead from the opening to the run that it holds. Where it tells no
+/// count it is empty, or its run was made by workers or is that of a report.
 ///
 /// The outcome holds nothing, or a run of the serial machine from the image that was read or generated: its
 /// journal, the memory and the output that it leads to, and its end. The run meets the laws of runs. The status

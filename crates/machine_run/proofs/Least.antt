@@ -1,5 +1,5 @@
 -- A run by events of the least tasks, of which each is counted.
-use Rattle.std.proofs.Common.{ℕ, zero, suc, ◌+◌, ◌*◌, ◌≡◌, ◌≤◌, ◌∙◌, sym, ap, subst, length, Option, Some, None, arith}
+use Rattle.std.proofs.Common.{ℕ, zero, suc, ◌+◌, ◌*◌, ◌≡◌, ◌≤◌, ◌∙◌, sym, ap, subst, length, arith}
 use Rattle.std.specs.Prelude.{List, [], ◌∷◌, IfSome}
 use Rattle.std.specs.List.{enumerate_from}
 use Rattle.std.proofs.lemmas.Nat.{mul-le}
@@ -24,7 +24,7 @@ use Rattle.book_law.proofs.Proved.{all_kept, IsUntouched, least_events_are_few, 
 use Rattle.conflict_book.specs.Halting.{RunsLeast, last_answer}
 use Rattle.tile_worker.specs.Halts.{HaltsAt}
 use Rattle.machine_run.specs.Least.{IsLeastRun, end_of, run_of}
-use Rattle.machine_run.proofs.Leaving.{journal_left, output_left, memory_left}
+use Rattle.machine_run.proofs.Leaving.{run_left}
 
 one_more : (n m : ℕ) → m + suc n ≤ 1000000000000 → counted (m + n) ≡ m + suc n
 one_more n m h = omega arith
@@ -97,8 +97,6 @@ module _ (image : ImageValue) (settings : Settings) (placers : List Policy) (tap
       is_opening = is_opening;
       last = last;
       advances = subst (λ n. AdvancesBy N image n opening last) (sym (closes.steps ∙ events_are runs.made runs.advances)) runs.advances;
-      journal_is = journal_left last closed closes;
-      output_is = output_left last closed closes;
-      memory_is = memory_left last closed closes;
+      leaves = run_left last closed closes (end_of halt);
       end_is = halted N image last halt runs.halts;
     }

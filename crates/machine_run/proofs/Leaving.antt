@@ -13,6 +13,7 @@ use Rattle.spec_law.specs.Sound.{Sound}
 use Rattle.spec_law.proofs.Proved.{undo_all_is_serial}
 use Rattle.book_event.specs.Book.{BookView}
 use Rattle.book_event.specs.Closing.{Closes}
+use Rattle.machine_run.specs.Leaving.{LeavesRun}
 use Rattle.machine_run.specs.Least.{run_of}
 use Rattle.machine_run.specs.Played.{StandsAt}
 use Rattle.machine_run.proofs.Standing.{stands_serially}
@@ -27,8 +28,12 @@ module _ (last : BookView) (closed : Closed) (closes : Closes last closed) where
   output_left = closes.output ∙ ap (λ (v : View). v.output) closes.undone.rest
 
   -- the memory is the book's where all uncommitted tasks are taken back
-  pub memory_left : IsUndone last.view (λ id. true) closed.memory
+  memory_left : IsUndone last.view (λ id. true) closed.memory
   memory_left = subst (IsUndone last.view (λ id. true)) (sym closes.memory) closes.undone.memory
+
+  -- and the count of events is the book's, whatever end is told
+  pub run_left : (end : Option End) → LeavesRun last closed.steps (run_of closed end)
+  run_left end = record { journal_is = journal_left; output_is = output_left; memory_is = memory_left; events_are = closes.steps }
 
 if-some : {A : Type 0} (P Q : A → Type 0) (o : Option A) → ((a : A) → P a → Q a) → IfSome o P → IfSome o Q
 if-some P Q None f h = tt

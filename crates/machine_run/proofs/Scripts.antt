@@ -1,6 +1,7 @@
 -- What a book leaves on which a script was played.
-use Rattle.std.proofs.Common.{List, Option, Some, None, refl, ℕ, sym, subst}
-use Rattle.std.specs.Prelude.{All, IfSome}
+use Rattle.std.proofs.Common.{◌≡◌, List, Option, Some, None, Result, Ok, Err, refl, ℕ, sym, subst, length, arith}
+use Rattle.std.specs.Prelude.{All, IfSome, OnErr}
+use Rattle.std.proofs.lemmas.List.{take_all}
 use Rattle.guest_image.specs.ImageValue.{ImageValue}
 use Rattle.place_policy.specs.Policy.{Policy}
 use Rattle.trace_tap.specs.Reading.{Reading}
@@ -12,12 +13,12 @@ use Rattle.book_event.specs.Closing.{Closes}
 use Rattle.book_event.specs.Opening.{IsOpening}
 use Rattle.step_script.specs.declared.act.Act.{Act}
 use Rattle.step_script.specs.declared.saying.Said.{Said}
-use Rattle.step_script.specs.Playing.{Plays}
+use Rattle.step_script.specs.Playing.{Plays, PlaysSome}
 use Rattle.step_script.specs.Ranges.{IsWithin}
 use Rattle.machine_run.specs.Least.{run_of}
-use Rattle.machine_run.specs.Played.{IsPlayedRun, IsTold, IsTracedRun, StandsAt}
+use Rattle.machine_run.specs.Played.{IsPlayedInPart, IsPlayedRun, IsTold, IsTracedRun, StandsAt}
 use Rattle.machine_run.proofs.Least.{opening_settings}
-use Rattle.machine_run.proofs.Leaving.{journal_left, output_left, memory_left}
+use Rattle.machine_run.proofs.Leaving.{run_left}
 
 -- a script that is within the settings is within those of the opening
 pub stays_within : (image : ImageValue) (settings : Settings) (script : List Act) (placers : List Policy) (taps : List Reading) (opening : BookView)
@@ -25,6 +26,21 @@ pub stays_within : (image : ImageValue) (settings : Settings) (script : List Act
     → All (IsWithin opening.view.settings.tiles opening.view.settings.cores) script
 stays_within image settings script placers taps opening is_opening within =
     subst (λ (s : Settings). All (IsWithin s.tiles s.cores) script) (sym (opening_settings image settings placers taps opening is_opening)) within
+
+-- a script that was played whole was played in part
+whole_part : (N : Type 0) (image : ImageValue) (script : List Act) (old new : BookView) (said : List Said) → Plays N image script old said new
+    → PlaysSome N image script old new
+whole_part N image script old new said plays = record {
+  count = length script;
+  said = said;
+  plays = subst (λ acts. Plays N image acts old said new) (sym (take_all (length script) script (omega arith))) plays;
+}
+
+-- whatever runs out of memory then
+pub played_before : {T E : Type 0} (N : Type 0) (image : ImageValue) (script : List Act) (old new : BookView) (said : List Said) (r : Result T E)
+    → Plays N image script old said new → OnErr r (PlaysSome N image script old new)
+played_before N image script old new said (Ok t) plays = tt
+played_before N image script old new said (Err e) plays = whole_part N image script old new said plays
 
 module _ (N : Type 0) (image : ImageValue) (settings : Settings) (script : List Act) (placers : List Policy) (taps : List Reading)
     (opening : BookView) (is_opening : IsOpening image settings placers taps opening) (last : BookView) (closed : Closed) (closes : Closes last closed) where
@@ -36,10 +52,7 @@ module _ (N : Type 0) (image : ImageValue) (settings : Settings) (script : List 
     is_opening = is_opening;
     last = last;
     plays = plays;
-    journal_is = journal_left last closed closes;
-    output_is = output_left last closed closes;
-    memory_is = memory_left last closed closes;
-    events_are = closes.steps;
+    leaves = run_left last closed closes (Some end);
     stands = stands;
     end_is = refl;
   }
@@ -55,3 +68,15 @@ module _ (N : Type 0) (image : ImageValue) (settings : Settings) (script : List 
       → IfSome told (λ end. IsTracedRun N image settings script placers taps lists closed.steps end (run_of closed told))
   left_is_traced lists None seen stands = tt
   left_is_traced lists (Some end) seen stands = record { said = seen.said; played = played_at seen.said end seen.plays stands; lists_are = seen.lists_are }
+
+  -- and where memory ran out, that of the acts that were played
+  pub left_in_part : (told : Option End) → PlaysSome N image script opening last → told ≡ None
+      → IsPlayedInPart N image settings script placers taps closed.steps (run_of closed told)
+  left_in_part told plays none = record {
+    opening = opening;
+    is_opening = is_opening;
+    last = last;
+    plays = plays;
+    leaves = run_left last closed closes told;
+    end_is = none;
+  }

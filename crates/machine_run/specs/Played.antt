@@ -1,5 +1,5 @@
 -- Runs that are made by a written script.
-use Rattle.std.specs.Prelude.{◌≡◌, ℕ, true, List, map, Some}
+use Rattle.std.specs.Prelude.{◌≡◌, ℕ, List, map, Some, None}
 use Rattle.guest_image.specs.ImageValue.{ImageValue}
 use Rattle.place_policy.specs.Policy.{Policy}
 use Rattle.trace_tap.specs.Reading.{Reading}
@@ -7,23 +7,22 @@ use Rattle.run_journal.specs.declared.end.End.{End}
 use Rattle.run_journal.specs.declared.end.End.TheVariants as ends
 use Rattle.serial_machine.specs.declared.whole_run.SerialRun.{SerialRun}
 use Rattle.spec_state.specs.declared.settings.Settings.{Settings}
-use Rattle.spec_state.specs.Aborts.{IsUndone}
 use Rattle.spec_state.specs.View.{View}
 use Rattle.book_event.specs.Book.{BookView}
 use Rattle.book_event.specs.Opening.{IsOpening}
 use Rattle.book_event.specs.End.{HasEnd, IsOver}
 use Rattle.step_script.specs.declared.act.Act.{Act}
 use Rattle.step_script.specs.declared.saying.Said.{Said}
-use Rattle.step_script.specs.Playing.{Plays}
+use Rattle.step_script.specs.Playing.{Plays, PlaysSome}
+use Rattle.machine_run.specs.Leaving.{LeavesRun}
 
 -- the run is over and ended so, or it isn't over and stands open
 abbrev pub StandsAt : View → End → Type 0
 StandsAt view ends.Unfinished = IsOver view → ⊥
 StandsAt view end = HasEnd view end
 
--- the script, played from an opening with these placers and taps, of which this is said, leads to a book of this
--- journal, this output and this count of events, of which this memory is left where all uncommitted tasks are taken
--- back, and which stands at this end
+-- the script, played from an opening with these placers and taps, of which this is said, leads to a book that leaves
+-- this run and has counted so many events, and which stands at this end
 pub record IsPlayedRun (N : Type 0) (image : ImageValue) (settings : Settings) (script : List Act)
     (placers : List Policy) (taps : List Reading) (said : List Said) (events : ℕ) (end : End)
     (run : SerialRun) : Type 0 where
@@ -31,12 +30,20 @@ pub record IsPlayedRun (N : Type 0) (image : ImageValue) (settings : Settings) (
   pub is_opening : IsOpening image settings placers taps opening
   pub last : BookView
   pub plays : Plays N image script opening said last
-  pub journal_is : run.journal ≡ last.view.history
-  pub output_is : run.output ≡ last.view.output
-  pub memory_is : IsUndone last.view (λ id. true) run.memory
-  pub events_are : events ≡ last.steps
+  pub leaves : LeavesRun last events run
   pub stands : StandsAt last.view end
   pub end_is : run.end ≡ Some end
+
+-- memory ran out: some first acts of the script, or all, played from such an opening, lead to a book that leaves this
+-- run and has counted so many events, and no end is told
+pub record IsPlayedInPart (N : Type 0) (image : ImageValue) (settings : Settings) (script : List Act)
+    (placers : List Policy) (taps : List Reading) (events : ℕ) (run : SerialRun) : Type 0 where
+  pub opening : BookView
+  pub is_opening : IsOpening image settings placers taps opening
+  pub last : BookView
+  pub plays : PlaysSome N image script opening last
+  pub leaves : LeavesRun last events run
+  pub end_is : run.end ≡ None
 
 -- the lists of a book's taps
 abbrev pub tap_lists : BookView → List (List ℕ)

@@ -1,14 +1,15 @@
 //! A script is played from the opening on.
 
-ghost use Rattle.std.specs.Prelude.{◌≡◌, All, length, map, IfOk, IfSome, IsSomeAnd};
+ghost use Rattle.std.specs.Prelude.{◌≡◌, All, length, map, IfOk, IfSome, IsSomeAnd, None, OnErr};
 ghost use Rattle.guest_image.specs.ImageValue.{IsImage};
 ghost use Rattle.serial_machine.specs.WholeRun.{IsRunOf};
 ghost use Rattle.spec_state.specs.Settings.{IsValid};
 ghost use Rattle.book_event.specs.Closing.{Closes};
 ghost use Rattle.conflict_book.specs.Seen.{view_of};
+ghost use Rattle.step_script.specs.Playing.{PlaysSome};
 ghost use Rattle.step_script.specs.Ranges.{IsWithin};
 ghost use Rattle.machine_run.specs.Least.{run_of};
-ghost use Rattle.machine_run.specs.Played.{IsPlayedRun, IsTold, IsTracedRun, StandsAt};
+ghost use Rattle.machine_run.specs.Played.{IsPlayedInPart, IsPlayedRun, IsTold, IsTracedRun, StandsAt};
 
 use crate::left::{Ran, leave};
 use crate::lists::lists_of;
@@ -33,7 +34,7 @@ pub struct Played {
 }
 
 /// A script that was played: the run that it left, and the numbers of each tap's list; the end is None where memory
-/// ran out on the way.
+/// ran out on the way, or for the lists.
 #[derive(Drop)]
 pub struct Traced {
     /// The run.
@@ -43,7 +44,8 @@ pub struct Traced {
 }
 
 /// Plays a script on the machine of these settings, from its opening with an image, these placers and these taps.
-/// `AllocError` where memory runs out before the first act.
+/// Where memory runs out on the way, the run is that of the acts that were played. `AllocError` where it runs out for
+/// the opening.
 pub fn play_script<N: Naming, P: Placer, T: Tap>(
     alloc: Global,
     image: &Image,
@@ -62,6 +64,10 @@ pub fn play_script<N: Naming, P: Placer, T: Tap>(
         let noting = map T.reading taps.items in
         IfOk result (λ p. IfSome p.ran.end (λ end. IsPlayedRun N image.now settings script.now serving noting
         p.said.items p.ran.closed.steps end (run_of p.ran.closed p.ran.end))) }
+    ensures part { let serving = map P.policy placers.items in
+        let noting = map T.reading taps.items in
+        IfOk result (λ p. p.ran.end ≡ None → IsPlayedInPart N image.now settings script.now serving noting
+        p.ran.closed.steps (run_of p.ran.closed p.ran.end)) }
     ensures run { IfOk result (λ p.
         IsRunOf image.now settings.commits settings.budget (run_of p.ran.closed p.ran.end)) }
     ensures writable { IfOk result (λ p. length p.ran.closed.memory ≡ image.now.data_size) }
@@ -98,6 +104,10 @@ pub fn trace_script<N: Naming, P: Placer, T: Tap>(
         let noting = map T.reading taps.items in
         IfOk result (λ t. IfSome t.ran.end (λ end. IsTracedRun N image.now settings script.now serving noting
         (map (λ list. list.items) t.lists.items) t.ran.closed.steps end (run_of t.ran.closed t.ran.end))) }
+    ensures part { let serving = map P.policy placers.items in
+        let noting = map T.reading taps.items in
+        IfOk result (λ t. t.ran.end ≡ None → IsPlayedInPart N image.now settings script.now serving noting
+        t.ran.closed.steps (run_of t.ran.closed t.ran.end)) }
     ensures run { IfOk result (λ t.
         IsRunOf image.now settings.commits settings.budget (run_of t.ran.closed t.ran.end)) }
     ensures writable { IfOk result (λ t. length t.ran.closed.memory ≡ image.now.data_size) }
@@ -115,7 +125,8 @@ pub fn trace_script<N: Naming, P: Placer, T: Tap>(
     }
 }
 
-/// Plays a script on a book, and tells the lists of its taps then.
+/// Plays a script on a book, and tells the lists of its taps then. Where memory runs out, some first acts were played,
+/// or all.
 fn play_and_tell<N: Naming, P: Placer, T: Tap>(
     alloc: Global,
     image: &Image,
@@ -125,9 +136,12 @@ fn play_and_tell<N: Naming, P: Placer, T: Tap>(
     requires image { image.now ≡ N.image }
     requires within { let settings = (view_of P.policy T.reading book.old).view.settings in
         All (IsWithin settings.tiles settings.cores) script.now }
-    ensures { let old = view_of P.policy T.reading book.old in
+    ensures told { let old = view_of P.policy T.reading book.old in
         let new = view_of P.policy T.reading book.new in
         IfOk result (λ lists. IsTold N N.image script.now old (map (λ list. list.items) lists.items) new) }
+    ensures out_of_memory { let old = view_of P.policy T.reading book.old in
+        let new = view_of P.policy T.reading book.new in
+        OnErr result (PlaysSome N N.image script.now old new) }
 {
     play(alloc, image, book, script)?;
     lists_of(alloc, book)

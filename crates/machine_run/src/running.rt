@@ -26,7 +26,7 @@ use trace_tap::Tap;
 
 /// Runs an image up to its end, or as far as memory goes: with no workers by the events of the least tasks, one
 /// after another; else by so many workers, each of whose legs passes the gate. `AllocError` where memory runs out
-/// before the first event.
+/// for the opening.
 pub fn run<
     N: Naming + Send + Sync,
     P: Placer + Send,

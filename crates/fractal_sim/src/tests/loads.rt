@@ -65,6 +65,25 @@ fn events_of_generated_images_are_counted(rt: HostRuntime) -> Result<(), Fail> {
     Ok(())
 }
 
+// A load of 80,000 tasks, each of which is dispatched, and what is written.
+const LONG: (&str, &str) = (
+    "load walk 1 40000",
+    "load walk 1 40000\ncommits 80000\noutput -\nwindow 1009c3f0 00000010\nwindow 1009c3f4 00000010\n\
+    window 1009c3f8 00000010\nwindow 1009c3fc 00000010\nend normal\n",
+);
+
+// There are 65,536 dispatch numbers, so those in use are renumbered on the way.
+#[test]
+fn a_load_of_more_tasks_than_dispatch_numbers_gives_its_report(
+    rt: HostRuntime,
+) -> Result<(), Fail> {
+    let (line, text) = LONG;
+    let (outcome, sink) = loaded(&rt, line, Vec::new(rt.alloc()))?;
+    assert_eq!(rt; sink.bytes(), text.as_bytes());
+    assert_eq!(rt; outcome.status, 0);
+    Ok(())
+}
+
 // A load that workers run, and what is written.
 const LARGE: (&str, &str) = (
     "load walk 7 20000 --tiles 8 --workers 8",
