@@ -1,5 +1,5 @@
 -- Which bytes are an image.
-use Rattle.std.specs.Prelude.{ℕ, ◌≡◌, ◌+◌, ◌*◌, ◌==◌, not, nat_lt, List, [], ◌∷◌, length, map, Result, Ok, Err}
+use Rattle.std.specs.Prelude.{ℕ, ◌≡◌, ◌+◌, ◌*◌, ◌==◌, ◌||◌, not, nat_lt, List, [], ◌∷◌, length, map, Result, Ok, Err}
 use Rattle.std.specs.Prelude.{IsOk, if◌then◌else◌}
 use Rattle.std.specs.List.{range_with_len, slice_range}
 use Rattle.guest_image.specs.declared.image.Kind.{Kind}
@@ -9,7 +9,7 @@ use Rattle.guest_image.specs.declared.image.Image.{Image}
 use Rattle.guest_image.specs.declared.fault.ImageFault.{ImageFault}
 use Rattle.guest_image.specs.declared.fault.ImageFault.TheVariants as faults
 use Rattle.guest_image.specs.Numbers.{word_at, half_at}
-use Rattle.guest_image.specs.ImageValue.{ImageValue}
+use Rattle.guest_image.specs.ImageValue.{ImageValue, IsVersion}
 use Rattle.guest_image.specs.Limits.{limits_fault, AreWithinLimits}
 
 -- as many words, one after another from an offset on
@@ -32,7 +32,7 @@ tasks_from bytes at count = map (λ k. task_at bytes (at + 20 * k)) (range_with_
 unfoldable pub header_fault : List ℕ → Result (Unit {0}) ImageFault
 header_fault bytes =
     if not (word_at bytes 0 == 0x43415246) then Err faults.Magic
-    else if not (half_at bytes 4 == 1) then Err (faults.Version (half_at bytes 4))
+    else if not ((half_at bytes 4 == 1) || (half_at bytes 4 == 2)) then Err (faults.Version (half_at bytes 4))
     else if nat_lt 1 (half_at bytes 6) then Err (faults.RootKind (half_at bytes 6))
     else limits_fault (word_at bytes 8) (word_at bytes 12) (word_at bytes 16) (word_at bytes 20) (word_at bytes 24)
     (word_at bytes 28)
@@ -40,7 +40,8 @@ header_fault bytes =
 -- what the header of an image keeps
 abbrev pub HeaderFits : List ℕ → Type 0
 HeaderFits bytes =
-    AreWithinLimits (word_at bytes 8) (word_at bytes 12) (word_at bytes 16) (word_at bytes 20) (word_at bytes 24)
+    IsVersion (half_at bytes 4)
+    × AreWithinLimits (word_at bytes 8) (word_at bytes 12) (word_at bytes 16) (word_at bytes 20) (word_at bytes 24)
     (word_at bytes 28)
 
 -- how long the image is that the header tells
@@ -54,6 +55,7 @@ root_kind n = if n == 0 then Unordered else Ordered
 -- what the bytes of an image say
 unfoldable pub value_of : List ℕ → ImageValue
 value_of bytes = record {
+  version = half_at bytes 4;
   kind = root_kind (half_at bytes 6);
   text = words_from bytes 32 (word_at bytes 8);
   initial = slice_range bytes (32 + 4 * word_at bytes 8) (32 + 4 * word_at bytes 8 + word_at bytes 12);

@@ -22,7 +22,7 @@ header_numbers image =
 -- the 32 bytes of the header: `FRAC`, the version, the root kind, and six numbers in the order of their offsets
 abbrev pub header_bytes : ImageValue → List ℕ
 header_bytes image =
-    word_bytes 0x43415246 ++ half_bytes 1 ++ half_bytes (kind_number image.kind)
+    word_bytes 0x43415246 ++ half_bytes image.version ++ half_bytes (kind_number image.kind)
     ++ flat_map word_bytes (header_numbers image)
 
 -- the 20 bytes of a task: its entry, its timestamp and its arguments

@@ -22,6 +22,7 @@ nest_task seed place = record {
 -- the image: the additions as text, eight cells of zeros, which are the window, and as many tasks as the size tells
 abbrev pub nest_image : ℕ → ℕ → ImageValue
 nest_image seed size = record {
+  version = 1;
   kind = Unordered;
   text = nest_words;
   initial = [];

@@ -32,6 +32,7 @@ adjacency seed size = flat_map (λ node. edges size (random seed node) node) (ra
 -- at most are the window, and one task at node 0
 abbrev pub walk_image : ℕ → ℕ → ImageValue
 walk_image seed size = record {
+  version = 1;
   kind = Ordered;
   text = walk_words;
   initial = flat_map word_bytes (adjacency seed size);

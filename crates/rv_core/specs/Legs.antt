@@ -1,30 +1,37 @@
 -- Plain instructions, and what stands at a core. The image, how many bytes its data has, and the task budget are given.
-use Rattle.std.specs.Prelude.{ℕ, ◌+◌, ◌%◌, ◌==◌, not, nat_lt, List, slice_index, replicate, Option, Some, None, ◌≡◌}
+use Rattle.std.specs.Option.{option_or}
+use Rattle.std.specs.Prelude.{ℕ, ◌+◌, ◌-◌, ◌%◌, ◌==◌, not, nat_lt, List, slice_index, replicate, Option, Some, None}
+use Rattle.std.specs.Prelude.{◌≡◌}
 use Rattle.std.specs.Prelude.{◌≢◌, ◌<◌, ◌≤◌, zero, suc, if◌then◌else◌}
 use Rattle.guest_image.specs.ImageValue.{ImageValue}
 use Rattle.rv_table.specs.declared.instr.Effect.{Effect}
 use Rattle.rv_table.specs.declared.instr.Effect.TheVariants as does
 use Rattle.rv_table.specs.declared.instr.Instr.{Instr}
 use Rattle.rv_table.specs.declared.instr.LoadWidth.{LoadWidth}
+use Rattle.rv_table.specs.declared.instr.StoreWidth.{StoreWidth}
 use Rattle.rv_table.specs.Table.{decoded}
 use Rattle.rv_table.specs.Exec.{acts_on, plus, loaded_value}
 use Rattle.rv_table.specs.Regs.{set_word}
 use Rattle.guest_image.specs.Fetch.{fetched, text_loaded}
 use Rattle.rv_core.specs.declared.state.Core.{Core}
+use Rattle.rv_core.specs.declared.state.Head.{Head}
 use Rattle.rv_core.specs.declared.state.Stop.{Stop}
 use Rattle.rv_core.specs.declared.state.Stop.TheVariants as stop
 use Rattle.rv_core.specs.Next.{Next, Goes, Stops}
-use Rattle.guest_image.specs.declared.memory_map.TheConstants.{DATA_START}
-use Rattle.rv_core.specs.Memory.{load_bytes, store_bytes, is_within}
+use Rattle.guest_image.specs.declared.memory_map.TheConstants.{DATA_START, STACK_START}
+use Rattle.rv_core.specs.Memory.{load_bytes, store_bytes, is_within, is_in_stack, empty_stack, stack_top, stack_loaded}
+use Rattle.undo_log.specs.Number.{written}
 
--- the core of a task that starts: x10 to x12 are its arguments, x13 is its timestamp, and no instruction is used
-abbrev pub start_of : ℕ → ℕ → List ℕ → Core
-start_of entry ts args = record {
+-- the core of a task that starts, in an image of a version: x10 to x12 are its arguments, x13 is its timestamp, x2 is
+-- the end of its stack in version 2, no instruction is used, and the stack is zero
+abbrev pub start_of : ℕ → ℕ → ℕ → List ℕ → Core
+start_of version entry ts args = record {
   pc = entry;
   regs =
-      set_word (set_word (set_word (set_word (replicate 32 0)
+      set_word (set_word (set_word (set_word (set_word (replicate 32 0) 2 (stack_top version))
       10 (slice_index args 0)) 11 (slice_index args 1)) 12 (slice_index args 2)) 13 ts;
   used = 0;
+  stack = empty_stack;
 }
 
 -- the core after one more instruction, which goes to a pc and writes a register
@@ -39,28 +46,44 @@ after_other_of core = record core { pc = plus core.pc 4; used = core.used + 1 }
 abbrev pub after_load_of : Core → LoadWidth → ℕ → ℕ → Core
 after_load_of core width rd raw = moved core (plus core.pc 4) rd (loaded_value width raw)
 
+-- the core after a store to its stack
+abbrev pub after_store_of : Core → StoreWidth → ℕ → ℕ → Core
+after_store_of core width addr value =
+    record (after_other_of core) { stack = written core.stack (addr - STACK_START) (store_bytes width) value }
+
 -- a trap of this cause at the core's instruction
 abbrev pub traps : Core → ℕ → Next
 traps core cause = Stops (stop.Trap cause core.pc)
 
--- an aligned load: from the text it is a plain instruction, and from the data it stops (trap 5: neither)
+-- the number that an aligned load takes from the text or the stack, if it lies wholly in one of them
+abbrev pub plain_loaded : ImageValue → List ℕ → ℕ → ℕ → Option ℕ
+plain_loaded image stack addr n =
+    option_or (text_loaded image.text addr n) (stack_loaded image.version stack addr n)
+
+-- an aligned load: from the text or the stack it is a plain instruction, and from the data it stops (trap 5: none of
+-- them)
 abbrev pub load_next : ℕ → Core → LoadWidth → ℕ → ℕ → Option ℕ → Next
 load_next size core width rd addr (Some raw) = Goes (after_load_of core width rd raw)
 load_next size core width rd addr None =
     if is_within DATA_START size addr (load_bytes width) then Stops (stop.Load width rd addr)
     else traps core 5
 
--- what comes of what an instruction does (trap 3: target misaligned, 4 and 6: access misaligned, 7: store range, 8:
--- break)
+-- an aligned store: to the stack it is a plain instruction, and to the data it stops (trap 7: neither)
+abbrev pub store_next : ℕ → ℕ → Core → StoreWidth → ℕ → ℕ → Next
+store_next version size core width addr value =
+    if is_in_stack version addr (store_bytes width) then Goes (after_store_of core width addr value)
+    else if is_within DATA_START size addr (store_bytes width) then Stops (stop.Store width addr value)
+    else traps core 7
+
+-- what comes of what an instruction does (trap 3: target misaligned, 4 and 6: access misaligned, 8: break)
 abbrev pub effect_next : ImageValue → ℕ → Core → Effect → Next
 effect_next image size core (does.Plain pc rd value) = Goes (moved core pc rd value)
 effect_next image size core (does.Load width rd addr) =
     if not (addr % load_bytes width == 0) then traps core 4
-    else load_next size core width rd addr (text_loaded image.text addr (load_bytes width))
+    else load_next size core width rd addr (plain_loaded image core.stack addr (load_bytes width))
 effect_next image size core (does.Store width addr value) =
     if not (addr % store_bytes width == 0) then traps core 6
-    else if is_within DATA_START size addr (store_bytes width) then Stops (stop.Store width addr value)
-    else traps core 7
+    else store_next image.version size core width addr value
 effect_next image size core does.Call = Stops stop.Call
 effect_next image size core does.Break = traps core 8
 effect_next image size core does.Misaligned = traps core 3
@@ -115,3 +138,7 @@ IsInside size stop.Quantum = Unit {0}
 abbrev pub given : Core → Option Stop → Next
 given core None = Goes core
 given core (Some found) = Stops found
+
+-- a core of its parts
+abbrev pub whole : Head → List ℕ → Core
+whole head stack = record { pc = head.pc; regs = head.regs; used = head.used; stack = stack }

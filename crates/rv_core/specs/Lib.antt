@@ -2,3 +2,5 @@ pub mod Next
 pub mod Memory
 pub mod Legs
 pub mod LegValue
+pub mod Stackless
+pub mod Ops

@@ -36,4 +36,5 @@ steps image budget ctx (suc left) task = followed (steps image budget ctx left) 
 
 -- the run of a task on a memory: steps from its start up to its end call or a trap
 unfoldable pub task_run : ImageValue → ℕ → Ctx → ℕ → List ℕ → List ℕ → TaskEnd
-task_run image budget ctx entry args memory = steps image budget ctx budget (begun entry ctx.ts args memory)
+task_run image budget ctx entry args memory =
+    steps image budget ctx budget (begun image.version entry ctx.ts args memory)

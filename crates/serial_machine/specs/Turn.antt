@@ -36,9 +36,10 @@ abbrev pub kind_outside : List BagValue → Option Kind
 kind_outside [] = None
 kind_outside (bag ∷ outer) = Some bag.kind
 
--- what the calls of a task of a bag depend on as it starts
-abbrev pub context_of : BagValue → List BagValue → PendingTask → Ctx
-context_of bag outer task = record {
+-- what the calls of a task of a bag depend on as it starts, in an image of this version
+abbrev pub context_of : ℕ → BagValue → List BagValue → PendingTask → Ctx
+context_of version bag outer task = record {
+  version = version;
   depth = bag.depth;
   own = bag.kind;
   outer = kind_outside outer;
@@ -87,7 +88,8 @@ stack_after bag outer name n ts spawns sub =
 
 -- the run of a task of a bag, on the memory of the state
 abbrev pub run_of : ImageValue → ℕ → State → BagValue → List BagValue → PendingTask → TaskEnd
-run_of image budget s bag outer task = task_run image budget (context_of bag outer task) task.entry task.args s.memory
+run_of image budget s bag outer task =
+    task_run image budget (context_of image.version bag outer task) task.entry task.args s.memory
 
 -- a task that traps takes no turn
 abbrev pub after_run : State → Name → BagValue → List BagValue → PendingTask → TaskEnd → Option (State × Entry)

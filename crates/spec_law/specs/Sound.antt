@@ -37,13 +37,13 @@ use Rattle.spec_state.specs.Groups.{all_keyed, all_spilled, logged, bag_tasks, b
 use Rattle.spec_state.specs.Least.{IsHeir}
 use Rattle.spec_state.specs.Queries.{IsQueued}
 
-module _ (image : ImageValue) (budget : ℕ) where
+module _ (image : ImageValue) (version budget : ℕ) where
   -- the task's steps from its start on led to this state; its loads found the values of its log, and its stores are
   -- those of its log
   abbrev pub RanTo : Task → TaskState → Type 0
   RanTo task =
-      LoggedRun image budget image.data_size (start_context (version_of image) task)
-      (begun task.entry task.key.ts task.args []) task.log
+      LoggedRun image budget image.data_size (start_context version task)
+      (begun version task.entry task.key.ts task.args []) task.log
 
   -- what the task has done so far, its loads and stores aside
   abbrev pub done_so_far : Task → TaskState
@@ -51,7 +51,7 @@ module _ (image : ImageValue) (budget : ℕ) where
 
   -- what stands next in the task's run asks for this
   abbrev pub AsksNext : Task → TaskState → Request → Type 0
-  AsksNext task = Asks image budget image.data_size (start_context (version_of image) task)
+  AsksNext task = Asks image budget image.data_size (start_context version task)
 
   -- the task's next step is this trap
   pub record TrapsNext (task : Task) (cause : ℕ) : Type 0 where
@@ -67,7 +67,7 @@ module _ (image : ImageValue) (budget : ℕ) where
 
   -- an idle task has done nothing, and a dispatched one what its status says
   abbrev pub StandsAs : Task → Status → Type 0
-  StandsAs task Idle = task ≡ idle_again (version_of image) task
+  StandsAs task Idle = task ≡ idle_again version task
   StandsAs task (Running core) = IsSome task.key.tb × RanTo task (done_so_far task)
   StandsAs task (Trapped core cause) = IsSome task.key.tb × TrapsNext task cause
   StandsAs task Finished = IsSome task.key.tb × HasEnded task
@@ -96,7 +96,7 @@ pub record SoundTasks (image : ImageValue) (view : View) (heir : Option ℕ) (se
   pub spilled_domains : (s : Spilled) → Contains (all_spilled view) s → s.desc.name.creator ≤ length view.history
       → FitsBags (domains_of s.desc.kinds s.domain) serial.stack
   pub stands : (id : ℕ) (task : Task) → task_at view id ≡ Some task
-      → StandsAs image view.settings.budget task task.status
+      → StandsAs image view.version view.settings.budget task task.status
   pub children : (id : ℕ) (task : Task) (creator : TaskId) (index : ℕ) → task_at view id ≡ Some task
       → task.creator ≡ Live creator index
       → IsMadeBy view creator.0 index (descriptor_of task)

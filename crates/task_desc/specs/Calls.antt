@@ -2,11 +2,19 @@
 use Rattle.std.specs.Prelude.{ℕ, ◌==◌, nat_lt, Bool, false, Option, Some, None, Result, Ok, Err, if◌then◌else◌}
 use Rattle.guest_image.specs.declared.image.Kind.{Kind}
 use Rattle.guest_image.specs.declared.image.Kind.TheVariants.{Unordered, Ordered}
-use Rattle.task_desc.specs.declared.calls.TheConstants.{MAX_BYTES, MAX_CHILDREN, MAX_DEPTH}
+use Rattle.task_desc.specs.declared.calls.TheConstants.{MAX_BYTES}
 use Rattle.task_desc.specs.declared.desc.Ctx.{Ctx}
 use Rattle.task_desc.specs.declared.desc.Spawn.{Spawn}
 use Rattle.task_desc.specs.declared.desc.Place.{Place}
 use Rattle.task_desc.specs.declared.desc.Place.TheVariants.{Same, Sub, Super}
+
+-- the depth of the innermost domain in a version of the image
+abbrev pub deepest : ℕ → ℕ
+deepest version = if version == 2 then 16 else 8
+
+-- how many children a task may enqueue in a version of the image
+abbrev pub most_children : ℕ → ℕ
+most_children version = if version == 2 then 256 else 64
 
 -- what a domain takes a timestamp for: an unordered one takes each as 0
 abbrev pub domain_ts : Kind → ℕ → ℕ
@@ -20,7 +28,7 @@ is_early Ordered ts bound = nat_lt ts bound
 
 -- one child more at this timestamp, and trap 15 at the child past the limit
 abbrev pub counted : Ctx → ℕ → Result ℕ ℕ
-counted ctx ts = if nat_lt ctx.children MAX_CHILDREN then Ok ts else Err 15
+counted ctx ts = if nat_lt ctx.children (most_children ctx.version) then Ok ts else Err 15
 
 -- call 1, to the own domain: trap 10 below the own timestamp, then trap 15
 abbrev pub allowed_same : Ctx → ℕ → Result ℕ ℕ
@@ -53,7 +61,7 @@ kind_of value = if value == 0 then Unordered else Ordered
 -- a subdomain: trap 12 where one was made, then trap 14 at the greatest depth
 abbrev pub sub_of : Ctx → ℕ → Option Kind → Result Kind ℕ
 sub_of ctx value (Some made) = Err 12
-sub_of ctx value None = if ctx.depth == MAX_DEPTH then Err 14 else Ok (kind_of value)
+sub_of ctx value None = if nat_lt ctx.depth (deepest ctx.version) then Ok (kind_of value) else Err 14
 
 -- call 4: trap 9 where the value is above 1, and then as above
 abbrev pub sub_allowed : Ctx → ℕ → Result Kind ℕ

@@ -15,10 +15,10 @@ pub record TaskState : Type 0 where
   pub bytes : List ℕ
   pub sub : Option Kind
 
--- a task that has done nothing yet
-abbrev pub begun : ℕ → ℕ → List ℕ → List ℕ → TaskState
-begun entry ts args memory =
-    record { core = start_of entry ts args; memory = memory; spawns = []; bytes = []; sub = None }
+-- a task of an image of this version that has done nothing yet
+abbrev pub begun : ℕ → ℕ → ℕ → List ℕ → List ℕ → TaskState
+begun version entry ts args memory =
+    record { core = start_of version entry ts args; memory = memory; spawns = []; bytes = []; sub = None }
 
 -- what the calls of a task depend on, by what it has made so far
 abbrev pub context : Ctx → TaskState → Ctx

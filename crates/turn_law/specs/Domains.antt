@@ -30,9 +30,10 @@ first_kind [] = None
 first_kind (d ∷ ds) = Some d.kind
 
 -- what the calls of a task depend on as it starts, by its own domain and those outside it
-abbrev pub start_context : Domain → List Domain → ℕ → Ctx
-start_context own outer ts =
+abbrev pub start_context : ℕ → Domain → List Domain → ℕ → Ctx
+start_context version own outer ts =
     record {
+      version = version;
       depth = length outer + 1;
       own = own.kind;
       outer = first_kind outer;
@@ -46,10 +47,10 @@ start_context own outer ts =
 -- a task whose domains are those of the bags has in its own machine what the calls of its serial turn depend on
 abbrev pub ContextFits : Type 0
 ContextFits =
-    (stack : List BagValue) (task : PendingTask) (own : Domain) (outer : List Domain) → IsStack stack
+    (version : ℕ) (stack : List BagValue) (task : PendingTask) (own : Domain) (outer : List Domain) → IsStack stack
     → FitsBags (own ∷ outer) stack
     → (next : HasTurn stack (length outer + 1) task)
-    → context_of next.bag next.outer task ≡ start_context own outer task.ts
+    → context_of version next.bag next.outer task ≡ start_context version own outer task.ts
 
 -- the domains of a child: those of its creator, or a new one more, whose floor is the creator's timestamp, or one fewer
 abbrev pub ChildDomains : List Domain → ℕ → Option Kind → Place → List Domain → Type 0

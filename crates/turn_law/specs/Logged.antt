@@ -47,14 +47,14 @@ module _ (image : ImageValue) (budget size : ℕ) (ctx : Ctx) where
   -- the task's run with this log came to its end call, which leaves this
   pub record IsFinished (task : PendingTask) (log : List Access) (after : TaskState) : Type 0 where
     pub before : TaskState
-    pub run : LoggedRun (begun task.entry ctx.ts task.args []) log before
+    pub run : LoggedRun (begun image.version task.entry ctx.ts task.args []) log before
     pub ends : Asks before End
     pub leaves : after ≡ passed before
 
   -- the task's run with this log came to this trap
   pub record IsTrapped (task : PendingTask) (log : List Access) (cause pc : ℕ) : Type 0 where
     pub before : TaskState
-    pub run : LoggedRun (begun task.entry ctx.ts task.args []) log before
+    pub run : LoggedRun (begun image.version task.entry ctx.ts task.args []) log before
     pub traps : Asks before (Trap cause)
     pub at : pc ≡ before.core.pc
 
@@ -64,7 +64,7 @@ abbrev pub LoggedRunIsTurn : Type 0
 LoggedRunIsTurn =
     (image : ImageValue) (budget depth : ℕ) (s : State) (task : PendingTask) (log : List Access) (after : TaskState)
     (next : HasTurn s.stack depth task)
-    → IsFinished image budget (length s.memory) (context_of next.bag next.outer task) task log after
+    → IsFinished image budget (length s.memory) (context_of image.version next.bag next.outer task) task log after
     → Replays s.memory log
     → turn image budget s task.name ≡ Some (
       record {
@@ -81,6 +81,6 @@ abbrev pub LoggedTrapIsSerial : Type 0
 LoggedTrapIsSerial =
     (image : ImageValue) (budget depth : ℕ) (s : State) (task : PendingTask) (log : List Access) (cause pc : ℕ)
     (next : HasTurn s.stack depth task)
-    → IsTrapped image budget (length s.memory) (context_of next.bag next.outer task) task log cause pc
+    → IsTrapped image budget (length s.memory) (context_of image.version next.bag next.outer task) task log cause pc
     → Replays s.memory log
     → TrapsSo image budget s task.name cause pc

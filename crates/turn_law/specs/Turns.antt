@@ -18,7 +18,7 @@ pub record IsReady (image : ImageValue) (budget : ℕ) (s : State) (task : Task)
     (outer : List Domain) (log : List Access) (after : TaskState) : Type 0 where
   pub fits : FitsBags (own ∷ outer) s.stack
   pub deep : task.depth ≡ length outer + 1
-  pub finished : IsFinished image budget (length s.memory) (start_context own outer task.ts)
+  pub finished : IsFinished image budget (length s.memory) (start_context image.version own outer task.ts)
       (pending turn index task.body task.ts) log after
   pub spawns : task.spawns ≡ after.spawns
   pub replays : Replays s.memory log
@@ -58,7 +58,7 @@ LeastTrapsSerially =
     → AreSound s.count id runs tasks spilled → Matches s.count tasks spilled s.stack → IsStack s.stack
     → IsLeast s.count tasks spilled id task turn_number index → FitsBags (own ∷ outer) s.stack
     → task.depth ≡ length outer + 1
-    → IsTrapped image budget (length s.memory) (start_context own outer task.ts)
+    → IsTrapped image budget (length s.memory) (start_context image.version own outer task.ts)
     (pending turn_number index task.body task.ts) log cause pc
     → Replays s.memory log
     → TrapsSo image budget s (record { creator = turn_number; index = index }) cause pc

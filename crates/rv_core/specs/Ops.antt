@@ -1,0 +1,265 @@
+-- What the operations of a decoded text stand for, and what they do.
+use Rattle.std.specs.Prelude.{ℕ, ◌+◌, ◌-◌, ◌*◌, ◌/◌, ◌%◌, ◌^◌, ◌==◌, ◌&&◌, nat_lt, Bool, List, slice_index, slice_get}
+use Rattle.std.specs.Prelude.{Option, Some, None, option_map}
+use Rattle.std.specs.Option.{option_or}
+use Rattle.std.specs.Prelude.{◌≡◌, ◌≤◌, length, zero, suc, if◌then◌else◌}
+use Rattle.guest_image.specs.ImageValue.{ImageValue}
+use Rattle.guest_image.specs.declared.memory_map.TheConstants.{TEXT_START, DATA_START, STACK_START}
+use Rattle.rv_table.specs.declared.instr.Instr.{Instr}
+use Rattle.rv_table.specs.declared.instr.Instr.TheVariants as instr
+use Rattle.rv_table.specs.declared.instr.Cond.{Cond}
+use Rattle.rv_table.specs.declared.instr.Cond.TheVariants as cond
+use Rattle.rv_table.specs.declared.instr.LoadWidth.{LoadWidth}
+use Rattle.rv_table.specs.declared.instr.StoreWidth.{StoreWidth}
+use Rattle.rv_table.specs.declared.instr.RegOp.{RegOp}
+use Rattle.rv_table.specs.declared.instr.RegOp.TheVariants as reg_op
+use Rattle.rv_table.specs.Exec.{plus, minus, word, holds, value_of, with_register, shift_signed, loaded_value}
+use Rattle.rv_table.specs.Regs.{set_word}
+use Rattle.rv_table.specs.Table.{decoded}
+use Rattle.rv_core.specs.Memory.{load_bytes, store_bytes, is_within, is_in_stack}
+use Rattle.undo_log.specs.Number.{number_at, written}
+use Rattle.rv_core.specs.declared.op.Op.{Op}
+use Rattle.rv_core.specs.declared.op.Op.TheVariants as op
+use Rattle.rv_core.specs.declared.state.Core.{Core}
+use Rattle.rv_core.specs.declared.state.Stop.{Stop}
+use Rattle.rv_core.specs.declared.state.Stop.TheVariants as stop
+
+-- what an operation is, with immediates as words and offsets in words of the text; Other is told by its word alone
+pub data Shape : Type 0 where
+  Put : (rd value : ℕ) → Shape
+  Jump : (rd words : ℕ) → Shape
+  JumpTo : (rd rs1 imm : ℕ) → Shape
+  Branch : (cond : Cond) (rs1 rs2 words : ℕ) → Shape
+  Imm : (op : RegOp) (rd rs1 imm : ℕ) → Shape
+  Two : (op : RegOp) (rd rs1 rs2 : ℕ) → Shape
+  Load : (width : LoadWidth) (rd rs1 imm : ℕ) → Shape
+  Store : (width : StoreWidth) (rs1 rs2 imm : ℕ) → Shape
+  Fence : Shape
+  Ecall : Shape
+  Other : Shape
+
+-- what each operation is
+abbrev pub shape : Op → Shape
+shape op.Slow = Other
+shape op.Fence = Fence
+shape op.Ecall = Ecall
+shape (op.Load width rd rs1 imm) = Load width rd rs1 imm
+shape (op.Store width rs1 rs2 imm) = Store width rs1 rs2 imm
+shape (op.Put rd value) = Put rd value
+shape (op.Jal rd words) = Jump rd words
+shape (op.Jalr rd rs1 imm) = JumpTo rd rs1 imm
+shape (op.Addi rd rs1 imm) = Imm reg_op.Add rd rs1 imm
+shape (op.Slti rd rs1 imm) = Imm reg_op.Slt rd rs1 imm
+shape (op.Sltiu rd rs1 imm) = Imm reg_op.Sltu rd rs1 imm
+shape (op.Xori rd rs1 imm) = Imm reg_op.Xor rd rs1 imm
+shape (op.Ori rd rs1 imm) = Imm reg_op.Or rd rs1 imm
+shape (op.Andi rd rs1 imm) = Imm reg_op.And rd rs1 imm
+shape (op.Slli rd rs1 imm) = Imm reg_op.Sll rd rs1 imm
+shape (op.Srli rd rs1 imm) = Imm reg_op.Srl rd rs1 imm
+shape (op.Srai rd rs1 imm) = Imm reg_op.Sra rd rs1 imm
+shape (op.Add rd rs1 rs2) = Two reg_op.Add rd rs1 rs2
+shape (op.Sub rd rs1 rs2) = Two reg_op.Sub rd rs1 rs2
+shape (op.Sll rd rs1 rs2) = Two reg_op.Sll rd rs1 rs2
+shape (op.Slt rd rs1 rs2) = Two reg_op.Slt rd rs1 rs2
+shape (op.Sltu rd rs1 rs2) = Two reg_op.Sltu rd rs1 rs2
+shape (op.Xor rd rs1 rs2) = Two reg_op.Xor rd rs1 rs2
+shape (op.Srl rd rs1 rs2) = Two reg_op.Srl rd rs1 rs2
+shape (op.Sra rd rs1 rs2) = Two reg_op.Sra rd rs1 rs2
+shape (op.Or rd rs1 rs2) = Two reg_op.Or rd rs1 rs2
+shape (op.And rd rs1 rs2) = Two reg_op.And rd rs1 rs2
+shape (op.Beq rs1 rs2 words) = Branch cond.Eq rs1 rs2 words
+shape (op.Bne rs1 rs2 words) = Branch cond.Ne rs1 rs2 words
+shape (op.Blt rs1 rs2 words) = Branch cond.Lt rs1 rs2 words
+shape (op.Bge rs1 rs2 words) = Branch cond.Ge rs1 rs2 words
+shape (op.Bltu rs1 rs2 words) = Branch cond.Ltu rs1 rs2 words
+shape (op.Bgeu rs1 rs2 words) = Branch cond.Geu rs1 rs2 words
+
+-- an offset in bytes as one in words: Other where it is no multiple of 4
+abbrev pub in_words : ℕ → (ℕ → Shape) → Shape
+in_words offset make = if offset % 4 == 0 then make (shift_signed (offset % 2 ^ 32) 2) else Other
+
+-- what an instruction at a pc is as an operation
+abbrev pub instr_shape : ℕ → Instr → Shape
+instr_shape pc (instr.Lui rd imm) = Put rd imm
+instr_shape pc (instr.Auipc rd imm) = Put rd (plus pc imm)
+instr_shape pc (instr.Jal rd imm) = in_words (word imm) (Jump rd)
+instr_shape pc (instr.Jalr rd rs1 imm) = JumpTo rd rs1 (word imm)
+instr_shape pc (instr.Branch cond rs1 rs2 imm) = in_words (word imm) (Branch cond rs1 rs2)
+instr_shape pc (instr.Load width rd rs1 imm) = Load width rd rs1 (word imm)
+instr_shape pc (instr.Store width rs1 rs2 imm) = Store width rs1 rs2 (word imm)
+instr_shape pc (instr.OpImm op rd rs1 imm) = Imm (with_register op) rd rs1 (word imm)
+instr_shape pc (instr.Op op rd rs1 rs2) = Two op rd rs1 rs2
+instr_shape pc instr.Fence = Fence
+instr_shape pc instr.Ecall = Ecall
+instr_shape pc instr.Ebreak = Other
+
+-- what a word at a pc is as an operation
+abbrev pub word_shape : ℕ → Option Instr → Shape
+word_shape pc None = Other
+word_shape pc (Some instr) = instr_shape pc instr
+
+-- the address of a word of the text
+abbrev pub address : ℕ → ℕ
+address index = (TEXT_START + 4 * index) % 2 ^ 32
+
+-- an operation is that of the word at an index
+pub record IsOpOf (text : List ℕ) (index : ℕ) (op : Op) : Type 0 where
+  pub word : ℕ
+  pub there : slice_get text index ≡ Some word
+  pub same : shape op ≡ word_shape (address index) (decoded word)
+
+-- each operation is that of the word where it stands
+abbrev pub AreOf : List ℕ → List Op → Type 0
+AreOf text ops = (index : ℕ) (op : Op) → slice_get ops index ≡ Some op → IsOpOf text index op
+
+-- which word of the text stands next, and the registers
+pub record Place : Type 0 where
+  pub index : ℕ
+  pub regs : List ℕ
+
+abbrev pub place : ℕ → List ℕ → Place
+place index regs = record { index = index; regs = regs }
+
+-- on to the next word, with a register written
+abbrev pub put : Place → ℕ → ℕ → Place
+put from rd value = place (plus from.index 1) (set_word from.regs rd value)
+
+-- to an address, with a register written: none where it is no multiple of 4
+abbrev pub jump_to : Place → ℕ → ℕ → Option Place
+jump_to from rd target =
+    if target % 4 == 0
+    then Some (place (minus target TEXT_START / 4) (set_word from.regs rd (plus (address from.index) 4)))
+    else None
+
+-- where an operation leads that touches registers alone
+abbrev pub shape_next : Shape → Place → Option Place
+shape_next (Put rd value) from = Some (put from rd value)
+shape_next (Jump rd words) from =
+    Some (place (plus from.index words) (set_word from.regs rd (plus (address from.index) 4)))
+shape_next (JumpTo rd rs1 imm) from = jump_to from rd (plus (slice_index from.regs rs1) imm / 2 * 2)
+shape_next (Branch cond rs1 rs2 words) from =
+    let taken = holds cond (slice_index from.regs rs1) (slice_index from.regs rs2) in
+    Some (place (plus from.index (if taken then words else 1)) from.regs)
+shape_next (Imm op rd rs1 imm) from = Some (put from rd (value_of op (slice_index from.regs rs1) imm))
+shape_next (Two op rd rs1 rs2) from =
+    Some (put from rd (value_of op (slice_index from.regs rs1) (slice_index from.regs rs2)))
+shape_next (Load width rd rs1 imm) from = None
+shape_next (Store width rs1 rs2 imm) from = None
+shape_next Fence from = Some (place (plus from.index 1) from.regs)
+shape_next Ecall from = None
+shape_next Other from = None
+
+-- an access that stops a run: none where it is misaligned, or not in the data below the stack
+abbrev pub access : ℕ → ℕ → ℕ → Stop → Option Stop
+access size addr n found =
+    if (addr % n == 0) && (nat_lt addr STACK_START && is_within DATA_START size addr n) then Some found else None
+
+-- what an operation stops at, where its shape alone tells it
+abbrev pub shape_stop : ℕ → Shape → List ℕ → Option Stop
+shape_stop size (Load width rd rs1 imm) regs =
+    access size (plus (slice_index regs rs1) imm) (load_bytes width)
+    (stop.Load width rd (plus (slice_index regs rs1) imm))
+shape_stop size (Store width rs1 rs2 imm) regs =
+    access size (plus (slice_index regs rs1) imm) (store_bytes width)
+    (stop.Store width (plus (slice_index regs rs1) imm) (slice_index regs rs2))
+shape_stop size Ecall regs = Some stop.Call
+shape_stop size (Put rd value) regs = None
+shape_stop size (Jump rd words) regs = None
+shape_stop size (JumpTo rd rs1 imm) regs = None
+shape_stop size (Branch cond rs1 rs2 words) regs = None
+shape_stop size (Imm op rd rs1 imm) regs = None
+shape_stop size (Two op rd rs1 rs2) regs = None
+shape_stop size Fence regs = None
+shape_stop size Other regs = None
+
+-- what the operation that is found stops at
+abbrev pub found_stop : ℕ → Option Op → List ℕ → Option Stop
+found_stop size None regs = None
+found_stop size (Some op) regs = shape_stop size (shape op) regs
+
+-- where the code went: none where it went nowhere
+abbrev pub went : Option ℕ → List ℕ → Option Place
+went None regs = None
+went (Some index) regs = Some (place index regs)
+
+-- a place with the bytes of the stack
+pub record Point : Type 0 where
+  pub place : Place
+  pub stack : List ℕ
+
+abbrev pub point : ℕ → List ℕ → List ℕ → Point
+point index regs stack = record { place = place index regs; stack = stack }
+
+-- where the code went, with the stack: none where it went nowhere
+abbrev pub went_on : Option ℕ → List ℕ → List ℕ → Option Point
+went_on None regs stack = None
+went_on (Some index) regs stack = Some (point index regs stack)
+
+-- whether an access is aligned and lies in the stack
+abbrev pub is_stack_access : ℕ → ℕ → ℕ → Bool
+is_stack_access version addr n = (addr % n == 0) && is_in_stack version addr n
+
+-- a load from the stack: none where it is misaligned or elsewhere
+abbrev pub stack_load : ℕ → LoadWidth → ℕ → ℕ → Point → Option Point
+stack_load version width rd addr from =
+    if is_stack_access version addr (load_bytes width)
+    then Some (record from {
+      place = put from.place rd (loaded_value width (number_at from.stack (addr - STACK_START) (load_bytes width)));
+    })
+    else None
+
+-- a store to the stack: none where it is misaligned or elsewhere
+abbrev pub stack_store : ℕ → StoreWidth → ℕ → ℕ → Point → Option Point
+stack_store version width addr value from =
+    if is_stack_access version addr (store_bytes width)
+    then Some (record {
+      place = place (plus from.place.index 1) from.place.regs;
+      stack = written from.stack (addr - STACK_START) (store_bytes width) value;
+    })
+    else None
+
+-- where an access of the stack leads
+abbrev pub stack_next : ℕ → Shape → Point → Option Point
+stack_next version (Load width rd rs1 imm) from =
+    stack_load version width rd (plus (slice_index from.place.regs rs1) imm) from
+stack_next version (Store width rs1 rs2 imm) from =
+    stack_store version width (plus (slice_index from.place.regs rs1) imm) (slice_index from.place.regs rs2) from
+stack_next version (Put rd value) from = None
+stack_next version (Jump rd words) from = None
+stack_next version (JumpTo rd rs1 imm) from = None
+stack_next version (Branch cond rs1 rs2 words) from = None
+stack_next version (Imm op rd rs1 imm) from = None
+stack_next version (Two op rd rs1 rs2) from = None
+stack_next version Fence from = None
+stack_next version Ecall from = None
+stack_next version Other from = None
+
+-- where an operation leads: by its registers alone, else by the stack
+abbrev pub op_next : ℕ → Shape → Point → Option Point
+op_next version shape from =
+    option_or (option_map (λ to. record from { place = to }) (shape_next shape from.place))
+    (stack_next version shape from)
+
+-- the operation that stands at a point leads to another one
+abbrev pub OpStep : ℕ → List Op → Point → Point → Type 0
+OpStep version ops from to =
+    (op : Op) × (slice_get ops from.place.index ≡ Some op) × (op_next version (shape op) from ≡ Some to)
+
+-- n operations lead from a point to another
+abbrev pub OpSteps : ℕ → List Op → ℕ → Point → Point → Type 0
+OpSteps version ops zero from to = from ≡ to
+OpSteps version ops (suc n) from to =
+    (mid : Point) × OpSteps version ops n from mid × OpStep version ops mid to
+
+-- the core at a place, with so many more instructions used
+abbrev pub core_at : Core → Place → ℕ → Core
+core_at core to n = record core { pc = address to.index; regs = to.regs; used = core.used + n }
+
+-- the core at a point, with so many more instructions used
+abbrev pub core_at_point : Core → Point → ℕ → Core
+core_at_point core to n = record (core_at core to.place n) { stack = to.stack }
+
+-- operations of the text of an image, each of its word
+pub record AreDecoded (image : ImageValue) (ops : List Op) : Type 0 where
+  pub of : AreOf image.text ops
+  pub short : length image.text ≤ 65536
