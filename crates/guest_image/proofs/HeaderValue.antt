@@ -30,14 +30,14 @@ pub value_fits : (bytes : List ℕ) (n m t d o w : ℕ) (text initial : List ℕ
     → AreWithinLimits (length text) (length initial) d o w (length tasks)
 value_fits bytes n m t d o w text initial tasks en em et ed eo ew ex ei ea room fits =
     let part : length (slice_range bytes (32 + 4 * n) (32 + 4 * n + m)) ≡ m = length-part bytes n m (omega (arith, en, em, et, room)) in
-    rw (ex, ei, ea, length-words_from bytes 32 n, part, length-tasks_from bytes (32 + 4 * n + m) t, en, em, et, ed, eo, ew) fits
+    rw (ex, ei, ea, length-words_from bytes 32 n, part, length-tasks_from bytes (32 + 4 * n + m) t, en, em, et, ed, eo, ew) fits.1
 
 -- they are what the bytes say
-pub value_from : (bytes : List ℕ) (k : Kind) (n m t d o w : ℕ) (text initial : List ℕ) (tasks : List ImageTask)
-    → k ≡ root_kind (half_at bytes 6) → n ≡ word_at bytes 8 → m ≡ word_at bytes 12 → t ≡ word_at bytes 28
+pub value_from : (bytes : List ℕ) (v : ℕ) (k : Kind) (n m t d o w : ℕ) (text initial : List ℕ) (tasks : List ImageTask)
+    → v ≡ half_at bytes 4 → k ≡ root_kind (half_at bytes 6) → n ≡ word_at bytes 8 → m ≡ word_at bytes 12 → t ≡ word_at bytes 28
     → d ≡ word_at bytes 16 → o ≡ word_at bytes 20 → w ≡ word_at bytes 24
     → text ≡ words_from bytes 32 n → initial ≡ slice_range bytes (32 + 4 * n) (32 + 4 * n + m)
     → tasks ≡ tasks_from bytes (32 + 4 * n + m) t
-    → record { kind = k; text = text; initial = initial; data_size = d; window_offset = o; window_words = w; tasks = tasks } ≡ value_of bytes
+    → record { version = v; kind = k; text = text; initial = initial; data_size = d; window_offset = o; window_words = w; tasks = tasks } ≡ value_of bytes
 unfolding value_of
-value_from bytes k n m t d o w text initial tasks ek en em et ed eo ew ex ei ea = rw (ex, ei, ea, ek, en, em, et, ed, eo, ew) refl
+value_from bytes v k n m t d o w text initial tasks ev ek en em et ed eo ew ex ei ea = rw (ex, ei, ea, ev, ek, en, em, et, ed, eo, ew) refl

@@ -1,5 +1,5 @@
 -- An image that was written is read back.
-use Rattle.std.proofs.Common.{◌≡◌, refl, sym, ap, ◌∙◌, subst, ◌<◌, ◌+◌, ◌-◌, ◌*◌, ◌%◌, ◌^◌, ℕ, List, [], ◌++◌, length, take, drop, map, Ok, arith, append_assoc, append-nil, length-append, true, false, nat_lt, ◌==◌}
+use Rattle.std.proofs.Common.{◌≡◌, refl, sym, ap, ◌∙◌, subst, ◌<◌, ◌+◌, ◌-◌, ◌*◌, ◌%◌, ◌^◌, ℕ, List, [], ◌++◌, length, take, drop, map, Ok, arith, append_assoc, append-nil, length-append, true, false, nat_lt, ◌==◌, ◌||◌, inl, inr}
 use Rattle.std.proofs.lemmas.Grind.{common_steps}
 use Rattle.std.proofs.lemmas.Bool.Decides.{nat_tests}
 use Rattle.std.proofs.lemmas.List.Elements.{recursion_from_All}
@@ -8,8 +8,8 @@ use Rattle.std.specs.List.{flat_map, range_with_len, slice_range}
 use Rattle.byteorder.specs.Numbers.{little_number-reads_back}
 use Rattle.guest_image.specs.declared.image.Kind.{Kind}
 use Rattle.guest_image.specs.declared.image.Kind.TheVariants.{Unordered, Ordered}
-use Rattle.guest_image.specs.Numbers.{word_at, half_at, word_bytes}
-use Rattle.guest_image.specs.ImageValue.{ImageValue, IsImage}
+use Rattle.guest_image.specs.Numbers.{word_at, half_at, word_bytes, half_bytes}
+use Rattle.guest_image.specs.ImageValue.{ImageValue, IsImage, IsVersion}
 use Rattle.guest_image.specs.Limits.{limits_fault, AreWithinLimits}
 use Rattle.guest_image.specs.Reading.{image_of, words_from, tasks_from, task_at, value_of, header_fault, whole_length, root_kind}
 use Rattle.guest_image.specs.Writing.{kind_number, header_bytes, task_bytes, image_bytes, ReadsBack}
@@ -45,7 +45,7 @@ length-laid i rest h =
 -- the numbers of a header
 record Header (i : ImageValue) (bytes : List ℕ) : Type 0 where
   magic : word_at bytes 0 ≡ 0x43415246
-  version : half_at bytes 4 ≡ 1
+  version : half_at bytes 4 ≡ i.version
   kind : half_at bytes 6 ≡ kind_number i.kind
   text : word_at bytes 8 ≡ length i.text
   initial : word_at bytes 12 ≡ length i.initial
@@ -73,7 +73,7 @@ header_back i rest h =
     let one : List ℕ → List ℕ = λ (r : List ℕ). word_bytes n1 ++ two r in
     record {
       magic = refl;
-      version = refl;
+      version = little_number-reads_back 2 i.version (half_bytes (kind_number i.kind) ++ one back) (small i.version h.version);
       kind = little_number-reads_back 2 (kind_number i.kind) (one back) (kind-fits i.kind);
       text = little_number-reads_back 4 n1 (two back) (omega (arith, h.text));
       initial = little_number-reads_back 4 n2 (three back) (omega (arith, h.initial, h.data_size));
@@ -82,6 +82,10 @@ header_back i rest h =
       words = little_number-reads_back 4 i.window_words (six back) (omega (arith, h.window_words));
       tasks = little_number-reads_back 4 n6 back (omega (arith, h.tasks));
     }
+  where
+    small : (v : ℕ) → IsVersion v → v < 256 ^ 2
+    small v (inl is) = omega (arith, is)
+    small v (inr is) = omega (arith, is)
 
 -- numbers within the limits have no fault
 limits_fault-none : (a b c d e f : ℕ) → AreWithinLimits a b c d e f → limits_fault a b c d e f ≡ Ok tt
@@ -110,8 +114,12 @@ header_fault-none i bytes h w =
       window_aligned = h.window_aligned;
       window_inside = h.window_inside;
     } in
-    rw (w.magic, w.version, w.kind, kinds i.kind, w.text, w.initial, w.size, w.offset, w.words, w.tasks) (limits_fault-none _ _ _ _ _ _ fits)
+    rw (w.magic, w.version, known i.version h.version, w.kind, kinds i.kind, w.text, w.initial, w.size, w.offset, w.words, w.tasks) (limits_fault-none _ _ _ _ _ _ fits)
   where
+    known : (v : ℕ) → IsVersion v → ((v == 1) || (v == 2)) ≡ true
+    known v (inl is) = rw is refl
+    known v (inr is) = rw is refl
+
     kinds : (k : Kind) → nat_lt 1 (kind_number k) ≡ false
     kinds Unordered = refl
     kinds Ordered = refl
@@ -155,7 +163,7 @@ first_tasks_back i rest h =
 value_back : (i : ImageValue) (rest : List ℕ) → IsImage i → Header i (laid i rest) → value_of (laid i rest) ≡ i
 unfolding value_of
 value_back i rest h w =
-    rw (w.kind, w.text, w.initial, w.size, w.offset, w.words, w.tasks, kind_back i.kind, text_back i rest h, initial_back i rest, first_tasks_back i rest h) refl
+    rw (w.version, w.kind, w.text, w.initial, w.size, w.offset, w.words, w.tasks, kind_back i.kind, text_back i rest h, initial_back i rest, first_tasks_back i rest h) refl
 
 whole_back : (i : ImageValue) (rest : List ℕ) → Header i (laid i rest) → whole_length (laid i rest) ≡ size_of i
 unfolding whole_length

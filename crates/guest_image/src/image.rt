@@ -34,6 +34,7 @@ pub struct ImageTask {
 /// data from a multiple of 4 on, and 1 to 65,536 tasks.
 #[derive(Drop)]
 pub struct Image {
+    version: u16,
     kind: Kind,
     text: Vec<u32>,
     initial: Vec<u8>,
@@ -44,16 +45,16 @@ pub struct Image {
 }
 
 impl Model for Image {
-    ghost use Rattle.guest_image.specs.ImageValue.{ImageValue, IsImage, image_value};
+    ghost use Rattle.guest_image.specs.ImageValue.{ImageValue, IsImage, image_value, in_version};
 
     ghost Value = { ImageValue };
 
-    ghost view = { λ i.
-        image_value i.kind i.text.items i.initial.items i.data_size i.window_offset i.window_words i.tasks.items };
+    ghost view = { λ i. in_version i.version
+        (image_value i.kind i.text.items i.initial.items i.data_size i.window_offset i.window_words i.tasks.items) };
 
     ghost invariant = { λ i.
-        IsImage
-        (image_value i.kind i.text.items i.initial.items i.data_size i.window_offset i.window_words i.tasks.items) };
+        IsImage (in_version i.version
+        (image_value i.kind i.text.items i.initial.items i.data_size i.window_offset i.window_words i.tasks.items)) };
 }
 
 /// A value of the type is a task of words.
@@ -72,12 +73,12 @@ fn visit_all(tasks: &[ImageTask])
 }
 
 impl Image {
-    ghost use Rattle.guest_image.specs.ImageValue.{IsImage, image_value};
+    ghost use Rattle.guest_image.specs.ImageValue.{IsImage, IsVersion, image_value, in_version};
     ghost use Rattle.guest_image.specs.Limits.{AreWithinLimits, AreInLimits, image_made};
 
-    /// An image of the given values, or the first of the limits that they exceed, in the order in which the limits
-    /// of a header are tried. `kind` is that of the root domain; `data_size` and `window_offset` are in bytes. A
-    /// list longer than 4,294,967,295 is told as that number. Takes no memory.
+    /// An image of version 1 of the given values, or the first of the limits that they exceed, in the order in which
+    /// the limits of a header are tried. `kind` is that of the root domain; `data_size` and `window_offset` are in
+    /// bytes. A list longer than 4,294,967,295 is told as that number. Takes no memory.
     #[tactic(auto, unfolding(crate::specs::Limits::image_made))]
     pub fn new(
         kind: Kind,
@@ -102,6 +103,7 @@ impl Image {
             told(tasks.len()),
         )?;
         Ok(Image::from_parts(
+            1,
             kind,
             text,
             initial,
@@ -114,6 +116,7 @@ impl Image {
 
     /// The image of values within the limits.
     pub(crate) fn from_parts(
+        version: u16,
         kind: Kind,
         text: Vec<u32>,
         initial: Vec<u8>,
@@ -122,12 +125,15 @@ impl Image {
         window_words: u32,
         tasks: Vec<ImageTask>,
     ) -> Image
-        requires { AreInLimits
+        requires version { IsVersion version }
+        requires limits { AreInLimits
             (image_value kind text.items initial.items data_size window_offset window_words tasks.items) }
-        ensures { result ≡ image_value kind text.items initial.items data_size window_offset window_words tasks.items }
+        ensures { result ≡ in_version version
+            (image_value kind text.items initial.items data_size window_offset window_words tasks.items) }
     {
         visit_all(&tasks);
         Image {
+            version,
             kind,
             text,
             initial,
@@ -136,6 +142,21 @@ impl Image {
             window_words,
             tasks,
         }
+    }
+
+    /// The version: 1, or 2, where each task has a stack, more children and deeper domains.
+    pub fn version(&self) -> u16
+        ensures value { result ≡ self.now.version }
+        ensures known { IsVersion result }
+    {
+        self.version
+    }
+
+    /// The same image in version 2. Takes no memory.
+    pub fn upgrade(self) -> Image
+        ensures { result ≡ in_version 2 self }
+    {
+        Image { version: 2, ..self }
     }
 
     /// The kind of the root domain.

@@ -3,9 +3,6 @@
 /// The bytes `FRAC`, read as a number.
 pub(crate) const MAGIC: u32 = 0x4341_5246;
 
-/// The version of the format.
-pub(crate) const VERSION: u16 = 1;
-
 /// The bytes of the header.
 pub(crate) const HEADER: usize = 32;
 

@@ -12,12 +12,10 @@ mod layout;
 mod limits;
 mod memory_map;
 mod reading;
-#[cfg(test)]
-mod tests;
 mod writing;
 
 pub use fault::ImageFault;
 pub use image::{Image, ImageTask, Kind};
-pub use memory_map::{DATA_START, TEXT_START};
+pub use memory_map::{DATA_START, STACK_BYTES, STACK_START, TEXT_START};
 pub use reading::read_image;
 pub use writing::{write_image, written_images_read_back};

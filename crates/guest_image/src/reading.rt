@@ -7,7 +7,7 @@ ghost use Rattle.guest_image.specs.Reading.{tasks_from, words_from, value_of, ro
 
 use crate::fault::ImageFault;
 use crate::image::{Image, ImageTask, Kind};
-use crate::layout::{HEADER, MAGIC, TASK, VERSION};
+use crate::layout::{HEADER, MAGIC, TASK};
 use crate::limits::check_limits;
 use byteorder::{ByteOrder, LittleEndian};
 use std::alloc::{AllocError, Global};
@@ -42,7 +42,7 @@ fn check_header(bytes: &[u8]) -> Result<(), ImageFault>
         return Err(ImageFault::Magic);
     }
     let found = half(bytes, 4);
-    if found != VERSION {
+    if found != 1 && found != 2 {
         return Err(ImageFault::Version { found });
     }
     let found = half(bytes, 6);
@@ -134,6 +134,7 @@ fn whole(alloc: Global, bytes: &[u8]) -> Result<Image, AllocError>
     let initial = Vec::from_slice(alloc, &bytes[data_at..data_at + initial_len])?;
     let first_tasks = tasks(alloc, bytes, data_at + initial_len, task_count)?;
     Ok(Image::from_parts(
+        half(bytes, 4),
         kind_of(bytes),
         text,
         initial,

@@ -8,7 +8,7 @@ ghost use Rattle.guest_image.specs.Writing.{kind_number, header_bytes, task_byte
 ghost use Rattle.guest_image.specs.Writing.{header_numbers};
 
 use crate::image::{Image, ImageTask, Kind};
-use crate::layout::{HEADER, MAGIC, TASK, VERSION};
+use crate::layout::{HEADER, MAGIC, TASK};
 use std::alloc::{AllocError, Global};
 
 fn put_word(bytes: &mut Vec<u8>, word: u32) -> Result<(), AllocError>
@@ -78,7 +78,7 @@ fn put_header(bytes: &mut Vec<u8>, image: &Image) -> Result<(), AllocError>
     ensures { OnOk result (bytes.new.items ≡ bytes.old.items ++ header_bytes image.now) }
 {
     put_word(bytes, MAGIC)?;
-    put_half(bytes, VERSION)?;
+    put_half(bytes, image.version())?;
     put_half(bytes, number_of(image.kind()))?;
     put_words(bytes, &numbers_of(image))
 }

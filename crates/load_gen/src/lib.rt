@@ -9,8 +9,6 @@ mod assembly;
 mod laws;
 mod making;
 mod nest;
-#[cfg(test)]
-mod tests;
 mod walk;
 
 pub use laws::{texts_are_the_programs, third_edges_lead_no_deeper};

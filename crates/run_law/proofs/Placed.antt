@@ -90,4 +90,4 @@ task_run-placed image budget ctx entry args memory =
 pub done-placed : (image : ImageValue) (budget : ℕ) (s : State) (bag : BagValue) (outer : List BagValue) (task : PendingTask) (done : TaskState)
     → run_of image budget s bag outer task ≡ Done done → HaveDomains (kind_outside outer) done.sub done.spawns
 done-placed image budget s bag outer task done ran = subst (EndHolds (IsPlaced (kind_outside outer))) ran
-    (task_run-placed image budget (context_of bag outer task) task.entry task.args s.memory)
+    (task_run-placed image budget (context_of image.version bag outer task) task.entry task.args s.memory)

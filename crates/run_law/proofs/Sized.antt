@@ -17,7 +17,7 @@ pub turned-keeps : (image : ImageValue) (budget : ℕ) (s after : State) (name :
 turned-keeps image budget s after name e did =
     ap (λ t. length t.memory) did.state
     ∙ subst (EndHolds (λ t. length t.memory ≡ length s.memory)) did.run
-    (task_run-size image budget (context_of did.bag did.outer did.task) did.task.entry did.task.args s.memory)
+    (task_run-size image budget (context_of image.version did.bag did.outer did.task) did.task.entry did.task.args s.memory)
 
 pub runs-keep : (image : ImageValue) (budget : ℕ) (s : State) (es : List Entry) (after : State) → Runs image budget s es after → length after.memory ≡ length s.memory
 runs-keep image budget s [] after same = ap (λ t. length t.memory) (sym same)

@@ -1,4 +1,6 @@
 pub mod Steps
 pub mod Runs
 pub mod Traps
+pub mod Unreached
+pub mod Ops
 pub mod Proved

@@ -1,5 +1,5 @@
 -- What follows from plain instructions: each is counted and within the budget, and what stops a run lies inside the data.
-use Rattle.std.proofs.Common.{◌≡◌, ◌≢◌, ℕ, ◌+◌, ◌<◌, ◌≤◌, ◌%◌, ◌==◌, not, List, Option, Some, None, Bool, true, false, nat_lt, ◌&&◌, if◌then◌else◌, zero, suc, refl, subst, arith, add-zero, add-suc}
+use Rattle.std.proofs.Common.{◌≡◌, ◌≢◌, ℕ, ◌+◌, ◌<◌, ◌≤◌, ◌%◌, ◌==◌, not, Option, Some, None, Bool, true, false, nat_lt, ◌&&◌, if◌then◌else◌, zero, suc, refl, subst, arith, add-zero, add-suc}
 use Rattle.std.proofs.lemmas.Bool.{ltb-true, leb-true, eqb-true}
 use Rattle.guest_image.specs.ImageValue.{ImageValue}
 use Rattle.rv_table.specs.declared.instr.Instr.{Instr}
@@ -9,14 +9,14 @@ use Rattle.rv_table.specs.declared.instr.LoadWidth.{LoadWidth}
 use Rattle.rv_table.specs.declared.instr.StoreWidth.{StoreWidth}
 use Rattle.rv_table.specs.Table.{decoded}
 use Rattle.rv_table.specs.Exec.{acts_on}
-use Rattle.guest_image.specs.Fetch.{fetched, text_loaded}
+use Rattle.guest_image.specs.Fetch.{fetched}
 use Rattle.rv_core.specs.declared.state.Core.{Core}
 use Rattle.rv_core.specs.declared.state.Stop.{Stop}
 use Rattle.rv_core.specs.declared.state.Stop.TheVariants as stop
 use Rattle.rv_core.specs.Next.{Next, Goes, Stops}
 use Rattle.guest_image.specs.declared.memory_map.TheConstants.{DATA_START}
-use Rattle.rv_core.specs.Memory.{load_bytes, store_bytes, is_within}
-use Rattle.rv_core.specs.Legs.{next_at, word_next, instr_next, effect_next, load_next, traps, PlainStep, PlainSteps, IsInside}
+use Rattle.rv_core.specs.Memory.{load_bytes, store_bytes, is_within, is_in_stack}
+use Rattle.rv_core.specs.Legs.{next_at, word_next, instr_next, effect_next, load_next, store_next, after_store_of, plain_loaded, traps, PlainStep, PlainSteps, IsInside}
 
 -- what stands next at a core is counted where it goes on, and lies inside the data and is no quantum where it stops
 abbrev Keeps : ℕ → Core → Next → Type 0
@@ -53,23 +53,24 @@ load_keeps size core width rd addr None aligned =
     (λ within. (inside size addr (load_bytes width) aligned within, λ e. cc))
     (λ _. trap_keeps size core 5)
 
-store_keeps : (size : ℕ) (core : Core) (width : StoreWidth) (addr value : ℕ) → not (addr % store_bytes width == 0) ≡ false
-    → Keeps size core (if is_within DATA_START size addr (store_bytes width) then Stops (stop.Store width addr value) else traps core 7)
-store_keeps size core width addr value aligned =
-    either size core (is_within DATA_START size addr (store_bytes width)) (Stops (stop.Store width addr value)) (traps core 7)
+store_keeps : (version size : ℕ) (core : Core) (width : StoreWidth) (addr value : ℕ) → not (addr % store_bytes width == 0) ≡ false
+    → Keeps size core (store_next version size core width addr value)
+store_keeps version size core width addr value aligned =
+    either size core (is_in_stack version addr (store_bytes width)) (Goes (after_store_of core width addr value)) _ (λ _. refl)
+    (λ _. either size core (is_within DATA_START size addr (store_bytes width)) (Stops (stop.Store width addr value)) (traps core 7)
     (λ within. (inside size addr (store_bytes width) aligned within, λ e. cc))
-    (λ _. trap_keeps size core 7)
+    (λ _. trap_keeps size core 7))
 
 effect_keeps : (image : ImageValue) (size : ℕ) (core : Core) (effect : Effect) → Keeps size core (effect_next image size core effect)
 effect_keeps image size core (does.Plain pc rd value) = refl
 effect_keeps image size core (does.Load width rd addr) =
-    either size core (not (addr % load_bytes width == 0)) (traps core 4) (load_next size core width rd addr (text_loaded image.text addr (load_bytes width)))
+    either size core (not (addr % load_bytes width == 0)) (traps core 4) (load_next size core width rd addr (plain_loaded image core.stack addr (load_bytes width)))
     (λ _. trap_keeps size core 4)
-    (load_keeps size core width rd addr (text_loaded image.text addr (load_bytes width)))
+    (load_keeps size core width rd addr (plain_loaded image core.stack addr (load_bytes width)))
 effect_keeps image size core (does.Store width addr value) =
     either size core (not (addr % store_bytes width == 0)) (traps core 6) _
     (λ _. trap_keeps size core 6)
-    (store_keeps size core width addr value)
+    (store_keeps image.version size core width addr value)
 effect_keeps image size core does.Call = (tt, λ e. cc)
 effect_keeps image size core does.Break = trap_keeps size core 8
 effect_keeps image size core does.Misaligned = trap_keeps size core 3

@@ -1,7 +1,7 @@
 -- A trap that stands at a core is one of the instruction there.
-use Rattle.std.proofs.Common.{◌≡◌, ℕ, ◌%◌, ◌==◌, not, Bool, true, false, List, Option, Some, None, refl, subst, nat_lt, if◌then◌else◌}
+use Rattle.std.proofs.Common.{◌≡◌, ℕ, ◌%◌, ◌==◌, not, Bool, true, false, Option, Some, None, refl, subst, nat_lt, if◌then◌else◌}
 use Rattle.guest_image.specs.ImageValue.{ImageValue}
-use Rattle.guest_image.specs.Fetch.{fetched, text_loaded}
+use Rattle.guest_image.specs.Fetch.{fetched}
 use Rattle.rv_table.specs.declared.instr.Effect.{Effect}
 use Rattle.rv_table.specs.declared.instr.Effect.TheVariants as does
 use Rattle.rv_table.specs.declared.instr.Instr.{Instr}
@@ -13,8 +13,8 @@ use Rattle.rv_core.specs.declared.state.Stop.{Stop}
 use Rattle.rv_core.specs.declared.state.Stop.TheVariants as stop
 use Rattle.rv_core.specs.Next.{Next, Goes, Stops}
 use Rattle.guest_image.specs.declared.memory_map.TheConstants.{DATA_START}
-use Rattle.rv_core.specs.Memory.{is_within, load_bytes, store_bytes}
-use Rattle.rv_core.specs.Legs.{next_at, word_next, instr_next, effect_next, load_next, traps}
+use Rattle.rv_core.specs.Memory.{is_within, is_in_stack, load_bytes, store_bytes}
+use Rattle.rv_core.specs.Legs.{next_at, word_next, instr_next, effect_next, load_next, after_store_of, plain_loaded, traps}
 
 -- a stop that is a trap is one of this pc
 abbrev IsStopHere : ℕ → Stop → Type 0
@@ -40,11 +40,12 @@ load_here size core width rd addr None =
 effect_here : (image : ImageValue) (size : ℕ) (core : Core) (effect : Effect) → IsHere core (effect_next image size core effect)
 effect_here image size core (does.Plain pc rd value) = tt
 effect_here image size core (does.Load width rd addr) =
-    either_here core (not (addr % load_bytes width == 0)) (traps core 4) (load_next size core width rd addr (text_loaded image.text addr (load_bytes width)))
-    refl (load_here size core width rd addr (text_loaded image.text addr (load_bytes width)))
+    either_here core (not (addr % load_bytes width == 0)) (traps core 4) (load_next size core width rd addr (plain_loaded image core.stack addr (load_bytes width)))
+    refl (load_here size core width rd addr (plain_loaded image core.stack addr (load_bytes width)))
 effect_here image size core (does.Store width addr value) =
     either_here core (not (addr % store_bytes width == 0)) (traps core 6) _ refl
-    (either_here core (is_within DATA_START size addr (store_bytes width)) (Stops (stop.Store width addr value)) (traps core 7) tt refl)
+    (either_here core (is_in_stack image.version addr (store_bytes width)) (Goes (after_store_of core width addr value)) _ tt
+    (either_here core (is_within DATA_START size addr (store_bytes width)) (Stops (stop.Store width addr value)) (traps core 7) tt refl))
 effect_here image size core does.Call = tt
 effect_here image size core does.Break = refl
 effect_here image size core does.Misaligned = refl

@@ -1,14 +1,16 @@
 //! Runs of plain instructions.
 
-ghost use Rattle.std.specs.Prelude.{◌≡◌, ◌+◌, ◌%◌, ◌^◌, ◌-◌, ◌<◌, ◌≤◌, OnSome};
-ghost use Rattle.guest_image.specs.Fetch.{text_loaded};
-ghost use Rattle.rv_core.specs.Memory.{load_bytes, store_bytes, is_within};
-ghost use Rattle.rv_core.specs.Legs.{moved, after_other_of, after_load_of, load_next, effect_next, next_at, given};
-ghost use Rattle.rv_core.specs.Legs.{IsLeg, IsInside};
+ghost use Rattle.rv_table.specs.Regs.{set_word};
+ghost use Rattle.std.specs.Prelude.{◌≡◌, ◌+◌, ◌%◌, ◌^◌, ◌-◌, ◌⊎◌, ◌<◌, ◌≤◌, OnSome};
+ghost use Rattle.rv_core.specs.Memory.{load_bytes, store_bytes, is_within, is_in_stack};
+ghost use Rattle.rv_core.specs.Legs.{after_other_of, after_load_of, load_next, store_next, plain_loaded};
+ghost use Rattle.rv_core.specs.Legs.{effect_next, next_at, given};
+ghost use Rattle.rv_core.specs.Legs.{IsLeg, IsInside, whole};
 
-use crate::state::{Core, Plain, Stop};
-use guest_image::{DATA_START, Image};
-use rv_table::{Effect, LoadWidth, Reg, StoreWidth, decode, effect, loaded};
+use crate::state::{Core, Head, Plain, Stop};
+use guest_image::{DATA_START, Image, STACK_BYTES, STACK_START};
+use rv_table::{Effect, LoadWidth, Reg, StoreWidth, decode_at, effect, loaded};
+use undo_log::{number_in, write_in};
 
 /// How many bytes a load of this width reads: 1, 2 or 4.
 #[inline(always)]
@@ -36,96 +38,169 @@ pub fn bytes_of_store(width: StoreWidth) -> u8
 
 /// Whether an access lies wholly in the range of `size` bytes from `start` on.
 #[inline(always)]
-fn is_in(start: u32, size: u32, addr: u32, len: u32) -> bool
+pub(crate) fn is_in(start: u32, size: u32, addr: u32, len: u32) -> bool
     ensures { result ≡ is_within start size addr len }
 {
     start <= addr && u64::from(addr) + u64::from(len) <= u64::from(start) + u64::from(size)
 }
 
+/// Counts one instruction, which goes to a pc.
+#[inline(always)]
+fn pass_to(head: &mut Head, pc: u32)
+    requires { head.old.used + 1 < 2 ^ 32 }
+    ensures { head.new ≡ record head.old { pc = pc; used = head.old.used + 1 } }
+{
+    head.pc = pc;
+    head.used += 1;
+}
+
 /// Executes one instruction, which goes to a pc and writes a register.
 #[inline(always)]
-fn go(core: &mut Core, pc: u32, rd: Reg, value: u32)
-    requires { core.old.used + 1 < 2 ^ 32 }
-    ensures { core.new ≡ moved core.old pc rd value }
+fn go(head: &mut Head, pc: u32, rd: Reg, value: u32)
+    requires { head.old.used + 1 < 2 ^ 32 }
+    ensures { head.new ≡ record { pc = pc; regs = set_word head.old.regs rd value; used = head.old.used + 1 } }
 {
-    core.regs.set(rd, value);
-    core.pc = pc;
-    core.used += 1;
+    head.regs.set(rd, value);
+    pass_to(head, pc);
+}
+
+/// Whether an access lies wholly in the stack: in version 1 none does.
+#[inline(always)]
+pub(crate) fn is_in_stack(version: u16, addr: u32, len: u32) -> bool
+    ensures { result ≡ is_in_stack version addr len }
+{
+    version == 2 && is_in(STACK_START, STACK_BYTES, addr, len)
+}
+
+/// The number at an aligned address of the text or the stack; None where it does not lie wholly in one of them.
+#[inline(always)]
+fn plain_load(image: &Image, stack: &[u8; 1024], addr: u32, len: u8) -> Option<u32>
+    requires width { (len ≡ 1) ⊎ (len ≡ 2) ⊎ (len ≡ 4) }
+    requires aligned { addr % len ≡ 0 }
+    ensures { result ≡ plain_loaded image.now stack.now addr len }
+{
+    match image.text_load(addr, u32::from(len)) {
+        Some(raw) => Some(raw),
+        None => {
+            if is_in_stack(image.version(), addr, u32::from(len)) {
+                Some(number_in(stack, (addr - STACK_START) as usize, len))
+            } else {
+                None
+            }
+        }
+    }
 }
 
 /// A trap at the core's instruction.
 #[inline(always)]
-fn trap(core: &Core, cause: u8) -> Option<Stop>
-    ensures { result ≡ Some (Stop.Trap cause core.now.pc) }
+fn trap(head: &Head, cause: u8) -> Option<Stop>
+    ensures { result ≡ Some (Stop.Trap cause head.now.pc) }
 {
-    Some(Stop::Trap { cause, pc: core.pc })
+    Some(Stop::Trap { cause, pc: head.pc })
 }
 
-/// An aligned load: from the text it is a plain instruction.
+/// An aligned load: from the text or the stack it is a plain instruction.
 #[inline(always)]
 fn load(
     image: &Image,
     data_size: u32,
-    core: &mut Core,
+    head: &mut Head,
+    stack: &[u8; 1024],
     width: LoadWidth,
     rd: Reg,
     addr: u32,
 ) -> Option<Stop>
-    requires room { core.old.used + 1 < 2 ^ 32 }
+    requires room { head.old.used + 1 < 2 ^ 32 }
     requires aligned { addr % load_bytes width ≡ 0 }
-    ensures next { let raw = text_loaded image.now.text addr (load_bytes width) in
-        given core.new result ≡ load_next data_size core.old width rd addr raw }
-    ensures stopped { OnSome result (core.new ≡ core.old) }
+    ensures next { let raw = plain_loaded image.now stack.now addr (load_bytes width) in
+        given (whole head.new stack.now) result ≡ load_next data_size (whole head.old stack.now) width rd addr raw }
+    ensures stopped { OnSome result (head.new ≡ head.old) }
 {
-    let len = u32::from(bytes_of_load(width));
-    match image.text_load(addr, len) {
+    let bytes = bytes_of_load(width);
+    let len = u32::from(bytes);
+    match plain_load(image, stack, addr, bytes) {
         Some(raw) => {
-            let next = core.pc.wrapping_add(4);
-            go(core, next, rd, loaded(width, raw));
+            let pc = head.pc.wrapping_add(4);
+            go(head, pc, rd, loaded(width, raw));
             None
         }
         None => {
             if is_in(DATA_START, data_size, addr, len) {
                 Some(Stop::Load { width, rd, addr })
             } else {
-                trap(core, 5)
+                trap(head, 5)
             }
         }
     }
 }
 
+/// An aligned store: to the stack it is a plain instruction.
+#[inline(always)]
+fn store(
+    image: &Image,
+    data_size: u32,
+    head: &mut Head,
+    stack: &mut [u8; 1024],
+    width: StoreWidth,
+    addr: u32,
+    value: u32,
+) -> Option<Stop>
+    requires room { head.old.used + 1 < 2 ^ 32 }
+    requires aligned { addr % store_bytes width ≡ 0 }
+    ensures next { let from = whole head.old stack.old in
+        given (whole head.new stack.new) result ≡ store_next image.now.version data_size from width addr value }
+    ensures stopped { OnSome result (whole head.new stack.new ≡ whole head.old stack.old) }
+{
+    let bytes = bytes_of_store(width);
+    let len = u32::from(bytes);
+    if is_in_stack(image.version(), addr, len) {
+        write_in(stack, (addr - STACK_START) as usize, bytes, value);
+        let pc = head.pc.wrapping_add(4);
+        pass_to(head, pc);
+        None
+    } else if is_in(DATA_START, data_size, addr, len) {
+        Some(Stop::Store { width, addr, value })
+    } else {
+        trap(head, 7)
+    }
+}
+
 /// Executes what an instruction does if that is plain, or tells what it is.
 #[inline(always)]
-fn obey(image: &Image, data_size: u32, core: &mut Core, effect: Effect) -> Option<Stop>
-    requires room { core.old.used + 1 < 2 ^ 32 }
-    ensures next { given core.new result ≡ effect_next image.now data_size core.old effect }
-    ensures stopped { OnSome result (core.new ≡ core.old) }
+fn obey(
+    image: &Image,
+    data_size: u32,
+    head: &mut Head,
+    stack: &mut [u8; 1024],
+    effect: Effect,
+) -> Option<Stop>
+    requires room { head.old.used + 1 < 2 ^ 32 }
+    ensures next { let from = whole head.old stack.old in
+        given (whole head.new stack.new) result ≡ effect_next image.now data_size from effect }
+    ensures stopped { OnSome result (whole head.new stack.new ≡ whole head.old stack.old) }
 {
     match effect {
         Effect::Plain { pc, rd, value } => {
-            go(core, pc, rd, value);
+            go(head, pc, rd, value);
             None
         }
         Effect::Load { width, rd, addr } => {
             if addr % u32::from(bytes_of_load(width)) == 0 {
-                load(image, data_size, core, width, rd, addr)
+                load(image, data_size, head, stack, width, rd, addr)
             } else {
-                trap(core, 4)
+                trap(head, 4)
             }
         }
         Effect::Store { width, addr, value } => {
-            let len = u32::from(bytes_of_store(width));
-            if addr % len != 0 {
-                trap(core, 6)
-            } else if is_in(DATA_START, data_size, addr, len) {
-                Some(Stop::Store { width, addr, value })
+            if addr % u32::from(bytes_of_store(width)) == 0 {
+                store(image, data_size, head, stack, width, addr, value)
             } else {
-                trap(core, 7)
+                trap(head, 6)
             }
         }
         Effect::Call => Some(Stop::Call),
-        Effect::Break => trap(core, 8),
-        Effect::Misaligned => trap(core, 3),
+        Effect::Break => trap(head, 8),
+        Effect::Misaligned => trap(head, 3),
     }
 }
 
@@ -133,26 +208,92 @@ fn obey(image: &Image, data_size: u32, core: &mut Core, effect: Effect) -> Optio
 /// Inlined with `decode` and `effect`, so that no instruction or effect is built in memory.
 #[inline(always)]
 #[tactic(auto, unfolding(crate::specs::Legs::next_at))]
-fn step(image: &Image, data_size: u32, core: &mut Core, budget: u32) -> Option<Stop>
-    ensures next { given core.new result ≡ next_at image.now data_size budget core.old }
-    ensures stopped { OnSome result (core.new ≡ core.old) }
+pub(crate) fn step<const CALLER: usize>(
+    image: &Image,
+    data_size: u32,
+    head: &mut Head,
+    stack: &mut [u8; 1024],
+    budget: u32,
+) -> Option<Stop>
+    ensures next { let from = whole head.old stack.old in
+        given (whole head.new stack.new) result ≡ next_at image.now data_size budget from }
+    ensures stopped { OnSome result (whole head.new stack.new ≡ whole head.old stack.old) }
 {
-    if core.used >= budget {
-        return trap(core, 17);
+    if head.used >= budget {
+        return trap(head, 17);
     }
-    let Some(word) = image.fetch(core.pc) else {
-        return trap(core, 1);
+    let Some(word) = image.fetch(head.pc) else {
+        return trap(head, 1);
     };
-    let Some(instr) = decode(word) else {
-        return trap(core, 2);
+    let Some(instr) = decode_at::<CALLER>(word) else {
+        return trap(head, 2);
     };
-    let effect = effect(core.pc, &core.regs, &instr);
-    obey(image, data_size, core, effect)
+    let effect = effect(head.pc, &head.regs, &instr);
+    obey(image, data_size, head, stack, effect)
+}
+
+/// Runs plain instructions from a core on, whose stack stands beside it.
+#[inline(always)]
+#[tactic(auto, using(crate::proofs::Runs::step_facts))]
+fn run_head(
+    image: &Image,
+    data_size: u32,
+    head: &mut Head,
+    stack: &mut [u8; 1024],
+    quantum: u32,
+    budget: u32,
+) -> (u32, Stop)
+    requires quantum { (1 ≤ quantum) × (quantum ≤ 1024) }
+    requires used { head.old.used ≤ budget }
+    ensures leg { let from = whole head.old stack.old in
+        IsLeg image.now data_size budget quantum from (whole head.new stack.new) result.0 result.1 }
+    ensures inside { IsInside data_size result.1 }
+    ensures used { (head.new.used ≡ head.old.used + result.0) × (head.new.used ≤ budget) }
+{
+    for steps in 0..quantum {
+        if let Some(stop) = step::<0>(image, data_size, head, stack, budget) {
+            return (steps, stop);
+        }
+    }
+    (quantum, Stop::Quantum)
+}
+
+/// Runs plain instructions from a core on, in place, at most `quantum` of them, and tells how many there were and what
+/// it stopped at.
+pub(crate) fn run_in_place(
+    image: &Image,
+    data_size: u32,
+    core: &mut Core,
+    quantum: u32,
+    budget: u32,
+) -> (u32, Stop)
+    requires quantum { (1 ≤ quantum) × (quantum ≤ 1024) }
+    requires used { core.old.used ≤ budget }
+    ensures leg { IsLeg image.now data_size budget quantum core.old core.new result.0 result.1 }
+    ensures inside { IsInside data_size result.1 }
+    ensures used { (core.new.used ≡ core.old.used + result.0) × (core.new.used ≤ budget) }
+{
+    let mut head = Head {
+        pc: core.pc,
+        regs: core.regs,
+        used: core.used,
+    };
+    let done = run_head(
+        image,
+        data_size,
+        &mut head,
+        &mut core.stack,
+        quantum,
+        budget,
+    );
+    core.pc = head.pc;
+    core.regs = head.regs;
+    core.used = head.used;
+    done
 }
 
 /// Runs plain instructions on the image's text with data of another size than the image's. All else is as in
 /// `run_plain`.
-#[tactic(auto, using(crate::proofs::Runs::step_facts))]
 pub fn run_plain_within(
     image: &Image,
     data_size: u32,
@@ -166,27 +307,15 @@ pub fn run_plain_within(
     ensures inside { IsInside data_size result.stop }
     ensures used { (result.to.used ≡ from.now.used + result.steps) × (result.to.used ≤ budget) }
 {
-    let mut core = *from;
-    for steps in 0..quantum {
-        if let Some(stop) = step(image, data_size, &mut core, budget) {
-            return Plain {
-                to: core,
-                steps,
-                stop,
-            };
-        }
-    }
-    Plain {
-        to: core,
-        steps: quantum,
-        stop: Stop::Quantum,
-    }
+    let mut to = *from;
+    let (steps, stop) = run_in_place(image, data_size, &mut to, quantum, budget);
+    Plain { to, steps, stop }
 }
 
 /// Runs plain instructions from a core on, at most `quantum` of them, 1 to 1,024. A plain instruction touches
-/// nothing but the registers and, by a load, the text. The run stops at the first of: its quantum is done; a trap,
-/// of which 17 (the task has used `budget` instructions), 1 and 2 come first; a load from the data; a store; an
-/// ECALL. What it stops at isn't executed.
+/// nothing but the registers, the stack and, by a load, the text. The run stops at the first of: its quantum is done;
+/// a trap, of which 17 (the task has used `budget` instructions), 1 and 2 come first; a load from the data; a store to
+/// the data; an ECALL. What it stops at isn't executed.
 pub fn run_plain(image: &Image, from: &Core, quantum: u32, budget: u32) -> Plain
     requires quantum { (1 ≤ quantum) × (quantum ≤ 1024) }
     requires used { from.now.used ≤ budget }
@@ -203,8 +332,31 @@ pub fn after_load(core: &Core, width: LoadWidth, rd: Reg, raw: u32) -> Core
     ensures { result ≡ after_load_of core.now width rd raw }
 {
     let mut after = *core;
-    go(&mut after, core.pc.wrapping_add(4), rd, loaded(width, raw));
+    put_after_load(&mut after, core, width, rd, raw);
     after
+}
+
+/// Puts the core after a load in the place of another, as [`after_load`] tells it.
+#[inline(always)]
+pub fn put_after_load(core: &mut Core, from: &Core, width: LoadWidth, rd: Reg, raw: u32)
+    requires { from.now.used < 2 ^ 32 - 1 }
+    ensures { core.new ≡ after_load_of from.now width rd raw }
+{
+    *core = *from;
+    core.regs.set(rd, loaded(width, raw));
+    core.pc = from.pc.wrapping_add(4);
+    core.used += 1;
+}
+
+/// Puts the core after an instruction that writes no register in the place of another, as [`after_other`] tells it.
+#[inline(always)]
+pub fn put_after_other(core: &mut Core, from: &Core)
+    requires { from.now.used < 2 ^ 32 - 1 }
+    ensures { core.new ≡ after_other_of from.now }
+{
+    *core = *from;
+    core.pc = from.pc.wrapping_add(4);
+    core.used += 1;
 }
 
 /// The core after an instruction that writes no register. It goes on to the next instruction.

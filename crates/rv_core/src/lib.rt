@@ -4,14 +4,18 @@
 //! instruction table and the image; both machines call it.
 #![tactic(auto)]
 
+mod decoded;
+mod laws;
 mod legs;
 mod naming;
+mod op;
 mod state;
-#[cfg(test)]
-mod tests;
 
+pub use decoded::{Decoded, run_decoded};
+pub use laws::no_address_reaches_a_stack;
 pub use legs::{
-    after_load, after_other, bytes_of_load, bytes_of_store, run_plain, run_plain_within,
+    after_load, after_other, bytes_of_load, bytes_of_store, put_after_load, put_after_other,
+    run_plain, run_plain_within,
 };
-pub use naming::{Leg, Naming, run_leg};
+pub use naming::{Leg, Naming, run_leg, run_leg_decoded};
 pub use state::{Core, Plain, Stop};

@@ -6,7 +6,8 @@ ghost use Rattle.guest_image.specs.declared.image.Kind.TheVariants.{Unordered};
 ghost use Rattle.rv_core.specs.Legs.{IsLeg};
 ghost use Rattle.rv_core.specs.LegValue.{IsRun};
 
-use crate::legs::run_plain;
+use crate::decoded::{Decoded, run_decoded};
+use crate::legs::run_in_place;
 use crate::state::{Core, Stop};
 use guest_image::Image;
 use std::marker::{Brand, Model, PhantomData};
@@ -91,6 +92,7 @@ impl<N: Naming> Leg<N> {
 }
 
 /// Runs plain instructions as [`run_plain`](crate::run_plain) does, and keeps in the type of the answer what was run.
+#[inline(always)]
 pub fn run_leg<N: Naming>(image: &Image, from: &Core, quantum: u32, budget: u32) -> Leg<N>
     requires image { image.now ≡ N.image }
     requires budget { budget ≡ N.budget }
@@ -100,12 +102,46 @@ pub fn run_leg<N: Naming>(image: &Image, from: &Core, quantum: u32, budget: u32)
     ensures leg { IsLeg image.now image.now.data_size budget quantum from.now result.to result.steps result.stop }
     ensures run { IsRun image.now budget result }
 {
-    let plain = run_plain(image, from, quantum, budget);
-    Leg {
+    let mut leg = Leg {
         from: *from,
-        to: plain.to,
-        steps: plain.steps,
-        stop: plain.stop,
+        to: *from,
+        steps: 0,
+        stop: Stop::Quantum,
         naming: PhantomData,
-    }
+    };
+    let (steps, stop) = run_in_place(image, image.data_size(), &mut leg.to, quantum, budget);
+    leg.steps = steps;
+    leg.stop = stop;
+    leg
+}
+
+/// Runs plain instructions on the decoded text as [`run_leg`] does on the image's.
+#[inline(always)]
+pub fn run_leg_decoded<N: Naming>(
+    decoded: &Decoded<N>,
+    image: &Image,
+    from: &Core,
+    quantum: u32,
+    budget: u32,
+) -> Leg<N>
+    requires image { image.now ≡ N.image }
+    requires budget { budget ≡ N.budget }
+    requires quantum { (1 ≤ quantum) × (quantum ≤ 1024) }
+    requires used { from.now.used ≤ budget }
+    ensures from { result.from ≡ from.now }
+    ensures leg { IsLeg image.now image.now.data_size budget quantum from.now result.to result.steps result.stop }
+    ensures run { IsRun image.now budget result }
+{
+    let mut leg = Leg {
+        from: *from,
+        to: *from,
+        steps: 0,
+        stop: Stop::Quantum,
+        naming: PhantomData,
+    };
+    let size = image.data_size();
+    let (steps, stop) = run_decoded(decoded, image, size, &mut leg.to, quantum, budget);
+    leg.steps = steps;
+    leg.stop = stop;
+    leg
 }

@@ -1,7 +1,9 @@
 //! A task's core, and what a run of its plain instructions stops at.
 
 ghost use Rattle.std.specs.Prelude.{◌≡◌, ◌<◌};
+ghost use Rattle.rv_core.specs.Memory.{stack_top};
 
+use guest_image::{STACK_BYTES, STACK_START};
 use rv_table::{LoadWidth, Reg, Regs, StoreWidth};
 
 /// The core of a task in progress.
@@ -13,18 +15,31 @@ pub struct Core {
     pub regs: Regs,
     /// How many instructions the task has executed.
     pub used: u32,
+    /// The bytes of its stack, which stands at `STACK_START` in version 2. In version 1 no address reaches it.
+    pub stack: [u8; 1024],
+}
+
+/// A core without its stack: what a run of plain instructions keeps at hand.
+#[derive(Clone, Copy)]
+pub(crate) struct Head {
+    pub(crate) pc: u32,
+    pub(crate) regs: Regs,
+    pub(crate) used: u32,
 }
 
 impl Core {
     ghost use Rattle.std.specs.Prelude.{◌≡◌, ◌<◌};
     ghost use Rattle.rv_core.specs.Legs.{start_of};
 
-    /// The core of a task that starts: `x10` to `x12` are its arguments, `x13` is its timestamp, all other
-    /// registers are 0, and no instruction is used.
-    pub fn start(entry: u32, ts: u32, args: [u32; 3]) -> Core
-        ensures { result ≡ start_of entry ts args }
+    /// The core of a task that starts, in an image of a version: `x10` to `x12` are its arguments, `x13` is its
+    /// timestamp, all other registers are 0, no instruction is used, and the stack is zero. In version 2 `x2` is the
+    /// end of the stack.
+    #[tactic(auto, unfolding(crate::specs::Memory::empty_stack))]
+    pub fn start(version: u16, entry: u32, ts: u32, args: [u32; 3]) -> Core
+        ensures { result ≡ start_of version entry ts args }
     {
         let mut regs = Regs::zero();
+        regs.set(register(2), top_of_stack(version));
         regs.set(register(10), args[0]);
         regs.set(register(11), args[1]);
         regs.set(register(12), args[2]);
@@ -33,6 +48,7 @@ impl Core {
             pc: entry,
             regs,
             used: 0,
+            stack: [0; 1024],
         }
     }
 }
@@ -80,6 +96,17 @@ pub struct Plain {
     pub steps: u32,
     /// What it stopped at.
     pub stop: Stop,
+}
+
+/// What `x2` is at the start of a task.
+fn top_of_stack(version: u16) -> u32
+    ensures { result ≡ stack_top version }
+{
+    if version == 2 {
+        STACK_START + STACK_BYTES
+    } else {
+        0
+    }
 }
 
 fn register(number: u8) -> Reg

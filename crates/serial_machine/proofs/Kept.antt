@@ -46,9 +46,9 @@ module _ (Holds : TaskState → Type 0) where
         (step-holds task (next_at image (length task.memory) budget task.core) here) (steps-hold left)
 
     -- so it holds of a task that is done, where it held of the task that had done nothing
-    pub task_run-holds : (entry : ℕ) (args memory : List ℕ) → Holds (begun entry ctx.ts args memory) → EndHolds (task_run image budget ctx entry args memory)
+    pub task_run-holds : (entry : ℕ) (args memory : List ℕ) → Holds (begun image.version entry ctx.ts args memory) → EndHolds (task_run image budget ctx entry args memory)
     unfolding task_run
-    task_run-holds entry args memory here = steps-hold budget (begun entry ctx.ts args memory) here
+    task_run-holds entry args memory here = steps-hold budget (begun image.version entry ctx.ts args memory) here
 
 -- a task at the greatest depth makes no subdomain
 pub request-sub_fits : (ctx : Ctx) (task : TaskState) (asked : Request) → AllowedBy (context ctx task) asked → SubFits ctx.depth task.sub

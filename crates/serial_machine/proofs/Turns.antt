@@ -3,6 +3,7 @@ use Rattle.std.proofs.Common.{◌≡◌, refl, sym, ap, ◌≤◌, ◌+◌, ◌-
 use Rattle.std.proofs.lemmas.Grind.{common_steps}
 use Rattle.std.proofs.lemmas.List.{nil_from_length}
 use Rattle.std.proofs.lemmas.Bool.Decides.{nat_tests}
+use Rattle.task_desc.specs.declared.calls.TheConstants.{MAX_DEPTH}
 use Rattle.task_desc.specs.declared.desc.Place.TheVariants.{Sub, Super}
 use Rattle.guest_image.specs.declared.image.Kind.{Kind}
 use Rattle.task_desc.specs.declared.desc.Name.{Name}
@@ -32,12 +33,12 @@ IsStack-with_super tasks [] h = tt
 IsStack-with_super tasks (b ∷ bs) h = h
 
 -- at most one bag more
-pub IsStack-chosen : (b : Bool) (bag : BagValue) (rest : List BagValue) → bag.depth ≡ length rest + 1 → bag.depth ≤ 8 → IsStack rest → IsStack ((if b then [] else bag ∷ []) ++ rest)
+pub IsStack-chosen : (b : Bool) (bag : BagValue) (rest : List BagValue) → bag.depth ≡ length rest + 1 → bag.depth ≤ MAX_DEPTH → IsStack rest → IsStack ((if b then [] else bag ∷ []) ++ rest)
 IsStack-chosen true bag rest e le h = h
 IsStack-chosen false bag rest e le h = (e, le, h)
 
 pub IsStack-sub : (depth floor owner : ℕ) (tasks : List PendingTask) (sub : Option Kind) (rest : List BagValue)
-    → depth ≡ length rest → depth ≤ 8 → SubFits depth sub → IsStack rest → IsStack (sub_bags (depth + 1) floor owner tasks sub ++ rest)
+    → depth ≡ length rest → depth ≤ MAX_DEPTH → SubFits depth sub → IsStack rest → IsStack (sub_bags (depth + 1) floor owner tasks sub ++ rest)
 IsStack-sub depth floor owner tasks None rest e le fits h = h
 IsStack-sub depth floor owner tasks (Some kind) rest e le fits h = IsStack-chosen (length tasks == 0) _ rest (omega arith) (omega arith) h
 
@@ -77,15 +78,15 @@ finish-trapped (Done u) cause pc t h = absurd h
 finish-trapped (Trapped c p) cause pc t h = rw (h.0, h.1) refl
 
 -- the steps of a task that has done nothing are its run
-pub steps-begun : (image : ImageValue) (budget : ℕ) (ctx : Ctx) (entry ts : ℕ) (args memory before : List ℕ) (task : TaskState) → ctx.ts ≡ ts → before ≡ memory → task ≡ begun entry ts args before
+pub steps-begun : (image : ImageValue) (budget : ℕ) (ctx : Ctx) (entry ts : ℕ) (args memory before : List ℕ) (task : TaskState) → ctx.ts ≡ ts → before ≡ memory → task ≡ begun image.version entry ts args before
     → steps image budget ctx (budget - task.core.used) task ≡ task_run image budget ctx entry args memory
 unfolding task_run
 steps-begun image budget ctx entry ts args memory before task at same is =
     let all : budget - 0 ≡ budget = omega arith in
     ap (λ t. steps image budget ctx (budget - t.core.used) t) is
-    ∙ ap (λ k. steps image budget ctx k (begun entry ts args before)) all
-    ∙ ap (λ m. steps image budget ctx budget (begun entry ts args m)) same
-    ∙ ap (λ t. steps image budget ctx budget (begun entry t args memory)) (sym at)
+    ∙ ap (λ k. steps image budget ctx k (begun image.version entry ts args before)) all
+    ∙ ap (λ m. steps image budget ctx budget (begun image.version entry ts args m)) same
+    ∙ ap (λ t. steps image budget ctx budget (begun image.version entry t args memory)) (sym at)
 
 -- the emptied bags go
 pub IsStack-inner : (stack : List BagValue) → IsStack stack → IsStack (inner stack)
@@ -124,7 +125,7 @@ stack-after stack two outer bag new name place n ts depth spawns sub f stands de
 
 -- the turn of a task that is done
 pub turn-taken : (image : ImageValue) (budget : ℕ) (s : State) (name : Name) (bag : BagValue) (outer stack : List BagValue) (task : PendingTask) (ctx : Ctx) (memory output : List ℕ) (t : TaskState)
-    → MayTurn s.stack name bag outer task → ctx ≡ context_of bag outer task → task_run image budget ctx task.entry task.args s.memory ≡ Done t
+    → MayTurn s.stack name bag outer task → ctx ≡ context_of image.version bag outer task → task_run image budget ctx task.entry task.args s.memory ≡ Done t
     → stack ≡ stack_after bag outer name (s.count + 1) task.ts t.spawns t.sub → memory ≡ t.memory → output ≡ s.output ++ t.bytes
     → turn image budget s name ≡ Some (record { stack = stack; memory = memory; output = output; count = s.count + 1 }, record { name = name; depth = ctx.depth; ts = task.ts })
 turn-taken image budget s name bag outer stack task ctx memory output t may at ran left kept told =

@@ -13,8 +13,6 @@ mod progress;
 mod running;
 mod serial;
 mod stack;
-#[cfg(test)]
-mod tests;
 mod turning;
 mod whole_run;
 

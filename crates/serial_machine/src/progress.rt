@@ -3,7 +3,7 @@
 ghost use Rattle.std.specs.Prelude.{◌≡◌};
 ghost use Rattle.task_step.specs.TaskState.{begun};
 
-use guest_image::Kind;
+use guest_image::{Image, Kind};
 use pending_list::PendingTask;
 use rv_core::Core;
 use std::alloc::Global;
@@ -54,12 +54,13 @@ impl Model for Progress {
         × AllAccessible (length p.memory) p.log };
 }
 
-/// A task at its start, on this memory.
-pub(crate) fn started(alloc: Global, task: &PendingTask, memory: Memory) -> Progress
-    ensures { result ≡ record { task = begun task.now.entry task.now.ts task.now.args memory; first = memory } }
+/// A task of the image at its start, on this memory.
+pub(crate) fn started(alloc: Global, image: &Image, task: &PendingTask, memory: Memory) -> Progress
+    ensures { let task = task.now in
+        result ≡ record { task = begun image.now.version task.entry task.ts task.args memory; first = memory } }
 {
     Progress {
-        core: Core::start(task.entry, task.ts, task.args),
+        core: Core::start(image.version(), task.entry, task.ts, task.args),
         memory,
         log: Log::new(alloc),
         spawns: Vec::new(alloc),

@@ -4,6 +4,7 @@ ghost use Rattle.std.specs.Prelude.{◌≡◌, ◌≤◌, ◌<◌, ◌+◌, ◌+
 ghost use Rattle.std.specs.Prelude.{vec_capacity, IfOk, OnOk, IfSome, IfNone, MatchOption, MatchBool, Some};
 ghost use Rattle.std.specs.Prelude.{Contains};
 ghost use Rattle.std.specs.List.{list_any};
+ghost use Rattle.task_desc.specs.declared.calls.TheConstants.{MAX_CHILDREN};
 ghost use Rattle.serial_machine.specs.Turn.{is_named, is_least, inner, is_pending, place_number, children};
 ghost use Rattle.serial_machine.specs.Turn.{sub_bags, with_super};
 ghost use Rattle.serial_machine.specs.Stack.{bags, new_bags, AreOlder, AreAllOlder, HaveRoom, IsTopAt, settled};
@@ -93,7 +94,7 @@ fn number(place: Place) -> u8
 /// The children for a domain join the tasks, which have room for them and were made before.
 #[tactic(auto, unfolding(crate::specs::Turn::children))]
 fn join(tasks: &mut PendingList, place: Place, owner: u32, spawns: &[Spawn])
-    requires few { length spawns.now ≤ 64 }
+    requires few { length spawns.now ≤ MAX_CHILDREN }
     requires room { length spawns.now ≤ tasks.old.room }
     requires older { AreOlder owner tasks.old.tasks }
     ensures { tasks.new.tasks ≡ tasks.old.tasks ++ children place owner spawns.now }
@@ -122,7 +123,7 @@ pub(crate) fn subdomain(
     kind: Option<Kind>,
     spawns: &[Spawn],
 ) -> Result<Option<Bag>, AllocError>
-    requires { length spawns.now ≤ 64 }
+    requires { length spawns.now ≤ MAX_CHILDREN }
     ensures { let tasks = children Place.Sub owner spawns.now in
         IfOk result (λ new. new_bags new ≡ sub_bags depth floor owner tasks kind) }
 {
@@ -198,7 +199,7 @@ fn drop_first(stack: &mut Vec<Bag>, count: usize)
 
 /// The children for the superdomain join the first bag, if there is one.
 fn join_outside(stack: &mut Vec<Bag>, owner: u32, spawns: &[Spawn])
-    requires few { length spawns.now ≤ 64 }
+    requires few { length spawns.now ≤ MAX_CHILDREN }
     requires room { HaveRoom (length spawns.now) stack.old.items }
     requires older { AreAllOlder owner (bags stack.old.items) }
     ensures joined { bags stack.new.items ≡ with_super (children Place.Super owner spawns.now) (bags stack.old.items) }
@@ -224,7 +225,7 @@ pub(crate) fn settle(
     spawns: &[Spawn],
 )
     requires top { top < vec_len stack.old }
-    requires few { length spawns.now ≤ 64 }
+    requires few { length spawns.now ≤ MAX_CHILDREN }
     requires spare { vec_len stack.old < vec_capacity stack.old }
     requires room { HaveRoom (length spawns.now) stack.old.items }
     requires older { AreAllOlder owner (bags (drop top stack.old.items)) }

@@ -64,11 +64,12 @@ fn kind_of_first(outer: &[Bag]) -> Option<Kind>
     }
 }
 
-/// What the calls of a task depend on as it starts.
-fn context(bag: &Bag, outer: &[Bag], task: &PendingTask) -> Ctx
-    ensures { result ≡ context_of (bag_value bag.now) (bags outer.now) task.now }
+/// What the calls of a task of the image depend on as it starts.
+fn context(image: &Image, bag: &Bag, outer: &[Bag], task: &PendingTask) -> Ctx
+    ensures { result ≡ context_of image.now.version (bag_value bag.now) (bags outer.now) task.now }
 {
     Ctx {
+        version: image.version(),
         depth: bag.depth,
         own: bag.kind,
         outer: kind_of_first(outer),
@@ -104,7 +105,7 @@ fn run_done(
     let Ok(empty) = Memory::new(alloc, &[], 0) else {
         return Err(TurnFault::Memory);
     };
-    let mut progress = started(alloc, task, replace(memory, empty));
+    let mut progress = started(alloc, image, task, replace(memory, empty));
     match run(&mut progress, image, budget, ctx) {
         Ok(RunEnd::Done) => Ok(progress),
         Ok(RunEnd::Trapped { cause, pc }) => {
@@ -188,7 +189,7 @@ pub(crate) fn take_turn(
         Err(fault) => return Err(fault),
     };
     let (bag, outer) = bag_at(stack, place);
-    let ctx = context(bag, outer, &task);
+    let ctx = context(image, bag, outer, &task);
     let done = match run_done(alloc, image, budget, &ctx, &task, memory) {
         Ok(done) => done,
         Err(fault) => return Err(fault),

@@ -50,18 +50,21 @@ pub struct Desc {
     pub args: [u32; 3],
     /// A number from which a tile may be picked for it.
     pub hint: u32,
-    /// The depth of its domain: 1 for the root domain, at most 8.
+    /// The depth of its domain: 1 for the root domain, at most 16.
     pub depth: u8,
     /// A bit for each depth on its path, the root in bit 0: 1 where that domain is ordered.
     pub kinds: u16,
 }
 
-/// What the calls of a running task depend on: the depth and kind of its domain, the kind of the superdomain (none at
-/// depth 1), its timestamp, its domain's floor, the kind of the subdomain that it made, and how many children and bytes
-/// it has enqueued and emitted so far.
+/// What the calls of a running task depend on: the version of the image, the depth and kind of its domain, the kind
+/// of the superdomain (none at depth 1), its timestamp, its domain's floor, the kind of the subdomain that it made, and
+/// how many children and bytes it has enqueued and emitted so far.
 #[derive(Clone, Copy, Debug, PartialEq, Eq)]
 pub struct Ctx {
-    /// The depth of its domain: 1 for the root domain, at most 8.
+    /// The version of the image, which gives the limits: 8 levels and 64 children in version 1, 16 and 256 in
+    /// version 2.
+    pub version: u16,
+    /// The depth of its domain: 1 for the root domain, at most 16.
     pub depth: u8,
     /// The kind of its domain.
     pub own: Kind,
@@ -73,7 +76,7 @@ pub struct Ctx {
     pub floor: u32,
     /// The kind of the subdomain that it made, where it made one.
     pub sub: Option<Kind>,
-    /// How many children it has enqueued, in all domains together: at most 64.
+    /// How many children it has enqueued, in all domains together: at most 256.
     pub children: u32,
     /// How many bytes it has emitted: at most 256.
     pub bytes: u32,

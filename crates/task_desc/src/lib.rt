@@ -6,8 +6,6 @@
 mod calls;
 mod desc;
 mod record;
-#[cfg(test)]
-mod tests;
 
 pub use calls::{MAX_BYTES, MAX_CHILDREN, MAX_DEPTH, allow, allow_byte, allow_sub};
 pub use desc::{Ctx, Desc, Name, Place, Spawn};

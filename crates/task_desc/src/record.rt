@@ -65,8 +65,8 @@ pub fn put_desc(desc: &Desc) -> [u8; RECORD_BYTES]
     record
 }
 
-/// The descriptor of a record; None exactly where the depth is not 1 to 8, `kinds` has a bit at or past the depth, or a
-/// byte behind the fields is not 0.
+/// The descriptor of a record; None exactly where the depth is not 1 to 16, `kinds` has a bit at or past the depth,
+/// or a byte behind the fields is not 0.
 #[tactic(auto, unfolding(crate::specs::Record::desc_of))]
 pub fn get_desc(bytes: &[u8; RECORD_BYTES]) -> Option<Desc>
     ensures value { result ≡ desc_of bytes.now }

@@ -1,5 +1,5 @@
 -- What a task asks for is what the rules of calls allow.
-use Rattle.std.proofs.Common.{◌≡◌, ◌≢◌, ◌%◌, ◌==◌, ◌<◌, ℕ, Bool, true, false, Option, Some, None, refl, sym, subst, ◌-◌, arith, if◌then◌else◌}
+use Rattle.std.proofs.Common.{◌≡◌, ◌≢◌, ◌%◌, ◌==◌, ◌<◌, ◌≤◌, ℕ, Bool, true, false, Option, Some, None, refl, sym, subst, ◌-◌, arith, if◌then◌else◌}
 use Rattle.std.specs.Prelude.{Result, Ok, Err, nat_lt}
 use Rattle.std.proofs.lemmas.Bool.{ltb-true}
 use Rattle.std.proofs.lemmas.Bool.Decides.{nat_tests}
@@ -16,7 +16,7 @@ use Rattle.task_desc.specs.declared.desc.Place.{Place}
 use Rattle.task_desc.specs.declared.desc.Place.TheVariants.{Same, Sub, Super}
 use Rattle.task_desc.specs.declared.desc.Spawn.{Spawn}
 use Rattle.task_desc.specs.declared.calls.TheConstants.{MAX_BYTES, MAX_CHILDREN, MAX_DEPTH}
-use Rattle.task_desc.specs.Calls.{domain_ts, is_early, counted, allowed, allowed_at, allowed_sub, allowed_super, kind_of, sub_of, sub_allowed, byte_allowed}
+use Rattle.task_desc.specs.Calls.{deepest, most_children, domain_ts, is_early, counted, allowed, allowed_at, allowed_sub, allowed_super, kind_of, sub_of, sub_allowed, byte_allowed}
 use Rattle.task_step.specs.declared.request.Request.{Request}
 use Rattle.task_step.specs.declared.request.Request.TheVariants.{Continue, Load, Store, Enqueue, MakeSub, Emit, End, Trap}
 use Rattle.task_step.specs.Conditions.{HasRoom, IsCall}
@@ -71,21 +71,39 @@ request_at-allowed ctx core stop.Call =
 request_at-allowed ctx core (stop.Trap cause pc) = tt
 request_at-allowed ctx core stop.Quantum = tt
 
+-- the limits of each version are at most the greatest ones
+most_children-few : (version : ℕ) → most_children version ≤ MAX_CHILDREN
+most_children-few version = by_test (version == 2)
+  where
+    by_test : (b : Bool) → (if b then 256 else 64) ≤ MAX_CHILDREN
+    by_test true = omega arith
+    by_test false = omega arith
+
+deepest-few : (version : ℕ) → deepest version ≤ MAX_DEPTH
+deepest-few version = by_test (version == 2)
+  where
+    by_test : (b : Bool) → (if b then 16 else 8) ≤ MAX_DEPTH
+    by_test true = omega arith
+    by_test false = omega arith
+
 -- a child is allowed only while there is room for one more
 allowed-room : (ctx : Ctx) (spawn : Spawn) (ts : ℕ) → allowed ctx spawn ≡ Ok ts → ctx.children < MAX_CHILDREN
 allowed-room ctx spawn ts allows = by_place spawn.place allows
   where
-    by_count : (b : Bool) (t : ℕ) → nat_lt ctx.children MAX_CHILDREN ≡ b → if◌then◌else◌ {A = Result ℕ ℕ} b (Ok t) (Err 15) ≡ Ok ts → ctx.children < MAX_CHILDREN
-    by_count true t is at = ltb-true ctx.children MAX_CHILDREN is
+    by_count : (b : Bool) (t : ℕ) → nat_lt ctx.children (most_children ctx.version) ≡ b → if◌then◌else◌ {A = Result ℕ ℕ} b (Ok t) (Err 15) ≡ Ok ts → ctx.children < MAX_CHILDREN
+    by_count true t is at =
+        let below = ltb-true ctx.children (most_children ctx.version) is in
+        let few = most_children-few ctx.version in
+        omega arith
     by_count false t is at = absurd (cc (at))
 
     by_time : (b : Bool) (t : ℕ) → if◌then◌else◌ {A = Result ℕ ℕ} b (Err 10) (counted ctx t) ≡ Ok ts → ctx.children < MAX_CHILDREN
     by_time true t at = absurd (cc (at))
-    by_time false t at = by_count (nat_lt ctx.children MAX_CHILDREN) t refl at
+    by_time false t at = by_count (nat_lt ctx.children (most_children ctx.version)) t refl at
 
     by_sub : (sub : Option Kind) → allowed_sub ctx spawn.ts sub ≡ Ok ts → ctx.children < MAX_CHILDREN
     by_sub None at = absurd (cc (at))
-    by_sub (Some kind) at = by_count (nat_lt ctx.children MAX_CHILDREN) (domain_ts kind spawn.ts) refl at
+    by_sub (Some kind) at = by_count (nat_lt ctx.children (most_children ctx.version)) (domain_ts kind spawn.ts) refl at
 
     by_super : (outer : Option Kind) → allowed_super ctx spawn.ts outer ≡ Ok ts → ctx.children < MAX_CHILDREN
     by_super None at = absurd (cc (at))
@@ -100,13 +118,16 @@ allowed-room ctx spawn ts allows = by_place spawn.place allows
 pub sub_allowed-room : (ctx : Ctx) (value : ℕ) (kind : Kind) → sub_allowed ctx value ≡ Ok kind → (ctx.sub ≡ None) × (ctx.depth ≢ MAX_DEPTH)
 sub_allowed-room ctx value kind is = by_value (nat_lt 1 value) ctx.sub refl is
   where
-    by_depth : (b : Bool) → (ctx.depth == MAX_DEPTH) ≡ b → if◌then◌else◌ {A = Result Kind ℕ} b (Err 14) (Ok (kind_of value)) ≡ Ok kind → ctx.depth ≢ MAX_DEPTH
-    by_depth true deep allows = absurd (cc (allows))
-    by_depth false deep allows = λ same. (let equal : (ctx.depth == MAX_DEPTH) ≡ true = grind (arith, nat_tests) in absurd (cc (deep, equal)))
+    by_depth : (b : Bool) → nat_lt ctx.depth (deepest ctx.version) ≡ b → if◌then◌else◌ {A = Result Kind ℕ} b (Ok (kind_of value)) (Err 14) ≡ Ok kind → ctx.depth ≢ MAX_DEPTH
+    by_depth false deep allows = absurd (cc (allows))
+    by_depth true deep allows =
+        let below = ltb-true ctx.depth (deepest ctx.version) deep in
+        let few = deepest-few ctx.version in
+        λ same. absurd (omega arith)
 
     by_value : (b : Bool) (made : Option Kind) → ctx.sub ≡ made → (if b then Err 9 else sub_of ctx value made) ≡ Ok kind → (ctx.sub ≡ None) × (ctx.depth ≢ MAX_DEPTH)
     by_value true made at allows = absurd (cc (allows))
-    by_value false None at allows = (at, by_depth (ctx.depth == MAX_DEPTH) refl allows)
+    by_value false None at allows = (at, by_depth (nat_lt ctx.depth (deepest ctx.version)) refl allows)
     by_value false (Some other) at allows = absurd (cc (allows))
 
 -- a byte is allowed only while there is room for one more

@@ -8,7 +8,5 @@
 #![tactic(auto)]
 
 mod request;
-#[cfg(test)]
-mod tests;
 
 pub use request::{Request, request_of};

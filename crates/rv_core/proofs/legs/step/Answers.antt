@@ -1,9 +1,10 @@
 use Rattle.std.proofs.Common.{sym, ◌∙◌, arith}
+use Rattle.rv_core.specs.Legs.{whole}
 use Rattle.rv_core.proofs.Steps.{next_at-effect}
 use Rattle.rv_core.proofs.legs.step.Goals as goal
 
 pub returns-clause-next : goal.returns-clause-next
-returns-clause-next c =
+returns-clause-next g c =
     c.obey.ensures.next
-    ∙ sym (next_at-effect _ _ _ c.args.core.now c.in-Some.word c.in-Some-decode.instr c.effect-effect.result
-    (omega arith) (sym c.in-Some.ensures) (sym c.in-Some-decode.ensures) (sym c.effect-effect.ensures))
+    ∙ sym (next_at-effect _ _ _ (whole c.args.head.now c.args.stack.now) c.in-Some.word c.in-Some-decode_at.instr c.effect-effect.result
+    (omega arith) (sym c.in-Some.ensures) (sym c.in-Some-decode_at.ensures) (sym c.effect-effect.ensures))

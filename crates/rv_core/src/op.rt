@@ -1,0 +1,581 @@
+//! Operations: instructions with one tag, made from the words of a text once.
+
+ghost use Rattle.std.specs.Prelude.{◌≡◌, ◌<◌, ◌%◌, ◌^◌, None};
+ghost use Rattle.guest_image.specs.declared.memory_map.TheConstants.{TEXT_START};
+ghost use Rattle.rv_table.specs.Exec.{plus, word, value_of, with_register, shift_signed, holds};
+ghost use Rattle.rv_table.specs.Table.{decoded};
+ghost use Rattle.rv_core.specs.Ops.{Shape, shape, in_words, instr_shape, word_shape, address, place, put, jump_to};
+ghost use Rattle.rv_core.specs.Ops.{shape_next};
+ghost use Rattle.rv_core.specs.Ops.{access, shape_stop, went, went_on, point, is_stack_access, stack_load};
+ghost use Rattle.rv_core.specs.Ops.{stack_store, stack_next};
+
+use crate::legs::{bytes_of_load, bytes_of_store, is_in, is_in_stack};
+use crate::state::Stop;
+use guest_image::{DATA_START, STACK_START, TEXT_START};
+use rv_table::{
+    Cond, ImmOp, Instr, LoadWidth, Reg, RegOp, Regs, StoreWidth, compute, decode_at, is_met, loaded,
+};
+use undo_log::{number_in, write_in};
+
+/// An instruction with one tag. Immediates are words, and offsets of jumps and branches count words of the text.
+#[derive(Clone, Copy, Debug, PartialEq, Eq)]
+pub enum Op {
+    /// What its word alone tells.
+    Slow,
+    /// FENCE
+    Fence,
+    /// ECALL
+    Ecall,
+    /// LB, LH, LW, LBU, LHU
+    Load {
+        width: LoadWidth,
+        rd: Reg,
+        rs1: Reg,
+        imm: u32,
+    },
+    /// SB, SH, SW
+    Store {
+        width: StoreWidth,
+        rs1: Reg,
+        rs2: Reg,
+        imm: u32,
+    },
+    /// LUI, AUIPC
+    Put {
+        rd: Reg,
+        value: u32,
+    },
+    Jal {
+        rd: Reg,
+        words: u32,
+    },
+    Jalr {
+        rd: Reg,
+        rs1: Reg,
+        imm: u32,
+    },
+    Addi {
+        rd: Reg,
+        rs1: Reg,
+        imm: u32,
+    },
+    Slti {
+        rd: Reg,
+        rs1: Reg,
+        imm: u32,
+    },
+    Sltiu {
+        rd: Reg,
+        rs1: Reg,
+        imm: u32,
+    },
+    Xori {
+        rd: Reg,
+        rs1: Reg,
+        imm: u32,
+    },
+    Ori {
+        rd: Reg,
+        rs1: Reg,
+        imm: u32,
+    },
+    Andi {
+        rd: Reg,
+        rs1: Reg,
+        imm: u32,
+    },
+    Slli {
+        rd: Reg,
+        rs1: Reg,
+        imm: u32,
+    },
+    Srli {
+        rd: Reg,
+        rs1: Reg,
+        imm: u32,
+    },
+    Srai {
+        rd: Reg,
+        rs1: Reg,
+        imm: u32,
+    },
+    Add {
+        rd: Reg,
+        rs1: Reg,
+        rs2: Reg,
+    },
+    Sub {
+        rd: Reg,
+        rs1: Reg,
+        rs2: Reg,
+    },
+    Sll {
+        rd: Reg,
+        rs1: Reg,
+        rs2: Reg,
+    },
+    Slt {
+        rd: Reg,
+        rs1: Reg,
+        rs2: Reg,
+    },
+    Sltu {
+        rd: Reg,
+        rs1: Reg,
+        rs2: Reg,
+    },
+    Xor {
+        rd: Reg,
+        rs1: Reg,
+        rs2: Reg,
+    },
+    Srl {
+        rd: Reg,
+        rs1: Reg,
+        rs2: Reg,
+    },
+    Sra {
+        rd: Reg,
+        rs1: Reg,
+        rs2: Reg,
+    },
+    Or {
+        rd: Reg,
+        rs1: Reg,
+        rs2: Reg,
+    },
+    And {
+        rd: Reg,
+        rs1: Reg,
+        rs2: Reg,
+    },
+    Beq {
+        rs1: Reg,
+        rs2: Reg,
+        words: u32,
+    },
+    Bne {
+        rs1: Reg,
+        rs2: Reg,
+        words: u32,
+    },
+    Blt {
+        rs1: Reg,
+        rs2: Reg,
+        words: u32,
+    },
+    Bge {
+        rs1: Reg,
+        rs2: Reg,
+        words: u32,
+    },
+    Bltu {
+        rs1: Reg,
+        rs2: Reg,
+        words: u32,
+    },
+    Bgeu {
+        rs1: Reg,
+        rs2: Reg,
+        words: u32,
+    },
+}
+
+fn imm_op(op: ImmOp, rd: Reg, rs1: Reg, imm: u32) -> Op
+    ensures { shape result ≡ Shape.Imm (with_register op) rd rs1 imm }
+{
+    match op {
+        ImmOp::Add => Op::Addi { rd, rs1, imm },
+        ImmOp::Slt => Op::Slti { rd, rs1, imm },
+        ImmOp::Sltu => Op::Sltiu { rd, rs1, imm },
+        ImmOp::Xor => Op::Xori { rd, rs1, imm },
+        ImmOp::Or => Op::Ori { rd, rs1, imm },
+        ImmOp::And => Op::Andi { rd, rs1, imm },
+        ImmOp::Sll => Op::Slli { rd, rs1, imm },
+        ImmOp::Srl => Op::Srli { rd, rs1, imm },
+        ImmOp::Sra => Op::Srai { rd, rs1, imm },
+    }
+}
+
+fn reg_op(op: RegOp, rd: Reg, rs1: Reg, rs2: Reg) -> Op
+    ensures { shape result ≡ Shape.Two op rd rs1 rs2 }
+{
+    match op {
+        RegOp::Add => Op::Add { rd, rs1, rs2 },
+        RegOp::Sub => Op::Sub { rd, rs1, rs2 },
+        RegOp::Sll => Op::Sll { rd, rs1, rs2 },
+        RegOp::Slt => Op::Slt { rd, rs1, rs2 },
+        RegOp::Sltu => Op::Sltu { rd, rs1, rs2 },
+        RegOp::Xor => Op::Xor { rd, rs1, rs2 },
+        RegOp::Srl => Op::Srl { rd, rs1, rs2 },
+        RegOp::Sra => Op::Sra { rd, rs1, rs2 },
+        RegOp::Or => Op::Or { rd, rs1, rs2 },
+        RegOp::And => Op::And { rd, rs1, rs2 },
+    }
+}
+
+fn branch_op(cond: Cond, rs1: Reg, rs2: Reg, words: u32) -> Op
+    ensures { shape result ≡ Shape.Branch cond rs1 rs2 words }
+{
+    match cond {
+        Cond::Eq => Op::Beq { rs1, rs2, words },
+        Cond::Ne => Op::Bne { rs1, rs2, words },
+        Cond::Lt => Op::Blt { rs1, rs2, words },
+        Cond::Ge => Op::Bge { rs1, rs2, words },
+        Cond::Ltu => Op::Bltu { rs1, rs2, words },
+        Cond::Geu => Op::Bgeu { rs1, rs2, words },
+    }
+}
+
+/// An offset in bytes as one in words, for a multiple of 4.
+fn words_of(offset: u32) -> u32
+    ensures { result ≡ shift_signed (offset % 2 ^ 32) 2 }
+{
+    (offset.cast_signed() >> 2).cast_unsigned()
+}
+
+fn jal_op(rd: Reg, imm: i32) -> Op
+    ensures { shape result ≡ in_words (word imm) (Shape.Jump rd) }
+{
+    let offset = imm.cast_unsigned();
+    if offset % 4 == 0 {
+        Op::Jal {
+            rd,
+            words: words_of(offset),
+        }
+    } else {
+        Op::Slow
+    }
+}
+
+fn branch_by(cond: Cond, rs1: Reg, rs2: Reg, imm: i32) -> Op
+    ensures { shape result ≡ in_words (word imm) (Shape.Branch cond rs1 rs2) }
+{
+    let offset = imm.cast_unsigned();
+    if offset % 4 == 0 {
+        branch_op(cond, rs1, rs2, words_of(offset))
+    } else {
+        Op::Slow
+    }
+}
+
+/// The operation of an instruction at a pc.
+fn instr_op(instr: Instr, pc: u32) -> Op
+    ensures { shape result ≡ instr_shape pc instr }
+{
+    match instr {
+        Instr::Lui { rd, imm } => Op::Put { rd, value: imm },
+        Instr::Auipc { rd, imm } => Op::Put {
+            rd,
+            value: pc.wrapping_add(imm),
+        },
+        Instr::Jal { rd, imm } => jal_op(rd, imm),
+        Instr::Jalr { rd, rs1, imm } => Op::Jalr {
+            rd,
+            rs1,
+            imm: imm.cast_unsigned(),
+        },
+        Instr::Branch {
+            cond,
+            rs1,
+            rs2,
+            imm,
+        } => branch_by(cond, rs1, rs2, imm),
+        Instr::Load {
+            width,
+            rd,
+            rs1,
+            imm,
+        } => Op::Load {
+            width,
+            rd,
+            rs1,
+            imm: imm.cast_unsigned(),
+        },
+        Instr::Store {
+            width,
+            rs1,
+            rs2,
+            imm,
+        } => Op::Store {
+            width,
+            rs1,
+            rs2,
+            imm: imm.cast_unsigned(),
+        },
+        Instr::OpImm { op, rd, rs1, imm } => imm_op(op, rd, rs1, imm.cast_unsigned()),
+        Instr::Op { op, rd, rs1, rs2 } => reg_op(op, rd, rs1, rs2),
+        Instr::Fence => Op::Fence,
+        Instr::Ecall => Op::Ecall,
+        Instr::Ebreak => Op::Slow,
+    }
+}
+
+/// The operation of a word at a pc.
+pub(crate) fn op_of(word: u32, pc: u32) -> Op
+    ensures { shape result ≡ word_shape pc (decoded word) }
+{
+    match decode_at::<1>(word) {
+        Some(instr) => instr_op(instr, pc),
+        None => Op::Slow,
+    }
+}
+
+/// The address of a word of the text.
+#[inline(always)]
+pub(crate) fn address_of(index: u32) -> u32
+    ensures { result ≡ address index }
+{
+    index.wrapping_mul(4).wrapping_add(TEXT_START)
+}
+
+/// The address behind a word of the text.
+#[inline(always)]
+fn address_behind(index: u32) -> u32
+    ensures { result ≡ plus (address index) 4 }
+{
+    index.wrapping_mul(4).wrapping_add(TEXT_START + 4)
+}
+
+/// On to the next word, with a register written.
+#[inline(always)]
+fn go_on(index: u32, regs: &mut Regs, rd: Reg, value: u32) -> Option<u32>
+    ensures { went result regs.new ≡ Some (put (place index regs.old) rd value) }
+{
+    regs.set(rd, value);
+    Some(index.wrapping_add(1))
+}
+
+/// An operation with an immediate.
+#[inline(always)]
+fn by_imm(op: RegOp, index: u32, regs: &mut Regs, rd: Reg, rs1: Reg, imm: u32) -> Option<u32>
+    ensures { went result regs.new ≡ shape_next (Shape.Imm op rd rs1 imm) (place index regs.old) }
+{
+    let value = compute(op, regs.get(rs1), imm);
+    go_on(index, regs, rd, value)
+}
+
+/// An operation on two registers.
+#[inline(always)]
+fn by_two(op: RegOp, index: u32, regs: &mut Regs, rd: Reg, rs1: Reg, rs2: Reg) -> Option<u32>
+    ensures { went result regs.new ≡ shape_next (Shape.Two op rd rs1 rs2) (place index regs.old) }
+{
+    let value = compute(op, regs.get(rs1), regs.get(rs2));
+    go_on(index, regs, rd, value)
+}
+
+/// A branch.
+#[inline(always)]
+fn by_cond(cond: Cond, index: u32, regs: &Regs, rs1: Reg, rs2: Reg, words: u32) -> Option<u32>
+    ensures { went result regs.now ≡ shape_next (Shape.Branch cond rs1 rs2 words) (place index regs.now) }
+{
+    let by = if is_met(cond, regs.get(rs1), regs.get(rs2)) {
+        words
+    } else {
+        1
+    };
+    Some(index.wrapping_add(by))
+}
+
+/// JAL
+#[inline(always)]
+fn jump(index: u32, regs: &mut Regs, rd: Reg, words: u32) -> Option<u32>
+    ensures { went result regs.new ≡ shape_next (Shape.Jump rd words) (place index regs.old) }
+{
+    regs.set(rd, address_behind(index));
+    Some(index.wrapping_add(words))
+}
+
+/// JALR, to an aligned target.
+#[inline(always)]
+fn jump_by(index: u32, regs: &mut Regs, rd: Reg, rs1: Reg, imm: u32) -> Option<u32>
+    ensures next { went result regs.new ≡ shape_next (Shape.JumpTo rd rs1 imm) (place index regs.old) }
+    ensures stays { result ≡ None → regs.new ≡ regs.old }
+{
+    let target = regs.get(rs1).wrapping_add(imm) / 2 * 2;
+    if target % 4 == 0 {
+        regs.set(rd, address_behind(index));
+        Some(target.wrapping_sub(TEXT_START) / 4)
+    } else {
+        None
+    }
+}
+
+/// Does an operation that touches registers alone: which word stands next, or None and no change.
+#[inline(always)]
+pub(crate) fn act(op: &Op, index: u32, regs: &mut Regs) -> Option<u32>
+    ensures next { went result regs.new ≡ shape_next (shape op.now) (place index regs.old) }
+    ensures stays { result ≡ None → regs.new ≡ regs.old }
+{
+    match *op {
+        Op::Slow | Op::Ecall | Op::Load { .. } | Op::Store { .. } => None,
+        Op::Fence => Some(index.wrapping_add(1)),
+        Op::Put { rd, value } => go_on(index, regs, rd, value),
+        Op::Jal { rd, words } => jump(index, regs, rd, words),
+        Op::Jalr { rd, rs1, imm } => jump_by(index, regs, rd, rs1, imm),
+        Op::Addi { rd, rs1, imm } => by_imm(RegOp::Add, index, regs, rd, rs1, imm),
+        Op::Slti { rd, rs1, imm } => by_imm(RegOp::Slt, index, regs, rd, rs1, imm),
+        Op::Sltiu { rd, rs1, imm } => by_imm(RegOp::Sltu, index, regs, rd, rs1, imm),
+        Op::Xori { rd, rs1, imm } => by_imm(RegOp::Xor, index, regs, rd, rs1, imm),
+        Op::Ori { rd, rs1, imm } => by_imm(RegOp::Or, index, regs, rd, rs1, imm),
+        Op::Andi { rd, rs1, imm } => by_imm(RegOp::And, index, regs, rd, rs1, imm),
+        Op::Slli { rd, rs1, imm } => by_imm(RegOp::Sll, index, regs, rd, rs1, imm),
+        Op::Srli { rd, rs1, imm } => by_imm(RegOp::Srl, index, regs, rd, rs1, imm),
+        Op::Srai { rd, rs1, imm } => by_imm(RegOp::Sra, index, regs, rd, rs1, imm),
+        Op::Add { rd, rs1, rs2 } => by_two(RegOp::Add, index, regs, rd, rs1, rs2),
+        Op::Sub { rd, rs1, rs2 } => by_two(RegOp::Sub, index, regs, rd, rs1, rs2),
+        Op::Sll { rd, rs1, rs2 } => by_two(RegOp::Sll, index, regs, rd, rs1, rs2),
+        Op::Slt { rd, rs1, rs2 } => by_two(RegOp::Slt, index, regs, rd, rs1, rs2),
+        Op::Sltu { rd, rs1, rs2 } => by_two(RegOp::Sltu, index, regs, rd, rs1, rs2),
+        Op::Xor { rd, rs1, rs2 } => by_two(RegOp::Xor, index, regs, rd, rs1, rs2),
+        Op::Srl { rd, rs1, rs2 } => by_two(RegOp::Srl, index, regs, rd, rs1, rs2),
+        Op::Sra { rd, rs1, rs2 } => by_two(RegOp::Sra, index, regs, rd, rs1, rs2),
+        Op::Or { rd, rs1, rs2 } => by_two(RegOp::Or, index, regs, rd, rs1, rs2),
+        Op::And { rd, rs1, rs2 } => by_two(RegOp::And, index, regs, rd, rs1, rs2),
+        Op::Beq { rs1, rs2, words } => by_cond(Cond::Eq, index, regs, rs1, rs2, words),
+        Op::Bne { rs1, rs2, words } => by_cond(Cond::Ne, index, regs, rs1, rs2, words),
+        Op::Blt { rs1, rs2, words } => by_cond(Cond::Lt, index, regs, rs1, rs2, words),
+        Op::Bge { rs1, rs2, words } => by_cond(Cond::Ge, index, regs, rs1, rs2, words),
+        Op::Bltu { rs1, rs2, words } => by_cond(Cond::Ltu, index, regs, rs1, rs2, words),
+        Op::Bgeu { rs1, rs2, words } => by_cond(Cond::Geu, index, regs, rs1, rs2, words),
+    }
+}
+
+/// Whether an access is aligned and lies in the stack.
+#[inline(always)]
+fn is_stack_access(version: u16, addr: u32, len: u32) -> bool
+    requires { 0 < len }
+    ensures { result ≡ is_stack_access version addr len }
+{
+    addr % len == 0 && is_in_stack(version, addr, len)
+}
+
+/// An aligned load from the stack: which word stands next, or None and no change.
+#[inline(always)]
+fn load_stack(
+    version: u16,
+    width: LoadWidth,
+    rd: Reg,
+    addr: u32,
+    index: u32,
+    regs: &mut Regs,
+    stack: &[u8; 1024],
+) -> Option<u32>
+    ensures next { let from = point index regs.old stack.now in
+        went_on result regs.new stack.now ≡ stack_load version width rd addr from }
+    ensures stays { result ≡ None → regs.new ≡ regs.old }
+{
+    let bytes = bytes_of_load(width);
+    if is_stack_access(version, addr, u32::from(bytes)) {
+        let raw = number_in(stack, (addr - STACK_START) as usize, bytes);
+        go_on(index, regs, rd, loaded(width, raw))
+    } else {
+        None
+    }
+}
+
+/// An aligned store to the stack: which word stands next, or None and no change.
+#[inline(always)]
+fn store_stack(
+    version: u16,
+    width: StoreWidth,
+    addr: u32,
+    value: u32,
+    index: u32,
+    regs: &Regs,
+    stack: &mut [u8; 1024],
+) -> Option<u32>
+    ensures next { let from = point index regs.now stack.old in
+        went_on result regs.now stack.new ≡ stack_store version width addr value from }
+    ensures stays { result ≡ None → stack.new ≡ stack.old }
+{
+    let bytes = bytes_of_store(width);
+    if is_stack_access(version, addr, u32::from(bytes)) {
+        write_in(stack, (addr - STACK_START) as usize, bytes, value);
+        Some(index.wrapping_add(1))
+    } else {
+        None
+    }
+}
+
+/// Does an access of the stack: which word stands next, or None and no change.
+#[inline(always)]
+pub(crate) fn act_on_stack(
+    op: &Op,
+    version: u16,
+    index: u32,
+    regs: &mut Regs,
+    stack: &mut [u8; 1024],
+) -> Option<u32>
+    ensures next { let from = point index regs.old stack.old in
+        went_on result regs.new stack.new ≡ stack_next version (shape op.now) from }
+    ensures stays { result ≡ None → (regs.new ≡ regs.old) × (stack.new ≡ stack.old) }
+{
+    match *op {
+        Op::Load {
+            width,
+            rd,
+            rs1,
+            imm,
+        } => {
+            let addr = regs.get(rs1).wrapping_add(imm);
+            load_stack(version, width, rd, addr, index, regs, stack)
+        }
+        Op::Store {
+            width,
+            rs1,
+            rs2,
+            imm,
+        } => {
+            let addr = regs.get(rs1).wrapping_add(imm);
+            let value = regs.get(rs2);
+            store_stack(version, width, addr, value, index, regs, stack)
+        }
+        _ => None,
+    }
+}
+
+/// What an access stops at, where it is aligned and in the data below the stack.
+#[inline(always)]
+fn stop_in(data_size: u32, addr: u32, len: u32, stop: Stop) -> Option<Stop>
+    requires { 0 < len }
+    ensures { result ≡ access data_size addr len stop }
+{
+    if addr % len == 0 && addr < STACK_START && is_in(DATA_START, data_size, addr, len) {
+        Some(stop)
+    } else {
+        None
+    }
+}
+
+/// What an operation stops at, where it is a call or an access to the data that doesn't trap.
+#[inline(always)]
+pub(crate) fn stop_of(op: &Op, data_size: u32, regs: &Regs) -> Option<Stop>
+    ensures { result ≡ shape_stop data_size (shape op.now) regs.now }
+{
+    match *op {
+        Op::Ecall => Some(Stop::Call),
+        Op::Load {
+            width,
+            rd,
+            rs1,
+            imm,
+        } => {
+            let addr = regs.get(rs1).wrapping_add(imm);
+            let len = u32::from(bytes_of_load(width));
+            stop_in(data_size, addr, len, Stop::Load { width, rd, addr })
+        }
+        Op::Store {
+            width,
+            rs1,
+            rs2,
+            imm,
+        } => {
+            let addr = regs.get(rs1).wrapping_add(imm);
+            let len = u32::from(bytes_of_store(width));
+            let value = regs.get(rs2);
+            stop_in(data_size, addr, len, Stop::Store { width, addr, value })
+        }
+        _ => None,
+    }
+}
