@@ -113,3 +113,31 @@ module _ {X : Type 0} (le : X → X → Type 0) (trans : (x y z : X) → le x y 
           let up = parent_less i pos in
           moved (g (parent i)) (g k) (f (parent i)) (f k) (same (parent i) (omega arith) (λ e. (let no_way : ⊥ = omega arith in no_way))) (same k kin (λ e. (let no_way : ⊥ = omega arith in no_way)))
           (trans (f (parent i)) (f i) (f k) (heap i pos (omega arith)) (subst (λ m. le (f m) (f k)) child (heap k kpos (omega arith))))
+
+  -- another at one place
+  module _ (f g : ℕ → X) (many i : ℕ) (same : (k : ℕ) → k ≢ i → g k ≡ f k) (heap : IsHeapBy le f many) (inside : i < many) where
+    across : (k : ℕ) → 0 < i → 0 < k → k < many → parent k ≡ i → le (g (parent i)) (g k)
+    across k pos kpos kin child =
+        let low = parent_less k kpos in
+        let up = parent_less i pos in
+        moved (g (parent i)) (g k) (f (parent i)) (f k) (same (parent i) (λ e. (let no_way : ⊥ = omega arith in no_way))) (same k (λ e. (let no_way : ⊥ = omega arith in no_way)))
+        (trans (f (parent i)) (f i) (f k) (heap i pos inside) (subst (λ m. le (f m) (f k)) child (heap k kpos kin)))
+
+    pub changed : IsHeapApart le g many i
+    changed = record {
+      order = λ k kpos kin other not_child. moved (g (parent k)) (g k) (f (parent k)) (f k) (same (parent k) not_child) (same k other) (heap k kpos kin);
+      over = across;
+    }
+
+    -- that is not greater
+    pub lowered : le (g i) (f i) → IsHeapUp le g many i
+    lowered less = record {
+      order = λ k kpos kin other. by_case k kpos kin other (cases_eq (parent k) i);
+      over = across;
+    }
+      where
+        by_case : (k : ℕ) → 0 < k → k < many → k ≢ i → (parent k ≡ i) ⊎ (parent k ≢ i) → le (g (parent k)) (g k)
+        by_case k kpos kin other (inl child) =
+            moved (g (parent k)) (g k) (g i) (f k) (ap g child) (same k other)
+            (trans (g i) (f i) (f k) less (subst (λ m. le (f m) (f k)) child (heap k kpos kin)))
+        by_case k kpos kin other (inr not_child) = moved (g (parent k)) (g k) (f (parent k)) (f k) (same (parent k) not_child) (same k other) (heap k kpos kin)

@@ -20,7 +20,7 @@ map-insert f xs i x =
     ∙ ap (λ ys. take i (map f xs) ++ f x ∷ ys) (sym (drop-map f i xs))
 
 -- a write to a slot that is not among them changes no entry
-in_slots-set : (table : List Entry) (slot : ℕ) (e : Entry) (slots : List ℕ) → AllByRecursion (λ other. nat_eq slot other ≡ false) slots → in_slots (set table slot e) slots ≡ in_slots table slots
+pub in_slots-set : (table : List Entry) (slot : ℕ) (e : Entry) (slots : List ℕ) → AllByRecursion (λ other. nat_eq slot other ≡ false) slots → in_slots (set table slot e) slots ≡ in_slots table slots
 in_slots-set table slot e [] other = refl
 in_slots-set table slot e (s ∷ slots) other =
     let differs : s ≢ slot = λ same. differ s same other.0 in

@@ -7,3 +7,4 @@ pub mod Places
 pub mod Renumber
 pub mod Swaps
 pub mod Proved
+pub mod Tied

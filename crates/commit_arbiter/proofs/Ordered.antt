@@ -83,7 +83,7 @@ from_recursion e (x ∷ xs) all = All-cons (λ x. x.id ≢ e.id) x xs (differ e.
     differ : (m n : ℕ) → nat_eq m n ≡ false → n ≢ m
     differ m n not same = grind (arith, nat_tests)
 
-ids_permuted : (xs ys : List Entry) → IsPermutation xs ys → IsDistinct same_id xs → IsDistinct same_id ys
+pub ids_permuted : (xs ys : List Entry) → IsPermutation xs ys → IsDistinct same_id xs → IsDistinct same_id ys
 ids_permuted xs ys permuted ids = IsDistinct-IsPermutation same_id (λ a b. nat_eq_equiv.symm a.id b.id) xs ys permuted ids
 
 -- an entry goes into a heap

@@ -1,12 +1,13 @@
 -- The tasks that may commit, in the order in which they do.
-use Rattle.std.specs.Prelude.{◌≡◌, ◌≢◌, ℕ, ◌==◌, Option, Some, None, List, [], ◌∷◌, Any, All, AllPairs, map, filter}
+use Rattle.std.specs.Prelude.{◌≡◌, ◌≢◌, ℕ, ◌==◌, Option, Some, None, List, [], ◌∷◌, Any, All, AllPairs, Contains}
+use Rattle.std.specs.Prelude.{map, filter}
 use Rattle.std.specs.Prelude.{not}
 use Rattle.std.specs.Ordering.{nat_cmp, on, then_cmp}
 use Rattle.std.specs.List.Sorted.{IsPermutation}
 use Rattle.std.specs.declared.cmp.Ordering.{Ordering}
 use Rattle.fractal_vt.specs.declared.key.Key.{Key}
 use Rattle.fractal_vt.specs.Keys.{key_cmp}
-use Rattle.fractal_vt.specs.Sorted.{IsInOrder}
+use Rattle.fractal_vt.specs.Sorted.{IsInOrder, inserted}
 use Rattle.fractal_vt.specs.Renumbered.{renumbered_key, HoldsKey}
 use Rattle.commit_arbiter.specs.declared.entry.Entry.{Entry}
 
@@ -33,6 +34,22 @@ HasId id entries = Any (λ e. e.id ≡ id) entries
 -- the entries with another id
 abbrev pub without : ℕ → List Entry → List Entry
 without id entries = filter (λ e. not (e.id == id)) entries
+
+-- the entry with this tiebreaker in its key
+abbrev pub tied : Option ℕ → Entry → Entry
+tied tb e = record e { key = record e.key { tb = tb } }
+
+-- an entry of this id is there, with an open tiebreaker
+pub record IsOpenIn (id : ℕ) (entries : List Entry) : Type 0 where
+  pub entry : Entry
+  pub there : Contains entries entry
+  pub is : entry.id ≡ id
+  pub open_tie : entry.key.tb ≡ None
+
+-- whatever entry of this id was there, it stands in order with this tiebreaker now
+abbrev pub IsTied : ℕ → Option ℕ → List Entry → List Entry → Type 0
+IsTied id tb old new =
+    (e : Entry) → Contains old e → e.id ≡ id → new ≡ inserted entry_cmp (tied tb e) (without id old)
 
 -- the id of the first entry
 abbrev pub first_id : List Entry → Option ℕ

@@ -77,7 +77,7 @@ fn step_down(slots: &mut Slots, at: usize) -> usize
 /// Moves the one entry that may stand wrong to where it belongs: down to a leaf, past the least child of each
 /// place, and up again as far as it is less. What a removal puts there came from the end, and so mostly belongs
 /// near a leaf: this takes about one comparison a level, where a test on the way down takes two.
-fn settle(slots: &mut Slots, start: usize)
+pub(crate) fn settle(slots: &mut Slots, start: usize)
     requires within { start < length slots.old.entries }
     requires heap { IsHeapApart upto (entry_at slots.old.entries) (length slots.old.entries) start }
     ensures capacity { slots.new.capacity ≡ slots.old.capacity }

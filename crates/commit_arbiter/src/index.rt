@@ -1,16 +1,18 @@
-ghost use Rattle.std.specs.Prelude.{◌≡◌, ◌≢◌, ◌<◌, ◌≤◌, ◌↔◌, AllPairs, map, [], length, IfOk, IfSome, IsNone};
+ghost use Rattle.std.specs.Prelude.{◌≡◌, ◌≢◌, ◌<◌, ◌≤◌, ◌↔◌, AllPairs, map, [], length, IfOk, IfSome, IsNone, None};
+ghost use Rattle.std.specs.Prelude.{Some};
 ghost use Rattle.std.specs.Prelude.{IsSome, IsTrue};
 ghost use Rattle.std.specs.List.Sorted.{IsStrictlyIncreasing};
 ghost use Rattle.fractal_vt.specs.Keys.{key_cmp};
 ghost use Rattle.fractal_vt.specs.Least.{IsFirstLeast};
 ghost use Rattle.fractal_vt.specs.Sorted.{IsInOrder, inserted};
 ghost use Rattle.commit_arbiter.specs.Indexed.{entry_cmp, keys, renumbered_entry, HoldsEntries, HasId, without};
+ghost use Rattle.commit_arbiter.specs.Indexed.{IsOpenIn, IsTied};
 ghost use Rattle.commit_arbiter.specs.Indexed.{first_id};
 ghost use Rattle.commit_arbiter.specs.Slots.{IsPlaceOf};
 ghost use Rattle.commit_arbiter.specs.declared.entry.Entry.{Entry};
 
 use crate::entry::Entry;
-use crate::heap::{sift_up, take_out};
+use crate::heap::{settle, sift_up, take_out};
 use crate::slots::Slots;
 use fractal_vt::Key;
 use std::alloc::{AllocError, Global};
@@ -76,6 +78,38 @@ impl Index {
                 true
             }
             None => false,
+        }
+    }
+
+    /// Closes the open tiebreaker of a task that is there: its key becomes less. No memory.
+    pub fn close(&mut self, id: usize, tb: u64)
+        requires { IsOpenIn id self.old.entries }
+        ensures capacity { self.new.capacity ≡ self.old.capacity }
+        ensures count { length self.new.entries ≡ length self.old.entries }
+        ensures entries { IsTied id (Some tb) self.old.entries self.new.entries }
+    {
+        match place_of(&self.slots, id) {
+            Some(place) => {
+                self.slots.set_tb(place, Some(tb));
+                sift_up(&mut self.slots, place);
+            }
+            None => unreachable!(),
+        }
+    }
+
+    /// Opens the tiebreaker of a task that is there: its key becomes greater, or stays. No memory.
+    pub fn open(&mut self, id: usize)
+        requires { HasId id self.old.entries }
+        ensures capacity { self.new.capacity ≡ self.old.capacity }
+        ensures count { length self.new.entries ≡ length self.old.entries }
+        ensures entries { IsTied id None self.old.entries self.new.entries }
+    {
+        match place_of(&self.slots, id) {
+            Some(place) => {
+                self.slots.set_tb(place, None);
+                settle(&mut self.slots, place);
+            }
+            None => unreachable!(),
         }
     }
 

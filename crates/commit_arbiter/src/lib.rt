@@ -11,8 +11,6 @@ mod heap;
 mod index;
 mod laws;
 mod slots;
-#[cfg(test)]
-mod tests;
 
 pub use arbiter::{least, least_on};
 pub use entry::Entry;

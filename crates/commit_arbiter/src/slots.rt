@@ -1,10 +1,11 @@
 ghost use Rattle.std.specs.Prelude.{◌≡◌, ◌+◌, ◌-◌, ◌<◌, ◌≤◌, [], ◌∷◌, ◌++◌, length, take, replicate, slice_get};
+ghost use Rattle.std.specs.Prelude.{slice_set};
 ghost use Rattle.std.specs.Prelude.{Some, IfOk, map};
 ghost use Rattle.std.specs.Prelude.{vec_capacity};
 ghost use Rattle.std.specs.List.{range_with_len};
 ghost use Rattle.std.specs.List.Sorted.{IsStrictlyIncreasing};
-ghost use Rattle.commit_arbiter.specs.Indexed.{renumbered_entry};
-ghost use Rattle.commit_arbiter.specs.Slots.{blank, HasSwapped};
+ghost use Rattle.commit_arbiter.specs.Indexed.{renumbered_entry, tied};
+ghost use Rattle.commit_arbiter.specs.Slots.{blank, entry_at, HasSwapped};
 
 use crate::entry::{Entry, no_entry, renumber_entry};
 use std::alloc::{AllocError, Global};
@@ -117,6 +118,17 @@ impl Slots {
             },
             None => unreachable!(),
         }
+    }
+
+    /// Sets the tiebreaker of the key of an entry.
+    pub(crate) fn set_tb(&mut self, place: usize, tb: Option<u64>)
+        requires { place < length self.old.entries }
+        ensures capacity { self.new.capacity ≡ self.old.capacity }
+        ensures entries { let was = self.old.entries in
+            self.new.entries ≡ slice_set was place (tied tb (entry_at was place)) }
+    {
+        let slot = self.order[place] as usize;
+        self.table[slot].key.tb = tb;
     }
 
     /// Exchanges two entries, without a note of their places.

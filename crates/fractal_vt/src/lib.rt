@@ -10,8 +10,6 @@ mod level;
 mod numbering;
 mod order;
 mod paths;
-#[cfg(test)]
-mod tests;
 mod vt;
 
 pub use key::{Key, as_domain};

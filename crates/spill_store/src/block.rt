@@ -1,40 +1,38 @@
-ghost use Rattle.std.specs.Prelude.{◌≡◌, ◌+◌, ◌-◌, ◌<◌, ◌≤◌, ◌↔◌, [], ◌∷◌, length, map, slice_get, Some, IfSome};
+ghost use Rattle.std.specs.Prelude.{◌≡◌, ◌+◌, ◌<◌, ◌≤◌, ◌↔◌, [], ◌∷◌, length, map, slice_get, Some, IfSome};
 ghost use Rattle.std.specs.Prelude.{IfNone};
 ghost use Rattle.std.specs.Prelude.{IsNone, IsOk, IsTrue, OnOk, OnSome, option_map};
 ghost use Rattle.std.specs.List.Sorted.{IsStrictlyIncreasing};
-ghost use Rattle.std.specs.VecDeque.{deque_capacity, deque_len};
 ghost use Rattle.fractal_vt.specs.Sorted.{IsInOrder, place_for};
 ghost use Rattle.task_desc.specs.Record.{IsDesc};
 ghost use Rattle.spill_store.specs.Entries.{by_key, pushed, first_key, TakesLeast, IsLeastKey, renumbered_entry};
 ghost use Rattle.spill_store.specs.Entries.{HoldsEntries};
 
 use crate::kept::Kept;
+use crate::shelf::Shelf;
 use fractal_vt::{Key, Vt, cmp};
 use std::alloc::{AllocError, Global};
-use std::collections::VecDeque;
 use std::marker::Model;
 use task_desc::Desc;
 
 /// The spilled tasks of one tile by their open keys, those of one key in the order in which they were pushed.
 ///
-/// They stand in a ring with the least at its front: to take it moves no other, and a push, which finds its place by
-/// comparisons in the logarithm of the length, moves those before it or those behind it, whichever are fewer.
+/// Each stays where it is in memory; a ring has the numbers of their places, the least task's at its front. To take
+/// that moves nothing, and a push, which finds its place by comparisons in the logarithm of the length, moves the
+/// numbers before it or those behind it, whichever are fewer.
 #[derive(Drop)]
 pub struct Block {
-    kept: VecDeque<Kept>,
+    shelf: Shelf,
 }
 
 impl Model for Block {
-    ghost use Rattle.std.specs.Prelude.{◌-◌};
-    ghost use Rattle.std.specs.VecDeque.{deque_capacity, deque_len};
     ghost use Rattle.fractal_vt.specs.Sorted.{IsInOrder};
     ghost use Rattle.spill_store.specs.Entries.{BlockValue, by_key};
 
     ghost Value = { BlockValue };
 
-    ghost view = { λ b. record { entries = b.kept.items; spare = deque_capacity b.kept - deque_len b.kept } };
+    ghost view = { λ b. b.shelf };
 
-    ghost invariant = { λ b. IsInOrder by_key b.kept.items };
+    ghost invariant = { λ b. IsInOrder by_key b.shelf.entries };
 }
 
 impl Block {
@@ -43,7 +41,7 @@ impl Block {
         ensures { result.entries ≡ [] }
     {
         Block {
-            kept: VecDeque::new(alloc),
+            shelf: Shelf::new(alloc),
         }
     }
 
@@ -54,7 +52,7 @@ impl Block {
         ensures stays { self.old.spare ≤ self.new.spare }
         ensures enough { more ≤ self.old.spare → IsOk result }
     {
-        self.kept.reserve(more)
+        self.shelf.reserve(more)
     }
 
     /// Adds a task with its domain, behind those whose keys are not greater.
@@ -66,11 +64,8 @@ impl Block {
         ensures spare { self.old.spare ≤ self.new.spare + 1 }
     {
         let fresh = Kept::new(desc, domain);
-        let place = place_for(&self.kept, &fresh);
-        match self.kept.insert(place, fresh) {
-            Ok(()) => {}
-            Err(_) => unreachable!(),
-        }
+        let place = place_for(&self.shelf, &fresh);
+        self.shelf.insert(place, fresh);
     }
 
     /// Takes out the first task with its domain: that of the least open key, the earliest of those on a tie. All others
@@ -85,8 +80,8 @@ impl Block {
         ensures empty { IfNone result (self.new ≡ self.old) }
         ensures spare { OnSome result (self.new.spare ≡ self.old.spare + 1) }
     {
-        let first = self.kept.pop_front()?;
-        Some(first.into_parts())
+        let taken = self.shelf.take_first()?;
+        Some(taken)
     }
 
     /// The open key of the task that `take_least` would take, where it stands; None exactly where the block is empty.
@@ -95,8 +90,10 @@ impl Block {
         ensures none { IsNone result ↔ (self.now.entries ≡ []) }
         ensures least { IfSome result (λ key. IsLeastKey self.now.entries key.now) }
     {
-        let first = self.kept.front()?;
-        Some(first.key())
+        if self.is_empty() {
+            return None;
+        }
+        Some(self.shelf.get(0).key())
     }
 
     /// A copy of that key.
@@ -109,18 +106,26 @@ impl Block {
         Some(first.copied())
     }
 
+    /// The descriptor of the task at a place, in the order of the keys.
+    pub fn desc_at(&self, place: usize) -> Desc
+        requires { place < length self.now.entries }
+        ensures { option_map (λ entry. entry.desc) (slice_get self.now.entries place) ≡ Some result }
+    {
+        self.shelf.get(place).desc()
+    }
+
     /// How many tasks it holds.
     pub fn len(&self) -> usize
         ensures { result ≡ length self.now.entries }
     {
-        self.kept.len()
+        self.shelf.len()
     }
 
     /// Whether it holds none.
     pub fn is_empty(&self) -> bool
         ensures { IsTrue result ↔ (self.now.entries ≡ []) }
     {
-        self.kept.is_empty()
+        self.shelf.len() == 0
     }
 
     /// Replaces each tiebreaker of the domains by its place in a strictly rising table that holds them all. The
@@ -131,51 +136,32 @@ impl Block {
         ensures entries { self.new.entries ≡ map (renumbered_entry table.now) self.old.entries }
         ensures spare { self.new.spare ≡ self.old.spare }
     {
-        renumber_all(&mut self.kept, table);
+        self.shelf.renumber(table);
     }
 
     /// Law: the tasks are in the order of their open keys.
     pub fn is_in_order(&self)
         ensures { IsInOrder by_key self.now.entries }
     {
-        let _ = &self.kept;
+        let _ = &self.shelf;
     }
-}
-
-/// The task at a place.
-fn at(kept: &VecDeque<Kept>, place: usize) -> &Kept
-    requires { place < length kept.now.items }
-    ensures { slice_get kept.now.items place ≡ Some result.now }
-{
-    &kept[place]
 }
 
 /// The place of the first task with a greater key, or their number where there is none.
 #[tactic(auto, using(crate::proofs::Pushed::search_upto, crate::proofs::Pushed::search_beyond, fractal_vt::proofs::Sorted::place_within))]
-fn place_for(kept: &VecDeque<Kept>, fresh: &Kept) -> usize
-    requires { IsInOrder by_key kept.now.items }
-    ensures { result ≡ place_for by_key fresh.now kept.now.items }
+fn place_for(shelf: &Shelf, fresh: &Kept) -> usize
+    requires { IsInOrder by_key shelf.now.entries }
+    ensures { result ≡ place_for by_key fresh.now shelf.now.entries }
 {
     let mut low = 0;
-    let mut high = kept.len();
+    let mut high = shelf.len();
     while low < high {
         let middle = low + (high - low) / 2;
-        if cmp(fresh.key(), at(kept, middle).key()).is_lt() {
+        if cmp(fresh.key(), shelf.get(middle).key()).is_lt() {
             high = middle;
         } else {
             low = middle + 1;
         }
     }
     low
-}
-
-/// Replaces each tiebreaker of the domains by its place in the table.
-fn renumber_all(kept: &mut VecDeque<Kept>, table: &[u64])
-    requires { IsStrictlyIncreasing table.now }
-    ensures items { kept.new.items ≡ map (renumbered_entry table.now) kept.old.items }
-    ensures room { deque_capacity kept.new - deque_len kept.new ≡ deque_capacity kept.old - deque_len kept.old }
-{
-    for place in 0..kept.len() {
-        kept[place].renumber(table);
-    }
 }

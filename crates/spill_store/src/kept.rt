@@ -1,5 +1,5 @@
-ghost use Rattle.std.specs.Prelude.{◌≡◌, ◌+◌, length};
-ghost use Rattle.task_desc.specs.Record.{IsDesc};
+ghost use Rattle.std.specs.Prelude.{◌≡◌, ◌+◌, length, true};
+ghost use Rattle.task_desc.specs.Record.{IsDesc, fields_of, is_record};
 ghost use Rattle.spill_store.specs.Entries.{open_key, renumbered_entry};
 ghost use Rattle.std.specs.List.Sorted.{IsStrictlyIncreasing};
 
@@ -56,16 +56,33 @@ impl Kept {
         self.key.domain = renumber(&self.key.domain, table);
     }
 
+    /// Its descriptor.
+    pub(crate) fn desc(&self) -> Desc
+        ensures { result ≡ self.now.desc }
+    {
+        desc_in(&self.bytes)
+    }
+
     /// Its descriptor and its domain.
-    pub(crate) fn into_parts(self) -> (Desc, Vt)
-        ensures value { self ≡ record { desc = result.0; domain = result.1 } }
+    pub(crate) fn parts(&self) -> (Desc, Vt)
+        ensures value { self.now ≡ record { desc = result.0; domain = result.1 } }
         ensures desc { IsDesc result.0 }
         ensures domain { length result.1 + 1 ≡ result.0.depth }
     {
-        let Kept { bytes, key } = self;
-        match get_desc(&bytes) {
-            Some(desc) => (desc, key.domain),
+        match get_desc(&self.bytes) {
+            Some(desc) => (desc, self.key.domain.copied()),
             None => unreachable!(),
         }
+    }
+}
+
+/// The descriptor of a record.
+fn desc_in(bytes: &[u8; RECORD_BYTES]) -> Desc
+    requires { is_record bytes.now ≡ true }
+    ensures { result ≡ fields_of bytes.now }
+{
+    match get_desc(bytes) {
+        Some(desc) => desc,
+        None => unreachable!(),
     }
 }

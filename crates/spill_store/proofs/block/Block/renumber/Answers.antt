@@ -6,5 +6,5 @@ use Rattle.spill_store.proofs.block.Block.renumber.Goals as goal
 
 pub invariant_of-self : goal.invariant_of-self
 invariant_of-self c =
-    subst (IsInOrder by_key) (sym c.renumber_all.ensures.items)
-    (order_renumbered c.args.table.now c.self.inside.kept.items (subst (λ v. HoldsEntries c.args.table.now v.entries) (sym c.self.view_is) c.requires.held) c.self.invariant)
+    subst (IsInOrder by_key) (sym c.renumber.ensures.entries)
+    (order_renumbered c.args.table.now c.self.inside.shelf.entries (subst (λ v. HoldsEntries c.args.table.now v.entries) (sym c.self.view_is) c.requires.held) c.self.invariant)

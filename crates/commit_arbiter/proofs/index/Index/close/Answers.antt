@@ -1,0 +1,28 @@
+use Rattle.std.proofs.Common.{rules, Some, ap}
+use Rattle.commit_arbiter.specs.Slots.{entry_at}
+use Rattle.commit_arbiter.proofs.Tied.{up_tied, open_there, closed_upto, open_has, ids_kept, entries_tied, count_tied, seen_there}
+use Rattle.commit_arbiter.proofs.index.Index.close.Goals as goal
+
+pub sift_up-requires-clause-heap : goal.sift_up-requires-clause-heap
+sift_up-requires-clause-heap c =
+    let old = c.self.inside.slots.entries in
+    let tie = open_there (Some c.args.tb) c.args.id c.in-Some.place old c.set_tb.new.self.entries c.in-Some.ensures.some c.set_tb.ensures.entries c.args.self.now.entries (ap (λ v. v.entries) c.self.view_is) c.self.invariant c.requires in
+    up_tied (Some c.args.tb) c.args.id c.in-Some.place old c.set_tb.new.self.entries c.in-Some.ensures.some c.set_tb.ensures.entries (closed_upto c.args.tb (entry_at old c.in-Some.place) tie) c.self.invariant.heap
+
+pub invariant_of-self : goal.invariant_of-self
+invariant_of-self c = record {
+  heap = c.sift_up.ensures.heap;
+  ids = ids_kept (Some c.args.tb) c.args.id c.in-Some.place c.self.inside.slots.entries c.set_tb.new.self.entries c.in-Some.ensures.some c.set_tb.ensures.entries c.sift_up.new.slots.entries c.sift_up.ensures.permuted c.self.invariant;
+}
+
+pub unreachable-requires : goal.unreachable-requires
+unreachable-requires c =
+    c.in-None.ensures.none (search rules) (seen_there c.args.id c.self.inside.slots.entries c.args.self.now.entries (ap (λ v. v.entries) c.self.view_is) (open_has c.args.id c.args.self.now.entries c.requires))
+
+pub returns-clause-count : goal.returns-clause-count
+returns-clause-count c =
+    count_tied (Some c.args.tb) c.args.id c.in-Some.place c.self.inside.slots.entries c.set_tb.new.self.entries c.in-Some.ensures.some c.set_tb.ensures.entries c.sift_up.new.slots.entries c.sift_up.ensures.permuted c.self.invariant c.args.self.now.entries (ap (λ v. v.entries) c.self.view_is)
+
+pub returns-clause-entries : goal.returns-clause-entries
+returns-clause-entries c =
+    entries_tied (Some c.args.tb) c.args.id c.in-Some.place c.self.inside.slots.entries c.set_tb.new.self.entries c.in-Some.ensures.some c.set_tb.ensures.entries c.sift_up.new.slots.entries c.sift_up.ensures.permuted c.self.invariant c.args.self.now.entries (ap (λ v. v.entries) c.self.view_is)

@@ -1,0 +1,34 @@
+-- Entries that stay at their places, and the places in an order of their own.
+use Rattle.std.specs.Prelude.{◌≡◌, ℕ, ◌+◌, ◌<◌, ◌≤◌, ◌^◌, List, [], ◌∷◌, ◌++◌, All, map, length, nat_eq, slice_index_or}
+use Rattle.std.specs.List.{IsDistinct}
+use Rattle.spill_store.specs.Entries.{Entry}
+
+-- what stands at a place past the end
+abbrev pub blank : Entry
+blank = record {
+  desc = record {
+    name = record { creator = 0; index = 0 };
+    entry = 0;
+    ts = 0;
+    args = 0 ∷ 0 ∷ 0 ∷ [];
+    hint = 0;
+    depth = 0;
+    kinds = 0;
+  };
+  domain = [];
+}
+
+-- the entries at these places
+abbrev pub at_places : List Entry → List ℕ → List Entry
+at_places kept places = map (λ place. slice_index_or kept place blank) places
+
+-- each place is in use or free, and the room is held by the order of places, by what is kept and by the free places
+pub record IsShelved (kept : List Entry) (order free : List ℕ) (room order_room kept_room free_room : ℕ) : Type 0 where
+  pub distinct : IsDistinct nat_eq (order ++ free)
+  pub within : All (λ place. place < length kept) (order ++ free)
+  pub all : length order + length free ≡ length kept
+  pub holds : length kept ≤ room
+  pub few : room ≤ 2 ^ 32
+  pub order_holds : room ≤ order_room
+  pub kept_holds : room ≤ kept_room
+  pub free_holds : room ≤ free_room
