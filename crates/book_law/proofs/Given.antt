@@ -93,9 +93,9 @@ module _ (image : ImageValue) (view : View) (sound : Sound image view) where
   -- a running task has used its budget at most
   pub running_within : (id core : ℕ) (task : Task) → task_at view id ≡ Some task → task.status ≡ Running core → task.core.used ≤ view.settings.budget
   running_within id core task there runs =
-      let ran : StandsAs image view.settings.budget task (Running core) =
-      subst (StandsAs image view.settings.budget task) runs (sound.tasks.stands id task there) in
-      used_within image view.settings.budget image.data_size (start_context (version_of image) task) (begun task.entry task.key.ts task.args [])
+      let ran : StandsAs image view.version view.settings.budget task (Running core) =
+      subst (StandsAs image view.version view.settings.budget task) runs (sound.tasks.stands id task there) in
+      used_within image view.settings.budget image.data_size (start_context view.version task) (begun view.version task.entry task.key.ts task.args [])
       ran.1 (omega arith)
 
   -- its core is there

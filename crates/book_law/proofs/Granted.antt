@@ -95,7 +95,7 @@ module _ (image : ImageValue) (view : View) (sound : Sound image view) (tile cor
   -- a finished task is dispatched
   finished_runs : (k : ℕ) (x : Task) → task_at view k ≡ Some x → x.status ≡ Finished → is_dispatched x ≡ true
   finished_runs k x there finished =
-      let stands : StandsAs image view.settings.budget x Finished = subst (StandsAs image view.settings.budget x) finished (sound.tasks.stands k x there) in
+      let stands : StandsAs image view.version view.settings.budget x Finished = subst (StandsAs image view.version view.settings.budget x) finished (sound.tasks.stands k x there) in
       stands.0
 
   -- a finished task of the tile is later than the least one, which runs

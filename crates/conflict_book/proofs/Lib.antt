@@ -2,6 +2,7 @@ mod Placing
 mod Fresh
 mod Cores
 mod LeftRun
+mod FrozenRun
 mod Telling
 mod Passing
 mod Slices

@@ -24,7 +24,7 @@ use book_room::end_with;
 use book_step::make_step;
 use guest_image::Image;
 use place_policy::Placer;
-use rv_core::{Leg, Naming, run_leg};
+use rv_core::{Leg, Naming, run_leg_decoded};
 use serial_machine::End;
 use spec_state::{Settings, State, TaskId, Where};
 use trace_tap::{Deed, Record, Tap};
@@ -39,7 +39,8 @@ fn leg_of<N: Naming>(state: &State<N>, image: &Image, id: TaskId) -> Leg<N>
 {
     has_limits(state);
     let settings = state.settings();
-    run_leg(
+    run_leg_decoded(
+        &state.decoded,
         image,
         &state.task(id).core,
         settings.quantum,

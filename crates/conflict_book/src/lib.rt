@@ -12,10 +12,10 @@ mod applying;
 mod book;
 mod closing;
 mod events;
+mod freezing;
 mod opening;
 mod reading;
-#[cfg(test)]
-mod tests;
 
 pub use book::{Book, SoundState};
 pub use book_event::{Advance, Applied, Closed, Event, Halt, Reply};
+pub use freezing::Frozen;

@@ -124,9 +124,10 @@ pub one_more : (spawns : List Spawn) (spawn : Spawn) (now : List Spawn) → now 
     → length spawns < MAX_CHILDREN → length now ≤ MAX_CHILDREN
 one_more spawns spawn now is room = let long = ap length is ∙ length_push spawns spawn in omega (arith, long, room)
 
--- the child of the task that was looked at is that of the one that asks; the version makes no difference yet
-pub child_of_same : (version at tile : ℕ) (parent task child : Task) (spawn : Spawn) (id : ℕ) → parent ≡ task
+-- the child of the task that was looked at is that of the one that asks, in one version
+pub child_of_same : (version at tile : ℕ) (parent task child : Task) (spawn : Spawn) (id : ℕ) → version ≡ at → parent ≡ task
     → child ≡ idle_task version (child_descriptor parent spawn) (Live (record { 0 = id }) (length parent.spawns)) tile
     → child ≡ idle_task at (child_descriptor task spawn) (Live (record { 0 = id }) (length task.spawns)) tile
-child_of_same version at tile parent task child spawn id same is =
+child_of_same version at tile parent task child spawn id one same is =
     is ∙ ap (λ t. idle_task version (child_descriptor t spawn) (Live (record { 0 = id }) (length t.spawns)) tile) same
+    ∙ ap (λ v. idle_task v (child_descriptor task spawn) (Live (record { 0 = id }) (length task.spawns)) tile) one

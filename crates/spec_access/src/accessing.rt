@@ -11,8 +11,8 @@ ghost use Rattle.spec_state.specs.Filters.{HasNotes};
 ghost use Rattle.spec_state.specs.Changes.{TakesLeg, Loads, Stores};
 ghost use Rattle.spec_access.specs.Asking.{Asks};
 
-use crate::calling::core_behind;
-use rv_core::{Leg, Naming, after_load, bytes_of_load};
+use crate::calling::put_behind;
+use rv_core::{Leg, Naming, bytes_of_load, put_after_load};
 use rv_table::{LoadWidth, Reg};
 use spec_state::{State, TaskId};
 use std::alloc::AllocError;
@@ -61,7 +61,7 @@ fn load_reserved<N: Naming>(
         bytes_of_load(width),
     );
     task.lines.mark(line, false);
-    task.core = after_load(to, width, rd, raw);
+    put_after_load(&mut task.core, to, width, rd, raw);
 }
 
 /// A task loads from the data: the register `rd` has what the memory has from `offset` on, counted
@@ -107,7 +107,7 @@ fn store_reserved<N: Naming>(
         → Stores id.0 task leg.now offset bytes value state.old.view state.new.view }
     ensures room { state.new.room ≡ record state.old.room { log = state.new.room.log } }
 {
-    let core = core_behind(state, leg);
+    let budget = state.settings.budget;
     let to = leg.to();
     let line = offset / state.settings.line;
     let task = &mut state.tasks[id.0];
@@ -120,7 +120,7 @@ fn store_reserved<N: Naming>(
         value,
     );
     task.lines.mark(line, true);
-    task.core = core;
+    put_behind(&mut task.core, budget, leg);
 }
 
 /// A task stores to the data: the low bytes of the value, 1, 2 or 4 of them, are written from

@@ -1,6 +1,6 @@
 //! What changes one task alone. No call takes memory.
 
-ghost use Rattle.std.specs.Prelude.{◌≡◌, ◌∷◌, ◌++◌, [], ℕ};
+ghost use Rattle.std.specs.Prelude.{◌≡◌, ◌<◌, ◌-◌, ◌^◌, ◌∷◌, ◌++◌, [], ℕ};
 ghost use Rattle.rv_core.specs.Legs.{after_other_of};
 ghost use Rattle.task_step.specs.declared.request.Request.TheVariants.{Continue, MakeSub};
 ghost use Rattle.task_step.specs.declared.request.Request.TheVariants.{Emit, Trap};
@@ -10,7 +10,7 @@ ghost use Rattle.spec_state.specs.Changes.{TakesLeg, GoesOn, KeepsTrap, MakesSub
 ghost use Rattle.spec_access.specs.Asking.{Asks};
 
 use guest_image::Kind;
-use rv_core::{Core, Leg, Naming, after_other};
+use rv_core::{Core, Leg, Naming, put_after_other};
 use spec_state::{State, Status, TaskId};
 
 /// The core of its tile on which a task with this status runs.
@@ -27,12 +27,12 @@ pub(crate) fn held_core(status: Status) -> u32
 
 /// The core at the instruction behind the leg's end.
 #[inline]
-pub(crate) fn core_behind<N: Naming>(state: &State<N>, leg: &Leg<N>) -> Core
-    ensures { result ≡ after_other_of leg.now.to }
+pub(crate) fn put_behind<N: Naming>(core: &mut Core, budget: u32, leg: &Leg<N>)
+    requires budget { budget ≡ N.budget }
+    requires room { budget < 2 ^ 32 - 1 }
+    ensures { core.new ≡ after_other_of leg.now.to }
 {
-    // A leg stays within the budget, whose range leaves room for one instruction more.
-    let _most = state.settings.budget;
-    after_other(leg.to())
+    put_after_other(core, leg.to());
 }
 
 /// A task that did its quantum goes on from the end of its leg.
@@ -70,9 +70,9 @@ pub fn make_sub<N: Naming>(state: &mut State<N>, id: TaskId, leg: &Leg<N>, kind:
         → MakesSub id.0 task leg.now kind state.old.view state.new.view }
     ensures room { state.new.room ≡ state.old.room }
 {
-    let core = core_behind(state, leg);
+    let budget = state.settings.budget;
     let task = &mut state.tasks[id.0];
-    task.core = core;
+    put_behind(&mut task.core, budget, leg);
     task.sub = Some(kind);
 }
 
@@ -84,8 +84,8 @@ pub fn emit<N: Naming>(state: &mut State<N>, id: TaskId, leg: &Leg<N>, byte: u8)
         → Emits id.0 task leg.now byte state.old.view state.new.view }
     ensures room { state.new.room ≡ state.old.room }
 {
-    let core = core_behind(state, leg);
+    let budget = state.settings.budget;
     let task = &mut state.tasks[id.0];
-    task.core = core;
+    put_behind(&mut task.core, budget, leg);
     task.bytes.push(byte);
 }

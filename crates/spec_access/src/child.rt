@@ -3,7 +3,6 @@
 ghost use Rattle.std.specs.Prelude.{◌≡◌, ◌<◌, ◌*◌, ◌-◌, ◌^◌, ℕ, true, take, length, IsSome};
 ghost use Rattle.task_desc.specs.declared.desc.Place.TheVariants.{Sub};
 ghost use Rattle.spec_state.specs.declared.task.Creator.TheVariants.{Live};
-ghost use Rattle.spec_state.specs.View.{version_of};
 ghost use Rattle.spec_state.specs.Tasks.{is_dispatched, sub_bit, child_domain, child_kinds};
 ghost use Rattle.spec_state.specs.Tasks.{child_descriptor, idle_task};
 ghost use Rattle.spec_state.specs.Stored.{IsWellFormed};
@@ -11,7 +10,7 @@ ghost use Rattle.spec_state.specs.Stored.{IsWellFormed};
 use fractal_vt::{Key, Vt, as_domain};
 use guest_image::Kind;
 use line_table::Signature;
-use rv_core::{Core, Naming};
+use rv_core::Core;
 use spec_state::{Creator, Emitted, Spawns, Status, Task, TaskId};
 use std::alloc::Global;
 use task_desc::{Place, Spawn};
@@ -57,6 +56,7 @@ fn bit_of(sub: Option<Kind>) -> u16
 /// The kinds of the domains on a child's path.
 fn kinds_of(parent: &Task, place: Place) -> u16
     requires formed { (size commits : ℕ) × IsWellFormed size commits parent.now }
+    requires made { place ≡ Sub → IsSome parent.now.sub }
     ensures { result ≡ child_kinds parent.now place }
 {
     let outer = parent.key.domain.levels().len();
@@ -68,8 +68,9 @@ fn kinds_of(parent: &Task, place: Place) -> u16
 }
 
 /// The child that a dispatched task asks for, idle, in a tile.
-pub(crate) fn child_of<N: Naming>(
+pub(crate) fn child_of(
     alloc: Global,
+    version: u16,
     parent: &Task,
     id: TaskId,
     spawn: &Spawn,
@@ -80,7 +81,7 @@ pub(crate) fn child_of<N: Naming>(
     requires made { spawn.now.place ≡ Sub → IsSome parent.now.sub }
     ensures { let creator = Live (record { 0 = id.0 }) (length parent.now.spawns) in
         let descriptor = child_descriptor parent.now spawn.now in
-        result ≡ idle_task (version_of N.image) descriptor creator tile }
+        result ≡ idle_task version descriptor creator tile }
 {
     Task {
         entry: spawn.entry,
@@ -98,7 +99,7 @@ pub(crate) fn child_of<N: Naming>(
         },
         tile,
         status: Status::Idle,
-        core: Core::start(spawn.entry, spawn.ts, spawn.args),
+        core: Core::start(version, spawn.entry, spawn.ts, spawn.args),
         log: Log::new(alloc),
         lines: Signature::new(),
         spawns: Spawns::new(alloc),

@@ -9,7 +9,7 @@ ghost use Rattle.spec_state.specs.View.{core_ids};
 ghost use Rattle.spec_state.specs.Changes.{TakesLeg, Finishes};
 ghost use Rattle.spec_access.specs.Asking.{Asks, HasCommitEntry};
 
-use crate::calling::{core_behind, held_core};
+use crate::calling::{held_core, put_behind};
 use rv_core::{Leg, Naming};
 use spec_state::{State, Status, TaskId};
 use tile_queues::CommitQueue;
@@ -64,11 +64,11 @@ pub fn finish<N: Naming>(state: &mut State<N>, id: TaskId, leg: &Leg<N>)
         → Finishes tile core id.0 task leg.now state.old.view state.new.view }
     ensures room { state.new.room ≡ state.old.room }
 {
-    let behind = core_behind(state, leg);
+    let budget = state.settings.budget;
     let task = &mut state.tasks[id.0];
     let tile = task.tile as usize;
     let core = held_core(task.status) as usize;
-    task.core = behind;
+    put_behind(&mut task.core, budget, leg);
     task.status = Status::Finished;
     put_finished(&mut state.finished, tile, id.0);
     free_core(&mut state.cores, tile, core);

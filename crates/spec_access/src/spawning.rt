@@ -9,7 +9,7 @@ ghost use Rattle.spec_state.specs.Room.{HasFreeEntry};
 ghost use Rattle.spec_state.specs.Changes.{TakesLeg, Keeps, Enqueues, passed};
 ghost use Rattle.spec_access.specs.Asking.{Asks};
 
-use crate::calling::core_behind;
+use crate::calling::put_behind;
 use crate::child::child_of;
 use rv_core::{Leg, Naming};
 use spec_state::{State, TaskId};
@@ -39,10 +39,10 @@ fn add_spawn<N: Naming>(state: &mut State<N>, id: TaskId, leg: &Leg<N>, spawn: S
         state.old.view state.new.view }
     ensures room { state.new.room ≡ record state.old.room { spawns = state.new.room.spawns } }
 {
-    let core = core_behind(state, leg);
+    let budget = state.settings.budget;
     let task = &mut state.tasks[id.0];
     task.spawns.push_with(&mut state.buffers.spawns, spawn);
-    task.core = core;
+    put_behind(&mut task.core, budget, leg);
 }
 
 /// Enqueues where the child has room.
@@ -62,7 +62,14 @@ fn spawn_reserved<N: Naming>(
         → Enqueues id.0 task leg.now spawn tile state.old.view state.new.view }
     ensures room { state.new.room ≡ record state.old.room { spawns = state.new.room.spawns } }
 {
-    let child = child_of::<N>(state.alloc, &state.tasks[id.0], id, &spawn, tile);
+    let child = child_of(
+        state.alloc,
+        state.version,
+        &state.tasks[id.0],
+        id,
+        &spawn,
+        tile,
+    );
     add_spawn(state, id, leg, spawn);
     let _ = state.put(child);
 }

@@ -105,3 +105,34 @@ other_room log spawns output blocks tile after room same =
           ∙ get_or-set_other (map (λ (b : BlockValue). b.spare) blocks) tile t after.spare 0 other;
       rest = refl;
     })
+
+-- blocks that are an equal list
+pub in_blocks : (version : ℕ) (settings : Settings) (tasks : List (Option Task)) (memory : List ℕ) (history : List Entry) (output : List ℕ) (next : ℕ) (path : List Level)
+    (queues finished : List QueueValue) (cores : List (List (Option ℕ))) (new blocks : List BlockValue) → new ≡ blocks
+    → seen version settings tasks memory history output next path queues finished cores (entries_in new) ≡ seen version settings tasks memory history output next path queues finished cores (entries_in blocks)
+in_blocks version settings tasks memory history output next path queues finished cores new blocks same =
+    ap (λ bs. seen version settings tasks memory history output next path queues finished cores (entries_in bs)) same
+
+pub in_spares : (new blocks : List BlockValue) (P : List ℕ → Type 0) → new ≡ blocks → P (map (λ (b : BlockValue). b.spare) blocks) → P (map (λ (b : BlockValue). b.spare) new)
+in_spares new blocks P same = subst (λ bs. P (map (λ (b : BlockValue). b.spare) bs)) (sym same)
+
+pub in_room : (log spawns output : ℕ) (new blocks : List BlockValue) (P : Spare → Type 0) → new ≡ blocks
+    → P (record { log = log; spawns = spawns; output = output; blocks = map (λ (b : BlockValue). b.spare) blocks })
+    → P (record { log = log; spawns = spawns; output = output; blocks = map (λ (b : BlockValue). b.spare) new })
+in_room log spawns output new blocks P same = subst (λ bs. P (record { log = log; spawns = spawns; output = output; blocks = map (λ (b : BlockValue). b.spare) bs })) (sym same)
+
+-- the block of an Ok
+pub on_after : (result : Result (Unit {0}) AllocError) (new blocks : List BlockValue) (tile : ℕ) (after : BlockValue) → new ≡ slice_set blocks tile after → tile < length blocks
+    → OnOk result ((block : BlockValue) → block ≡ slice_index_or new tile block → 8 ≤ block.spare) → OnOk result (8 ≤ after.spare)
+on_after (Ok done) new blocks tile after is within all = all after (sym (ap (λ bs. slice_index_or bs tile after) is ∙ get_or-set_same blocks tile after after within))
+on_after (Err error) new blocks tile after is within all = tt
+
+pub rest_seen : (version : ℕ) (settings : Settings) (tasks : List (Option Task)) (memory : List ℕ) (history : List Entry) (output : List ℕ) (next : ℕ) (path : List Level)
+    (queues finished : List QueueValue) (cores : List (List (Option ℕ))) (blocks new : List BlockValue) (tile : ℕ) (after : BlockValue) → new ≡ slice_set blocks tile after → tile < length blocks
+    → (view : View) → seen version settings tasks memory history output next path queues finished cores (entries_in blocks) ≡ view
+    → seen version settings tasks memory history output next path queues finished cores (entries_in new)
+    ≡ record view { blocks = slice_set view.blocks tile (slice_index_or (entries_in new) tile []) }
+rest_seen version settings tasks memory history output next path queues finished cores blocks new tile after is within view same =
+    subst (λ bs. seen version settings tasks memory history output next path queues finished cores (entries_in bs)
+    ≡ record view { blocks = slice_set view.blocks tile (slice_index_or (entries_in bs) tile []) }) (sym is)
+    (block_seen version settings tasks memory history output next path queues finished cores blocks tile after within view same)

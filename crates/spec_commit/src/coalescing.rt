@@ -47,7 +47,7 @@ fn reserve_pushes<N: Naming>(state: &mut State<N>, tile: u32) -> Result<(), Allo
     ensures enough { CoversPushes state.old tile 8 → IsOk result }
     ensures room { KeepsOtherRoom tile state.old.room state.new.room }
 {
-    state.blocks[tile as usize].reserve(MAX_MOVED)
+    state.blocks.reserve(tile, MAX_MOVED)
 }
 
 /// Adds a task to the block of a tile, which has a push to spare.
@@ -63,7 +63,7 @@ fn push_spilled<N: Naming>(state: &mut State<N>, tile: u32, desc: &Desc, domain:
     ensures spare { slice_index_or state.old.room.blocks tile 0 ≤ slice_index_or state.new.room.blocks tile 0 + 1 }
     ensures room { KeepsOtherRoom tile state.old.room state.new.room }
 {
-    state.blocks[tile as usize].push(desc, domain);
+    state.blocks.push(tile, desc, domain);
 }
 
 /// Moves an idle task into the block of a tile, which has a push to spare.

@@ -6,7 +6,7 @@ ghost use Rattle.task_desc.specs.Record.{IsDesc};
 ghost use Rattle.spill_store.specs.Entries.{Entry as Spilled, TakesLeast};
 ghost use Rattle.spec_state.specs.declared.task.Creator.{Creator};
 ghost use Rattle.spec_state.specs.declared.task.Creator.TheVariants.{Committed};
-ghost use Rattle.spec_state.specs.View.{version_of, block_at};
+ghost use Rattle.spec_state.specs.View.{block_at};
 ghost use Rattle.spec_state.specs.StateValue.{HasNoLessRoom};
 ghost use Rattle.spec_state.specs.Tasks.{idle_task, spilled_descriptor};
 ghost use Rattle.spec_state.specs.Least.{HasName};
@@ -42,15 +42,16 @@ fn creator_named(name: Name, count: u32, heir: Option<TaskId>) -> Creator
 }
 
 /// The idle task that a spilled one becomes, in a tile. It takes no memory.
-fn idle_spilled<N: Naming>(
+fn idle_spilled(
     alloc: Global,
+    version: u16,
     desc: &Desc,
     domain: Vt,
     creator: Creator,
     tile: u32,
 ) -> Task
     ensures { let s : Spilled = record { desc = desc.now; domain = domain } in
-        result ≡ idle_task (version_of N.image) (spilled_descriptor s) creator tile }
+        result ≡ idle_task version (spilled_descriptor s) creator tile }
 {
     Task {
         entry: desc.entry,
@@ -65,7 +66,7 @@ fn idle_spilled<N: Naming>(
         creator,
         tile,
         status: Status::Idle,
-        core: Core::start(desc.entry, desc.ts, desc.args),
+        core: Core::start(version, desc.entry, desc.ts, desc.args),
         log: Log::new(alloc),
         lines: Signature::new(),
         spawns: Spawns::new(alloc),
@@ -87,7 +88,7 @@ fn take_spilled<N: Naming>(state: &mut State<N>, tile: u32) -> (Desc, Vt)
     ensures room { KeepsOtherRoom tile state.old.room state.new.room }
     ensures stays { HasNoLessRoom state.old.room state.new.room }
 {
-    match state.blocks[tile as usize].take_least() {
+    match state.blocks.take_least(tile) {
         Some(taken) => taken,
         None => unreachable!(),
     }
@@ -110,6 +111,6 @@ pub fn split<N: Naming>(state: &mut State<N>, tile: u32) -> Result<(), AllocErro
     let heir = state.heir();
     let (desc, domain) = take_spilled(state, tile);
     let creator = creator_named(desc.name, state.history.count(), heir);
-    state.put(idle_spilled::<N>(state.alloc, &desc, domain, creator, tile));
+    state.put(idle_spilled(state.alloc, state.version, &desc, domain, creator, tile));
     Ok(())
 }

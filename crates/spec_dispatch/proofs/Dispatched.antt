@@ -17,7 +17,7 @@ module _ (old new : View) (tile : ℕ) (d : Dispatches tile old new) (size : ℕ
 
   -- the task as it is then
   abbrev now : Task
-  now = started d.core old.next d.task
+  now = started old.version d.core old.next d.task
 
   -- a task of this id was this one
   was_this : (k : ℕ) (t : Task) → k ≡ d.id → task_at old k ≡ Some t → t ≡ d.task

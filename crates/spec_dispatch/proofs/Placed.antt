@@ -1,25 +1,28 @@
 -- A task that is put on a core, by the parts of a state.
+use Rattle.std.specs.Prelude.{false, is_some}
 use Rattle.std.proofs.Common.{◌≡◌, ◌<◌, ◌+◌, ℕ, Vec, Global, List, [], length, map, Option, Some, None, refl, sym, ap, subst, ◌∙◌, arith, slice_get, slice_index_or}
 use Rattle.std.specs.Prelude.{All, slice_set, option_map, vec_len}
 use Rattle.std.specs.Vec.{with_item}
-use Rattle.std.proofs.lemmas.List.{length-map, map-set, get_or-map, get_or_default}
+use Rattle.std.proofs.lemmas.List.{length-map, map-set, get_or-map}
 use Rattle.std.proofs.lemmas.List.Elements.{All-set}
 use Rattle.std.proofs.lemmas.Option.{slice_get_within, same_Some}
 use Rattle.fractal_vt.specs.declared.level.Level.{Level}
 use Rattle.run_journal.specs.declared.journal.Entry.{Entry}
 use Rattle.spill_store.specs.Entries.{Entry as Spilled}
 use Rattle.tile_queues.specs.Queue.{QueueValue}
-use Rattle.commit_arbiter.specs.Indexed.{entry_cmp, without}
+use Rattle.commit_arbiter.specs.Indexed.{entry_cmp, without, IsOpenIn, IsTied}
 use Rattle.commit_arbiter.specs.declared.entry.Entry.{Entry as Indexed}
 use Rattle.fractal_vt.specs.Sorted.{inserted}
 use Rattle.spec_state.specs.declared.settings.Settings.{Settings}
 use Rattle.spec_state.specs.declared.task.Task.{Task}
 use Rattle.spec_state.specs.declared.task.TaskId.{TaskId}
-use Rattle.spec_state.specs.View.{View, core_ids}
+use Rattle.spec_state.specs.declared.task.Status.TheVariants.{Idle}
+use Rattle.spec_state.specs.Tasks.{kept_core}
+use Rattle.spec_state.specs.View.{View, core_ids, task_at}
 use Rattle.spec_state.specs.Fits.{seen}
 use Rattle.spec_state.specs.Changes.{Dispatches}
 use Rattle.spec_state.specs.Queries.{IsLeastIdle, IsLowestFree}
-use Rattle.spec_state.specs.Stored.{IsIndexed}
+use Rattle.spec_state.specs.Stored.{entry_of, IsIndexed, IsStored, IsWellFormed}
 use Rattle.spec_state.proofs.Proved.{others_set, task_set}
 use Rattle.spec_dispatch.specs.Started.{started}
 use Rattle.spec_dispatch.proofs.Rekeyed.{rekeyed}
@@ -59,22 +62,43 @@ pub cores_counted : (cores : List Cores) (tile core count : ℕ) (id : TaskId) (
 cores_counted cores tile core count id held within is all =
     All-set (λ (h : Cores). vec_len h ≡ count) cores tile (with_item held core (Some id)) (ap vec_len is ∙ all tile held within) all
 
--- it has its entry in the index
-pub indexed_placed : (tasks : List (Option Task)) (lists : List (List ℕ)) (arrivals : List ℕ) (next id arrival : ℕ) (entries entries_now : List Indexed) (task now kept : Task)
-    → IsIndexed tasks lists arrivals next entries → slice_index_or tasks id None ≡ Some task → slice_index_or (slice_set tasks id (Some now)) id None ≡ Some kept
-    → id < length arrivals → arrival ≡ slice_index_or arrivals id arrival
-    → entries_now ≡ inserted entry_cmp (record { key = kept.key; tile = kept.tile; arrival = arrival; id = id }) (without id entries)
+-- an idle task's tiebreaker is open
+no_number : (task : Task) (size commits : ℕ) → IsWellFormed size commits task → task.status ≡ Idle → task.key.tb ≡ None
+no_number task size commits formed idle =
+    by_case task.key.tb (formed.dispatched ∙ ap (λ status. is_some (kept_core status task.core)) idle)
+  where
+    by_case : (tb : Option ℕ) → is_some tb ≡ false → tb ≡ None
+    by_case None is = refl
+    by_case (Some n) is = absurd (cc (is))
+
+pub open_here : (old view : View) → old ≡ view → (size tile id : ℕ) (task was : Task) → IsLeastIdle view tile id task → task_at old id ≡ Some was → IsStored size old → was.key.tb ≡ None
+open_here old view same size tile id task was least there stored =
+    let one : was ≡ task = same_Some was task (sym there ∙ ap (λ (v : View). task_at v id) same ∙ least.this.there) in
+    no_number was size (length old.history) (stored.tasks id was there) (ap (λ (t : Task). t.status) one ∙ least.this.idle)
+
+-- it has its entry in the index, with its tiebreaker open
+pub open_in : (tasks : List (Option Task)) (lists : List (List ℕ)) (arrivals : List ℕ) (next id : ℕ) (entries : List Indexed) (task : Task)
+    → IsIndexed tasks lists arrivals next entries → slice_index_or tasks id None ≡ Some task → task.key.tb ≡ None → IsOpenIn id entries
+open_in tasks lists arrivals next id entries task is there none = record {
+  entry = entry_of arrivals id task;
+  there = is.all id task there;
+  is = refl;
+  open_tie = none;
+}
+
+-- and closed
+pub indexed_closed : (version : ℕ) (tasks : List (Option Task)) (lists : List (List ℕ)) (arrivals : List ℕ) (next id core number : ℕ) (entries entries_now : List Indexed) (task now : Task)
+    → IsIndexed tasks lists arrivals next entries → slice_index_or tasks id None ≡ Some task → now ≡ started version core number task → IsTied id (Some number) entries entries_now
     → IsIndexed (slice_set tasks id (Some now)) lists arrivals next entries_now
-indexed_placed tasks lists arrivals next id arrival entries entries_now task now kept is there found below number entries_are =
-    let same : arrival ≡ slice_index_or arrivals id 0 = number ∙ get_or_default arrivals id arrival 0 below in
+indexed_closed version tasks lists arrivals next id core number entries entries_now task now is there starts tie =
     subst (IsIndexed (slice_set tasks id (Some now)) lists arrivals next)
-    (sym (entries_are ∙ ap (λ n. inserted entry_cmp (record { key = kept.key; tile = kept.tile; arrival = n; id = id }) (without id entries)) same))
-    (rekeyed tasks (slice_set tasks id (Some now)) lists arrivals next id entries kept is found (others_set tasks id now))
+    (sym (tie (entry_of arrivals id task) (is.all id task there) refl ∙ ap (λ (t : Task). inserted entry_cmp (entry_of arrivals id t) (without id entries)) (sym starts)))
+    (rekeyed tasks (slice_set tasks id (Some now)) lists arrivals next id entries now is (task_set tasks id task now there) (others_set tasks id now))
 
 -- the dispatch, by the parts
 pub dispatches_seen : (version : ℕ) (settings : Settings) (tasks : List (Option Task)) (memory : List ℕ) (history : List Entry) (output : List ℕ) (next : ℕ) (path : List Level)
     (queues finished : List QueueValue) (cores : List Cores) (blocks : List (List Spilled)) (tile core : ℕ) (id : TaskId) (was now : Task) (held : Cores)
-    → tile < length cores → held ≡ slice_index_or cores tile held → slice_index_or tasks id.0 None ≡ Some was → now ≡ started core next was
+    → tile < length cores → held ≡ slice_index_or cores tile held → slice_index_or tasks id.0 None ≡ Some was → now ≡ started version core next was
     → (view : View) → seen version settings tasks memory history output next path queues finished (held_ids cores) blocks ≡ view
     → (task : Task) → IsLeastIdle view tile id.0 task → IsLowestFree view tile core
     → Dispatches tile view (seen version settings (slice_set tasks id.0 (Some now)) memory history output (next + 1) path queues finished (held_ids (slice_set cores tile (with_item held core (Some id)))) blocks)
@@ -90,7 +114,7 @@ dispatches_seen version settings tasks memory history output next path queues fi
       core = core;
       free = its_free;
       changes = record {
-        changed = task_set tasks id.0 was now there ∙ ap Some (starts ∙ ap (started core next) one);
+        changed = task_set tasks id.0 was now there ∙ ap Some (starts ∙ ap (started version core next) one);
         others = others_set tasks id.0 now;
       };
       next = refl;

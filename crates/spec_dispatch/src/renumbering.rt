@@ -12,7 +12,7 @@ use fractal_vt::{renumber as renumber_path, renumber_key};
 use rv_core::Naming;
 use slab::Slab;
 use spec_state::{State, Task};
-use spill_store::Block;
+use spill_store::Blocks;
 
 /// Replaces each tiebreaker of the task's key by its place in the table.
 fn renumber_task(task: &mut Task, table: &[u64])
@@ -36,16 +36,15 @@ fn renumber_tasks(tasks: &mut Slab<Task>, table: &[u64])
 }
 
 /// Replaces the tiebreakers of all spilled tasks by their places in the table.
-fn renumber_blocks(blocks: &mut [Block], table: &[u64])
+fn renumber_blocks(blocks: &mut Blocks, table: &[u64])
     requires rising { IsStrictlyIncreasing table.now }
-    requires held { All (HoldsEntries table.now) (entries_in blocks.old) }
-    ensures entries { entries_in blocks.new ≡ map (map (renumbered_entry table.now)) (entries_in blocks.old) }
-    ensures count { length blocks.new ≡ length blocks.old }
-    ensures spare { map (λ block. block.spare) blocks.new ≡ map (λ block. block.spare) blocks.old }
+    requires held { All (HoldsEntries table.now) (entries_in blocks.old.items) }
+    ensures entries { let was = entries_in blocks.old.items in
+        entries_in blocks.new.items ≡ map (map (renumbered_entry table.now)) was }
+    ensures count { length blocks.new.items ≡ length blocks.old.items }
+    ensures spare { map (λ block. block.spare) blocks.new.items ≡ map (λ block. block.spare) blocks.old.items }
 {
-    for tile in 0..blocks.len() {
-        blocks[tile].renumber(table);
-    }
+    blocks.renumber(table);
 }
 
 /// Replaces each dispatch number in use by its place among them, counted from 0. Each is one of the path or of a

@@ -18,7 +18,6 @@ use abort_cascade::list_marked;
 use rv_core::Naming;
 use slab::Slab;
 use spec_state::{State, Task, TaskId};
-use spill_store::Block;
 
 /// Marks the ids of all tasks.
 fn mark_tasks(tasks: &Slab<Task>, marks: &mut [bool])
@@ -58,29 +57,12 @@ fn remove_marked<N: Naming>(state: &mut State<N>, found: usize)
     }
 }
 
-/// Takes all tasks out of a block.
-fn empty_block(block: &mut Block)
-    ensures { block.new.entries ≡ [] }
-{
-    while block.take_least().is_some() {}
-}
-
-/// Takes all spilled tasks out.
-fn empty_blocks(blocks: &mut [Block])
-    ensures count { length blocks.new ≡ length blocks.old }
-    ensures entries { map (λ block. block.entries) blocks.new ≡ replicate (length blocks.old) [] }
-{
-    for block in blocks.iter_mut() {
-        empty_block(block);
-    }
-}
-
 /// Leaves no task spilled.
 fn drop_spilled<N: Naming>(state: &mut State<N>)
     ensures { let old = state.old.view in
         state.new.view ≡ record old { blocks = replicate (length old.blocks) [] } }
 {
-    empty_blocks(state.blocks.as_mut_slice());
+    state.blocks.clear();
 }
 
 /// Law: each tile has its lists.

@@ -1,5 +1,5 @@
 -- The first of the queued tasks and the first of the spilled ones.
-use Rattle.std.proofs.Common.{◌≡◌, ◌≢◌, ◌<◌, ◌≤◌, ◌+◌, ℕ, true, false, List, [], length, map, take, Some, refl, sym, ap, subst, ◌∙◌, inl, inr, arith, slice_get, slice_index_or}
+use Rattle.std.proofs.Common.{◌≡◌, ◌≢◌, ◌<◌, ◌≤◌, ◌+◌, ◌∷◌, ℕ, true, false, List, [], length, map, take, Some, refl, sym, ap, subst, ◌∙◌, inl, inr, arith, slice_get, slice_index_or}
 use Rattle.std.specs.Cmp.{IsTotalOrder}
 use Rattle.std.specs.Ordering.{nat_cmp, ordering_then, ordering_reverse, is_gt, is_lt}
 use Rattle.std.specs.declared.cmp.Ordering.{Ordering}
@@ -13,7 +13,8 @@ use Rattle.std.proofs.Common.{option_map, length-take-le}
 use Rattle.fractal_vt.specs.declared.key.Key.{Key}
 use Rattle.fractal_vt.specs.Keys.{key_cmp}
 use Rattle.fractal_vt.proofs.Proved.{key_cmp_total, least_at}
-use Rattle.spill_store.specs.Entries.{Entry as Spilled, BlockValue, open_key, IsLeastKey}
+use Rattle.spill_store.specs.Entries.{Entry as Spilled, BlockValue, first_key, open_key, IsLeastKey}
+use Rattle.spill_store.specs.Fronts.{IsFirstOfAll}
 use Rattle.spec_state.specs.Least.{Spilled_at, ranked_cmp, place_cmp}
 use Rattle.spec_state.specs.Fronts.{IsFirstSpilled, HoldNone}
 
@@ -185,3 +186,38 @@ module _ (blocks : List (List Spilled)) (n : ℕ) where
 pub entries_at : (blocks : List BlockValue) (tile : ℕ) (block : BlockValue) → tile < length blocks → block ≡ slice_index_or blocks tile block
     → slice_index_or (map (λ b. b.entries) blocks) tile [] ≡ block.entries
 entries_at blocks tile block within is = get_or-map (λ (b : BlockValue). b.entries) blocks tile block [] within ∙ ap (λ (b : BlockValue). b.entries) (sym is)
+
+-- what the blocks of all tiles tell of their first task
+pub first_is_spilled : (blocks : List (List Spilled)) (tile : ℕ) (key : Key) → IsFirstOfAll blocks tile key → IsFirstSpilled blocks (length blocks) tile key
+first_is_spilled blocks tile key is = by_list (slice_index_or blocks tile []) refl is.own
+  where
+    later : (t p : ℕ) (x : Spilled) → t < length blocks → slice_get (slice_index_or blocks t []) p ≡ Some x → ranked_cmp key (Spilled_at tile 0) (open_key x) (Spilled_at t p) ≢ Greater
+    later t p x less at = elim (cases_eq t tile) [
+      | inl same ↦ subst (λ n. ranked_cmp key (Spilled_at tile 0) (open_key x) (Spilled_at n p) ≢ Greater) (sym same) (in_tile key (open_key x) tile 0 p (is.upto t p x less at) (omega arith))
+      | inr other ↦ elim (cases_lt tile t) [
+        | inl below ↦ lower_tile key (open_key x) tile 0 t p (is.upto t p x less at) below
+        | inr above ↦ by_order (key_cmp key (open_key x)) refl
+      ]
+    ]
+      where
+        by_order : (o : Ordering) → key_cmp key (open_key x) ≡ o → ranked_cmp key (Spilled_at tile 0) (open_key x) (Spilled_at t p) ≢ Greater
+        by_order Less o_is = lesser_key key (open_key x) tile 0 t p o_is
+        by_order Equal o_is = elim (cases_eq t tile) [
+          | inl same ↦ subst (λ n. ranked_cmp key (Spilled_at tile 0) (open_key x) (Spilled_at n p) ≢ Greater) (sym same) (in_tile key (open_key x) tile 0 p (is.upto t p x less at) (omega arith))
+          | inr other ↦ lower_tile key (open_key x) tile 0 t p (is.upto t p x less at) (let low = is.tied t p x less at o_is in omega (arith, low, other))
+        ]
+        by_order Greater o_is = absurd (is.upto t p x less at o_is)
+
+    by_list : (es : List Spilled) → slice_index_or blocks tile [] ≡ es → first_key (slice_index_or blocks tile []) ≡ Some key → IsFirstSpilled blocks (length blocks) tile key
+    by_list [] same own = absurd (cc (own, ap first_key same))
+    by_list (e ∷ es) same own = record {
+      below = is.within;
+      place = 0;
+      s = e;
+      there = ap (λ (ls : List Spilled). slice_get ls 0) same;
+      of_task = (let both : Some (open_key e) ≡ Some key = sym (ap first_key same) ∙ own in let mine : open_key e ≡ key = cc (both) in sym mine);
+      first = later;
+    }
+
+pub none_is_spilled : (blocks : List (List Spilled)) → ((tile : ℕ) → tile < length blocks → slice_index_or blocks tile [] ≡ []) → HoldNone blocks (length blocks)
+none_is_spilled blocks none t p x less at = absurd (cc (at, ap (λ (ls : List Spilled). slice_get ls p) (none t less)))

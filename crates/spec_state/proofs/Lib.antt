@@ -22,4 +22,5 @@ pub mod Picks
 pub mod Dispatched
 pub mod Conflicting
 pub mod Idles
+pub mod Named
 pub mod Proved

@@ -38,3 +38,8 @@ pub covered : (state : StateValue) (task : Option TaskId) (tile spare : ℕ) →
     → slice_index_or state.room.blocks tile 0 ≡ spare → (result : Result (Unit {0}) AllocError) → OnOk result (8 ≤ spare) → OnOk result (Covers state task tile)
 covered state task tile spare log child is (Ok done) more = record { log = log; child = child; pushes = omega (arith, is, more) }
 covered state task tile spare log child is (Err error) more = tt
+
+-- what an Ok tells is weakened
+pub on_ok : {P Q : Type 0} (result : Result (Unit {0}) AllocError) → (P → Q) → OnOk result P → OnOk result Q
+on_ok (Ok done) weaker more = weaker more
+on_ok (Err error) weaker more = tt

@@ -17,3 +17,4 @@ pub mod Changes
 pub mod Opening
 pub mod Leaving
 pub mod Picks
+pub mod Pendings

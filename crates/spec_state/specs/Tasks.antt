@@ -61,6 +61,7 @@ floor_in floor (level ∷ levels) = floor_in level.ts levels
 -- what the calls of the task depend on as it starts
 abbrev pub start_context : ℕ → Task → Ctx
 start_context version task = record {
+  version = version;
   depth = depth_of task;
   own = kind_at (length task.key.domain) task.kinds;
   outer = outer_kind (length task.key.domain) task.kinds;
@@ -92,7 +93,7 @@ trap_in Finished = None
 
 -- the core at which it starts
 abbrev pub start_core : ℕ → Task → Core
-start_core version task = start_of task.entry task.key.ts task.args
+start_core version task = start_of version task.entry task.key.ts task.args
 
 -- the task in progress at this core, on a memory
 abbrev pub progress_at : List ℕ → Core → Task → TaskState
@@ -173,7 +174,7 @@ idle_task version d creator tile = record {
   creator = creator;
   tile = tile;
   status = Idle;
-  core = start_of d.entry d.ts d.args;
+  core = start_of version d.entry d.ts d.args;
   log = [];
   lines = no_lines;
   spawns = [];

@@ -27,9 +27,9 @@ pub record View : Type 0 where
   pub cores : List (List (Option ℕ))
   pub blocks : List (List Spilled)
 
--- the version of an image, on which the starts and the contexts of its tasks depend: there is one so far
+-- the version of an image, on which the starts and the contexts of its tasks depend
 abbrev pub version_of : ImageValue → ℕ
-version_of image = 1
+version_of image = image.version
 
 -- the ids that the cores of a tile hold
 abbrev pub core_ids : List (Option TaskId) → List (Option ℕ)

@@ -3,7 +3,6 @@
 ghost use Rattle.std.specs.Prelude.{◌≡◌, ◌<◌, [], ◌∷◌, ◌++◌, length, Contains, IsOk, IfOk};
 ghost use Rattle.spec_state.specs.declared.task.Creator.TheVariants.{Committed};
 ghost use Rattle.spec_state.specs.declared.task.Status.TheVariants.{Idle};
-ghost use Rattle.spec_state.specs.View.{version_of};
 ghost use Rattle.spec_state.specs.Tasks.{idle_task, root_descriptor};
 ghost use Rattle.spec_state.specs.Stored.{IsWellFormed};
 ghost use Rattle.spec_state.specs.Opening.{Adds, IsOfImage};
@@ -31,9 +30,9 @@ fn put_last(queue: &mut TaskQueue, id: usize)
 }
 
 /// An idle task of the root domain with a committed creator, in a tile. It takes no memory.
-fn root_task<N: Naming>(alloc: Global, desc: &Desc, tile: u32) -> Task
+fn root_task(alloc: Global, version: u16, desc: &Desc, tile: u32) -> Task
     ensures { let name = desc.now.name in
-        result ≡ idle_task (version_of N.image) (root_descriptor desc.now) (Committed name.creator name.index) tile }
+        result ≡ idle_task version (root_descriptor desc.now) (Committed name.creator name.index) tile }
 {
     Task {
         entry: desc.entry,
@@ -47,7 +46,7 @@ fn root_task<N: Naming>(alloc: Global, desc: &Desc, tile: u32) -> Task
         },
         tile,
         status: Status::Idle,
-        core: Core::start(desc.entry, desc.ts, desc.args),
+        core: Core::start(version, desc.entry, desc.ts, desc.args),
         log: Log::new(alloc),
         lines: Signature::new(),
         spawns: Spawns::new(alloc),
@@ -98,6 +97,6 @@ impl<N: Naming> State<N> {
         ensures covered { IsOk result }
         ensures room { self.new.room ≡ self.old.room }
     {
-        Ok(self.put(root_task::<N>(self.alloc, desc, tile)))
+        Ok(self.put(root_task(self.alloc, self.version, desc, tile)))
     }
 }

@@ -1,9 +1,9 @@
 //! What the next call of a task depends on. No call takes memory.
 
 ghost use Rattle.std.specs.Prelude.{◌≡◌, ◌≤◌, ◌<◌, length, IsSome, IfSome};
-ghost use Rattle.task_desc.specs.declared.calls.TheConstants.{MAX_CHILDREN};
-ghost use Rattle.spec_state.specs.View.{task_at, version_of};
-ghost use Rattle.spec_state.specs.Tasks.{context_of, kind_at, outer_kind, floor_in};
+ghost use Rattle.task_desc.specs.declared.calls.TheConstants.{MAX_CHILDREN, MAX_DEPTH};
+ghost use Rattle.spec_state.specs.View.{task_at};
+ghost use Rattle.spec_state.specs.Tasks.{context_of, depth_of, kind_at, outer_kind, floor_in};
 ghost use Rattle.spec_state.specs.Stored.{IsStored};
 
 use crate::state::State;
@@ -62,12 +62,14 @@ fn floor_of(domain: &Vt) -> u32
 }
 
 /// What the next call of a task depends on.
-fn context<N: Naming>(task: &Task) -> Ctx
-    requires { length task.now.spawns ≤ MAX_CHILDREN }
-    ensures { result ≡ context_of (version_of N.image) task.now }
+fn context(version: u16, task: &Task) -> Ctx
+    requires children { length task.now.spawns ≤ MAX_CHILDREN }
+    requires depth { depth_of task.now ≤ MAX_DEPTH }
+    ensures { result ≡ context_of version task.now }
 {
     let outer = task.key.domain.levels().len();
     Ctx {
+        version,
         depth: outer as u8 + 1,
         own: kind_behind(task.kinds, outer),
         outer: kind_outside(task.kinds, outer),
@@ -93,7 +95,7 @@ impl<N: Naming> State<N> {
         ensures { IfSome (task_at self.now.view task.0) (λ t. result ≡ context_of self.now.view.version t) }
     {
         self.is_stored();
-        context::<N>(self.task(task))
+        context(self.version, self.task(task))
     }
 
     /// Its history, its memory and its output, as they stand. It takes no memory.
@@ -103,6 +105,7 @@ impl<N: Naming> State<N> {
         ensures output { result.output ≡ self.view.output }
     {
         let State {
+            version: _,
             settings: _,
             tasks: _,
             memory,
@@ -122,6 +125,7 @@ impl<N: Naming> State<N> {
             members: _,
             numbers: _,
             buffers: _,
+            decoded: _,
             alloc: _,
             naming: _,
         } = self;

@@ -4,55 +4,18 @@ ghost use Rattle.std.specs.Prelude.{◌≡◌, ◌<◌, ◌≤◌, ◌+◌, ◌�
 ghost use Rattle.spec_state.specs.declared.task.Task.{Task};
 ghost use Rattle.spec_state.specs.Least.{IsLeast, IsAllCommitted};
 ghost use Rattle.spec_state.specs.Queries.{IsQueued};
-ghost use Rattle.spec_state.specs.Fits.{entries_in};
 ghost use Rattle.spec_state.specs.Fronts.{IsFirstQueued, IsFirstSpilled, HoldNone, IsStanding};
 
 use crate::state::State;
 use crate::task::{Status, Task, TaskId, Where};
 use fractal_vt::{Key, cmp};
 use rv_core::Naming;
-use spill_store::Block;
 
 /// The key of a spilled task where it stands, and the tile in whose block that is.
 #[derive(Clone, Copy)]
 struct Front<'a> {
     tile: u32,
     key: &'a Key,
-}
-
-/// The lesser of the first task of the earlier blocks and the first one of the next block.
-fn lesser<'a>(best: Option<Front<'a>>, blocks: &'a [Block], tile: u32) -> Option<Front<'a>>
-    requires tile { tile < length blocks.now }
-    requires some { IfSome best (λ f. IsFirstSpilled (entries_in blocks.now) tile f.tile f.key.now) }
-    requires none { IsNone best → HoldNone (entries_in blocks.now) tile }
-    ensures some { IfSome result (λ f. IsFirstSpilled (entries_in blocks.now) (tile + 1) f.tile f.key.now) }
-    ensures none { IsNone result → HoldNone (entries_in blocks.now) (tile + 1) }
-{
-    match (best, blocks[tile as usize].front_key()) {
-        (None, None) => None,
-        (Some(front), None) => Some(front),
-        (None, Some(key)) => Some(Front { tile, key }),
-        (Some(front), Some(key)) => {
-            if cmp(key, front.key).is_lt() {
-                Some(Front { tile, key })
-            } else {
-                Some(front)
-            }
-        }
-    }
-}
-
-/// The first of the spilled tasks: that of the least key, and on a tie that of the lowest tile.
-fn first_spilled(blocks: &[Block]) -> Option<Front<'_>>
-    requires few { length blocks.now ≤ 16 }
-    ensures some { IfSome result (λ f. IsFirstSpilled (entries_in blocks.now) (length blocks.now) f.tile f.key.now) }
-    ensures none { IsNone result → HoldNone (entries_in blocks.now) (length blocks.now) }
-{
-    let mut best = None;
-    for tile in 0..blocks.len() as u32 {
-        best = lesser(best, blocks, tile);
-    }
-    best
 }
 
 /// How a queued task stands.
@@ -86,7 +49,13 @@ impl<N: Naming> State<N> {
             IfSome result (λ f. IsFirstSpilled blocks (length blocks) f.tile f.key.now) }
         ensures none { IsNone result → HoldNone self.now.view.blocks (length self.now.view.blocks) }
     {
-        first_spilled(self.blocks.as_slice())
+        match self.blocks.front() {
+            Some((tile, key)) => Some(Front {
+                tile: tile as u32,
+                key,
+            }),
+            None => None,
+        }
     }
 
     /// The least uncommitted task, and how it stands; None exactly where no task is uncommitted. It costs a look at

@@ -3,11 +3,10 @@
 ghost use Rattle.std.specs.Prelude.{◌≡◌, ◌+◌, ◌<◌, Contains, IsSome, Some, length, map};
 ghost use Rattle.tile_queues.specs.Queue.{without};
 ghost use Rattle.spec_state.specs.declared.task.Status.TheVariants.{Finished};
-ghost use Rattle.spec_state.specs.View.{core_ids, task_at, version_of};
+ghost use Rattle.spec_state.specs.View.{core_ids, task_at};
 ghost use Rattle.spec_state.specs.Leaving.{freed_of, IsHeldAs, Leaves, SetsBack};
 ghost use Rattle.spec_state.specs.Tasks.{idle_again};
 
-use crate::arrival::enter_again;
 use crate::state::State;
 use crate::task::{Status, Task, TaskId};
 use line_table::Filter;
@@ -50,12 +49,12 @@ fn leave_core(cores: &mut [Option<TaskId>], status: Status, id: usize)
 }
 
 /// Makes a task idle again, with nothing done. It keeps the memory of its lists.
-fn reset<N: Naming>(task: &mut Task)
-    ensures { task.new ≡ idle_again (version_of N.image) task.old }
+fn reset(task: &mut Task, version: u16)
+    ensures { task.new ≡ idle_again version task.old }
 {
     task.key.tb = None;
     task.status = Status::Idle;
-    task.core = Core::start(task.entry, task.key.ts, task.args);
+    task.core = Core::start(version, task.entry, task.key.ts, task.args);
     task.log.clear();
     task.lines.clear();
     task.spawns.clear();
@@ -91,15 +90,12 @@ impl<N: Naming> State<N> {
         ensures room { self.new.room ≡ self.old.room }
         ensures scratch { self.new.scratch ≡ self.old.scratch }
     {
-        // Each id is below the number of slots, and there are as many arrival numbers.
-        let _slots = self.tasks.capacity();
         let task = &mut self.tasks[id.0];
         let tile = task.tile as usize;
         let status = task.status;
-        let arrival = self.arrivals[id.0];
-        reset::<N>(task);
+        reset(task, self.version);
         leave_commits(&mut self.finished[tile], status, id.0);
         leave_core(&mut self.cores[tile], status, id.0);
-        enter_again(&mut self.index, &self.tasks[id.0], arrival, id.0);
+        self.index.open(id.0);
     }
 }

@@ -23,14 +23,13 @@ mod lists;
 mod loads;
 mod making;
 mod numbers;
+mod pending;
 mod queued;
 mod reading;
 mod room;
 mod settings;
 mod state;
 mod task;
-#[cfg(test)]
-mod tests;
 
 pub use children::Children;
 pub use context::Parts;
@@ -39,6 +38,7 @@ pub use firm::name_given;
 pub use history::History;
 pub use loads::{Loads, MAX_TILES};
 pub use numbers::{DISPATCH_NUMBERS, MAX_NUMBERS_IN_USE};
+pub use pending::{Pending, Pendings};
 pub use room::{Buffers, MAX_MOVED};
 pub use settings::Settings;
 pub use state::State;

@@ -15,10 +15,10 @@ use crate::task::TaskId;
 use commit_arbiter::Index;
 use fractal_vt::Vt;
 use guest_image::Image;
-use rv_core::Naming;
+use rv_core::{Decoded, Naming};
 use serial_machine::Bytes;
 use slab::Slab;
-use spill_store::Block;
+use spill_store::Blocks;
 use std::alloc::{AllocError, Global};
 use std::marker::PhantomData;
 use tile_queues::Queue;
@@ -72,18 +72,6 @@ fn all_free_cores(
     Ok(held)
 }
 
-/// An empty block for each tile.
-fn empty_blocks(alloc: Global, tiles: u32) -> Result<Vec<Block>, AllocError>
-    ensures count { IfOk result (λ blocks. vec_len blocks ≡ tiles) }
-    ensures entries { IfOk result (λ blocks. map (λ block. block.entries) blocks.items ≡ replicate tiles []) }
-{
-    let mut blocks = Vec::with_capacity(alloc, tiles as usize)?;
-    for _ in 0..tiles {
-        blocks.push(Block::new(alloc))?;
-    }
-    Ok(blocks)
-}
-
 /// How many tasks all task queues may hold: 4 to 4,096.
 fn entries_of(settings: &Settings) -> u32
     requires { IsValid settings.now }
@@ -109,6 +97,7 @@ impl<N: Naming> State<N> {
         let tasks = Slab::with_capacity(alloc, entries as usize)?;
         let slots = tasks.capacity();
         Ok(State {
+            version: image.version(),
             settings,
             tasks,
             memory: Memory::new(alloc, image.initial(), image.data_size())?,
@@ -119,7 +108,7 @@ impl<N: Naming> State<N> {
             queues: empty_queues(alloc, settings.tiles, settings.task_queue)?,
             finished: empty_queues(alloc, settings.tiles, settings.commit_queue)?,
             cores: all_free_cores(alloc, settings.tiles, settings.cores)?,
-            blocks: empty_blocks(alloc, settings.tiles)?,
+            blocks: Blocks::new(alloc, settings.tiles)?,
             index: Index::new(alloc, entries)?,
             arrivals: vec![in alloc; 0; slots]?,
             next_arrival: 0,
@@ -128,6 +117,7 @@ impl<N: Naming> State<N> {
             members: vec![in alloc; 0; slots]?,
             numbers: Vec::with_capacity(alloc, MAX_NUMBERS_IN_USE)?,
             buffers: Buffers::new(alloc),
+            decoded: Decoded::new(alloc, image)?,
             alloc,
             naming: PhantomData,
         })

@@ -49,7 +49,7 @@ impl<N: Naming> State<N> {
         requires { tile < self.now.view.settings.tiles }
         ensures { result ≡ length (block_at self.now.view tile) }
     {
-        self.blocks[tile as usize].len()
+        self.blocks.block(tile).len()
     }
 
     /// The task that a core of a tile holds; None exactly where it holds none.

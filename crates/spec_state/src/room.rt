@@ -80,6 +80,6 @@ impl<N: Naming> State<N> {
         ensures enough { Covers self.old task tile → IsOk result }
     {
         cover_task(&mut self.buffers, &self.tasks, task)?;
-        self.blocks[tile as usize].reserve(MAX_MOVED)
+        self.blocks.reserve(tile, MAX_MOVED)
     }
 }

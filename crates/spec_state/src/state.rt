@@ -5,10 +5,10 @@ use crate::settings::Settings;
 use crate::task::{Task, TaskId};
 use commit_arbiter::Index;
 use fractal_vt::Vt;
-use rv_core::Naming;
+use rv_core::{Decoded, Naming};
 use serial_machine::Bytes;
 use slab::Slab;
-use spill_store::Block;
+use spill_store::Blocks;
 use std::alloc::Global;
 use std::marker::{Model, PhantomData};
 use tile_queues::{CommitQueue, TaskQueue};
@@ -26,6 +26,8 @@ use undo_log::Memory;
 /// a free slot and a free entry of the index too.
 #[derive(Drop)]
 pub struct State<N: Naming> {
+    /// The version of the image.
+    pub version: u16,
     /// How large it is and how far it runs.
     pub settings: Settings,
     /// The uncommitted tasks that aren't spilled, by their ids.
@@ -47,7 +49,7 @@ pub struct State<N: Naming> {
     /// The cores of each tile, each with the task that it holds.
     pub cores: Vec<Vec<Option<TaskId>>>,
     /// The spilled tasks of each tile.
-    pub blocks: Vec<Block>,
+    pub blocks: Blocks,
     /// The queued tasks of all tiles, in the order in which they commit.
     pub index: Index,
     /// The number of its arrival in its queue, for each id; that of an id that is no task's says nothing.
@@ -64,6 +66,8 @@ pub struct State<N: Naming> {
     pub numbers: Vec<u64>,
     /// Room that a full list moves into.
     pub buffers: Buffers,
+    /// The text, decoded.
+    pub decoded: Decoded<N>,
     /// What new tasks take their memory from.
     pub alloc: Global,
     /// What the state is about: the limits are those that `N` names.
@@ -72,7 +76,7 @@ pub struct State<N: Naming> {
 
 impl<N: Naming> Model for State<N> {
     ghost use Rattle.std.specs.Prelude.{◌≡◌, map, length, vec_len, vec_capacity, All};
-    ghost use Rattle.spec_state.specs.View.{core_ids, version_of};
+    ghost use Rattle.spec_state.specs.View.{core_ids};
     ghost use Rattle.spec_state.specs.StateValue.{StateValue};
     ghost use Rattle.spec_state.specs.Fits.{seen, HasLimits, HasTiles, HasSlots};
     ghost use Rattle.spec_state.specs.Stored.{IsStored, IsIndexed};
@@ -81,7 +85,7 @@ impl<N: Naming> Model for State<N> {
     ghost Value = { StateValue };
 
     ghost view = { λ s. record {
-      view = seen (version_of N.image) s.settings s.tasks.slots s.memory s.history.entries s.output s.next s.path
+      view = seen s.version s.settings s.tasks.slots s.memory s.history.entries s.output s.next s.path
           s.queues.items s.finished.items
           (map (λ cores. core_ids cores.items) s.cores.items) (map (λ block. block.entries) s.blocks.items);
       room = record {
@@ -94,11 +98,11 @@ impl<N: Naming> Model for State<N> {
     } };
 
     ghost invariant = { λ s.
-        let view = seen (version_of N.image) s.settings s.tasks.slots s.memory s.history.entries s.output s.next s.path
+        let view = seen s.version s.settings s.tasks.slots s.memory s.history.entries s.output s.next s.path
         s.queues.items s.finished.items
         (map (λ cores. core_ids cores.items) s.cores.items) (map (λ block. block.entries) s.blocks.items) in
         HasLimits N.budget N.commits s.settings s.history.limit
-        × HasTiles s.settings s.queues.items s.finished.items (vec_len s.cores) (vec_len s.blocks)
+        × HasTiles s.settings s.queues.items s.finished.items (vec_len s.cores) (length s.blocks.items)
         × All (λ held. vec_len held ≡ s.settings.cores) s.cores.items
         × HasSlots s.settings s.tasks.slots s.tasks.capacity s.queues.items (length s.index.entries) s.index.capacity
         (vec_len s.marks) (vec_len s.members) (length s.arrivals.items) (vec_capacity s.numbers)

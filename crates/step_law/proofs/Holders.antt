@@ -29,7 +29,7 @@ module _ (image : ImageValue) (view : View) (sound : Sound image view) where
 
   -- a task with a core is dispatched
   by_status : (core : ℕ) (task : Task) (status : Status) → HoldsCore status core
-      → StandsAs image view.settings.budget task status → is_dispatched task ≡ true
+      → StandsAs image view.version view.settings.budget task status → is_dispatched task ≡ true
   by_status core task Idle holds stands = absurd holds
   by_status core task (Running held) holds stands = stands.0
   by_status core task (Trapped held cause) holds stands = stands.0
@@ -51,8 +51,8 @@ module _ (image : ImageValue) (view : View) (sound : Sound image view) where
   -- so it is dispatched
   pub finished_is_dispatched : (tile id : ℕ) (task : Task) → IsFinished view tile id task → is_dispatched task ≡ true
   finished_is_dispatched tile id task finished =
-      let stands : StandsAs image view.settings.budget task Finished =
-      subst (StandsAs image view.settings.budget task) (finished_stands tile id task finished).1 (sound.tasks.stands id task finished.there) in
+      let stands : StandsAs image view.version view.settings.budget task Finished =
+      subst (StandsAs image view.version view.settings.budget task) (finished_stands tile id task finished).1 (sound.tasks.stands id task finished.there) in
       stands.0
 
   -- a finished task of a greater key is a later one

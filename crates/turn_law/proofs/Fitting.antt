@@ -138,15 +138,15 @@ kind_first : (outer : List BagValue) → kind_outside outer ≡ first_kind (map 
 kind_first [] = refl
 kind_first (bag ∷ outer) = refl
 
-abbrev context : ℕ → ℕ → Domain → Option Kind → Ctx
-context depth ts own outer = record { depth = depth; own = own.kind; outer = outer; ts = ts; floor = own.floor; sub = None; children = 0; bytes = 0 }
+abbrev context : ℕ → ℕ → ℕ → Domain → Option Kind → Ctx
+context version depth ts own outer = record { version = version; depth = depth; own = own.kind; outer = outer; ts = ts; floor = own.floor; sub = None; children = 0; bytes = 0 }
 
 pub contexts_fit : ContextFits
-contexts_fit stack task own outer is fits next =
+contexts_fit version stack task own outer is fits next =
     let long : length (own ∷ outer) ≡ length outer + 1 = omega arith in
     let all : own ∷ outer ≡ map domain_of (next.bag ∷ next.outer) = own_is stack task (own ∷ outer) (length outer + 1) is fits long next in
     let first : own ≡ domain_of next.bag = cc in
     let rest : outer ≡ map domain_of next.outer = cc in
-    ap (λ d. context d task.ts (domain_of next.bag) (kind_outside next.outer)) next.deep
-    ∙ ap (λ d. context (length outer + 1) task.ts d (kind_outside next.outer)) (sym first)
-    ∙ ap (context (length outer + 1) task.ts own) (kind_first next.outer ∙ ap first_kind (sym rest))
+    ap (λ d. context version d task.ts (domain_of next.bag) (kind_outside next.outer)) next.deep
+    ∙ ap (λ d. context version (length outer + 1) task.ts d (kind_outside next.outer)) (sym first)
+    ∙ ap (context version (length outer + 1) task.ts own) (kind_first next.outer ∙ ap first_kind (sym rest))

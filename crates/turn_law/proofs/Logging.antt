@@ -126,11 +126,11 @@ module _ (image : ImageValue) (budget : ℕ) (ctx : Ctx) (memory : List ℕ) whe
 
   -- a request that ends the run on this memory
   last_ask : (task : PendingTask) (log : List Access) (before : TaskState) (request : Request) (x : Stepped)
-      → LoggedRun image budget (length memory) ctx (begun task.entry ctx.ts task.args []) log before → Replays memory log
+      → LoggedRun image budget (length memory) ctx (begun image.version task.entry ctx.ts task.args []) log before → Replays memory log
       → Asks image budget (length memory) ctx before request → after_request (on_memory (replayed memory log) before) request ≡ x
       → task_run image budget ctx task.entry task.args memory ≡ followed (steps image budget ctx (budget - (before.core.used + 1))) x
   last_ask task log before request x run chain asks leads =
-      let start : TaskState = begun task.entry ctx.ts task.args [] in
+      let start : TaskState = begun image.version task.entry ctx.ts task.args [] in
       let low : start.core.used ≤ budget = omega arith in
       let runs = runs_so start run low chain in
       let t : TaskState = on_memory (replayed memory log) before in
@@ -155,8 +155,8 @@ module _ (image : ImageValue) (budget : ℕ) (ctx : Ctx) (memory : List ℕ) whe
 pub logged_run_is_turn : LoggedRunIsTurn
 logged_run_is_turn image budget depth s task log after next is chain =
     turn-done image budget s task.name next.bag next.outer task (on_memory (replayed s.memory log) after) next.may
-    (finished image budget (context_of next.bag next.outer task) s.memory task log after is chain)
+    (finished image budget (context_of image.version next.bag next.outer task) s.memory task log after is chain)
 
 pub logged_trap_is_serial : LoggedTrapIsSerial
 logged_trap_is_serial image budget depth s task log cause pc next is chain =
-    record { bag = next.bag; outer = next.outer; task = task; may = next.may; run = trapped image budget (context_of next.bag next.outer task) s.memory task log cause pc is chain }
+    record { bag = next.bag; outer = next.outer; task = task; may = next.may; run = trapped image budget (context_of image.version next.bag next.outer task) s.memory task log cause pc is chain }

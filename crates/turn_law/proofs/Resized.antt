@@ -2,21 +2,22 @@
 use Rattle.std.proofs.Common.{◌≡◌, ◌≤◌, ◌+◌, ◌-◌, ◌%◌, ◌==◌, ◌∷◌, ◌++◌, ℕ, Bool, true, false, List, [], length, not, nat_lt, Option, Some, None, refl, sym, ap, subst, ◌∙◌, arith, if◌then◌else◌}
 use Rattle.std.proofs.lemmas.Bool.Decides.{nat_tests}
 use Rattle.std.proofs.lemmas.Grind.{common_steps}
-use Rattle.guest_image.specs.Fetch.{fetched, text_loaded}
+use Rattle.guest_image.specs.Fetch.{fetched}
 use Rattle.guest_image.specs.ImageValue.{ImageValue}
 use Rattle.memory_law.specs.Accesses.{Replays}
 use Rattle.memory_law.proofs.Proved.{length-replayed, Replays-back, Replays-front}
 use Rattle.rv_core.specs.declared.state.Core.{Core}
 use Rattle.rv_core.specs.declared.state.Stop.{Stop}
 use Rattle.rv_core.specs.declared.state.Stop.TheVariants as stop
-use Rattle.rv_core.specs.Legs.{next_at, word_next, instr_next, effect_next, load_next, traps}
+use Rattle.rv_core.specs.Legs.{next_at, word_next, instr_next, effect_next, load_next, store_next, after_store_of, plain_loaded, traps}
 use Rattle.guest_image.specs.declared.memory_map.TheConstants.{DATA_START}
-use Rattle.rv_core.specs.Memory.{is_within, load_bytes, store_bytes}
+use Rattle.rv_core.specs.Memory.{is_within, is_in_stack, load_bytes, store_bytes}
 use Rattle.rv_core.specs.Next.{Next, Goes, Stops}
 use Rattle.rv_table.specs.declared.instr.Effect.{Effect}
 use Rattle.rv_table.specs.declared.instr.Effect.TheVariants as does
 use Rattle.rv_table.specs.declared.instr.Instr.{Instr}
 use Rattle.rv_table.specs.declared.instr.LoadWidth.{LoadWidth}
+use Rattle.rv_table.specs.declared.instr.StoreWidth.{StoreWidth}
 use Rattle.rv_table.specs.Exec.{acts_on}
 use Rattle.rv_table.specs.Table.{decoded}
 use Rattle.task_step.specs.declared.request.Request.{Request}
@@ -60,6 +61,21 @@ module _ (image : ImageValue) (size other budget : ℕ) (core : Core) where
   load_same width rd addr (Some raw) reaches = refl
   load_same width rd addr None reaches = in_range DATA_START addr (load_bytes width) (Stops (stop.Load width rd addr)) 5 (λ reach. reach) reaches
 
+  -- a store
+  store_same : (width : StoreWidth) (addr value : ℕ) → Reaches other (store_next image.version size core width addr value)
+      → store_next image.version other core width addr value ≡ store_next image.version size core width addr value
+  store_same width addr value = by_test (is_in_stack image.version addr (store_bytes width))
+    where
+      by_test : (b : Bool)
+          → Reaches other (if b then Goes (after_store_of core width addr value)
+          else if is_within DATA_START size addr (store_bytes width) then Stops (stop.Store width addr value) else traps core 7)
+          → (if b then Goes (after_store_of core width addr value)
+          else if is_within DATA_START other addr (store_bytes width) then Stops (stop.Store width addr value) else traps core 7)
+          ≡ (if b then Goes (after_store_of core width addr value)
+          else if is_within DATA_START size addr (store_bytes width) then Stops (stop.Store width addr value) else traps core 7)
+      by_test true reach = refl
+      by_test false reach = in_range DATA_START addr (store_bytes width) (Stops (stop.Store width addr value)) 7 (λ r. r) reach
+
   -- a test whose other branch is a trap
   either_same : (b : Bool) (cause : ℕ) (one two : Next) → (Reaches other two → one ≡ two) → Reaches other (if b then traps core cause else two)
       → (if b then traps core cause else one) ≡ (if b then traps core cause else two)
@@ -70,14 +86,13 @@ module _ (image : ImageValue) (size other budget : ℕ) (core : Core) where
   effect_same : (effect : Effect) → Reaches other (effect_next image size core effect) → effect_next image other core effect ≡ effect_next image size core effect
   effect_same (does.Plain pc rd value) reaches = refl
   effect_same (does.Load width rd addr) reaches =
-      either_same (not (addr % load_bytes width == 0)) 4 (load_next other core width rd addr (text_loaded image.text addr (load_bytes width)))
-      (load_next size core width rd addr (text_loaded image.text addr (load_bytes width)))
-      (load_same width rd addr (text_loaded image.text addr (load_bytes width))) reaches
+      either_same (not (addr % load_bytes width == 0)) 4 (load_next other core width rd addr (plain_loaded image core.stack addr (load_bytes width)))
+      (load_next size core width rd addr (plain_loaded image core.stack addr (load_bytes width)))
+      (load_same width rd addr (plain_loaded image core.stack addr (load_bytes width))) reaches
   effect_same (does.Store width addr value) reaches =
       either_same (not (addr % store_bytes width == 0)) 6
-      (if is_within DATA_START other addr (store_bytes width) then Stops (stop.Store width addr value) else traps core 7)
-      (if is_within DATA_START size addr (store_bytes width) then Stops (stop.Store width addr value) else traps core 7)
-      (in_range DATA_START addr (store_bytes width) (Stops (stop.Store width addr value)) 7 (λ reach. reach)) reaches
+      (store_next image.version other core width addr value) (store_next image.version size core width addr value)
+      (store_same width addr value) reaches
   effect_same does.Call reaches = refl
   effect_same does.Break reaches = absurd reaches
   effect_same does.Misaligned reaches = absurd reaches

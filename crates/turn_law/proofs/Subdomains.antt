@@ -14,4 +14,4 @@ use Rattle.task_step.specs.TaskState.{TaskState}
 pub done-fits : (image : ImageValue) (budget : ℕ) (s : State) (bag : BagValue) (outer : List BagValue) (task : PendingTask) (done : TaskState)
     → run_of image budget s bag outer task ≡ Done done → SubFits bag.depth done.sub
 done-fits image budget s bag outer task done ran = subst (EndHolds (λ t. SubFits bag.depth t.sub)) ran
-    (task_run-sub_fits image budget (context_of bag outer task) task.entry task.args s.memory)
+    (task_run-sub_fits image budget (context_of image.version bag outer task) task.entry task.args s.memory)

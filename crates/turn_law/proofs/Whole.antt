@@ -54,10 +54,10 @@ least_commits image budget id turn_number index s old new spilled task own outer
     state : State
     state = record { stack = stack_after next.bag next.outer p.name (s.count + 1) task.ts after.spawns after.sub; memory = replayed s.memory log; output = s.output ++ after.bytes; count = s.count + 1 }
 
-    context : context_of next.bag next.outer p ≡ start_context own outer task.ts
-    context = contexts_fit s.stack p own outer is_stack ready.fits (record { bag = next.bag; outer = next.outer; may = next.may; deep = next.deep ∙ ready.deep })
+    context : context_of image.version next.bag next.outer p ≡ start_context image.version own outer task.ts
+    context = contexts_fit image.version s.stack p own outer is_stack ready.fits (record { bag = next.bag; outer = next.outer; may = next.may; deep = next.deep ∙ ready.deep })
 
-    ended : IsFinished image budget (length s.memory) (context_of next.bag next.outer p) p log after
+    ended : IsFinished image budget (length s.memory) (context_of image.version next.bag next.outer p) p log after
     ended = subst (λ c. IsFinished image budget (length s.memory) c p log after) (sym context) ready.finished
 
     falls : IsStack (next.bag ∷ next.outer)
@@ -67,7 +67,7 @@ least_commits image budget id turn_number index s old new spilled task own outer
     done = record after { memory = replayed s.memory log }
 
     ran : run_of image budget s next.bag next.outer p ≡ Done done
-    ran = finished image budget (context_of next.bag next.outer p) s.memory p log after ended ready.replays
+    ran = finished image budget (context_of image.version next.bag next.outer p) s.memory p log after ended ready.replays
 
     have : HaveDomains task.depth after.sub task.spawns
     have = subst (HaveDomains task.depth after.sub) (sym ready.spawns)
@@ -97,5 +97,5 @@ least_traps image budget id turn_number index runs s tasks spilled task own oute
     next : HasTurn s.stack task.depth p
     next = least_has_turn s.count id id turn_number index runs tasks spilled s.stack task sound matches is_stack is_least
 
-    context : context_of next.bag next.outer p ≡ start_context own outer task.ts
-    context = contexts_fit s.stack p own outer is_stack fits (record { bag = next.bag; outer = next.outer; may = next.may; deep = next.deep ∙ deep })
+    context : context_of image.version next.bag next.outer p ≡ start_context image.version own outer task.ts
+    context = contexts_fit image.version s.stack p own outer is_stack fits (record { bag = next.bag; outer = next.outer; may = next.may; deep = next.deep ∙ deep })

@@ -9,6 +9,7 @@ use Rattle.place_policy.specs.Policy.{Policy}
 use Rattle.rv_core.specs.LegValue.{LegValue}
 use Rattle.task_desc.specs.declared.desc.Spawn.{Spawn}
 use Rattle.task_step.specs.declared.request.Request.TheVariants.{Enqueue}
+use Rattle.task_step.specs.Requests.{request_at}
 use Rattle.spec_state.specs.declared.task.Status.TheVariants.{Idle, Running}
 use Rattle.spec_state.specs.declared.task.Task.{Task}
 use Rattle.spec_state.specs.View.{View, task_at}
@@ -66,7 +67,7 @@ module _ (image : ImageValue) (book : BookView) (sound : Sound image book.view) 
 
   -- and asks for the same
   at : AsksAt image made.mid tile core leg id task (Enqueue spawn)
-  at = record { is_leg = taken; asks = asks_it }
+  at = record { is_leg = taken; asks = ap (λ v. request_at (context_of v task) leg.to leg.stop) (follows.now.version ∙ sym sound.version) ∙ asks_it }
 
   -- the task, once it has made the child
   abbrev work : Task
@@ -86,12 +87,12 @@ module _ (image : ImageValue) (book : BookView) (sound : Sound image book.view) 
       (room_leaves_heir image book.view sound id heir to made.forced)
 
   -- and below the child
-  child_above : (h : ℕ) (x : Task) → Some id ≡ Some h → task_at stepped h ≡ Some x → key_cmp x.key (child_of book.view.version id task spawn to).key ≡ Less
+  child_above : (h : ℕ) (x : Task) → Some id ≡ Some h → task_at stepped h ≡ Some x → key_cmp x.key (child_of made.mid.version id task spawn to).key ≡ Less
   child_above h x same at =
       let id_is : id ≡ h = cc in
       let both : Some x ≡ Some work = sym at ∙ (ap (task_at stepped) (sym id_is) ∙ step.changes.changed) in
       let one : x ≡ work = cc in
-      ap (λ (t : Task). key_cmp t.key (child_of book.view.version id task spawn to).key) one
+      ap (λ (t : Task). key_cmp t.key (child_of made.mid.version id task spawn to).key) one
       ∙ (child_is_above image book.view tile core id to leg task spawn sound takes asks_it).1
 
   -- the tile of the child has a queue
@@ -105,7 +106,7 @@ module _ (image : ImageValue) (book : BookView) (sound : Sound image book.view) 
   -- so it is the heir still
   heir_now : IsHeir new (Some id)
   heir_now =
-      add_keeps_heir stepped new made.change.child (child_of book.view.version id task spawn to)
+      add_keeps_heir stepped new made.change.child (child_of made.mid.version id task spawn to)
       (adds image made.mid new follows.now tile core id to leg task spawn at made.change) inside
       (Some id) refl child_above heir_stepped
 

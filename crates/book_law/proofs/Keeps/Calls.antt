@@ -12,11 +12,12 @@ use Rattle.place_policy.specs.Policy.{Policy}
 use Rattle.rv_core.specs.LegValue.{LegValue, IsRun}
 use Rattle.task_desc.specs.declared.desc.Spawn.{Spawn}
 use Rattle.task_step.specs.declared.request.Request.TheVariants.{Enqueue, End}
+use Rattle.task_step.specs.Requests.{request_at}
 use Rattle.spec_state.specs.declared.task.Status.{Status}
 use Rattle.spec_state.specs.declared.task.Status.TheVariants.{Idle, Running}
 use Rattle.spec_state.specs.declared.task.Task.{Task}
 use Rattle.spec_state.specs.View.{View, task_at, finished_at}
-use Rattle.spec_state.specs.Tasks.{is_dispatched}
+use Rattle.spec_state.specs.Tasks.{is_dispatched, context_of}
 use Rattle.spec_state.specs.Least.{IsLeastTask, IsTheLeast}
 use Rattle.spec_state.specs.Room.{Enqueuer, asker_of}
 use Rattle.spec_state.specs.Queries.{IsLater}
@@ -75,7 +76,7 @@ module _ (image : ImageValue) (book : BookView) (sound : Sound image book.view) 
       let taken = still_taken image book.view sound made.mid tile core id leg task follows there (record { takes = takes; run = run }) in
       let inside = subst (λ s. to < s.tiles) (sym follows.settings) made.inside in
       record {
-        now = (enqueue_stays_sound image made.mid new follows.now tile core id to leg task spawn (record { is_leg = taken; asks = asks }) inside free made.change).0;
+        now = (enqueue_stays_sound image made.mid new follows.now tile core id to leg task spawn (record { is_leg = taken; asks = ap (λ v. request_at (context_of v task) leg.to leg.stop) (follows.now.version ∙ sym sound.version) ∙ asks }) inside free made.change).0;
         settings = ap (λ view. view.settings) made.change.rest ∙ follows.settings;
       }
 
@@ -143,6 +144,6 @@ module _ (image : ImageValue) (book : BookView) (sound : Sound image book.view) 
       let stays = ender_stays made.forced in
       let taken = still_taken image book.view sound made.mid tile core id leg task follows stays (record { takes = takes; run = run }) in
       record {
-        now = (end_stays_sound image made.mid new follows.now tile core id leg task (record { is_leg = taken; asks = asks }) (commit_free made.forced) made.change).0;
+        now = (end_stays_sound image made.mid new follows.now tile core id leg task (record { is_leg = taken; asks = ap (λ v. request_at (context_of v task) leg.to leg.stop) (follows.now.version ∙ sym sound.version) ∙ asks }) (commit_free made.forced) made.change).0;
         settings = ap (λ view. view.settings) made.change.rest ∙ follows.settings;
       }

@@ -22,13 +22,13 @@ module _ (image : ImageValue) (old : View) (sound : Sound image old) where
   -- an idle task is not dispatched
   pub idle_is_open : (id : ℕ) (task : Task) → task_at old id ≡ Some task → task.status ≡ Idle → is_dispatched task ≡ false
   idle_is_open id task there idle =
-      let stands : StandsAs image old.settings.budget task Idle = subst (StandsAs image old.settings.budget task) idle (sound.tasks.stands id task there) in
+      let stands : StandsAs image old.version old.settings.budget task Idle = subst (StandsAs image old.version old.settings.budget task) idle (sound.tasks.stands id task there) in
       ap is_dispatched stands
 
   -- a running one is
   pub running_is_dispatched : (id core : ℕ) (task : Task) → task_at old id ≡ Some task → task.status ≡ Running core → is_dispatched task ≡ true
   running_is_dispatched id core task there runs =
-      let stands : StandsAs image old.settings.budget task (Running core) = subst (StandsAs image old.settings.budget task) runs (sound.tasks.stands id task there) in
+      let stands : StandsAs image old.version old.settings.budget task (Running core) = subst (StandsAs image old.version old.settings.budget task) runs (sound.tasks.stands id task there) in
       stands.0
 
   -- the least task, where it is dispatched, is the heir

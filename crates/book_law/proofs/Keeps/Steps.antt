@@ -6,9 +6,10 @@ use Rattle.rv_core.specs.LegValue.{LegValue, IsRun}
 use Rattle.rv_table.specs.declared.instr.LoadWidth.{LoadWidth}
 use Rattle.task_step.specs.declared.request.Request.{Request}
 use Rattle.task_step.specs.declared.request.Request.TheVariants.{Load, Store, MakeSub, Emit, Trap}
+use Rattle.task_step.specs.Requests.{request_at}
 use Rattle.spec_state.specs.declared.task.Task.{Task}
 use Rattle.spec_state.specs.View.{View, task_at}
-use Rattle.spec_state.specs.Tasks.{is_dispatched}
+use Rattle.spec_state.specs.Tasks.{is_dispatched, context_of}
 use Rattle.spec_state.specs.Aborts.{is_marked}
 use Rattle.spec_state.specs.Queries.{Conflicts, HasLine}
 use Rattle.spec_state.specs.Changes.{TakesLeg, request_of, GoesOn, KeepsTrap, MakesSub, Emits}
@@ -81,7 +82,7 @@ module _ (image : ImageValue) (old : View) (sound : Sound image old) (tile core 
 
     -- and asks for the same
     asks_still : (request : Request) → request_of old task leg ≡ request → AsksAt image mid tile core leg id task request
-    asks_still request asks = record { is_leg = still_taken image old sound mid tile core id leg task conflicts_follow asker_stays is_taken; asks = asks }
+    asks_still request asks = record { is_leg = still_taken image old sound mid tile core id leg task conflicts_follow asker_stays is_taken; asks = ap (λ v. request_at (context_of v task) leg.to leg.stop) (conflicts_follow.now.version ∙ sym sound.version) ∙ asks }
 
     -- and nothing conflicts any more: what conflicted was taken back, and what was taken back is idle
     none_conflicts : NoneConflicts mid task offset write

@@ -61,7 +61,7 @@ module _ (kind : Kind) where
       → AreImageTasks kind more view
   weaker few more view each are =
       record {
-        tasks = λ id task there. (let one = are.tasks id task there in record { version = one.version; index = one.index; tile = one.tile; from = one.from; one_of = each one.index one.from one.one_of; is = one.is });
+        tasks = λ id task there. (let one = are.tasks id task there in record { index = one.index; tile = one.tile; from = one.from; one_of = each one.index one.from one.one_of; is = one.is });
         spilled = All-weaker (λ block. All (IsImageSpilled kind few) block) (λ block. All (IsImageSpilled kind more) block)
             (λ block all. All-weaker (IsImageSpilled kind few) (IsImageSpilled kind more)
             (λ s one. record { index = one.index; from = one.from; one_of = each one.index one.from one.one_of; is = one.is }) block all)

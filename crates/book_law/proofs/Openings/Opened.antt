@@ -86,8 +86,8 @@ module _ (image : ImageValue) (settings : Settings) (among : ℕ → ImageTask �
       absurd (cc (no_way))
 
   -- a queued task is a root for the order
-  root_task : (task : Task) → IsImageTask image.kind among task → IsRoot (keyed_task task)
-  root_task task one =
+  root_task : (version : ℕ) (task : Task) → IsImageTask image.kind among version task → IsRoot (keyed_task task)
+  root_task version task one =
       subst (λ t. IsRoot (keyed_task t)) (sym one.is)
       (record { domain = refl; kinds = refl; timely = timely image.kind one.from.ts; idle = refl; committed = refl })
 
@@ -104,7 +104,7 @@ module _ (image : ImageValue) (settings : Settings) (among : ℕ → ImageTask �
       by_case : (keyed view id ≡ Some x) ⊎ IsEntry x (map (keyed_spilled (length view.history) None) (all_spilled view)) → IsRoot x
       by_case (inl queued) =
           let one = from_option keyed_task (task_at view id) x queued in
-          subst IsRoot one.2 (root_task one.0 (are.tasks id one.0 one.1))
+          subst IsRoot one.2 (root_task view.version one.0 (are.tasks id one.0 one.1))
       by_case (inr entry) =
           at_place IsRoot (map (keyed_spilled (length view.history) None) (all_spilled view)) entry.0 x
           (All-map IsRoot (keyed_spilled (length view.history) None) (all_spilled view)

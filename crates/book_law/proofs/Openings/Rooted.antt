@@ -30,9 +30,8 @@ coalesced_was tile old new c id task there =
 
 -- of which image tasks at which places are spoken
 module _ (kind : Kind) (among : ℕ → ImageTask → Type 0) where
-  -- the task is an image task of these, in the tile that was picked for it
-  pub record IsImageTask (task : Task) : Type 0 where
-    pub version : ℕ
+  -- the task is an image task of these, in this version and in the tile that was picked for it
+  pub record IsImageTask (version : ℕ) (task : Task) : Type 0 where
     pub index : ℕ
     pub tile : ℕ
     pub from : ImageTask
@@ -48,7 +47,7 @@ module _ (kind : Kind) (among : ℕ → ImageTask → Type 0) where
 
   -- each uncommitted task is one of these
   pub record AreImageTasks (view : View) : Type 0 where
-    pub tasks : (id : ℕ) (task : Task) → task_at view id ≡ Some task → IsImageTask task
+    pub tasks : (id : ℕ) (task : Task) → task_at view id ≡ Some task → IsImageTask view.version task
     pub spilled : All (λ block. All IsImageSpilled block) view.blocks
 
   -- an image task is spilled as one
@@ -75,7 +74,7 @@ module _ (kind : Kind) (among : ℕ → ImageTask → Type 0) where
   pub coalesces_keeps : (tile : ℕ) (old new : View) → AreImageTasks old → Coalesces tile old new → AreImageTasks new
   coalesces_keeps tile old new are c =
       record {
-        tasks = λ id task there. are.tasks id task (coalesced_was tile old new c id task there);
+        tasks = λ id task there. subst (λ v. IsImageTask v task) (sym (ap (λ (v : View). v.version) c.rest)) (are.tasks id task (coalesced_was tile old new c id task there));
         spilled = subst (λ blocks. All (λ block. All IsImageSpilled block) blocks) (sym c.blocks)
             (All-set (λ block. All IsImageSpilled block) old.blocks tile (all_pushed (block_at old tile) c.moved)
             (all_added IsImageSpilled c.moved (block_at old tile) (all_pushed (block_at old tile) c.moved) (pushes_each c.moved (block_at old tile))
@@ -98,13 +97,14 @@ module _ (kind : Kind) (among : ℕ → ImageTask → Type 0) where
         spilled = subst (λ blocks. All (λ block. All IsImageSpilled block) blocks) (sym (ap (λ v. v.blocks) p.rest)) mid.spilled;
       }
     where
-      by_case : (id : ℕ) (x : Task) → task_at new.view id ≡ Some x → AreImageTasks p.mid → (id ≡ p.id) ⊎ (id ≡ p.id → ⊥) → IsImageTask x
+      by_case : (id : ℕ) (x : Task) → task_at new.view id ≡ Some x → AreImageTasks p.mid → (id ≡ p.id) ⊎ (id ≡ p.id → ⊥) → IsImageTask new.view.version x
       by_case id x there mid (inl here) =
           let both : Some (idle_task p.mid.version (image_descriptor kind index task) (Committed 0 index) (picked old index)) ≡ Some x =
           sym p.changes.changed ∙ (ap (task_at new.view) (sym here) ∙ there) in
           let same : idle_task p.mid.version (image_descriptor kind index task) (Committed 0 index) (picked old index) ≡ x = cc in
-          record { version = p.mid.version; index = index; tile = picked old index; from = task; one_of = one_of; is = sym same }
-      by_case id x there mid (inr other) = mid.tasks id x (sym (p.changes.others id other) ∙ there)
+          subst (λ v. IsImageTask v x) (sym (ap (λ (v : View). v.version) p.rest)) (record { index = index; tile = picked old index; from = task; one_of = one_of; is = sym same })
+      by_case id x there mid (inr other) =
+          subst (λ v. IsImageTask v x) (sym (ap (λ (v : View). v.version) p.rest)) (mid.tasks id x (sym (p.changes.others id other) ∙ there))
 
   -- so do all placements
   pub all_kept : (es : List (ℕ × ImageTask)) (old new : BookView) → AllByRecursion (λ e. among e.0 e.1) es → AreImageTasks old.view → PlacesAll kind es old new → AreImageTasks new.view

@@ -74,7 +74,7 @@ module _ (image : ImageValue) (settings : Settings) (among : ℕ → ImageTask �
         subst (λ (t : Task). FitsBags (domains_of t.kinds t.key.domain) (opening image).stack) (sym (are.tasks id task there).is) root_fits;
     spilled_domains = λ s there low.
         subst (λ (x : Spilled). FitsBags (domains_of x.desc.kinds x.domain) (opening image).stack) (sym (spilled_is s there).is) root_fits;
-    stands = λ id task there. subst (λ (t : Task). StandsAs image view.settings.budget t t.status) (sym (are.tasks id task there).is) refl;
+    stands = λ id task there. subst (λ (t : Task). StandsAs image view.version view.settings.budget t t.status) (sym (are.tasks id task there).is) refl;
     children = λ id task creator index there made. absurd (no_live id task creator index there made);
     spilled_children = λ s there next. absurd (no_next s there next);
   }

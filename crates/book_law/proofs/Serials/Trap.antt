@@ -1,5 +1,5 @@
 -- The trap of the least task of a sound view is that of the serial machine's next task.
-use Rattle.std.proofs.Common.{◌≡◌, ◌≢◌, ◌+◌, ◌==◌, ℕ, true, length, Option, Some, None, sym, ap, subst, ◌∙◌, map, is_some, option_map, if◌then◌else◌, refl}
+use Rattle.std.proofs.Common.{◌≡◌, ◌≢◌, ◌+◌, [], ◌==◌, ℕ, true, length, Option, Some, None, sym, ap, subst, ◌∙◌, map, is_some, option_map, if◌then◌else◌, refl}
 use Rattle.std.specs.Prelude.{IsSome}
 use Rattle.fractal_vt.specs.Levels.{closed}
 use Rattle.guest_image.specs.ImageValue.{ImageValue, IsImage}
@@ -13,9 +13,10 @@ use Rattle.pending_list.specs.declared.task.PendingTask.{PendingTask}
 use Rattle.serial_machine.specs.Turn.{TrapsSo, context_of}
 use Rattle.task_desc.specs.declared.desc.Name.{Name}
 use Rattle.turn_law.specs.Domains.{FitsBags}
-use Rattle.turn_law.specs.Logged.{IsTrapped}
+use Rattle.turn_law.specs.Logged.{IsTrapped, LoggedRun}
 use Rattle.turn_law.specs.Tasks.{pending}
 use Rattle.turn_law.proofs.Proved.{contexts_fit, logged_trap_is_serial}
+use Rattle.task_step.specs.TaskState.{begun}
 use Rattle.spec_state.specs.declared.task.Creator.TheVariants.{Committed}
 use Rattle.spec_state.specs.declared.task.Task.{Task}
 use Rattle.spec_state.specs.Groups.{all_keyed, bag_task, keyed_task, logged, logged_task}
@@ -58,8 +59,8 @@ least_replays image view sound id task is some =
 
 module _ (image : ImageValue) (view : View) (within : IsImage image) (sound : Sound image view) (name : Name) (cause pc : ℕ) (is : LeastIsTrapped view name cause pc) where
   -- its next step is the trap
-  stands : IsSome is.task.key.tb × TrapsNext image view.settings.budget is.task cause
-  stands = subst (StandsAs image view.settings.budget is.task) is.trapped (sound.tasks.stands is.id is.task is.least.at.there)
+  stands : IsSome is.task.key.tb × TrapsNext image view.version view.settings.budget is.task cause
+  stands = subst (StandsAs image view.version view.settings.budget is.task) is.trapped (sound.tasks.stands is.id is.task is.least.at.there)
 
   -- it may take the serial machine's next turn
   may : MayTakeTurn sound.serial.stack is.task
@@ -78,12 +79,13 @@ module _ (image : ImageValue) (view : View) (within : IsImage image) (sound : So
       λ i. record { creator = turns i; index = places i }
 
   -- its calls depended on what those of its serial turn depend on
-  same_context : context_of may.next.bag may.next.outer p ≡ start_context view.version is.task
+  same_context : context_of image.version may.next.bag may.next.outer p ≡ start_context view.version is.task
   same_context =
       let start = starts_so is.task in
       let deep : depth_of is.task ≡ length start.rest + 1 = ap (λ n. n + 1) (sym start.long) in
       let in_bags = sound.tasks.domains is.id is.task may.turn may.index is.least.at.there may.creator in
-      contexts_fit sound.serial.stack p start.own start.rest (run_stack image view.settings.budget view.history sound.serial sound.is_run)
+      ap (λ v. context_of v may.next.bag may.next.outer p) (sym sound.version)
+      ∙ contexts_fit view.version sound.serial.stack p start.own start.rest (run_stack image view.settings.budget view.history sound.serial sound.is_run)
       (subst (λ ds. FitsBags ds sound.serial.stack) start.is in_bags)
       (record { bag = may.next.bag; outer = may.next.outer; may = may.next.may; deep = may.next.deep ∙ deep })
       ∙ sym (start.context view.version)
@@ -93,13 +95,14 @@ module _ (image : ImageValue) (view : View) (within : IsImage image) (sound : So
   sized = run_sized image view.settings.budget view.history sound.serial within sound.is_run
 
   -- its run by its log comes to the trap in its serial turn
-  traps_so : IsTrapped image view.settings.budget (length sound.serial.memory) (context_of may.next.bag may.next.outer p) p is.task.log cause is.task.core.pc
+  traps_so : IsTrapped image view.settings.budget (length sound.serial.memory) (context_of image.version may.next.bag may.next.outer p) p is.task.log cause is.task.core.pc
   traps_so =
-      subst (λ size. IsTrapped image view.settings.budget size (context_of may.next.bag may.next.outer p) p is.task.log cause is.task.core.pc) (sym sized)
+      subst (λ size. IsTrapped image view.settings.budget size (context_of image.version may.next.bag may.next.outer p) p is.task.log cause is.task.core.pc) (sym sized)
       (subst (λ ctx. IsTrapped image view.settings.budget image.data_size ctx p is.task.log cause is.task.core.pc) (sym same_context)
       (record {
-        before = done_so_far image view.settings.budget is.task;
-        run = stands.1.ran;
+        before = done_so_far image view.version view.settings.budget is.task;
+        run = subst (λ v. LoggedRun image view.settings.budget image.data_size (start_context view.version is.task)
+            (begun v is.task.entry is.task.key.ts is.task.args []) is.task.log (done_so_far image view.version view.settings.budget is.task)) sound.version stands.1.ran;
         traps = stands.1.traps;
         at = refl;
       }))

@@ -71,7 +71,7 @@ module _ (image : ImageValue) (marks : List Bool) (old new : View) (heir : Optio
             (λ k t there out turn index made. sound.domains k t turn index there made)
             (λ k now back turn index made. sound.domains k back.was turn index back.there made) id task at turn index;
         spilled_domains = sound.spilled_domains;
-        stands = each_now marks old new takes (λ k t. StandsAs image old.settings.budget t t.status)
+        stands = each_now marks old new takes (λ k t. StandsAs image old.version old.settings.budget t t.status)
             (λ k t there out. sound.stands k t there) (λ k now back. refl);
         children = λ id task creator index at. each_now marks old new takes IsMade
             (λ k t there out creator index made. made_now creator.0 index (descriptor_of t) (creator_out k creator.0 t there out (ap live_creator made)) (sound.children k t creator index there made))

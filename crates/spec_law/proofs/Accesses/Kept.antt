@@ -138,8 +138,8 @@ module _ (image : ImageValue) (old new : View) (sound : Sound image old) (tile c
       }
 
   -- it runs on
-  stands_now : StandsAs image old.settings.budget now task.status
-  stands_now = subst (StandsAs image old.settings.budget now) (sym taken.takes.runs.running)
+  stands_now : StandsAs image old.version old.settings.budget now task.status
+  stands_now = subst (StandsAs image old.version old.settings.budget now) (sym taken.takes.runs.running)
       ((stood image old sound tile core id leg task taken).0, ran)
 
   pub kept : (new_sound : Sound image new) × (new_sound.serial ≡ sound.serial)

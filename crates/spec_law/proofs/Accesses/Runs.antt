@@ -26,7 +26,7 @@ use Rattle.spec_law.proofs.Steps.Sound.{asks_next, ran_leg}
 -- the run of the task with this access more, up to this core
 abbrev pub RanWith : ImageValue → View → Task → Access → Core → Type 0
 RanWith image old task access core =
-    LoggedRun image old.settings.budget image.data_size (start_context old.version task) (begun task.entry task.key.ts task.args []) (task.log ++ access ∷ []) (progress_at [] core task)
+    LoggedRun image old.settings.budget image.data_size (start_context old.version task) (begun old.version task.entry task.key.ts task.args []) (task.log ++ access ∷ []) (progress_at [] core task)
 
 module _ (image : ImageValue) (old : View) (sound : Sound image old) (tile core id : ℕ) (leg : LegValue) (task : Task) where
   -- what a task asks of memory lies in it

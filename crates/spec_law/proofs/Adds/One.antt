@@ -26,11 +26,11 @@ abbrev pub added_to : View → View → View
 added_to old new = record old { tasks = new.tasks; queues = new.queues }
 
 -- a task that stands so and is not dispatched is idle, and has done nothing
-pub undispatched_idle : (image : ImageValue) (budget : ℕ) (t : Task) (s : Status) → StandsAs image budget t s → is_dispatched t ≡ false → t ≡ idle_again (version_of image) t
-undispatched_idle image budget t Idle stands off = stands
-undispatched_idle image budget t (Running core) stands off = absurd (cc (stands.0, off))
-undispatched_idle image budget t (Trapped core cause) stands off = absurd (cc (stands.0, off))
-undispatched_idle image budget t Finished stands off = absurd (cc (stands.0, off))
+pub undispatched_idle : (image : ImageValue) (version budget : ℕ) (t : Task) (s : Status) → StandsAs image version budget t s → is_dispatched t ≡ false → t ≡ idle_again version t
+undispatched_idle image version budget t Idle stands off = stands
+undispatched_idle image version budget t (Running core) stands off = absurd (cc (stands.0, off))
+undispatched_idle image version budget t (Trapped core cause) stands off = absurd (cc (stands.0, off))
+undispatched_idle image version budget t Finished stands off = absurd (cc (stands.0, off))
 
 module _ (old new : View) (id : ℕ) (task : Task) (adds : Adds id task old new) where
   -- who stood at a place of a queue stands there
@@ -62,7 +62,7 @@ module _ (old new : View) (id : ℕ) (task : Task) (adds : Adds id task old new)
     pub runs_was : (k : ℕ) (t : Task) → task_at new k ≡ Some t → is_dispatched t ≡ true → task_at old k ≡ Some t
     runs_was k t at runs = was_there old new id task adds k t (λ same. absurd (cc (ap (λ x. is_dispatched x) (is_new old new id task adds k t same at), undispatched, runs))) at
 
-    module _ (image : ImageValue) (serial : State) (stands : (k : ℕ) (t : Task) → task_at old k ≡ Some t → StandsAs image old.settings.budget t t.status) where
+    module _ (image : ImageValue) (serial : State) (stands : (k : ℕ) (t : Task) → task_at old k ≡ Some t → StandsAs image old.version old.settings.budget t t.status) where
       idle_log : (k : ℕ) (x : Logged) → logged new k ≡ Some x → x.dispatched ≡ false → x.log ≡ []
       idle_log k x at off =
           let read = mapped_some logged_task (task_at new k) x at in
@@ -70,7 +70,7 @@ module _ (old new : View) (id : ℕ) (task : Task) (adds : Adds id task old new)
         where
           is_idle : (t : Task) → task_at new k ≡ Some t → is_dispatched t ≡ false → t ≡ idle_again old.version t
           is_idle = each_stepped old new id task adds.changes (λ j t. is_dispatched t ≡ false → t ≡ idle_again old.version t)
-              (λ j t other here out. undispatched_idle image old.settings.budget t t.status (stands j t here) out) (λ out. idle) k
+              (λ j t other here out. undispatched_idle image old.version old.settings.budget t t.status (stands j t here) out) (λ out. idle) k
 
       logs_stay : (k : ℕ) (x : Logged) → x.dispatched ≡ true → logged old k ≡ Some x → logged new k ≡ Some x
       logs_stay k x runs at =

@@ -60,7 +60,7 @@ pub record IsOutermost (task : Task) : Type 0 where
   pub rest : List Domain
   pub is : domains_of task.kinds task.key.domain ≡ own ∷ rest
   pub long : length rest ≡ length task.key.domain
-  pub context : (version : ℕ) → start_context version task ≡ turns.start_context own rest task.key.ts
+  pub context : (version : ℕ) → start_context version task ≡ turns.start_context version own rest task.key.ts
 
 -- each task has its domains
 pub starts_so : (task : Task) → IsOutermost task
@@ -74,6 +74,7 @@ starts_so task =
       is = has.is;
       long = long;
       context = λ version i. record {
+        version = version;
         depth = sym long i + 1;
         own = sym has.kind i;
         outer = sym outside i;

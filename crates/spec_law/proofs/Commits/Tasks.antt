@@ -29,12 +29,12 @@ use Rattle.spec_law.proofs.Commits.Turn.{names, front, state, have, is_heir, is_
 use Rattle.spec_law.proofs.Tasks.Places.{contains_get}
 
 -- what a task has done is the same whoever made it
-stands_still : (image : ImageValue) (budget : ℕ) (c : Creator) (t : Task) (status : Status) → StandsAs image budget t status → StandsAs image budget (with_creator t c) status
-stands_still image budget c t Idle is = ap (λ u. with_creator u c) is
-stands_still image budget c t (Running core) is = is
-stands_still image budget c t (Trapped core cause) is =
+stands_still : (image : ImageValue) (version budget : ℕ) (c : Creator) (t : Task) (status : Status) → StandsAs image version budget t status → StandsAs image version budget (with_creator t c) status
+stands_still image version budget c t Idle is = ap (λ u. with_creator u c) is
+stands_still image version budget c t (Running core) is = is
+stands_still image version budget c t (Trapped core cause) is =
     let next = is.1 in (is.0, record { ran = next.ran; traps = next.traps })
-stands_still image budget c t Finished is =
+stands_still image version budget c t Finished is =
     let end = is.1 in (is.0, record { before = end.before; ran = end.ran; ends = end.ends; leaves = end.leaves })
 
 module _ (image : ImageValue) (old new : View) (sound : Sound image old) (commit : Commits old new) where
@@ -162,9 +162,10 @@ module _ (image : ImageValue) (old new : View) (sound : Sound image old) (commit
           matches = matches_so;
           domains = λ id task turn index at. domains_now id task at turn index;
           spilled_domains = λ s has low. spilled_now s (before s has);
-          stands = each_left old new commit (λ k t. StandsAs image new.settings.budget t t.status)
-              (λ k t other there. stands_still image new.settings.budget (left old new commit t).creator t t.status
-              (subst (λ s. StandsAs image s.budget t t.status) (sym settings) (sound.tasks.stands k t there)));
+          stands = each_left old new commit (λ k t. StandsAs image new.version new.settings.budget t t.status)
+              (λ k t other there. stands_still image new.version new.settings.budget (left old new commit t).creator t t.status
+              (subst (λ s. StandsAs image new.version s.budget t t.status) (sym settings)
+              (subst (λ n. StandsAs image n old.settings.budget t t.status) (sym (ap (λ (v : View). v.version) commit.rest)) (sound.tasks.stands k t there))));
           children = λ id task creator index at. children_now id task at creator index;
           spilled_children = λ s has next. (let low = firm s (before s has) in absurd (omega (arith, low, next, longer)));
         }

@@ -15,7 +15,7 @@ use Rattle.serial_machine.specs.Turn.{turn, stack_after, context_of, run_of}
 use Rattle.serial_machine.proofs.Proved.{IsStack-inner}
 use Rattle.turn_law.specs.Commit.{Matches, HasTurn, HaveDomains, IsLeast, IsNextTurn}
 use Rattle.turn_law.specs.Domains.{FitsBags, KeepsDomains}
-use Rattle.turn_law.specs.Logged.{IsFinished}
+use Rattle.turn_law.specs.Logged.{LoggedRun, IsFinished}
 use Rattle.turn_law.specs.Sound.{AreSound}
 use Rattle.turn_law.specs.Tasks.{pending}
 use Rattle.turn_law.proofs.Proved.{commit_is_turn, contexts_fit, end_on, finished, have_domains, least_has_turn, logged_on, logged_run_is_turn, turns_keep_domains}
@@ -53,8 +53,8 @@ least_is_heir view (Some h) is id task least runs =
 
 module _ (image : ImageValue) (old new : View) (sound : Sound image old) (commit : Commits old new) where
   -- the task has come to its end
-  ended : IsSome commit.task.key.tb × HasEnded image old.settings.budget commit.task
-  ended = subst (StandsAs image old.settings.budget commit.task) commit.finished_is (sound.tasks.stands commit.id commit.task commit.least.at.there)
+  ended : IsSome commit.task.key.tb × HasEnded image old.version old.settings.budget commit.task
+  ended = subst (StandsAs image old.version old.settings.budget commit.task) commit.finished_is (sound.tasks.stands commit.id commit.task commit.least.at.there)
 
   -- its dispatch number
   pub numbered : (n : ℕ) × (commit.task.key.tb ≡ Some n)
@@ -119,27 +119,30 @@ module _ (image : ImageValue) (old new : View) (sound : Sound image old) (commit
   in_bags = sound.tasks.domains commit.id commit.task commit.turn commit.index commit.least.at.there commit.creator
 
   -- its calls depended on what those of its serial turn depend on
-  same_context : context_of next.bag next.outer p ≡ start_context old.version commit.task
+  same_context : context_of image.version next.bag next.outer p ≡ start_context old.version commit.task
   same_context =
       let start = starts_so commit.task in
       let deep : depth_of commit.task ≡ length start.rest + 1 = ap (λ n. n + 1) (sym start.long) in
-      contexts_fit sound.serial.stack p start.own start.rest is_stack (subst (λ ds. FitsBags ds sound.serial.stack) start.is in_bags)
+      ap (λ v. context_of v next.bag next.outer p) (sym sound.version)
+      ∙ contexts_fit old.version sound.serial.stack p start.own start.rest is_stack (subst (λ ds. FitsBags ds sound.serial.stack) start.is in_bags)
       (record { bag = next.bag; outer = next.outer; may = next.may; deep = next.deep ∙ deep })
       ∙ sym (start.context old.version)
 
   -- what the task did
   abbrev pub after : TaskState
-  after = done_so_far image old.settings.budget commit.task
+  after = done_so_far image old.version old.settings.budget commit.task
 
   -- so its run by its log is a finished one on the serial machine's memory
-  ends_so : IsFinished image old.settings.budget (length sound.serial.memory) (context_of next.bag next.outer p) p commit.task.log after
+  ends_so : IsFinished image old.settings.budget (length sound.serial.memory) (context_of image.version next.bag next.outer p) p commit.task.log after
   ends_so =
       let end = ended.1 in
-      let start = begun commit.task.entry commit.task.key.ts commit.task.args [] in
+      let start = begun old.version commit.task.entry commit.task.key.ts commit.task.args [] in
       subst (λ ctx. IsFinished image old.settings.budget (length sound.serial.memory) ctx p commit.task.log after) (sym same_context)
       (record {
         before = end.before;
-        run = logged_on image old.settings.budget image.data_size (start_context old.version commit.task) start sound.serial.memory end.ran replays;
+        run = subst (λ v. LoggedRun image old.settings.budget (length sound.serial.memory) (start_context old.version commit.task)
+            (begun v commit.task.entry commit.task.key.ts commit.task.args []) commit.task.log end.before) sound.version
+            (logged_on image old.settings.budget image.data_size (start_context old.version commit.task) start sound.serial.memory end.ran replays);
         ends = end_on image old.settings.budget image.data_size (start_context old.version commit.task) start sound.serial.memory end.ends;
         leaves = end.leaves;
       })
@@ -165,7 +168,7 @@ module _ (image : ImageValue) (old new : View) (sound : Sound image old) (commit
   have =
       let done : TaskState = record after { memory = replayed sound.serial.memory commit.task.log } in
       let ran : run_of image old.settings.budget sound.serial next.bag next.outer p ≡ Done done =
-      finished image old.settings.budget (context_of next.bag next.outer p) sound.serial.memory p commit.task.log after ends_so replays in
+      finished image old.settings.budget (context_of image.version next.bag next.outer p) sound.serial.memory p commit.task.log after ends_so replays in
       have_domains next.bag next.outer (depth_of commit.task) commit.task.sub commit.task.spawns
       (subst IsStack next.may.top (IsStack-inner sound.serial.stack is_stack)) next.deep
       (done-placed image old.settings.budget sound.serial next.bag next.outer p done ran)

@@ -37,7 +37,7 @@ module _ (old new : View) (tile : ℕ) (d : Dispatches tile old new) where
 
   -- it had done nothing
   pub was_idle : (image : ImageValue) (heir : Option ℕ) (serial : State) → SoundTasks image old heir serial → d.task ≡ idle_again old.version d.task
-  was_idle image heir serial tasks = subst (StandsAs image old.settings.budget d.task) d.least.this.idle (tasks.stands d.id d.task was)
+  was_idle image heir serial tasks = subst (StandsAs image old.version old.settings.budget d.task) d.least.this.idle (tasks.stands d.id d.task was)
 
   -- each task is the dispatched one, or was there
   pub which : (k : ℕ) (t : Task) → task_at new k ≡ Some t → ((k ≡ d.id) × (t ≡ now)) ⊎ ((k ≢ d.id) × (task_at old k ≡ Some t))

@@ -30,9 +30,9 @@ live_of (Committed turn i) k index is = absurd (cc (is))
 live_of (Live task i) k index is = let same : task.0 ≡ k = cc in ap Some same
 
 -- a task that had done nothing stands as running once it is dispatched
-starts_running : (image : ImageValue) (budget next core : ℕ) (t : Task) → t ≡ idle_again (version_of image) t → StandsAs image budget (started (version_of image) next core t) (Running core)
-starts_running image budget next core t idle =
-    subst (λ x. StandsAs image budget (started (version_of image) next core x) (Running core)) (sym idle) (refl, none)
+starts_running : (image : ImageValue) (version budget next core : ℕ) (t : Task) → t ≡ idle_again version t → StandsAs image version budget (started version next core t) (Running core)
+starts_running image version budget next core t idle =
+    subst (λ x. StandsAs image version budget (started version next core x) (Running core)) (sym idle) (refl, none)
 
 module _ (image : ImageValue) (old new : View) (heir : Option ℕ) (serial : State) (tile : ℕ) (d : Dispatches tile old new) (idle : d.task ≡ idle_again old.version d.task) (order : SoundOrder old heir) (sound : SoundTasks image old heir serial) where
   -- it has made no child
@@ -101,8 +101,8 @@ module _ (image : ImageValue) (old new : View) (heir : Option ℕ) (serial : Sta
         domains = λ id t turn index at. each_after old new tile d (λ k x. x.creator ≡ Committed turn index → FitsBags (domains_of x.kinds x.key.domain) serial.stack)
             (λ made. sound.domains d.id d.task turn index (was old new tile d) made) (λ k x other there made. sound.domains k x turn index there made) id t at;
         spilled_domains = sound.spilled_domains;
-        stands = each_after old new tile d (λ k x. StandsAs image old.settings.budget x x.status)
-            (starts_running image old.settings.budget old.next d.core d.task idle) (λ k x other there. sound.stands k x there);
+        stands = each_after old new tile d (λ k x. StandsAs image old.version old.settings.budget x x.status)
+            (starts_running image old.version old.settings.budget old.next d.core d.task idle) (λ k x other there. sound.stands k x there);
         children = λ id t creator index at. each_after old new tile d (λ k x. x.creator ≡ Live creator index → IsMadeBy (after old new tile d) creator.0 index (descriptor_of x))
             (λ made. made_still creator.0 index (descriptor_of d.task) (sound.children d.id d.task creator index (was old new tile d) made))
             (λ k x other there made. made_still creator.0 index (descriptor_of x) (sound.children k x creator index there made)) id t at;

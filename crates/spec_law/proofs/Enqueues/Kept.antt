@@ -54,7 +54,7 @@ pub record MakesChild (image : ImageValue) (old new : View) (tasks : List (Optio
   pub log : work.log ≡ task.log
   pub lines : work.lines ≡ task.lines
   pub kids : KeepsChildren task (worked task work)
-  pub stands : StandsAs image old.settings.budget (worked task work) work.status
+  pub stands : StandsAs image old.version old.settings.budget (worked task work) work.status
   pub lists : FitsLists (record old { tasks = tasks })
   pub bytes : length work.bytes ≤ MAX_EMITTED
   pub number : ℕ
@@ -105,7 +105,7 @@ module _ (image : ImageValue) (old new : View) (tasks : List (Option Task)) (id 
 
   module _ (heir : Option ℕ) (serial : State) (sound : SoundTasks image old heir serial) where
     -- all tasks but the child stand as their statuses say
-    stand_mid : (k : ℕ) (t : Task) → task_at mid k ≡ Some t → StandsAs image old.settings.budget t t.status
+    stand_mid : (k : ℕ) (t : Task) → task_at mid k ≡ Some t → StandsAs image old.version old.settings.budget t t.status
     stand_mid = stand_still old mid id task work makes.step makes.kids image heir serial sound makes.stands
 
     pub make_keeps_memory : SoundMemory old serial → SoundMemory new serial
@@ -163,8 +163,8 @@ module _ (image : ImageValue) (old new : View) (tasks : List (Option Task)) (id 
               (λ j x other there turn index made. domains_still old mid id task work makes.step makes.kids image heir serial sound j x turn index there made)
               (λ turn index made. absurd (cc (makes.creator, made))) k t at turn index;
           spilled_domains = sound.spilled_domains;
-          stands = each_stepped mid new c child makes.adds.changes (λ k t. StandsAs image old.settings.budget t t.status) (λ k t other there. stand_mid k t there)
-              (subst (StandsAs image old.settings.budget child) (sym (ap (λ t. t.status) makes.idle)) makes.idle);
+          stands = each_stepped mid new c child makes.adds.changes (λ k t. StandsAs image old.version old.settings.budget t t.status) (λ k t other there. stand_mid k t there)
+              (subst (StandsAs image old.version old.settings.budget child) (sym (ap (λ t. t.status) makes.idle)) makes.idle);
           children = λ k t creator index at. each_stepped mid new c child makes.adds.changes IsMade
               (λ j x other there creator index made. made_now creator.0 index (descriptor_of x)
               (children_still old mid id task work makes.step makes.kids image heir serial sound j x creator index there made))

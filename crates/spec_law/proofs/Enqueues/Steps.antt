@@ -104,14 +104,14 @@ module _ (image : ImageValue) (old new : View) (sound : Sound image old) (tile c
   pub has_domain : HasDomain (start_context old.version task).outer after.sub spawn.place
   has_domain =
       let placed : IsPlaced (start_context old.version task).outer after =
-      run_placed image old.settings.budget image.data_size (start_context old.version task) (begun task.entry task.key.ts task.args [])
+      run_placed image old.settings.budget image.data_size (start_context old.version task) (begun old.version task.entry task.key.ts task.args [])
       (ran_call image old sound tile core id leg task (Enqueue spawn) after at tt refl) tt
       in
       placed_at (start_context old.version task).outer after.sub after.spawns (length task.spawns) spawn placed last_made
 
   -- it runs on
-  pub stands_on : StandsAs image old.settings.budget work task.status
-  stands_on = subst (StandsAs image old.settings.budget work) (sym taken.takes.runs.running)
+  pub stands_on : StandsAs image old.version old.settings.budget work task.status
+  stands_on = subst (StandsAs image old.version old.settings.budget work) (sym taken.takes.runs.running)
       ((stood image old sound tile core id leg task taken).0, ran_call image old sound tile core id leg task (Enqueue spawn) after at tt refl)
 
   -- for the bags it is an enqueue

@@ -47,7 +47,7 @@ module _ (image : ImageValue) (old new : View) (heir : Option ℕ) (serial : Sta
 
   -- a task whose status is idle has done nothing
   pub idle_is : (id : ℕ) (t : Task) → task_at old id ≡ Some t → t.status ≡ Idle → t ≡ idle_again old.version t
-  idle_is id t there idle = subst (StandsAs image old.settings.budget t) idle (tasks.stands id t there)
+  idle_is id t there idle = subst (StandsAs image old.version old.settings.budget t) idle (tasks.stands id t there)
 
   -- and is not dispatched
   pub idle_is_off : (id : ℕ) (t : Task) → task_at old id ≡ Some t → t.status ≡ Idle → is_dispatched t ≡ false

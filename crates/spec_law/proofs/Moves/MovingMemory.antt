@@ -19,11 +19,11 @@ use Rattle.spec_law.proofs.Moves.Moving.{Moves, moved_to, runs_still, runs_was}
 use Rattle.spec_law.proofs.Tasks.Beside.{mapped_some}
 
 -- a task that stands so and is not dispatched is idle, and has done nothing
-pub stands_idle : (image : ImageValue) (budget : ℕ) (t : Task) (s : Status) → StandsAs image budget t s → is_dispatched t ≡ false → t ≡ idle_again (version_of image) t
-stands_idle image budget t Idle stands off = stands
-stands_idle image budget t (Running core) stands off = absurd (cc (stands.0, off))
-stands_idle image budget t (Trapped core cause) stands off = absurd (cc (stands.0, off))
-stands_idle image budget t Finished stands off = absurd (cc (stands.0, off))
+pub stands_idle : (image : ImageValue) (version budget : ℕ) (t : Task) (s : Status) → StandsAs image version budget t s → is_dispatched t ≡ false → t ≡ idle_again version t
+stands_idle image version budget t Idle stands off = stands
+stands_idle image version budget t (Running core) stands off = absurd (cc (stands.0, off))
+stands_idle image version budget t (Trapped core cause) stands off = absurd (cc (stands.0, off))
+stands_idle image version budget t Finished stands off = absurd (cc (stands.0, off))
 
 -- what memory reads of dispatched tasks stays, where these do
 logs_stay : (one other : View) → ((k : ℕ) (t : Task) → task_at one k ≡ Some t → is_dispatched t ≡ true → task_at other k ≡ Some t)
@@ -38,7 +38,7 @@ module _ (image : ImageValue) (old new : View) (heir : Option ℕ) (serial : Sta
   log_idle id x at off =
       let read = mapped_some logged_task (task_at new id) x at in
       let idle : read.0 ≡ idle_again old.version read.0 = elim (moves.queued id read.0 read.1) [
-        | inl was ↦ stands_idle image old.settings.budget read.0 read.0.status (tasks.stands id read.0 was) (sym (ap (λ y. y.dispatched) read.2) ∙ off)
+        | inl was ↦ stands_idle image old.version old.settings.budget read.0 read.0.status (tasks.stands id read.0 was) (sym (ap (λ y. y.dispatched) read.2) ∙ off)
         | inr spilled ↦ spilled.2.idle
       ] in
       ap (λ y. y.log) read.2 ∙ ap (λ t. t.log) idle

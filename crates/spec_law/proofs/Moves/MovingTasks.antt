@@ -58,10 +58,10 @@ module _ (image : ImageValue) (old new : View) (heir : Option ℕ) (serial : Sta
           absurd (omega (arith, name, low))
 
   -- each task has done what its status says
-  stands : (id : ℕ) (t : Task) → task_at new id ≡ Some t → StandsAs image old.settings.budget t t.status
+  stands : (id : ℕ) (t : Task) → task_at new id ≡ Some t → StandsAs image old.version old.settings.budget t t.status
   stands id t at = elim (moves.queued id t at) [
     | inl was ↦ sound.stands id t was
-    | inr spilled ↦ subst (StandsAs image old.settings.budget t) (sym (ap (λ x. x.status) spilled.2.idle)) spilled.2.idle
+    | inr spilled ↦ subst (StandsAs image old.version old.settings.budget t) (sym (ap (λ x. x.status) spilled.2.idle)) spilled.2.idle
   ]
 
   -- each queued child is as its creator made it

@@ -60,6 +60,7 @@ module _ (table : List ℕ) where
   -- a task's calls depend on what they depended on
   context_same : (version : ℕ) (t : Task) → start_context version (renumbered_task table t) ≡ start_context version t
   context_same version t = λ i. record {
+    version = version;
     depth = deep t.key.domain i + 1;
     own = kind_at (deep t.key.domain i) t.kinds;
     outer = outer_kind (deep t.key.domain i) t.kinds;
@@ -111,25 +112,25 @@ module _ (table : List ℕ) where
     kinds = sym (kinds_same t spawn.place) i;
   }
 
-  module _ (image : ImageValue) (budget : ℕ) where
-    ran : (t : Task) (p : TaskState) → RanTo image budget t p → RanTo image budget (renumbered_task table t) p
-    ran t p done = subst (λ ctx. LoggedRun image budget image.data_size ctx (begun t.entry t.key.ts t.args []) t.log p) (sym (context_same (version_of image) t)) done
+  module _ (image : ImageValue) (version budget : ℕ) where
+    ran : (t : Task) (p : TaskState) → RanTo image version budget t p → RanTo image version budget (renumbered_task table t) p
+    ran t p done = subst (λ ctx. LoggedRun image budget image.data_size ctx (begun version t.entry t.key.ts t.args []) t.log p) (sym (context_same version t)) done
 
-    asks : (t : Task) (p : TaskState) (request : Request) → AsksNext image budget t p request → AsksNext image budget (renumbered_task table t) p request
-    asks t p request asked = subst (λ ctx. Asks image budget image.data_size ctx p request) (sym (context_same (version_of image) t)) asked
+    asks : (t : Task) (p : TaskState) (request : Request) → AsksNext image version budget t p request → AsksNext image version budget (renumbered_task table t) p request
+    asks t p request asked = subst (λ ctx. Asks image budget image.data_size ctx p request) (sym (context_same version t)) asked
 
     is_still : (t : Task) → is_dispatched t ≡ true → is_dispatched (renumbered_task table t) ≡ true
     is_still t runs = still_some (place_in table) t.key.tb ∙ runs
 
     -- it has done what its status says
-    pub stands_still : (t : Task) (s : Status) → StandsAs image budget t s → StandsAs image budget (renumbered_task table t) s
+    pub stands_still : (t : Task) (s : Status) → StandsAs image version budget t s → StandsAs image version budget (renumbered_task table t) s
     stands_still t Idle idle = ap (renumbered_task table) idle
-    stands_still t (Running core) runs = (is_still t runs.0, ran t (done_so_far image budget t) runs.1)
+    stands_still t (Running core) runs = (is_still t runs.0, ran t (done_so_far image version budget t) runs.1)
     stands_still t (Trapped core cause) trapped = (
       is_still t trapped.0,
       record {
-        ran = ran t (done_so_far image budget t) trapped.1.ran;
-        traps = asks t (done_so_far image budget t) (Trap cause) trapped.1.traps;
+        ran = ran t (done_so_far image version budget t) trapped.1.ran;
+        traps = asks t (done_so_far image version budget t) (Trap cause) trapped.1.traps;
       },
     )
     stands_still t Finished ended = (
@@ -203,8 +204,8 @@ module _ (image : ImageValue) (old new : View) (r : Renumbers old new) (heir : O
             subst (λ x. FitsBags (domains_of x.desc.kinds x.domain) serial.stack) (sym was.2)
             (subst (λ ds. FitsBags ds serial.stack) (sym (domains_same r.table [] 0 was.0.desc.kinds was.0.domain))
             (sound.spilled_domains was.0 was.1 (subst (λ x. x.desc.name.creator ≤ length old.history) was.2 low))));
-        stands = each_now old new r (λ k x. StandsAs image old.settings.budget x x.status)
-            (λ k w at. stands_still r.table image old.settings.budget w w.status (sound.stands k w at));
+        stands = each_now old new r (λ k x. StandsAs image old.version old.settings.budget x x.status)
+            (λ k w at. stands_still r.table image old.version old.settings.budget w w.status (sound.stands k w at));
         children = λ id t creator index there live.
             each_now old new r (λ k x. x.creator ≡ Live creator index → IsMadeBy (after old new r) creator.0 index (descriptor_of x))
             (λ k w at made. child_made k w at creator index made) id t there live;

@@ -4,14 +4,13 @@ use Rattle.std.proofs.lemmas.Bool.Decides.{nat_tests}
 use Rattle.std.specs.Prelude.{Result, Ok, Err}
 use Rattle.guest_image.specs.declared.image.Kind.{Kind}
 use Rattle.guest_image.specs.declared.image.Kind.TheVariants.{Unordered, Ordered}
-use Rattle.task_desc.specs.declared.calls.TheConstants.{MAX_CHILDREN}
-use Rattle.task_desc.specs.Calls.{domain_ts, is_early, counted}
+use Rattle.task_desc.specs.Calls.{domain_ts, is_early, counted, most_children}
 use Rattle.task_desc.specs.declared.desc.Ctx.{Ctx}
 use Rattle.spec_state.specs.Tasks.{kind_if}
 
 -- what the counting of children allows is the timestamp that it was given
 counted_is : (ctx : Ctx) (ts t : ℕ) → counted ctx ts ≡ Ok t → ts ≡ t
-counted_is ctx ts t allows = by_test (nat_lt ctx.children MAX_CHILDREN) allows
+counted_is ctx ts t allows = by_test (nat_lt ctx.children (most_children ctx.version)) allows
   where
     by_test : (b : Bool) → ◌≡◌ {A = Result ℕ ℕ} (if b then Ok ts else Err 15) (Ok t) → ts ≡ t
     by_test true e = cc

@@ -115,7 +115,7 @@ module _ (version : ℕ) (task : Task) (id : ℕ) (before : TaskState) where
         subst (λ n. n < MAX_LEVELS) (sym (length-map (child_domain task Sub) closed ∙ long)) (deep size fits shallow),
       ))
     where
-      deep : (n : ℕ) → n < 8 → n + 1 ≢ 8 → suc n < 8
+      deep : (n : ℕ) → n < MAX_DEPTH → n + 1 ≢ MAX_DEPTH → suc n < MAX_DEPTH
       deep n less other = omega (arith, less, other)
 
   -- in the superdomain, where the task's domain has a level more than this
@@ -169,12 +169,12 @@ module _ (image : ImageValue) (view : View) (sound : Sound image view) (id : ℕ
       → IsPlaced (keyed_task task) (keyed_task (child_of view.version id task spawn to))
   asked_placed tile core to spawn takes (asked, allows, is) =
       let there = takes.runs.on.there in
-      let did = subst (StandsAs image view.settings.budget task) takes.runs.running (sound.tasks.stands id task there) in
+      let did = subst (StandsAs image view.version view.settings.budget task) takes.runs.running (sound.tasks.stands id task there) in
       let number = there_is task.key.tb did.0 in
       let shaped = sound.order.order.shaped id (keyed_task task) (queued_stands view sound.heir id task there) in
       let fits : length task.key.domain < MAX_LEVELS = subst (λ n. n < MAX_LEVELS) (length-map task.key.domain closed) shaped.0 in
       let shallow = logged-holds image view.settings.budget image.data_size (start_context view.version task) (λ t. SubFits (depth_of task) t.sub)
-      (begun task.entry task.key.ts task.args []) (λ t core here. here) (request-sub_fits (start_context view.version task)) did.1 tt in
+      (begun view.version task.entry task.key.ts task.args []) (λ t core here. here) (request-sub_fits (start_context view.version task)) did.1 tt in
       subst (λ place. IsPlaced (keyed_task task) (keyed_child view.version task id at_call place spawn.ts)) (sym (ap (λ s. s.place) is))
       (placed view.version task id at_call number.0 number.1 (sound.sizes.kinds id task there) fits shallow refl asked.place asked.ts spawn.ts allows)
 
@@ -183,7 +183,7 @@ module _ (image : ImageValue) (view : View) (sound : Sound image view) (id : ℕ
       → key_cmp task.key (child_of view.version id task spawn to).key ≡ Less
   placed_above tile core to spawn takes is_placed =
       let there = takes.runs.on.there in
-      let did = subst (StandsAs image view.settings.budget task) takes.runs.running (sound.tasks.stands id task there) in
+      let did = subst (StandsAs image view.version view.settings.budget task) takes.runs.running (sound.tasks.stands id task there) in
       let number = there_is task.key.tb did.0 in
       let at = queued_stands view sound.heir id task there in
       (stands view.next number.0 (keyed_task task) (keyed_task (child_of view.version id task spawn to)) number.1 (sound.order.order.number_below id (keyed_task task) number.0 at number.1)

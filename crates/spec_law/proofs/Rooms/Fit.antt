@@ -78,11 +78,11 @@ pub firm_is_firm : FirmIsFirm
 firm_is_firm image view sound task = (firm_to view sound.heir sound.is_heir task, firm_from view sound.heir sound.is_heir task)
 
 -- an idle task of a sound view has no dispatch number
-idle_is_open : (image : ImageValue) (view : View) (task : Task) → StandsAs image view.settings.budget task task.status → task.status ≡ Idle → is_dispatched task ≡ false
-idle_is_open image view task stands idle = let is = subst (StandsAs image view.settings.budget task) idle stands in ap is_dispatched is
+idle_is_open : (image : ImageValue) (view : View) (task : Task) → StandsAs image view.version view.settings.budget task task.status → task.status ≡ Idle → is_dispatched task ≡ false
+idle_is_open image view task stands idle = let is = subst (StandsAs image view.version view.settings.budget task) idle stands in ap is_dispatched is
 
 -- a task of a sound view without a dispatch number is idle
-open_is_idle : (image : ImageValue) (view : View) (task : Task) (status : Status) → StandsAs image view.settings.budget task status → is_dispatched task ≡ false → status ≡ Idle
+open_is_idle : (image : ImageValue) (view : View) (task : Task) (status : Status) → StandsAs image view.version view.settings.budget task status → is_dispatched task ≡ false → status ≡ Idle
 open_is_idle image view task Idle stands open' = refl
 open_is_idle image view task (Running core) stands open' = absurd (cc (stands.0, open'))
 open_is_idle image view task (Trapped core cause) stands open' = absurd (cc (stands.0, open'))

@@ -32,7 +32,7 @@ use Rattle.spec_law.proofs.Steps.Tasks.{KeepsChildren}
 pub quantum_stays_sound : QuantumStaysSound
 quantum_stays_sound image old new sound tile core id leg task taken keeps =
     keeps_sound image old new sound id task (record task { core = leg.to }) taken.takes.runs.on.there keeps refl refl refl (λ index spawn at. (at, refl))
-    (subst (StandsAs image old.settings.budget (record task { core = leg.to })) (sym taken.takes.runs.running)
+    (subst (StandsAs image old.version old.settings.budget (record task { core = leg.to })) (sym taken.takes.runs.running)
     ((stood image old sound tile core id leg task taken).0, ran_leg image old sound tile core id leg task taken))
     (λ is. is, λ is. is) (λ c. (λ is. is, λ is. is)) (sound.sizes.bytes id task taken.takes.runs.on.there)
 
@@ -80,7 +80,7 @@ module _ (image : ImageValue) (old : View) (sound : Sound image old) (tile core 
       (request_leaves (start_context old.version task) (progress_at [] leg.to task) asked (allowed_by-room (context_of old.version task) asked allows))
 
   -- the run goes on by it
-  pub ran_call : RanTo image old.settings.budget task (on_memory [] after)
+  pub ran_call : RanTo image old.version old.settings.budget task (on_memory [] after)
   ran_call =
       call asked (on_memory [] after) (ran_leg image old sound tile core id leg task taken)
       (asks_next image old sound tile core id leg task taken asked at.asks (call_other asked is_call)) is_call goes
@@ -89,7 +89,7 @@ module _ (image : ImageValue) (old : View) (sound : Sound image old) (tile core 
   kids_stay : after.spawns ≡ task.spawns → KeepsChildren task (progressed task after)
   kids_stay spawns index spawn made =
       let placed : IsPlaced (start_context old.version task).outer (progress_at [] leg.to task) =
-      run_placed image old.settings.budget image.data_size (start_context old.version task) (begun task.entry task.key.ts task.args [])
+      run_placed image old.settings.budget image.data_size (start_context old.version task) (begun old.version task.entry task.key.ts task.args [])
       (ran_leg image old sound tile core id leg task taken) tt
       in
       let has = placed_at (start_context old.version task).outer task.sub task.spawns index spawn placed made in
@@ -102,7 +102,7 @@ module _ (image : ImageValue) (old : View) (sound : Sound image old) (tile core 
   pub call_keeps : (new : View) → after.spawns ≡ task.spawns → Keeps id (progressed task after) old new → StaysSound image old sound new
   call_keeps new spawns keeps =
       keeps_sound image old new sound id task (progressed task after) taken.takes.runs.on.there keeps refl refl spawns (kids_stay spawns)
-      (subst (StandsAs image old.settings.budget (progressed task after)) (sym taken.takes.runs.running)
+      (subst (StandsAs image old.version old.settings.budget (progressed task after)) (sym taken.takes.runs.running)
       ((stood image old sound tile core id leg task taken).0, ran_call))
       (λ is. is, λ is. is) (λ c. (λ is. is, λ is. is)) (left.1 (sound.sizes.bytes id task taken.takes.runs.on.there))
 

@@ -26,7 +26,7 @@ use Rattle.spec_law.proofs.Steps.Runs.{run_on}
 -- a step that leaves memory, log and children as they were, after which the task stands as its status says and the lists fit
 pub step_stays_sound : (image : ImageValue) (old new : View) (sound : Sound image old) (id : ℕ) (task work : Task) → StepsOne old new id task work
     → new.memory ≡ old.memory → work.log ≡ task.log → work.lines ≡ task.lines → work.spawns ≡ task.spawns → KeepsChildren task (worked task work)
-    → StandsAs image old.settings.budget (worked task work) work.status → FitsLists (stepped_to old new) → length work.bytes ≤ MAX_EMITTED
+    → StandsAs image old.version old.settings.budget (worked task work) work.status → FitsLists (stepped_to old new) → length work.bytes ≤ MAX_EMITTED
     → StaysSound image old sound new
 step_stays_sound image old new sound id task work step memory log lines spawns kids stands lists bytes = (
   record {
@@ -61,7 +61,7 @@ keeps_steps old new id task work there keeps =
 -- such a change leaves the lists as they were, where the task is finished or on a core as before
 pub keeps_sound : (image : ImageValue) (old new : View) (sound : Sound image old) (id : ℕ) (task work : Task) → task_at old id ≡ Some task
     → Keeps id (worked task work) old new → work.log ≡ task.log → work.lines ≡ task.lines → work.spawns ≡ task.spawns → KeepsChildren task (worked task work)
-    → StandsAs image old.settings.budget (worked task work) work.status → (work.status ≡ Finished) ↔ (task.status ≡ Finished)
+    → StandsAs image old.version old.settings.budget (worked task work) work.status → (work.status ≡ Finished) ↔ (task.status ≡ Finished)
     → ((core : ℕ) → HoldsCore work.status core ↔ HoldsCore task.status core) → length work.bytes ≤ MAX_EMITTED → StaysSound image old sound new
 keeps_sound image old new sound id task work there keeps log lines spawns kids stands ends holds bytes =
     let step = keeps_steps old new id task work there keeps in
@@ -70,18 +70,18 @@ keeps_sound image old new sound id task work there keeps log lines spawns kids s
 
 module _ (image : ImageValue) (old : View) (sound : Sound image old) (tile core id : ℕ) (leg : LegValue) (task : Task) (taken : IsLegOf image old tile core leg id task) where
   -- what a running task has done
-  pub stood : StandsAs image old.settings.budget task (Running core)
-  stood = subst (StandsAs image old.settings.budget task) taken.takes.runs.running (sound.tasks.stands id task taken.takes.runs.on.there)
+  pub stood : StandsAs image old.version old.settings.budget task (Running core)
+  stood = subst (StandsAs image old.version old.settings.budget task) taken.takes.runs.running (sound.tasks.stands id task taken.takes.runs.on.there)
 
   -- the leg is the run's next steps
-  pub ran_leg : RanTo image old.settings.budget task (progress_at [] leg.to task)
+  pub ran_leg : RanTo image old.version old.settings.budget task (progress_at [] leg.to task)
   ran_leg =
       run_on image old.settings.budget image.data_size (start_context old.version task)
-      (begun task.entry task.key.ts task.args []) task.log (progress_at [] task.core task) leg.steps leg.to stood.1
+      (begun old.version task.entry task.key.ts task.args []) task.log (progress_at [] task.core task) leg.steps leg.to stood.1
       (subst (λ from. PlainSteps image image.data_size old.settings.budget leg.steps from leg.to) (sym taken.takes.from) taken.run.run)
 
   -- what it asks for at the end of the leg it asks for next in its run
-  pub asks_next : (request : Request) → request_of old task leg ≡ request → request ≢ Continue → AsksNext image old.settings.budget task (progress_at [] leg.to task) request
+  pub asks_next : (request : Request) → request_of old task leg ≡ request → request ≢ Continue → AsksNext image old.version old.settings.budget task (progress_at [] leg.to task) request
   asks_next request asks other = record {
     found = leg.stop;
     stands = taken.run.next (λ full. other (sym asks ∙ ap (request_at (context_of old.version task) leg.to) full));

@@ -59,14 +59,14 @@ module _ (old new : View) (id : ℕ) (task work : Task) (step : StepsOne old new
       (sound.children k from.was creator index from.there (sym (ap (λ z. z.creator) from.made) ∙ is)))
 
   -- all tasks stand as their statuses say, where this one does
-  pub stand_still : (image : ImageValue) (heir : Option ℕ) (serial : State) → SoundTasks image old heir serial → StandsAs image old.settings.budget (worked task work) work.status
-      → (k : ℕ) (t : Task) → task_at new k ≡ Some t → StandsAs image old.settings.budget t t.status
+  pub stand_still : (image : ImageValue) (heir : Option ℕ) (serial : State) → SoundTasks image old heir serial → StandsAs image old.version old.settings.budget (worked task work) work.status
+      → (k : ℕ) (t : Task) → task_at new k ≡ Some t → StandsAs image old.version old.settings.budget t t.status
   stand_still image heir serial sound stands =
-      each_stepped old new id (worked task work) step.changes (λ k t. StandsAs image old.settings.budget t t.status) (λ k t other at. sound.stands k t at) stands
+      each_stepped old new id (worked task work) step.changes (λ k t. StandsAs image old.version old.settings.budget t t.status) (λ k t other at. sound.stands k t at) stands
 
   -- the group of the view whose other parts are the old ones
   kept : (image : ImageValue) (heir : Option ℕ) (serial : State) → SoundTasks image old heir serial → work.spawns ≡ task.spawns
-      → StandsAs image old.settings.budget (worked task work) work.status → SoundTasks image (stepped_to old new) heir serial
+      → StandsAs image old.version old.settings.budget (worked task work) work.status → SoundTasks image (stepped_to old new) heir serial
   kept image heir serial sound spawns stands =
       record {
         few = sound.few;
@@ -81,6 +81,6 @@ module _ (old new : View) (id : ℕ) (task work : Task) (step : StepsOne old new
       }
 
   pub step_keeps_tasks : (image : ImageValue) (heir : Option ℕ) (serial : State) → SoundTasks image old heir serial → work.spawns ≡ task.spawns
-      → StandsAs image old.settings.budget (worked task work) work.status → SoundTasks image new heir serial
+      → StandsAs image old.version old.settings.budget (worked task work) work.status → SoundTasks image new heir serial
   step_keeps_tasks image heir serial sound spawns stands =
       subst (λ v. SoundTasks image v heir serial) (sym step.rest) (kept image heir serial sound spawns stands)

@@ -33,5 +33,5 @@ pub returns-clause-stores : goal.returns-clause-stores
 returns-clause-stores g c tile core task takes had =
     accessed c.args.id.0 _ task (Store c.args.offset c.args.bytes c.args.value) (λ m. after_other_of c.args.leg.now.to)
     _ _ _ _ _ _ (ap (λ (v : StateValue). v.view) c.state.view_is) c.index_mut-task.ensures.value takes.runs.on.there
-    c.core_behind-core.ensures
+    c.put_behind.ensures
     c.store_with.ensures.logged c.mark.ensures c.store_with.ensures.stored had

@@ -84,4 +84,4 @@ pub returns-clause-finishes : goal.returns-clause-finishes
 returns-clause-finishes g c tile core task takes =
     ends _ _ _ c.args.id.0 core _ tile _ task _ _ _ _
     (ap (λ (v : StateValue). v.view) c.state.view_is) c.state.invariant.4 c.index_mut-task.ensures.value
-    c.held_core-core.ensures takes c.core_behind-behind.ensures c.put_finished.ensures.ids c.free_core.ensures.held
+    c.held_core-core.ensures takes c.put_behind.ensures c.put_finished.ensures.ids c.free_core.ensures.held

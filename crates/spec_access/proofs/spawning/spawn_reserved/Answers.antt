@@ -2,7 +2,7 @@ use Rattle.std.proofs.Common.{◌<◌, ap, subst, sym, ◌∙◌, length}
 use Rattle.std.proofs.lemmas.Option.{same_Some}
 use Rattle.spec_state.specs.declared.task.Task.{Task}
 use Rattle.spec_state.specs.StateValue.{StateValue}
-use Rattle.spec_state.specs.View.{View, task_at, version_of}
+use Rattle.spec_state.specs.View.{View, task_at}
 use Rattle.spec_state.specs.Room.{HasFreeEntry}
 use Rattle.spec_state.specs.Stored.{IsWellFormed}
 use Rattle.spec_access.proofs.Enqueued.{asks_made, child_formed, enqueued, child_of_same}
@@ -32,7 +32,7 @@ put-requires-clause-formed g c =
     let child = c.child_of-child.result in
     let made = asks_made _ _ _ _ _ _ c.requires.asks
     (ap (λ (v : StateValue). v.view) c.state.view_is) c.index.ensures in
-    let formed = child_formed _ _ (version_of g.N.Naming.image) _ _ _ child _ _
+    let formed = child_formed _ _ c.state.inside.version _ _ _ child _ _
     (c.state.invariant.4.tasks c.args.id.0 _ c.index.ensures) made c.child_of-child.ensures in
     subst (λ (v : View). IsWellFormed size (length v.history) child) (sym rest)
     (subst (λ (s : StateValue). IsWellFormed size (length s.view.history) child) c.state.view_is formed)
@@ -41,6 +41,7 @@ pub returns-clause-enqueues : goal.returns-clause-enqueues
 returns-clause-enqueues g c from core task takes =
     let there = takes.runs.on.there in
     enqueued _ _ _ _ _ task _ _ _ _ there (c.add_spawn.ensures.keeps task there) c.put.ensures.adds
-    (child_of_same (version_of g.N.Naming.image) c.args.state.now.view.version _ _ task _ _ _
+    (child_of_same c.state.inside.version c.args.state.now.view.version _ _ task _ _ _
+    (ap (λ (v : StateValue). v.view.version) c.state.view_is)
     (same_Some _ task (sym c.index.ensures ∙ ap (λ (v : StateValue). task_at v.view c.args.id.0) c.state.view_is
     ∙ there)) c.child_of-child.ensures)

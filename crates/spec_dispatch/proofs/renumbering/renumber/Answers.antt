@@ -1,11 +1,9 @@
-use Rattle.std.proofs.Common.{◌∙◌, List, length, ap, sym, subst, refl, arith}
-use Rattle.std.specs.Prelude.{All}
+use Rattle.std.proofs.Common.{rules, ◌∙◌, length, ap, refl, arith}
 use Rattle.std.proofs.lemmas.List.{length-map}
 use Rattle.commit_arbiter.specs.Indexed.{renumbered_entry as renumbered_indexed}
-use Rattle.spill_store.specs.Entries.{BlockValue, HoldsEntries}
 use Rattle.spec_state.specs.Fits.{entries_in}
 use Rattle.spec_state.specs.StateValue.{StateValue}
-use Rattle.spec_dispatch.proofs.Renumbers.{blocks_after, blocks_held, few_tasks, index_held, indexed_after, is_table_here, noted_after, renumbers_seen, slots_renumbered, stored_renumbered}
+use Rattle.spec_dispatch.proofs.Renumbers.{blocks_held, few_tasks, index_held, indexed_after, is_table_here, noted_after, renumbers_seen, slots_renumbered, stored_renumbered}
 use Rattle.spec_dispatch.proofs.renumbering.renumber.Goals as goal
 
 pub fill-requires : goal.fill-requires
@@ -15,9 +13,8 @@ fill-requires g c =
 
 pub renumber_blocks-requires-clause-held : goal.renumber_blocks-requires-clause-held
 renumber_blocks-requires-clause-held g c =
-    subst (λ (blocks : List BlockValue). All (HoldsEntries c.as_slice-table.result.now) (entries_in blocks)) (sym c.deref_mut.ensures.value)
-    (blocks_held _ c.as_slice-table.result.now
-    (is_table_here _ _ c.state.inside.tasks _ _ (ap (λ (v : StateValue). v.view) c.state.view_is) refl c.as_slice-table.ensures.value c.fill.ensures.rising c.fill.ensures.exact c.requires.held))
+    blocks_held _ c.as_slice-table.result.now
+    (is_table_here _ _ c.state.inside.tasks _ _ (ap (λ (v : StateValue). v.view) c.state.view_is) refl c.as_slice-table.ensures.value c.fill.ensures.rising c.fill.ensures.exact c.requires.held)
 
 pub renumber-requires-clause-held : goal.renumber-requires-clause-held
 renumber-requires-clause-held g c =
@@ -35,8 +32,7 @@ returns-clause-renumbers g c =
     let table = is_table_here _ _ c.state.inside.tasks _ _ (ap (λ (v : StateValue). v.view) c.state.view_is) refl c.as_slice-table.ensures.value c.fill.ensures.rising c.fill.ensures.exact c.requires.held in
     renumbers_seen _ _ c.state.inside.tasks.slots _ _ _ c.state.inside.next c.state.inside.path c.state.inside.queues.items c.state.inside.finished.items _ (entries_in c.state.inside.blocks.items)
     c.as_slice-table.result.now _ _ _ _ c.renumber_tasks.ensures.slots c.renumber-state-inside.ensures
-    (blocks_after c.as_slice-table.result.now c.state.inside.blocks.items c.deref_mut.result.now c.renumber_blocks.new.blocks c.state.inside.blocks.len c.deref_mut.ensures.value c.deref_mut.ensures.len
-    c.renumber_blocks.ensures.count c.renumber_blocks.ensures.entries) refl
+    c.renumber_blocks.ensures.entries refl
     _ (ap (λ (v : StateValue). v.view) c.state.view_is) table
 
 pub invariant_of-state : goal.invariant_of-state
@@ -44,10 +40,9 @@ invariant_of-state g c =
     let table = is_table_here _ _ c.state.inside.tasks _ _ (ap (λ (v : StateValue). v.view) c.state.view_is) refl c.as_slice-table.ensures.value c.fill.ensures.rising c.fill.ensures.exact c.requires.held in
     let renumbers = renumbers_seen _ _ c.state.inside.tasks.slots _ _ _ c.state.inside.next c.state.inside.path c.state.inside.queues.items c.state.inside.finished.items _ (entries_in c.state.inside.blocks.items)
     c.as_slice-table.result.now _ _ _ _ c.renumber_tasks.ensures.slots c.renumber-state-inside.ensures
-    (blocks_after c.as_slice-table.result.now c.state.inside.blocks.items c.deref_mut.result.now c.renumber_blocks.new.blocks c.state.inside.blocks.len c.deref_mut.ensures.value c.deref_mut.ensures.len
-    c.renumber_blocks.ensures.count c.renumber_blocks.ensures.entries) refl _ refl table in (
+    c.renumber_blocks.ensures.entries refl _ refl table in (
       c.state.invariant.0,
-      c.state.invariant.1,
+      search rules,
       c.state.invariant.2,
       slots_renumbered _ _ _ _ _ _ _ _ _ _ c.state.invariant.3 c.as_slice-table.result.now _ _ _ _ _ c.renumber_tasks.ensures.slots c.renumber_tasks.ensures.capacity
           (ap length c.renumber.ensures.entries ∙ length-map c.state.inside.index.entries (renumbered_indexed c.as_slice-table.result.now)) c.renumber.ensures.capacity c.fill.ensures.capacity,

@@ -1,6 +1,5 @@
 use Rattle.spec_state.proofs.Put.{root_formed}
-use Rattle.spec_state.specs.View.{version_of}
 use Rattle.spec_state.proofs.state.State.add.Goals as goal
 
 pub put-requires-clause-formed : goal.put-requires-clause-formed
-put-requires-clause-formed g c = root_formed (version_of g.N.Naming.image) c.args.desc.now _ _ c.args.tile _ c.root_task.ensures c.requires.image
+put-requires-clause-formed g c = root_formed _ c.args.desc.now _ _ c.args.tile _ c.root_task.ensures c.requires.image

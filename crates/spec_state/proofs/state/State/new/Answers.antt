@@ -22,8 +22,8 @@ invariant_of-result g c =
         enough = subst (λ (n : ℕ). n ≤ c.in_ok-tasks.tasks.capacity) c.entries_of-entries.ensures.entries c.in_ok-tasks.ensures.capacity;
         used = ap (count_by is_some) c.in_ok-tasks.ensures.empty ∙ sym none;
         short = short_empty _ _ _ c.in_ok-empty_queues.ensures.ids;
-        index = ap (λ (x : IndexValue). x.capacity) c.in_ok-new-3.ensures ∙ c.entries_of-entries.ensures.entries;
-        indexed_are = (let nothing = ap (λ (x : IndexValue). length x.entries) c.in_ok-new-3.ensures in omega (arith, nothing));
+        index = ap (λ (x : IndexValue). x.capacity) c.in_ok-new-4.ensures ∙ c.entries_of-entries.ensures.entries;
+        indexed_are = (let nothing = ap (λ (x : IndexValue). length x.entries) c.in_ok-new-4.ensures in omega (arith, nothing));
         marks = search rules;
         members = search rules;
         arrivals = search rules;
@@ -31,6 +31,6 @@ invariant_of-result g c =
       },
       stored_empty _ _ _ _ c.in_ok-tasks.ensures.empty c.in_ok-empty_queues.ensures.ids c.in_ok-empty_queues-2.ensures.ids c.in_ok-all_free_cores.ensures.free
           (size_opening c.initial.result.now _ c.data_size.result c.in_ok-new.ensures (search rules) ∙ c.data_size.ensures ∙ ap (λ (i : ImageValue). i.data_size) c.requires.image),
-      indexed_empty _ _ _ _ _ _ c.in_ok-tasks.ensures.empty c.in_ok-empty_queues.ensures.ids (ap (λ (x : IndexValue). x.entries) c.in_ok-new-3.ensures),
+      indexed_empty _ _ _ _ _ _ c.in_ok-tasks.ensures.empty c.in_ok-empty_queues.ensures.ids (ap (λ (x : IndexValue). x.entries) c.in_ok-new-4.ensures),
       none_noted _ _ c.in_ok-tasks.ensures.empty,
     )

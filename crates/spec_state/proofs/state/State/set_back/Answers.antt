@@ -13,7 +13,10 @@ use Rattle.spec_state.proofs.Without.{seen_at}
 use Rattle.spec_state.proofs.Vacated.{own_finished, own_held, stored_back}
 use Rattle.spec_state.proofs.Kept.{same_count, slots_kept}
 use Rattle.spec_state.proofs.Noted.{noted_set}
-use Rattle.spec_state.proofs.Left.{task_within, back_in, back_seen, again_put}
+use Rattle.commit_arbiter.specs.Indexed.{entry_cmp, without as without_id}
+use Rattle.fractal_vt.specs.Sorted.{inserted}
+use Rattle.spec_state.specs.Stored.{entry_of}
+use Rattle.spec_state.proofs.Left.{task_within, back_in, back_seen, indexed_again}
 use Rattle.spec_state.proofs.state.State.set_back.Goals as goal
 
 pub index_mut-requires : goal.index_mut-requires
@@ -41,17 +44,8 @@ leave_core-requires g c =
           (own_held _ _ c.self.invariant.4 c.args.id.0 _ c.index_mut-task.ensures.value);
     }
 
-pub index-arrival-requires : goal.index-arrival-requires
-index-arrival-requires g c =
-    let below = below_slots c.self.inside.tasks.slots c.args.id.0 _ c.index_mut-task.ensures.value in
-    let has = c.self.invariant.3 in
-    omega (arith, below, has.arrivals, c.capacity-slots.ensures.slots, c.capacity-slots.ensures.value)
-
-pub enter_again-requires-clause-indexed : goal.enter_again-requires-clause-indexed
-enter_again-requires-clause-indexed g c = has_entry _ _ _ _ _ c.self.invariant.5 c.args.id.0 _ c.index_mut-task.ensures.value
-
-pub enter_again-requires-clause-room : goal.enter_again-requires-clause-room
-enter_again-requires-clause-room g c = few_indexed _ _ _ _ _ _ _ _ _ _ _ _ _ c.self.invariant.1 c.self.invariant.3
+pub open-requires : goal.open-requires
+open-requires g c = has_entry _ _ _ _ _ c.self.invariant.5 c.args.id.0 _ c.index_mut-task.ensures.value
 
 pub returns-clause-back : goal.returns-clause-back
 returns-clause-back g c =
@@ -71,20 +65,17 @@ pub invariant_of-self : goal.invariant_of-self
 invariant_of-self g c =
     let within = task_within _ _ c.self.invariant.4 c.args.id.0 _ c.index_mut-task.ensures.value _ c.self.inside.queues.items _ _ _ c.self.invariant.1 refl in
     let back = back_in c.args.id.0 _ _ _ (sym (ap (λ (v : StateValue). v.view) c.self.view_is)) (returns-clause-back g c) in
-    let below = below_slots c.self.inside.tasks.slots c.args.id.0 _ c.index_mut-task.ensures.value in
-    let slots = c.self.invariant.3 in
-    let inside : c.args.id.0 < length c.self.inside.arrivals.items = omega (arith, below, slots.arrivals, c.capacity-slots.ensures.slots, c.capacity-slots.ensures.value) in
-    let arrival : c.index-arrival.result.now ≡ slice_index_or c.self.inside.arrivals.items c.args.id.0 0 =
-    get_or_read c.self.inside.arrivals.items c.args.id.0 c.index-arrival.result.now inside c.index-arrival.ensures 0 in (
+    let below = below_slots c.self.inside.tasks.slots c.args.id.0 _ c.index_mut-task.ensures.value in (
       c.self.invariant.0,
       search rules,
       search rules,
-      slots_kept _ _ (slice_set c.self.inside.tasks.slots c.args.id.0 (Some c.reset.new.task)) _ c.self.inside.queues.items _ (length c.enter_again.new.index.entries) _ c.enter_again.new.index.capacity _ _ _ _ c.self.invariant.3
-          (same_count c.self.inside.tasks.slots c.args.id.0 _ c.reset.new.task c.index_mut-task.ensures.value) c.enter_again.ensures.count c.enter_again.ensures.capacity,
+      slots_kept _ _ (slice_set c.self.inside.tasks.slots c.args.id.0 (Some c.reset.new.task)) _ c.self.inside.queues.items _ (length c.open.new.self.entries) _ c.open.new.self.capacity _ _ _ _ c.self.invariant.3
+          (same_count c.self.inside.tasks.slots c.args.id.0 _ c.reset.new.task c.index_mut-task.ensures.value) (omega (arith, c.open.ensures.count)) c.open.ensures.capacity,
       stored_back g.N.Naming.image.data_size _ _ c.args.id.0 back c.self.invariant.4,
-      again_put _ (slice_set c.self.inside.tasks.slots c.args.id.0 (Some c.reset.new.task)) _ _ _ _ c.args.id.0 c.self.invariant.5
+      indexed_again _ (slice_set c.self.inside.tasks.slots c.args.id.0 (Some c.reset.new.task)) _ _ _ _ c.args.id.0 c.self.invariant.5
           (λ k other. get_or-set_other c.self.inside.tasks.slots c.args.id.0 k (Some c.reset.new.task) None other) c.reset.new.task
-          (get_or-set_same c.self.inside.tasks.slots c.args.id.0 (Some c.reset.new.task) None below) c.index.result.now c.index-arrival.result.now _
-          c.index.ensures arrival c.enter_again.ensures.entries,
+          (get_or-set_same c.self.inside.tasks.slots c.args.id.0 (Some c.reset.new.task) None below) _
+          (c.open.ensures.entries (entry_of c.self.inside.arrivals.items c.args.id.0 c.index_mut-task.result.now) (c.self.invariant.5.all c.args.id.0 _ c.index_mut-task.ensures.value) refl
+          ∙ ap (λ (t : Task). inserted entry_cmp (entry_of c.self.inside.arrivals.items c.args.id.0 t) (without_id c.args.id.0 c.self.inside.index.entries)) (sym c.reset.ensures)),
       noted_set c.self.inside.tasks.slots _ c.args.id.0 _ c.reset.new.task c.index_mut-task.ensures.value (ap (λ (t : Task). t.creator) c.reset.ensures) c.self.invariant.6,
     )

@@ -1,5 +1,0 @@
-use Rattle.std.proofs.Common.{length}
-use Rattle.spec_rollback.proofs.ending.empty_block.Given as goal
-
-abbrev pub decreases-loop : goal.decreases-loop
-decreases-loop l = length l.block.entries

@@ -1,6 +1,0 @@
-use Rattle.std.proofs.Common.{◌≡◌, ◌<◌, ℕ, [], slice_index_or}
-use Rattle.spill_store.specs.Entries.{BlockValue}
-use Rattle.spec_rollback.proofs.ending.empty_blocks.Given as goal
-
-abbrev pub invariant-loop-block : goal.invariant-loop-block
-invariant-loop-block l = (k : ℕ) (d : BlockValue) → k < l.block-index → (slice_index_or l.blocks k d).entries ≡ []
