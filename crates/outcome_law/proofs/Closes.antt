@@ -1,0 +1,65 @@
+-- Histories of the same events, and what is left where they are closed, are one.
+use Rattle.std.proofs.Common.{◌≡◌, ◌≢◌, ◌<◌, zero, suc, ℕ, Bool, true, false, List, [], ◌∷◌, map, refl, sym, ap, subst, ◌∙◌, inl, inr, ◌⊎◌, arith}
+use Rattle.std.specs.Prelude.{All}
+use Rattle.std.specs.List.{AllByRecursion}
+use Rattle.guest_image.specs.ImageValue.{ImageValue}
+use Rattle.run_journal.specs.declared.closed.Closed.{Closed}
+use Rattle.spec_state.specs.View.{View}
+use Rattle.spec_law.specs.Sound.{Sound}
+use Rattle.book_event.specs.declared.event.Applied.{Applied}
+use Rattle.book_event.specs.declared.event.Event.{Event}
+use Rattle.book_event.specs.declared.event.Reply.TheVariants as reply
+use Rattle.book_event.specs.Advancing.{AdvancesBy}
+use Rattle.book_event.specs.Book.{BookView}
+use Rattle.book_event.specs.Closing.{Closes}
+use Rattle.book_event.specs.Events.{IsGiven}
+use Rattle.book_event.specs.Happens.{Happens, HappenAll}
+use Rattle.book_law.proofs.Keeps.Events.{event_stays_sound, happens_keeps}
+use Rattle.book_law.proofs.Given.{next_event_is_given}
+use Rattle.outcome_law.specs.Alike.{Renaming, AreAlike, AreAlikeBooks}
+use Rattle.outcome_law.specs.Laws.{AreSameBooks, IsSameOutcome, HasMemory, HistoryIsOne, LeastRunIsOne, CloseIsOne}
+use Rattle.outcome_law.proofs.Aborts.{undone_alike}
+use Rattle.outcome_law.proofs.Nexts.{next_one}
+use Rattle.outcome_law.proofs.Outcomes.{outcome_is_one}
+
+pub close_is_one : CloseIsOne
+close_is_one old other closed other_closed same one two =
+    let memory = undone_alike same.0 old.view other.view same.1.view (λ id. true) (λ id. true) (λ k. refl) one.left.memory two.left.memory one.undone.memory two.undone.memory in
+    let history : other_closed.journal ≡ closed.journal = two.journal ∙ (ap (λ v. v.history) two.undone.rest ∙ (ap (λ v. v.history) same.1.view.rest ∙ (sym (ap (λ v. v.history) one.undone.rest) ∙ sym one.journal))) in
+    let output : other_closed.output ≡ closed.output = two.output ∙ (ap (λ v. v.output) two.undone.rest ∙ (ap (λ v. v.output) same.1.view.rest ∙ (sym (ap (λ v. v.output) one.undone.rest) ∙ sym one.output))) in
+    let memories : other_closed.memory ≡ closed.memory = two.memory ∙ (memory ∙ sym one.memory) in
+    let steps : other_closed.steps ≡ closed.steps = two.steps ∙ (same.1.steps ∙ sym one.steps) in
+    λ i. record { journal = history i; memory = memories i; output = output i; steps = steps i }
+
+pub history_is_one : (N : Type 0) → HistoryIsOne N
+history_is_one N image old other new other_new [] [] [] sound sound' same given has has' one two = (refl, subst (λ (x : BookView). AreSameBooks x other_new) one (subst (λ (y : BookView). AreSameBooks old y) two same))
+history_is_one N image old other new other_new (e ∷ es) (x ∷ xs) (y ∷ ys) sound sound' same given has has' one two =
+    let is = outcome_is_one N image old other one.0 two.0 e x.reply y.reply x.aborted y.aborted sound sound' same one.1 two.1 has.0 has'.0 in
+    let kept = happens_keeps N image old one.0 e x.aborted given.0 sound x.reply one.1 in
+    let given' = subst (λ s. IsGiven image s e) (sym (ap (λ v. v.settings) same.1.view.rest)) given.0 in
+    let kept' = happens_keeps N image other two.0 e y.aborted given' sound' y.reply two.1 in
+    let rest = history_is_one N image one.0 two.0 new other_new es xs ys kept.now kept'.now is.books (subst (λ s. AllByRecursion (IsGiven image s) es) (sym kept.settings) given.1) has.1 has'.1 one.2 two.2 in
+    ((λ i. record { reply = is.reply_is i; aborted = is.aborted_is i } ∷ rest.0 i), rest.1)
+history_is_one N image old other new other_new [] (x ∷ xs) ys sound sound' same given has has' one two = absurd one
+history_is_one N image old other new other_new [] [] (y ∷ ys) sound sound' same given has has' one two = absurd two
+history_is_one N image old other new other_new (e ∷ es) [] ys sound sound' same given has has' one two = absurd one
+history_is_one N image old other new other_new (e ∷ es) (x ∷ xs) [] sound sound' same given has has' one two = absurd two
+
+-- runs of the least tasks
+least_runs : (N : Type 0) (image : ImageValue) (n : ℕ) (old other new other_new : BookView) → Sound image old.view → Sound image other.view → AreSameBooks old other
+    → AdvancesBy N image n old new → AdvancesBy N image n other other_new → AreSameBooks new other_new × Sound image new.view × Sound image other_new.view
+least_runs N image zero old other new other_new sound sound' same one two =
+    subst (λ (x : BookView). AreSameBooks x other_new × Sound image x.view × Sound image other_new.view) one (subst (λ (y : BookView). AreSameBooks old y × Sound image old.view × Sound image y.view) two (same, sound, sound'))
+least_runs N image (suc n) old other new other_new sound sound' same one two =
+    let before = least_runs N image n old other one.0 two.0 sound sound' same one.2 two.2 in
+    let e = one.3.event in
+    let events : two.3.event ≡ e = next_one image before.0.0 one.0.view two.0.view before.0.1.view e two.3.event one.3.next.least two.3.next.least in
+    let happens' = subst (λ f. Happens two.0 f reply.Ok two.1 other_new) events two.3.happens in
+    let is = outcome_is_one N image one.0 two.0 new other_new e reply.Ok reply.Ok one.1 two.1 before.1 before.2 before.0 one.3.happens happens' (λ c. absurd (cc (c))) (λ c. absurd (cc (c))) in (
+      is.books,
+      event_stays_sound N image one.0 new e reply.Ok one.1 (next_event_is_given N image one.0.view e before.1 one.3.next) before.1 one.3.happens,
+      event_stays_sound N image two.0 other_new two.3.event reply.Ok two.1 (next_event_is_given N image two.0.view two.3.event before.2 two.3.next) before.2 two.3.happens,
+    )
+
+pub least_run_is_one : (N : Type 0) → LeastRunIsOne N
+least_run_is_one N image n old other new other_new sound sound' same one two = (least_runs N image n old other new other_new sound sound' same one two).0

@@ -1,0 +1,86 @@
+-- A renumbering leaves views that are alike.
+use Rattle.std.proofs.Common.{◌≡◌, ◌≢◌, ◌≤◌, ◌<◌, ◌+◌, zero, suc, ℕ, Bool, true, false, List, [], ◌∷◌, map, length, Option, Some, None, option_map, refl, sym, ap, subst, ◌∙◌, inl, inr, ◌⊎◌, arith}
+use Rattle.std.specs.Prelude.{slice_get, slice_index_or, Contains, AllPairs}
+use Rattle.std.proofs.lemmas.List.Kept.{AllPairs-from_increasing}
+use Rattle.spill_store.specs.Entries.{renumbered_entry}
+use Rattle.fractal_vt.specs.Renumbered.{renumbered, renumbered_key}
+use Rattle.spec_state.specs.declared.task.Task.{Task}
+use Rattle.spec_state.specs.View.{View, task_at, queue_at}
+use Rattle.spec_state.specs.Groups.{all_spilled}
+use Rattle.spec_state.specs.Numbers.{IsTieOf, IsInUse, on_path, in_domain, of_task, of_spilled, IsNumberTable, renumbered_task, Renumbers, FreesNumber, has_free, renumbers}
+use Rattle.outcome_law.specs.Alike.{Renaming, turned, renamed_creator, IsAlikeTask, IsAlikeAt, AreAlike}
+use Rattle.outcome_law.proofs.Alike.{Partner, partner, none_there, alike_turned}
+use Rattle.outcome_law.proofs.Leasts.{index_mapped}
+use Rattle.outcome_law.proofs.Chosen.{has_in, in_has, rises, one_order}
+
+-- a number is not below itself
+both_below : (x y : ℕ) → Unit {0} → Unit {0} → x < y → y < x → ⊥
+both_below x y any also one two = omega arith
+
+pub table_is_one : (view : View) (table other : List ℕ) → IsNumberTable view table → IsNumberTable view other → table ≡ other
+table_is_one view table other one two =
+    one_order (λ x. Unit {0}) (λ x y. x < y) both_below table other (λ x at. tt)
+    (rises (λ x. Unit {0}) (λ x y. x < y) both_below table (AllPairs-from_increasing table one.rising))
+    (rises (λ x. Unit {0}) (λ x y. x < y) both_below other (AllPairs-from_increasing other two.rising))
+    (λ x at. has_in other x ((two.exact x).1 ((one.exact x).0 (in_has table x at))))
+    (λ x at. has_in table x ((one.exact x).1 ((two.exact x).0 (in_has other x at))))
+
+module _ (r : Renaming) (a b : View) (alike : AreAlike r a b) where
+  in_use_too : (number : ℕ) → IsInUse a number → IsInUse b number
+  in_use_too number (on_path is) = on_path (subst (λ p. IsTieOf p number) (sym (ap (λ v. v.path) alike.rest)) is)
+  in_use_too number (in_domain id task there is) =
+      let p = partner r a b alike id task there in
+      in_domain (r.to id) p.y p.there (subst (λ d. IsTieOf d number) (sym (ap (λ t. t.key.domain) p.alike.is)) is)
+  in_use_too number (of_task id task there is) =
+      let p = partner r a b alike id task there in
+      of_task (r.to id) p.y p.there (ap (λ t. t.key.tb) p.alike.is ∙ is)
+  in_use_too number (of_spilled s has is) = of_spilled s (subst (λ ss. Contains ss s) (sym (ap all_spilled alike.rest)) has) is
+
+  renumbered_alike : (table : List ℕ) (s t : Option Task) → IsAlikeAt r.to s t → IsAlikeAt r.to (option_map (renumbered_task table) s) (option_map (renumbered_task table) t)
+  renumbered_alike table None None same = tt
+  renumbered_alike table (Some x) (Some y) same = record {
+    is = ap {A = Task} (renumbered_task table) same.is;
+    touched = same.touched;
+    written = same.written;
+  }
+  renumbered_alike table None (Some y) same = absurd same
+  renumbered_alike table (Some x) None same = absurd same
+
+renumbered_at : (old new : View) (table : List ℕ) → new.tasks ≡ map (option_map (renumbered_task table)) old.tasks → (k : ℕ) → task_at new k ≡ option_map (renumbered_task table) (task_at old k)
+renumbered_at old new table is k = ap (λ (ts : List (Option Task)). slice_index_or ts k None) is ∙ index_mapped (option_map (renumbered_task table)) old.tasks k None
+
+module _ (r : Renaming) (a b : View) (alike : AreAlike r a b) where
+  table_too : (table : List ℕ) → IsNumberTable a table → IsNumberTable b table
+  table_too table is = record {
+    rising = is.rising;
+    exact = λ n. (
+      (λ has. in_use_too r a b alike n ((is.exact n).0 has)),
+      (λ used. (is.exact n).1 (in_use_too (turned r) b a (alike_turned r a b alike) n used)),
+    );
+  }
+
+  pub renumbers_alike : (a' b' : View) → Renumbers a a' → Renumbers b b' → AreAlike r a' b'
+  renumbers_alike a' b' one two =
+      let table : two.table ≡ one.table = table_is_one b two.table one.table two.is_table (table_too one.table one.is_table) in
+      let blocks : b'.blocks ≡ a'.blocks = two.blocks ∙ ((λ i. map (map (renumbered_entry (table i))) (ap (λ v. v.blocks) alike.rest i)) ∙ sym one.blocks) in
+      let path : b'.path ≡ a'.path = two.path ∙ ((λ i. renumbered (table i) (ap (λ v. v.path) alike.rest i)) ∙ sym one.path) in
+      let next : b'.next ≡ a'.next = two.next ∙ (ap length table ∙ sym one.next) in
+      record {
+        tasks = λ k. subst (λ s. IsAlikeAt r.to s (task_at b' (r.to k))) (sym (renumbered_at a a' one.table one.tasks k))
+            (subst (λ t. IsAlikeAt r.to (option_map (renumbered_task one.table) (task_at a k)) t) (sym (renumbered_at b b' two.table two.tasks (r.to k) ∙ ap (λ t. option_map (renumbered_task t) (task_at b (r.to k))) table))
+            (renumbered_alike r a b alike one.table (task_at a k) (task_at b (r.to k)) (alike.tasks k)));
+        queues = ap (λ v. v.queues) two.rest ∙ (alike.queues ∙ ap (λ v. map (map r.to) v.queues) (sym one.rest));
+        finished = ap (λ v. v.finished) two.rest ∙ (alike.finished ∙ ap (λ v. map (map r.to) v.finished) (sym one.rest));
+        cores = ap (λ v. v.cores) two.rest ∙ (alike.cores ∙ ap (λ v. map (map (option_map r.to)) v.cores) (sym one.rest));
+        rest = two.rest ∙ (ap {A = View} (λ v. record v { tasks = b'.tasks; blocks = b'.blocks; path = b'.path; next = b'.next }) alike.rest
+            ∙ ((λ i. record a { tasks = b'.tasks; queues = b.queues; finished = b.finished; cores = b.cores; blocks = blocks i; path = path i; next = next i })
+            ∙ (ap {A = View} (λ v. record v { tasks = b'.tasks; queues = b.queues; finished = b.finished; cores = b.cores }) (sym one.rest)
+            ∙ ap {A = View} (λ v. record a' { tasks = b'.tasks; queues = v.queues; finished = v.finished; cores = v.cores }) (sym two.rest))));
+      }
+
+  -- a number is freed alike
+  pub frees_number_alike : (a' b' : View) → FreesNumber a a' → FreesNumber b b' → AreAlike r a' b'
+  frees_number_alike a' b' (has_free low) (has_free low') = alike
+  frees_number_alike a' b' (has_free low) (renumbers new full two) = absurd (let next : b.next ≡ a.next = ap (λ v. v.next) alike.rest in omega arith)
+  frees_number_alike a' b' (renumbers new full one) (has_free low) = absurd (let next : b.next ≡ a.next = ap (λ v. v.next) alike.rest in omega arith)
+  frees_number_alike a' b' (renumbers new full one) (renumbers other full' two) = renumbers_alike a' b' one two

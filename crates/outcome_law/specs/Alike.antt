@@ -1,0 +1,54 @@
+-- Views that are alike: the same but for the ids of tasks, what stands behind the last task, and how a filter holds
+-- its lines.
+use Rattle.std.specs.Prelude.{◌≡◌, ℕ, map, Option, Some, None, option_map}
+use Rattle.spec_state.specs.declared.task.Creator.{Creator}
+use Rattle.spec_state.specs.declared.task.Creator.TheVariants.{Committed, Live}
+use Rattle.spec_state.specs.declared.task.Task.{Task}
+use Rattle.spec_state.specs.Filters.{has_touched, has_written}
+use Rattle.spec_state.specs.View.{View, task_at}
+use Rattle.book_event.specs.Book.{BookView}
+
+-- each id has another name, and no two have the same one
+pub record Renaming : Type 0 where
+  pub to : ℕ → ℕ
+  pub from : ℕ → ℕ
+  pub back : (k : ℕ) → from (to k) ≡ k
+  pub forth : (k : ℕ) → to (from k) ≡ k
+
+-- the names the other way round
+abbrev pub turned : Renaming → Renaming
+turned r = record { to = r.from; from = r.to; back = r.forth; forth = r.back }
+
+-- the creator under its other id
+abbrev pub renamed_creator : (ℕ → ℕ) → Creator → Creator
+renamed_creator to (Committed turn index) = Committed turn index
+renamed_creator to (Live task index) = Live (record { 0 = to task.0 }) index
+
+-- the second task is the first one, its creator has the other id, and its filter answers alike
+pub record IsAlikeTask (to : ℕ → ℕ) (x y : Task) : Type 0 where
+  pub is : y ≡ record x { creator = renamed_creator to x.creator; lines = y.lines }
+  pub touched : (line : ℕ) → has_touched y line ≡ has_touched x line
+  pub written : (line : ℕ) → has_written y line ≡ has_written x line
+
+-- likewise of what may stand under an id
+abbrev pub IsAlikeAt : (ℕ → ℕ) → Option Task → Option Task → Type 0
+IsAlikeAt to None None = Unit {0}
+IsAlikeAt to (Some x) (Some y) = IsAlikeTask to x y
+IsAlikeAt to None (Some y) = ⊥
+IsAlikeAt to (Some x) None = ⊥
+
+-- the second view is the first one under other ids
+pub record AreAlike (r : Renaming) (a b : View) : Type 0 where
+  pub tasks : (k : ℕ) → IsAlikeAt r.to (task_at a k) (task_at b (r.to k))
+  pub queues : b.queues ≡ map (map r.to) a.queues
+  pub finished : b.finished ≡ map (map r.to) a.finished
+  pub cores : b.cores ≡ map (map (option_map r.to)) a.cores
+  pub rest : b ≡ record a { tasks = b.tasks; queues = b.queues; finished = b.finished; cores = b.cores }
+
+-- books that are alike: their views are, and all else is the same
+pub record AreAlikeBooks (r : Renaming) (a b : BookView) : Type 0 where
+  pub view : AreAlike r a.view b.view
+  pub placers : b.placers ≡ a.placers
+  pub taps : b.taps ≡ a.taps
+  pub steps : b.steps ≡ a.steps
+  pub stopped : b.stopped ≡ a.stopped

@@ -1,0 +1,46 @@
+//! Laws of views that are alike. Each is the contract of a function that does nothing.
+
+ghost use Rattle.outcome_law.specs.Laws.{CloseIsOne, EndIsAlike, HistoryIsOne, LeastRunIsOne, OutcomeIsOne};
+ghost use Rattle.outcome_law.specs.Laws.{OpeningIsOne, PlayIsOne, ScriptIsOne};
+
+use rv_core::Naming;
+
+/// Views that are alike have the same ends.
+pub fn end_is_alike()
+    ensures { EndIsAlike }
+{}
+
+/// What comes of one event on sound books that are alike is one thing, want of memory aside.
+pub fn outcome_is_one<N: Naming>()
+    ensures { OutcomeIsOne N }
+{}
+
+/// The same events have the same answers, and leave books that are alike.
+pub fn history_is_one<N: Naming>()
+    ensures { HistoryIsOne N }
+{}
+
+/// So many events for the least tasks leave books that are alike.
+pub fn least_run_is_one<N: Naming>()
+    ensures { LeastRunIsOne N }
+{}
+
+/// What closed books leave that are alike is the same.
+pub fn close_is_one()
+    ensures { CloseIsOne }
+{}
+
+/// Of the acts of a script that is played to its end the same is said, and the books that it leaves are alike.
+pub fn play_is_one<N: Naming>()
+    ensures { PlayIsOne N }
+{}
+
+/// Two openings of an image with the same settings, placers and taps are alike.
+pub fn opening_is_one()
+    ensures { OpeningIsOne }
+{}
+
+/// A script that is played to its end from the opening on says and leaves the same each time.
+pub fn script_is_one<N: Naming>()
+    ensures { ScriptIsOne N }
+{}
