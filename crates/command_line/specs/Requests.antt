@@ -98,6 +98,7 @@ alone command text = if is_none (text kind) then Some command else None
 unfoldable pub command_by : List ℕ → Texts → Option Command
 command_by word text =
     if bytes_eq word (codes "run") then alone commands.Run text
+    else if bytes_eq word (codes "save") then alone commands.Save text
     else if bytes_eq word (codes "steps") then alone commands.Steps text
     else if bytes_eq word (codes "trace") then alone commands.Trace text
     else if bytes_eq word (codes "check") then alone commands.Check text
@@ -118,6 +119,7 @@ request_of (word ∷ words) = given_in words >>= λ given. request_by word (text
 -- the size of a generated image is in the range of its kind
 abbrev pub HasSize : Command → Type 0
 HasSize commands.Run = Unit {0}
+HasSize commands.Save = Unit {0}
 HasSize commands.Steps = Unit {0}
 HasSize commands.Trace = Unit {0}
 HasSize commands.Check = Unit {0}

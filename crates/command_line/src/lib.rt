@@ -8,8 +8,6 @@ mod number;
 mod reading;
 mod request;
 mod splitting;
-#[cfg(test)]
-mod tests;
 
 pub use reading::read_words;
 pub use request::{Command, Refusal, Request};

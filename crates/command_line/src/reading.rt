@@ -51,6 +51,8 @@ fn command(word: &str, matches: &ArgMatches<'_>) -> Option<Command>
     let word = word.as_bytes();
     if word == b"run".as_slice() {
         alone(Command::Run, matches)
+    } else if word == b"save".as_slice() {
+        alone(Command::Save, matches)
     } else if word == b"steps".as_slice() {
         alone(Command::Steps, matches)
     } else if word == b"trace".as_slice() {

@@ -9,6 +9,8 @@ use thiserror::Error;
 pub enum Command {
     /// Run an image.
     Run,
+    /// Run an image, and write the image from which a run that met its commit limit goes on.
+    Save,
     /// Make the events of a script.
     Steps,
     /// Make the events of a script, and tell what the taps saw.

@@ -26,12 +26,19 @@ use Rattle.fractal_sim.specs.declared.finding.Loading.{Loading}
 use Rattle.fractal_sim.specs.declared.outcome.Outcome.{Outcome}
 use Rattle.fractal_sim.specs.Call.{Call, Input}
 use Rattle.fractal_sim.specs.Given.{HasImage, IsRead, IsGenerated, ReadsAsAsked, ReadsImage, input_limit}
-use Rattle.fractal_sim.specs.Runs.{closed_of, IsEmpty, HoldsRunOfInput, HoldsRunOrNothing, HoldsLawfulRun, RunsToEnd, LoadsToEnd, PlaysToEnd, TracesToEnd}
+use Rattle.fractal_sim.specs.Runs.{closed_of, IsEmpty, HoldsRunOfInput, HoldsRunOrNothing, HoldsLawfulRun, IsReported, RunsRead, RunsToEnd, StopsAtLimit, LoadsToEnd}
+use Rattle.fractal_sim.specs.Runs.{PlaysToEnd, TracesToEnd}
+use Rattle.fractal_sim.specs.declared.finding.Saving.{Saving}
+use Rattle.fractal_sim.specs.declared.finding.Saving.TheVariants as saving
+use Rattle.guest_image.specs.Writing.{image_bytes}
+use Rattle.resume_image.specs.Saved.{saved_image}
+use Rattle.spec_state.specs.declared.pending.Pending.{Pending}
 use Rattle.fractal_sim.specs.Checks.{IsAccepted}
-use Rattle.fractal_sim.specs.Texts.{end_status, played_status, accepted_line, run_text, load_text, played_text}
+use Rattle.fractal_sim.specs.Texts.{end_status, played_status, accepted_line, tasks_line, run_text, load_text, played_text}
 use Rattle.fractal_sim.specs.Answers as table
 use Rattle.fractal_sim.specs.Answers.{IsAnswer, HoldsRunSoFar, TellsOutcome}
-use Rattle.fractal_sim.specs.Deciding.{whole, lists_of}
+use Rattle.fractal_sim.specs.Deciding.{whole, lists_of, Saves}
+use Rattle.fractal_sim.specs.Finding.{saving_status, saving_text, IsStopped}
 use Rattle.fractal_sim.specs.Finding.{IsFound, IsRan, IsLoaded, IsPlayed, IsTraced, HoldsRun, Keeps, status_by, status_of, text_of, TakesText, TellsFinding}
 use Rattle.fractal_sim.proofs.Found.{asked_for, left_alone, read_some}
 
@@ -52,6 +59,9 @@ holds_kept input request image run steps o given is_run kept = record {
 
 abbrev ran_held : (input : Input) (image : ImageValue) (ran : Ran) (steps : Option ℕ) (o : Outcome) → IsRan input image ran steps → HoldsRun (whole ran) steps o → HoldsRunOfInput input o
 ran_held input image ran steps o found kept = holds_kept input found.request image (whole ran) steps o (IsRead found.rest found.given) found.made.run kept
+
+abbrev stopped_held : (input : Input) (ran : Ran) (steps : Option ℕ) (made : Saving) (o : Outcome) → IsStopped input ran steps made → HoldsRun (whole ran) steps o → HoldsRunOfInput input o
+stopped_held input ran steps made o found kept = holds_kept input found.request found.image (whole ran) steps o (IsRead found.rest found.given) found.stopped.run.run kept
 
 abbrev loaded_held : (input : Input) (load : Loading) (image : ImageValue) (ran : Ran) (steps : Option ℕ) (o : Outcome) → IsLoaded input load image ran steps → HoldsRun (whole ran) steps o
     → HoldsRunOfInput input o
@@ -76,6 +86,7 @@ holds input (finding.Refused line) o found kept = inl kept
 holds input (finding.NoScript line) o found kept = inl kept
 holds input (finding.Accepted closed) o found kept = inr (holds_kept input found.request found.image closed None o (IsRead found.rest found.given) found.run kept)
 holds input (finding.Ran image ran steps) o found kept = inr (ran_held input image ran steps o found kept)
+holds input (finding.Stopped ran steps made) o found kept = inr (stopped_held input ran steps made o found kept)
 holds input (finding.Loaded load image ran steps) o found kept = inr (loaded_held input load image ran steps o found kept)
 holds input (finding.Played image p) o found kept = inr (played_held input image p o found kept)
 holds input (finding.Traced t) o found kept = inr (traced_held input t o found kept)
@@ -90,10 +101,21 @@ ran_to_end input image ran steps end is found = record {
   request = found.request;
   rest = found.rest;
   given = found.given;
-  command = found.command;
+  told = subst (λ e. IfSome e (IsReported found.request.command)) is found.told;
   is_run = found.made.run;
   end_is = is;
-  over = λ unfinished. found.made.over (is ∙ ap Some unfinished);
+}
+
+stops_at_limit : (input : Input) (ran : Ran) (steps : Option ℕ) (made : Saving) → (found : IsStopped input ran steps made)
+    → StopsAtLimit input found.image found.stopped.pendings (whole ran)
+stops_at_limit input ran steps made found = record {
+  request = found.request;
+  rest = found.rest;
+  given = found.given;
+  command = found.command;
+  is_run = found.stopped.run.run;
+  end_is = found.stopped.limit;
+  left = found.stopped.left;
 }
 
 loaded_to_end : (input : Input) (load : Loading) (image : ImageValue) (ran : Ran) (steps : Option ℕ) (end : End) → ran.end ≡ Some end → IsLoaded input load image ran steps
@@ -165,6 +187,21 @@ answers input (finding.Ran image ran steps) o text found kept is = go ran.end re
       let told : run_text image (closed_of o) end ≡ text = ap (λ c. run_text image c end) kept.run_is ∙ same_some _ text t in
       let made : RunsToEnd input image end (closed_of o) = subst (RunsToEnd input image end) (sym kept.run_is) (ran_to_end input image ran steps end at found) in
       subst (IsAnswer input o (end_status end)) told (table.Ended image end made)
+answers input (finding.Stopped ran steps made) o text found kept is = go made refl (same_some _ text is) found.stopped.saves where
+  pendings : List Pending
+  pendings = found.stopped.pendings
+
+  stops : StopsAtLimit input found.image pendings (closed_of o)
+  stops = subst (StopsAtLimit input found.image pendings) (sym kept.run_is) (stops_at_limit input ran steps made found)
+
+  go : (m : Saving) → made ≡ m → saving_text m ≡ text → Saves found.image ran.closed.memory pendings m → IsAnswer input o (saving_status m) text
+  go (saving.Bytes bytes) at told saves =
+      let memory : o.memory ≡ ran.closed.memory = ap (λ c. c.memory) kept.run_is in
+      subst (IsAnswer input o 4) (ap (λ m. image_bytes (saved_image found.image m pendings)) memory ∙ sym saves.2 ∙ told)
+      (table.Saved found.image pendings stops saves.0 saves.1)
+  go (saving.Nested depth) at told saves = subst (IsAnswer input o 12) told (table.Nested found.image pendings depth stops saves.0 saves.1)
+  go (saving.TooMany count) at told saves =
+      subst (IsAnswer input o 13) (ap tasks_line (sym saves.2) ∙ told) (table.TooMany found.image pendings stops saves.0 saves.1)
 answers input (finding.Loaded load image ran steps) o text found kept is = go ran.end refl is where
   go : (e : Option End) → ran.end ≡ e → option_map (load_text load.load load.seed load.size image (whole ran)) e ≡ Some text → IsAnswer input o (status_by end_status e) text
   go None at t = let z : ⊥ = cc in absurd z
@@ -232,6 +269,9 @@ by_end call f o text status ran steps text_is status_is held holding read found 
 no_check : (request : Request) (command : Command) → request.command ≡ command → (command ≡ commands.Check → ⊥) → request.command ≡ commands.Check → ⊥
 no_check request command is other check = other (sym is ∙ check)
 
+runs_no_check : (command : Command) → RunsRead command → command ≡ commands.Check → ⊥
+runs_no_check command runs check = subst RunsRead check runs
+
 -- where the sink didn't fail
 well_told : (call : Call) (f : Finding) (o : Outcome) → IsFound call.input f → Keeps f o → o.status ≡ status_of f → TakesText call.sink_before call.sink_after (text_of f) → TellsOutcome call o
 well_told call finding.Usage o found kept s w = took call finding.Usage o _ found kept refl s w
@@ -245,10 +285,11 @@ well_told call (finding.Accepted closed) o found kept s w = took call (finding.A
 well_told call (finding.Ran image ran steps) o found kept s w =
     let held : HoldsRunSoFar call.input o = record {
       held = ran_held call.input image ran steps o found kept;
-      makes = no_check found.request commands.Run found.command (λ clash. cc);
+      makes = runs_no_check found.request.command found.command;
     } in
     let read = was_read call.input found.request image found.rest found.given in
     by_end call (finding.Ran image ran steps) o (run_text image (whole ran)) end_status ran steps refl refl held kept read found kept s w
+well_told call (finding.Stopped ran steps made) o found kept s w = took call (finding.Stopped ran steps made) o _ found kept refl s w
 well_told call (finding.Loaded load image ran steps) o found kept s w =
     let held : HoldsRunSoFar call.input o = record {
       held = loaded_held call.input load image ran steps o found kept;

@@ -18,7 +18,11 @@ use Rattle.fractal_sim.specs.Given.{Reads, ReadsInput, ReadsImage, input_limit}
 use Rattle.fractal_sim.specs.Texts.{end_status, played_status}
 use Rattle.fractal_sim.specs.Complete as due
 use Rattle.fractal_sim.specs.Complete.{BeginsWithImage, IsDue, IsKnown, IsComplete}
-use Rattle.fractal_sim.specs.Finding.{IsFound, status_by, status_of, TellsFinding}
+use Rattle.fractal_sim.specs.declared.finding.Saving.{Saving}
+use Rattle.fractal_sim.specs.declared.finding.Saving.TheVariants as saving
+use Rattle.fractal_sim.specs.Finding.{IsFound, saving_status, status_by, status_of, TellsFinding}
+use Rattle.fractal_sim.specs.Runs.{IsReported}
+use Rattle.std.specs.Prelude.{IfSome}
 
 all_read : (bytes found : List ℕ) (old new : SourceState) (limit : ℕ) → old.left ≡ Some bytes → ReadsAll old new limit found → found ≡ bytes
 all_read bytes found old new limit is h = go new.left old.left is h.taken h.ended where
@@ -86,7 +90,15 @@ is_due input bytes (finding.Ran image ran steps) known well found = go ran.end r
   go : (e : Option End) → ran.end ≡ e → (status_by end_status e ≡ 5) ⊎ IsDue input.words bytes (status_by end_status e)
   go None at = inl refl
   go (Some end) at =
-      inr (due.Ended found.request image found.rest end (begins input bytes found.request image found.rest known found.given) found.command (λ unfinished. found.made.over (at ∙ ap Some unfinished)))
+      inr (due.Ended found.request image found.rest end (begins input bytes found.request image found.rest known found.given) (subst (λ e. IfSome e (IsReported found.request.command)) at found.told))
+is_due input bytes (finding.Stopped ran steps made) known well found = go made where
+  begun : BeginsWithImage input.words bytes found.request found.image found.rest
+  begun = begins input bytes found.request found.image found.rest known found.given
+
+  go : (m : Saving) → (saving_status m ≡ 5) ⊎ IsDue input.words bytes (saving_status m)
+  go (saving.Bytes written) = inr (due.Saved found.request found.image found.rest begun found.command)
+  go (saving.Nested depth) = inr (due.Nested found.request found.image found.rest begun found.command)
+  go (saving.TooMany count) = inr (due.TooMany found.request found.image found.rest begun found.command)
 is_due input bytes (finding.Loaded load image ran steps) known well found = go ran.end refl where
   go : (e : Option End) → ran.end ≡ e → (status_by end_status e ≡ 5) ⊎ IsDue input.words bytes (status_by end_status e)
   go None at = inl refl

@@ -19,7 +19,9 @@ use Rattle.fractal_sim.specs.declared.outcome.Outcome.{Outcome}
 use Rattle.fractal_sim.specs.Call.{Input}
 use Rattle.fractal_sim.specs.Given.{HasImage, IsRead, IsGenerated}
 use Rattle.fractal_sim.specs.Runs as runs
-use Rattle.fractal_sim.specs.Runs.{closed_of, IsEmpty, Counts, IsMadeBy, MakesRun, PlaysScript, RunsImage, TellsSteps}
+use Rattle.fractal_sim.specs.Runs.{closed_of, IsEmpty, Counts, IsMadeBy, MakesRun, PlaysScript, RunsImage, RunsRead, TellsSteps}
+use Rattle.command_line.specs.declared.request.Command.{Command}
+use Rattle.command_line.specs.declared.request.Command.TheVariants as commands
 use Rattle.fractal_sim.specs.Deciding.{whole, lists_of, told_steps, IsRunSo}
 use Rattle.fractal_sim.specs.Finding.{IsFound, HoldsRun, Keeps}
 use Rattle.fractal_sim.proofs.Answering.{same_some}
@@ -81,6 +83,23 @@ script_told input o request image run events asked kept made = record {
   told = λ other asks counts none. (let clash : Some events ≡ None = sym kept.steps_is ∙ none in absurd (cc (clash)));
 }
 
+-- what runs the image that is read runs an image, and counts as that does
+read_runs : (command : Command) → RunsRead command → RunsImage command
+read_runs commands.Run runs = tt
+read_runs commands.Save runs = tt
+read_runs commands.Steps runs = absurd runs
+read_runs commands.Trace runs = absurd runs
+read_runs commands.Check runs = absurd runs
+read_runs (commands.Load load seed size) runs = absurd runs
+
+read_counts : (workers : ℕ) (command : Command) → RunsRead command → Counts workers command → workers ≡ 0
+read_counts workers commands.Run runs counts = counts
+read_counts workers commands.Save runs counts = counts
+read_counts workers commands.Steps runs counts = absurd runs
+read_counts workers commands.Trace runs counts = absurd runs
+read_counts workers commands.Check runs counts = absurd runs
+read_counts workers (commands.Load load seed size) runs counts = absurd runs
+
 -- what was found tells the events of its run
 pub steps_told : (input : Input) (f : Finding) (o : Outcome) → IsFound input f → Keeps f o → TellsSteps input o
 steps_told input finding.Usage o found kept = none_told input o kept
@@ -96,8 +115,11 @@ steps_told input (finding.Accepted closed) o found kept = record {
       absurd (subst (Counts found.request.settings.workers) found.command (counts_same input.words found.request request found.given.read.asked asked counts));
 }
 steps_told input (finding.Ran image ran steps) o found kept =
-    run_told input o found.request image ran steps found.given.read.asked (subst RunsImage (sym found.command) tt)
-    (subst (Counts found.request.settings.workers) found.command) (IsRead found.rest found.given) found.made kept
+    run_told input o found.request image ran steps found.given.read.asked (read_runs found.request.command found.command)
+    (read_counts found.request.settings.workers found.request.command found.command) (IsRead found.rest found.given) found.made kept
+steps_told input (finding.Stopped ran steps made) o found kept =
+    run_told input o found.request found.image ran steps found.given.read.asked (subst RunsImage (sym found.command) tt)
+    (subst (Counts found.request.settings.workers) found.command) (IsRead found.rest found.given) found.stopped.run kept
 steps_told input (finding.Loaded load image ran steps) o found kept =
     run_told input o found.request image ran steps found.given.asked (subst RunsImage (sym found.given.command) tt)
     (subst (Counts found.request.settings.workers) found.given.command) (IsGenerated load.load load.seed load.size found.given) found.made kept

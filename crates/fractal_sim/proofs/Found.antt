@@ -26,7 +26,14 @@ use Rattle.fractal_sim.specs.declared.finding.Loading.{Loading}
 use Rattle.fractal_sim.specs.Call.{Input}
 use Rattle.fractal_sim.specs.Given.{Reads, ReadsAsAsked, ReadsImage, input_limit}
 use Rattle.fractal_sim.specs.Finding.{IsFound, IsLoaded, IsPlayed, IsRan}
-use Rattle.fractal_sim.specs.Deciding.{IsFoundBehind, IsLoadedSo, IsClosedReport}
+use Rattle.fractal_sim.specs.Deciding.{IsFoundBehind, IsLoadedSo, IsRunSo, IsSavedSo, IsClosedReport}
+use Rattle.fractal_sim.specs.Runs.{IsReported, RunsRead}
+use Rattle.machine_run.specs.declared.left.Ran.{Ran}
+use Rattle.place_policy.specs.Policy.{Policy}
+use Rattle.trace_tap.specs.Reading.{Reading}
+use Rattle.run_journal.specs.declared.end.End.{End}
+use Rattle.run_journal.specs.declared.end.End.TheVariants as ends
+use Rattle.std.specs.Prelude.{◌≢◌, IfSome}
 
 -- ---- reading
 
@@ -44,6 +51,7 @@ read_none old new limit same = subst (λ after. ReadsSome old after limit) (sym 
 -- what isn't `load` reads the source
 pub reads_else : (command : Command) → ((load : Load) (seed size : ℕ) → command ≡ commands.Load load seed size → ⊥) → Reads command
 reads_else commands.Run other = tt
+reads_else commands.Save other = tt
 reads_else commands.Steps other = tt
 reads_else commands.Trace other = tt
 reads_else commands.Check other = tt
@@ -99,13 +107,44 @@ found_given input request image rest (finding.Accepted closed) g h = record {
   end_is = h.1.kept.end_is;
 }
 found_given input request image rest (finding.Ran image' ran steps) g h =
-    let same : IsRan input image ran steps = record { request = request; rest = rest; given = g; command = h.0; made = h.2 } in
+    let same : IsRan input image ran steps = record { request = request; rest = rest; given = g; command = h.0; made = h.2; told = h.3 } in
     subst (λ i. IsRan input i ran steps) (sym h.1) same
+found_given input request image rest (finding.Stopped ran steps made) g h =
+    record { request = request; image = image; rest = rest; given = g; command = h.0; stopped = h.1 }
 found_given input request image rest (finding.Loaded load image' ran steps) g h = absurd h
 found_given input request image rest (finding.Played image' played) g h =
     let same : IsPlayed input image played = record { request = request; rest = rest; given = g; command = h.0; made = h.2 } in
     subst (λ i. IsPlayed input i played) (sym h.1) same
 found_given input request image rest (finding.Traced traced) g h = record { request = request; image = image; rest = rest; given = g; command = h.0; made = h.1 }
+
+-- what is found where the words ask for a run that can go on is found behind the image
+pub saved_behind : (request : Request) (image : ImageValue) (rest : List ℕ) (placers : List Policy) (taps : List Reading) (f : Finding)
+    → request.command ≡ commands.Save → IsSavedSo image request.settings placers taps f → IsFoundBehind request image rest placers taps f
+saved_behind request image rest placers taps finding.Usage is h = absurd h
+saved_behind request image rest placers taps finding.Memory is h = tt
+saved_behind request image rest placers taps finding.Unread is h = absurd h
+saved_behind request image rest placers taps finding.Long is h = absurd h
+saved_behind request image rest placers taps (finding.NoImage fault) is h = absurd h
+saved_behind request image rest placers taps (finding.Refused line) is h = absurd h
+saved_behind request image rest placers taps (finding.NoScript line) is h = absurd h
+saved_behind request image rest placers taps (finding.Accepted closed) is h = absurd h
+saved_behind request image rest placers taps (finding.Ran image' ran steps) is h =
+    (subst RunsRead (sym is) tt, h.0, h.1, subst (λ c. IfSome ran.end (IsReported c)) (sym is) h.2)
+saved_behind request image rest placers taps (finding.Stopped ran steps made) is h = (is, h)
+saved_behind request image rest placers taps (finding.Loaded load image' ran steps) is h = absurd h
+saved_behind request image rest placers taps (finding.Played image' played) is h = absurd h
+saved_behind request image rest placers taps (finding.Traced traced) is h = absurd h
+
+if_not : (told : Option End) → told ≢ Some ends.Unfinished → IfSome told (λ end. end ≢ ends.Unfinished)
+if_not None over = tt
+if_not (Some end) over = λ open_yet. over (ap Some open_yet)
+
+-- and so is a run of an image
+pub ran_behind : (request : Request) (image : ImageValue) (rest : List ℕ) (placers : List Policy) (taps : List Reading) (ran : Ran) (steps : Option ℕ)
+    → request.command ≡ commands.Run → IsRunSo image request.settings placers taps ran steps
+    → IsFoundBehind request image rest placers taps (finding.Ran image ran steps)
+ran_behind request image rest placers taps ran steps is made =
+    (subst RunsRead (sym is) tt, refl, made, subst (λ c. IfSome ran.end (IsReported c)) (sym is) (if_not ran.end made.over))
 
 -- what is found where a generated image is asked for is found, as the source is left alone
 pub found_loaded : (input : Input) (request : Request) (load : Loading) (f : Finding) → request_of input.words ≡ Some request
@@ -120,6 +159,7 @@ found_loaded input request load (finding.Refused line) asked command untouched h
 found_loaded input request load (finding.NoScript line) asked command untouched h = absurd h
 found_loaded input request load (finding.Accepted closed) asked command untouched h = absurd h
 found_loaded input request load (finding.Ran image ran steps) asked command untouched h = absurd h
+found_loaded input request load (finding.Stopped ran steps made) asked command untouched h = absurd h
 found_loaded input request load (finding.Loaded load' image ran steps) asked command untouched h =
     let same : IsLoaded input load image ran steps = record {
       request = request;

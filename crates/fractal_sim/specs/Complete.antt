@@ -18,7 +18,7 @@ use Rattle.fractal_sim.specs.declared.outcome.Outcome.{Outcome}
 use Rattle.fractal_sim.specs.Call.{Call, Input}
 use Rattle.fractal_sim.specs.Given.{input_limit, NeedsNoInput, Reads}
 use Rattle.fractal_sim.specs.Checks.{IsNoScriptAt, IsWrongLine}
-use Rattle.fractal_sim.specs.Runs.{IsScript, PlaysScript}
+use Rattle.fractal_sim.specs.Runs.{IsReported, IsScript, PlaysScript}
 use Rattle.fractal_sim.specs.Texts.{end_status, played_status}
 
 -- the words ask for this, and the bytes are no more than are read and begin with this image, behind which these stand
@@ -39,8 +39,14 @@ pub data IsDue (words : List (List ℕ)) (bytes : List ℕ) : ℕ → Type 0 whe
   NoImage : (request : Request) (fault : ImageFault) → request_of words ≡ Some request → Reads request.command
       → length bytes ≤ input_limit → image_of bytes ≡ Err fault → IsDue words bytes 2
   Ended : (request : Request) (image : ImageValue) (rest : List ℕ) (end : End)
-      → BeginsWithImage words bytes request image rest → request.command ≡ commands.Run
-      → end ≢ ends.Unfinished → IsDue words bytes (end_status end)
+      → BeginsWithImage words bytes request image rest → IsReported request.command end
+      → IsDue words bytes (end_status end)
+  Saved : (request : Request) (image : ImageValue) (rest : List ℕ)
+      → BeginsWithImage words bytes request image rest → request.command ≡ commands.Save → IsDue words bytes 4
+  Nested : (request : Request) (image : ImageValue) (rest : List ℕ)
+      → BeginsWithImage words bytes request image rest → request.command ≡ commands.Save → IsDue words bytes 12
+  TooMany : (request : Request) (image : ImageValue) (rest : List ℕ)
+      → BeginsWithImage words bytes request image rest → request.command ≡ commands.Save → IsDue words bytes 13
   Loaded : (request : Request) (load : Load) (seed size : ℕ) (end : End) → request_of words ≡ Some request
       → request.command ≡ commands.Load load seed size → end ≢ ends.Unfinished → IsDue words bytes (end_status end)
   Played : (request : Request) (image : ImageValue) (rest : List ℕ) (script : List Act) (end : End)

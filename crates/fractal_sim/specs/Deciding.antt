@@ -1,5 +1,5 @@
 -- What is found with an image: runs that are made of it, and texts behind it.
-use Rattle.std.specs.Prelude.{◌≡◌, ◌≢◌, ◌==◌, ℕ, List, map, Ok, Some, None, IfSome, if◌then◌else◌}
+use Rattle.std.specs.Prelude.{◌≡◌, ◌≢◌, ◌≤◌, ◌==◌, ℕ, List, length, map, Ok, Some, None, IfSome, if◌then◌else◌}
 use Rattle.std.specs.declared.marker.Brand.{Brand}
 use Rattle.std.specs.declared.option.Option.{Option}
 use Rattle.guest_image.specs.ImageValue.{ImageValue}
@@ -26,9 +26,17 @@ use Rattle.command_line.specs.declared.request.Request.{Request}
 use Rattle.load_gen.specs.Generated.{generated}
 use Rattle.fractal_sim.specs.declared.finding.Finding.{Finding}
 use Rattle.fractal_sim.specs.declared.finding.Loading.{Loading}
+use Rattle.fractal_sim.specs.declared.finding.Saving.{Saving}
+use Rattle.fractal_sim.specs.declared.finding.Saving.TheVariants as saving
+use Rattle.guest_image.specs.Writing.{image_bytes}
+use Rattle.resume_image.specs.declared.fault.SaveFault.TheVariants as save_faults
+use Rattle.resume_image.specs.Pendings.{AreOfRoot}
+use Rattle.resume_image.specs.Saved.{saved_image, CannotSave}
+use Rattle.spec_state.specs.declared.pending.Pending.{Pending}
+use Rattle.spec_state.specs.Pendings.{Leaves}
 use Rattle.fractal_sim.specs.declared.finding.Finding.TheVariants as finding
 use Rattle.fractal_sim.specs.Checks.{IsNoScriptAt, IsWrongLine}
-use Rattle.fractal_sim.specs.Runs.{IsScript, PlaysScript}
+use Rattle.fractal_sim.specs.Runs.{IsReported, IsScript, PlaysScript, RunsRead}
 
 -- the run that was left, with its end
 abbrev pub whole : Ran → SerialRun
@@ -49,6 +57,32 @@ pub record IsRunSo (image : ImageValue) (settings : Settings) (placers : List Po
   pub run : IsRunOf image settings.commits settings.budget (whole ran)
   pub steps_is : steps ≡ told_steps settings.workers ran.closed.steps
   pub over : ran.end ≢ Some ends.Unfinished
+
+-- what was made of the tasks that pend after a run: the bytes of the image that goes on, or why there is none
+abbrev pub Saves : ImageValue → List ℕ → List Pending → Saving → Type 0
+Saves image memory pendings (saving.Bytes bytes) =
+    AreOfRoot pendings × (length pendings ≤ 65536)
+    × (bytes.items ≡ image_bytes (saved_image image memory pendings))
+Saves image memory pendings (saving.Nested depth) = CannotSave pendings (save_faults.Nested depth)
+Saves image memory pendings (saving.TooMany count) = CannotSave pendings (save_faults.TooMany count)
+
+-- the image was run to the commit limit, and this was made of what pends
+pub record IsStoppedSo (image : ImageValue) (settings : Settings) (placers : List Policy) (taps : List Reading)
+    (ran : Ran) (steps : Option ℕ) (made : Saving) : Type 0 where
+  pub run : IsRunSo image settings placers taps ran steps
+  pub limit : ran.end ≡ Some ends.Limit
+  pub pendings : List Pending
+  pub left : Leaves image settings.budget ran.closed.journal ran.closed.memory ran.closed.output pendings
+  pub saves : Saves image ran.closed.memory pendings made
+
+-- why something is found where the words ask for a run of this image that can go on
+abbrev pub IsSavedSo : ImageValue → Settings → List Policy → List Reading → Finding → Type 0
+IsSavedSo image settings placers taps finding.Memory = Unit {0}
+IsSavedSo image settings placers taps (finding.Ran image' ran steps) =
+    (image' ≡ image) × IsRunSo image settings placers taps ran steps × IfSome ran.end (IsReported commands.Save)
+IsSavedSo image settings placers taps (finding.Stopped ran steps made) =
+    IsStoppedSo image settings placers taps ran steps made
+IsSavedSo image settings placers taps other = ⊥
 
 -- why something is found where the words ask for the run of a generated image
 abbrev pub IsLoadedSo : Loading → Settings → List Policy → List Reading → Finding → Type 0
@@ -109,7 +143,10 @@ IsFoundBehind request image rest placers taps (finding.NoScript line) =
 IsFoundBehind request image rest placers taps (finding.Accepted closed) =
     (request.command ≡ commands.Check) × IsAcceptedSo request image rest closed
 IsFoundBehind request image rest placers taps (finding.Ran image' ran steps) =
-    (request.command ≡ commands.Run) × (image' ≡ image) × IsRunSo image request.settings placers taps ran steps
+    RunsRead request.command × (image' ≡ image) × IsRunSo image request.settings placers taps ran steps
+    × IfSome ran.end (IsReported request.command)
+IsFoundBehind request image rest placers taps (finding.Stopped ran steps made) =
+    (request.command ≡ commands.Save) × IsStoppedSo image request.settings placers taps ran steps made
 IsFoundBehind request image rest placers taps (finding.Played image' played) =
     (request.command ≡ commands.Steps) × (image' ≡ image) × IsPlayedSo request image rest placers taps played
 IsFoundBehind request image rest placers taps (finding.Traced traced) =

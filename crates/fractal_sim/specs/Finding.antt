@@ -1,5 +1,5 @@
 -- What is found before anything is written, and how it is told.
-use Rattle.std.specs.Prelude.{◌≡◌, ◌≢◌, ℕ, List, codes, length, Some, None, IsSomeAnd, option_map}
+use Rattle.std.specs.Prelude.{◌≡◌, ◌≢◌, ℕ, List, codes, length, Some, None, IfSome, IsSomeAnd, option_map}
 use Rattle.std.specs.declared.option.Option.{Option}
 use Rattle.sim_io.specs.Causes.{Rose}
 use Rattle.sim_io.specs.Parts.{Takes, TakesFront}
@@ -10,20 +10,22 @@ use Rattle.serial_machine.specs.declared.whole_run.SerialRun.{SerialRun}
 use Rattle.machine_run.specs.declared.left.Ran.{Ran}
 use Rattle.machine_run.specs.declared.playing.Played.{Played}
 use Rattle.machine_run.specs.declared.playing.Traced.{Traced}
-use Rattle.command_line.specs.declared.request.Command.TheVariants.{Run, Steps, Trace}
+use Rattle.command_line.specs.declared.request.Command.TheVariants.{Save, Steps, Trace}
 use Rattle.command_line.specs.declared.request.Request.{Request}
 use Rattle.play_text.specs.Traces.{trace_text}
 use Rattle.fractal_sim.specs.declared.finding.Finding.{Finding}
 use Rattle.fractal_sim.specs.declared.finding.Loading.{Loading}
+use Rattle.fractal_sim.specs.declared.finding.Saving.{Saving}
+use Rattle.fractal_sim.specs.declared.finding.Saving.TheVariants as saving
 use Rattle.fractal_sim.specs.declared.finding.Finding.TheVariants as finding
 use Rattle.fractal_sim.specs.declared.outcome.Outcome.{Outcome}
 use Rattle.fractal_sim.specs.Call.{Input}
 use Rattle.fractal_sim.specs.Given.{ReadsImage, ReadsAsAsked, Generates, IsUsage, IsUnread, IsLong, IsNoImage}
-use Rattle.fractal_sim.specs.Runs.{closed_of, IsEmpty}
+use Rattle.fractal_sim.specs.Runs.{closed_of, IsEmpty, IsReported, RunsRead}
 use Rattle.fractal_sim.specs.Checks.{IsAccepted, IsRefused, IsNoScript}
 use Rattle.fractal_sim.specs.Texts.{end_status, played_status, image_fault_line, journal_fault_line, script_fault_line}
-use Rattle.fractal_sim.specs.Texts.{accepted_line, run_text, load_text, played_text}
-use Rattle.fractal_sim.specs.Deciding.{whole, lists_of, IsRunSo, IsPlayedSo, IsTracedSo}
+use Rattle.fractal_sim.specs.Texts.{accepted_line, nested_line, tasks_line, run_text, load_text, played_text}
+use Rattle.fractal_sim.specs.Deciding.{whole, lists_of, IsRunSo, IsStoppedSo, IsPlayedSo, IsTracedSo}
 
 -- ---- why something was found
 
@@ -32,8 +34,18 @@ pub record IsRan (input : Input) (image : ImageValue) (ran : Ran) (steps : Optio
   pub request : Request
   pub rest : List ℕ
   pub given : ReadsImage input request image rest
-  pub command : request.command ≡ Run
+  pub command : RunsRead request.command
   pub made : IsRunSo image request.settings input.placers input.taps ran steps
+  pub told : IfSome ran.end (IsReported request.command)
+
+-- the words ask for a run that can go on, and the image that was read was run to the commit limit
+pub record IsStopped (input : Input) (ran : Ran) (steps : Option ℕ) (made : Saving) : Type 0 where
+  pub request : Request
+  pub image : ImageValue
+  pub rest : List ℕ
+  pub given : ReadsImage input request image rest
+  pub command : request.command ≡ Save
+  pub stopped : IsStoppedSo image request.settings input.placers input.taps ran steps made
 
 -- the words ask for the run of a generated image, and this is one
 pub record IsLoaded (input : Input) (load : Loading) (image : ImageValue) (ran : Ran) (steps : Option ℕ) : Type 0 where
@@ -69,6 +81,7 @@ IsFound input (finding.Refused line) = IsRefused input line
 IsFound input (finding.NoScript line) = IsNoScript input line
 IsFound input (finding.Accepted closed) = IsAccepted input closed
 IsFound input (finding.Ran image ran steps) = IsRan input image ran steps
+IsFound input (finding.Stopped ran steps made) = IsStopped input ran steps made
 IsFound input (finding.Loaded load image ran steps) = IsLoaded input load image ran steps
 IsFound input (finding.Played image played) = IsPlayed input image played
 IsFound input (finding.Traced traced) = IsTraced input traced
@@ -79,6 +92,18 @@ IsFound input (finding.Traced traced) = IsTraced input traced
 abbrev pub status_by : (End → ℕ) → Option End → ℕ
 status_by status None = 5
 status_by status (Some end) = status end
+
+-- the status that tells what was made of a run that can go on
+abbrev pub saving_status : Saving → ℕ
+saving_status (saving.Bytes bytes) = 4
+saving_status (saving.Nested depth) = 12
+saving_status (saving.TooMany count) = 13
+
+-- and the text: the bytes of the image, or the line that says why there is none
+abbrev pub saving_text : Saving → List ℕ
+saving_text (saving.Bytes bytes) = bytes.items
+saving_text (saving.Nested depth) = nested_line depth
+saving_text (saving.TooMany count) = tasks_line count
 
 -- the status that tells what was found
 abbrev pub status_of : Finding → ℕ
@@ -91,6 +116,7 @@ status_of (finding.Refused line) = 8
 status_of (finding.NoScript line) = 9
 status_of (finding.Accepted closed) = 0
 status_of (finding.Ran image ran steps) = status_by end_status ran.end
+status_of (finding.Stopped ran steps made) = saving_status made
 status_of (finding.Loaded load image ran steps) = status_by end_status ran.end
 status_of (finding.Played image played) = status_by played_status played.ran.end
 status_of (finding.Traced traced) = status_by (λ end. 0) traced.ran.end
@@ -106,6 +132,7 @@ text_of (finding.Refused line) = Some (journal_fault_line line)
 text_of (finding.NoScript line) = Some (script_fault_line line)
 text_of (finding.Accepted closed) = Some (accepted_line (length closed.journal))
 text_of (finding.Ran image ran steps) = option_map (run_text image (whole ran)) ran.end
+text_of (finding.Stopped ran steps made) = Some (saving_text made)
 text_of (finding.Loaded load image ran steps) =
     option_map (load_text load.load load.seed load.size image (whole ran)) ran.end
 text_of (finding.Played image played) =
@@ -121,6 +148,7 @@ pub record HoldsRun (run : SerialRun) (steps : Option ℕ) (o : Outcome) : Type 
 abbrev pub Keeps : Finding → Outcome → Type 0
 Keeps (finding.Accepted closed) o = HoldsRun closed None o
 Keeps (finding.Ran image ran steps) o = HoldsRun (whole ran) steps o
+Keeps (finding.Stopped ran steps made) o = HoldsRun (whole ran) steps o
 Keeps (finding.Loaded load image ran steps) o = HoldsRun (whole ran) steps o
 Keeps (finding.Played image played) o = HoldsRun (whole played.ran) (Some played.ran.closed.steps) o
 Keeps (finding.Traced traced) o = HoldsRun (whole traced.ran) (Some traced.ran.closed.steps) o
@@ -153,3 +181,10 @@ pub record TellsLine (status : ℕ) (line : List ℕ) (old new : SinkState) (o :
   pub empty : IsEmpty o
   pub told : o.status ≢ 7 → (o.status ≡ status) × Takes old new line
   pub failed : o.status ≡ 7 → Rose old.faults new.faults × TakesFront old new line
+
+-- the text was written and the status answered, or the sink failed on it (7); the outcome holds this run
+pub record TellsStopped (status : ℕ) (text : List ℕ) (ran : Ran) (steps : Option ℕ) (old new : SinkState) (o : Outcome)
+    : Type 0 where
+  pub kept : HoldsRun (whole ran) steps o
+  pub told : o.status ≢ 7 → (o.status ≡ status) × Takes old new text
+  pub failed : o.status ≡ 7 → Rose old.faults new.faults × TakesFront old new text

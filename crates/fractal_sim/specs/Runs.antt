@@ -17,6 +17,8 @@ use Rattle.command_line.specs.declared.request.Command.{Command}
 use Rattle.command_line.specs.declared.request.Command.TheVariants as commands
 use Rattle.command_line.specs.declared.request.Request.{Request}
 use Rattle.command_line.specs.Requests.{request_of}
+use Rattle.spec_state.specs.declared.pending.Pending.{Pending}
+use Rattle.spec_state.specs.Pendings.{Leaves}
 use Rattle.fractal_sim.specs.declared.outcome.Outcome.{Outcome}
 use Rattle.fractal_sim.specs.Call.{Input}
 use Rattle.fractal_sim.specs.Given.{ReadsImage, Generates, HasImage}
@@ -54,6 +56,7 @@ HoldsLawfulRun input o =
 -- the command runs an image to its end
 abbrev pub RunsImage : Command → Type 0
 RunsImage commands.Run = Unit {0}
+RunsImage commands.Save = Unit {0}
 RunsImage (commands.Load load seed size) = Unit {0}
 RunsImage other = ⊥
 
@@ -66,22 +69,45 @@ PlaysScript other = ⊥
 -- a run is told with the count of its events: of a script always, and of an image without workers
 abbrev pub Counts : (workers : ℕ) → Command → Type 0
 Counts workers commands.Run = workers ≡ 0
+Counts workers commands.Save = workers ≡ 0
 Counts workers (commands.Load load seed size) = workers ≡ 0
 Counts workers commands.Steps = Unit {0}
 Counts workers commands.Trace = Unit {0}
 Counts workers commands.Check = ⊥
 
+-- the command runs the image that is read
+abbrev pub RunsRead : Command → Type 0
+RunsRead commands.Run = Unit {0}
+RunsRead commands.Save = Unit {0}
+RunsRead other = ⊥
+
+-- a run of the image that is read, to this end, is told by its report: of `save` each but one to the commit limit
+abbrev pub IsReported : Command → End → Type 0
+IsReported commands.Run end = end ≢ ends.Unfinished
+IsReported commands.Save end = (end ≢ ends.Unfinished) × (end ≢ ends.Limit)
+IsReported other end = ⊥
+
 -- ---- runs to an end
 
--- the words ask for a run, and the image that was read was run to this end
+-- the words ask for a run, and the image that was read was run to this end, which a report tells
 pub record RunsToEnd (input : Input) (image : ImageValue) (end : End) (run : SerialRun) : Type 0 where
   pub request : Request
   pub rest : List ℕ
   pub given : ReadsImage input request image rest
-  pub command : request.command ≡ commands.Run
+  pub told : IsReported request.command end
   pub is_run : IsRunOf image request.settings.commits request.settings.budget run
   pub end_is : run.end ≡ Some end
-  pub over : end ≢ ends.Unfinished
+
+-- the words ask for a run that can go on, and the image that was read was run to the commit limit, where these tasks
+-- pend
+pub record StopsAtLimit (input : Input) (image : ImageValue) (pendings : List Pending) (run : SerialRun) : Type 0 where
+  pub request : Request
+  pub rest : List ℕ
+  pub given : ReadsImage input request image rest
+  pub command : request.command ≡ commands.Save
+  pub is_run : IsRunOf image request.settings.commits request.settings.budget run
+  pub end_is : run.end ≡ Some ends.Limit
+  pub left : Leaves image request.settings.budget run.journal run.memory run.output pendings
 
 -- the words ask for the run of a generated image, which was run to this end
 pub record LoadsToEnd (input : Input) (load : Load) (seed size : ℕ) (image : ImageValue) (end : End) (run : SerialRun)

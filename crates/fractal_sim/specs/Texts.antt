@@ -41,6 +41,14 @@ journal_fault_line line = codes "fault journal " ++ decimal line ++ codes "\n"
 abbrev pub script_fault_line : ℕ → List ℕ
 script_fault_line line = codes "fault script " ++ decimal line ++ codes "\n"
 
+-- the line that tells how deep a task pends that can't be saved
+abbrev pub nested_line : ℕ → List ℕ
+nested_line depth = codes "fault nested " ++ decimal depth ++ codes "\n"
+
+-- the line that tells how many tasks pend, which are too many to be saved
+abbrev pub tasks_line : ℕ → List ℕ
+tasks_line count = codes "fault tasks " ++ decimal count ++ codes "\n"
+
 -- the line that accepts a report of so many entries
 abbrev pub accepted_line : ℕ → List ℕ
 accepted_line entries = codes "check ok " ++ decimal entries ++ codes "\n"

@@ -12,6 +12,7 @@ use crate::checking::check_report;
 use crate::finding::{Finding, Loading};
 use crate::playing::{play_behind, trace_behind};
 use crate::running::{run_image, run_load};
+use crate::saving::save_image;
 use command_line::{Command, Refusal, Request, read_words};
 use guest_image::{Image, ImageFault, read_image};
 use place_policy::Placer;
@@ -94,6 +95,7 @@ fn act<R: Threads + Wait + Sync, G: Gate + Sync, P: Placer + Send, T: Tap + Send
             Ok((ran, steps)) => Finding::Ran(image, ran, steps),
             Err(_) => Finding::Memory,
         },
+        Command::Save => save_image(rt, alloc, image, request.settings, gate, placers, taps),
         Command::Steps => play_behind(alloc, request, image, rest, placers, taps),
         Command::Trace => trace_behind(alloc, request, &image, rest, placers, taps),
         Command::Check => check_report(alloc, request, &image, rest),

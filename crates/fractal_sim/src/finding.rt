@@ -16,6 +16,17 @@ pub(crate) struct Loading {
     pub(crate) size: u32,
 }
 
+/// What was made of the tasks that pend where a run met its commit limit.
+#[derive(Drop)]
+pub(crate) enum Saving {
+    /// The bytes of the image from which the run goes on.
+    Bytes(Vec<u8>),
+    /// Nothing, as a task pends this deep in another task's domain.
+    Nested(u8),
+    /// Nothing, as so many tasks pend, more than an image has.
+    TooMany(u32),
+}
+
 /// What is found before anything is written. No memory is taken from then on.
 #[derive(Drop)]
 pub(crate) enum Finding {
@@ -37,6 +48,9 @@ pub(crate) enum Finding {
     Accepted(SerialRun),
     /// The image that was read was run, by so many events where no workers made them.
     Ran(Image, Ran, Option<u64>),
+    /// The image that was read was run to its commit limit, by so many events where no workers made them, and this was
+    /// made of the tasks that pend.
+    Stopped(Ran, Option<u64>, Saving),
     /// The image that was generated was run, by so many events where no workers made them.
     Loaded(Loading, Image, Ran, Option<u64>),
     /// The script was played with this image.

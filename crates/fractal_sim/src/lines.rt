@@ -2,7 +2,7 @@
 
 ghost use Rattle.std.specs.Prelude.{◌≡◌, ◌++◌, ◌<◌, ◌≤◌, ◌-◌, ◌^◌, codes, decimal, length};
 ghost use Rattle.fractal_sim.specs.Texts.{accepted_line, commits_line, image_fault_line, journal_fault_line};
-ghost use Rattle.fractal_sim.specs.Texts.{load_line, load_word, script_fault_line};
+ghost use Rattle.fractal_sim.specs.Texts.{load_line, load_word, nested_line, script_fault_line, tasks_line};
 
 use crate::finding::Loading;
 use guest_image::ImageFault;
@@ -45,6 +45,30 @@ pub(crate) fn script_line(wrong: u32) -> Line
     let mut line = Line::new();
     put(&mut line, b"fault script ");
     put(&mut line, number.format(wrong).as_bytes());
+    put(&mut line, b"\n");
+    line
+}
+
+/// The line that tells how deep a task pends that can't be saved.
+pub(crate) fn nested_line(depth: u8) -> Line
+    ensures { result.items ≡ nested_line depth }
+{
+    let mut number = Buffer::new();
+    let mut line = Line::new();
+    put(&mut line, b"fault nested ");
+    put(&mut line, number.format(depth).as_bytes());
+    put(&mut line, b"\n");
+    line
+}
+
+/// The line that tells how many tasks pend, which are too many to be saved.
+pub(crate) fn tasks_line(count: u32) -> Line
+    ensures { result.items ≡ tasks_line count }
+{
+    let mut number = Buffer::new();
+    let mut line = Line::new();
+    put(&mut line, b"fault tasks ");
+    put(&mut line, number.format(count).as_bytes());
     put(&mut line, b"\n");
     line
 }

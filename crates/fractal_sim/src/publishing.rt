@@ -6,11 +6,11 @@ ghost use Rattle.report_text.specs.Report.{body_lines, end_line};
 ghost use Rattle.play_text.specs.Traces.{trace_text};
 ghost use Rattle.machine_run.specs.Least.{run_of};
 ghost use Rattle.fractal_sim.specs.Deciding.{whole};
-ghost use Rattle.fractal_sim.specs.Finding.{HasWindow, HoldsRun, TellsFinding};
+ghost use Rattle.fractal_sim.specs.Finding.{HasWindow, HoldsRun, TellsFinding, TellsStopped};
 ghost use Rattle.fractal_sim.specs.Texts.{commits_line, end_status, load_line, load_text, played_status, played_text};
 
-use crate::finding::{Finding, Loading};
-use crate::lines::{accept_line, commits_line, load_line};
+use crate::finding::{Finding, Loading, Saving};
+use crate::lines::{accept_line, commits_line, load_line, nested_line, tasks_line};
 use crate::outcome::Outcome;
 use guest_image::Image;
 use machine_run::{Played, Ran, Traced};
@@ -71,6 +71,39 @@ pub(crate) fn publish<K: Sink>(sink: &mut K, image: &Image, ran: Ran, steps: Opt
     };
     match write_report(sink, image, &ran.closed, &end) {
         Ok(()) => left(end_status(&end), ran, steps),
+        Err(_) => left(7, ran, steps),
+    }
+}
+
+/// Writes the bytes of the image that goes on, or the line that says why there is none.
+pub(crate) fn publish_stopped<K: Sink>(
+    sink: &mut K,
+    ran: Ran,
+    steps: Option<u64>,
+    made: Saving,
+) -> Outcome
+    ensures { TellsFinding (Finding.Stopped ran steps made) (K.state sink.old) (K.state sink.new) result }
+{
+    match made {
+        Saving::Bytes(bytes) => tell_stopped(sink, 4, &bytes, ran, steps),
+        Saving::Nested(depth) => tell_stopped(sink, 12, nested_line(depth).as_slice(), ran, steps),
+        Saving::TooMany(count) => tell_stopped(sink, 13, tasks_line(count).as_slice(), ran, steps),
+    }
+}
+
+/// Writes this text, and tells this status with a run that met its commit limit.
+fn tell_stopped<K: Sink>(
+    sink: &mut K,
+    status: u8,
+    text: &[u8],
+    ran: Ran,
+    steps: Option<u64>,
+) -> Outcome
+    requires { status ≢ 7 }
+    ensures { TellsStopped status text.now ran steps (K.state sink.old) (K.state sink.new) result }
+{
+    match write_all(sink, text) {
+        Ok(()) => left(status, ran, steps),
         Err(_) => left(7, ran, steps),
     }
 }

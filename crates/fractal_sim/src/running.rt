@@ -43,7 +43,7 @@ pub(crate) fn run_image<R: Threads + Wait + Sync, G: Gate + Sync, P: Placer + Se
 }
 
 /// How many events are told.
-fn told_steps(workers: u32, events: u64) -> Option<u64>
+pub(crate) fn told_steps(workers: u32, events: u64) -> Option<u64>
     ensures { result ≡ told_steps workers events }
 {
     if workers == 0 { Some(events) } else { None }

@@ -7,7 +7,9 @@ ghost use Rattle.fractal_sim.specs.Runs.{IsEmpty};
 use crate::finding::Finding;
 use crate::lines::{image_line, journal_line, script_line};
 use crate::outcome::Outcome;
-use crate::publishing::{accept, publish, publish_load, publish_played, publish_trace};
+use crate::publishing::{
+    accept, publish, publish_load, publish_played, publish_stopped, publish_trace,
+};
 use guest_image::ImageFault;
 use serial_machine::{Bytes, Journal};
 use sim_io::{Sink, write_all};
@@ -28,6 +30,7 @@ pub(crate) fn tell<K: Sink>(alloc: Global, sink: &mut K, found: Finding) -> Outc
         Finding::NoScript(line) => tell_script_fault(alloc, sink, line),
         Finding::Accepted(closed) => accept(sink, closed),
         Finding::Ran(image, ran, steps) => publish(sink, &image, ran, steps),
+        Finding::Stopped(ran, steps, made) => publish_stopped(sink, ran, steps, made),
         Finding::Loaded(load, image, ran, steps) => publish_load(sink, load, &image, ran, steps),
         Finding::Played(image, played) => publish_played(sink, &image, played),
         Finding::Traced(traced) => publish_trace(sink, traced),

@@ -1,4 +1,5 @@
 pub mod Standing
+pub mod AtLimit
 pub mod Leaving
 pub mod Least
 pub mod Scripts

@@ -1,3 +1,4 @@
 pub mod Leaving
 pub mod Least
 pub mod Played
+pub mod Stopping

@@ -1,17 +1,19 @@
 //! What a run leaves.
 
-ghost use Rattle.std.specs.Prelude.{◌≡◌, length, IfSome};
+ghost use Rattle.std.specs.Prelude.{◌≡◌, true, length, Some, IsSome, IfSome};
 ghost use Rattle.guest_image.specs.ImageValue.{IsImage};
 ghost use Rattle.serial_machine.specs.WholeRun.{IsRunOf};
 ghost use Rattle.book_event.specs.Closing.{Closes};
 ghost use Rattle.conflict_book.specs.Seen.{view_of};
 ghost use Rattle.machine_run.specs.Least.{run_of};
 ghost use Rattle.machine_run.specs.Played.{StandsAt};
+ghost use Rattle.machine_run.specs.Stopping.{IsStoppedWith};
 
 use conflict_book::Book;
 use place_policy::Placer;
 use run_journal::{Closed, End};
 use rv_core::Naming;
+use spec_state::Pendings;
 use trace_tap::Tap;
 
 /// A run that was made: what its closed book leaves, and its end; None where memory ran out.
@@ -37,5 +39,67 @@ pub(crate) fn leave<N: Naming, P: Placer, T: Tap>(book: Book<N, P, T>, end: Opti
     Ran {
         closed: book.close(),
         end,
+    }
+}
+
+/// A run that was made, with the tasks that pend where it met its commit limit and was to go on later.
+#[derive(Drop)]
+pub struct Stopped {
+    /// The run.
+    pub ran: Ran,
+    /// The tasks that pend after it; None where it did not meet its commit limit, where memory ran out, and where it
+    /// was not to go on.
+    pub pending: Option<Pendings>,
+}
+
+/// Closes a book that met its commit limit, with the tasks that pend. Where memory runs out for these no end is told.
+fn freeze<N: Naming, P: Placer, T: Tap>(book: Book<N, P, T>) -> Stopped
+    requires fits { IsImage N.image }
+    requires stands { StandsAt (view_of P.policy T.reading book).view End.Limit }
+    ensures closes { Closes (view_of P.policy T.reading book) result.ran.closed }
+    ensures end { IfSome result.ran.end (λ end. Some End.Limit ≡ Some end) }
+    ensures run { IsRunOf N.image N.commits N.budget (run_of result.ran.closed result.ran.end) }
+    ensures writable { length result.ran.closed.memory ≡ N.image.data_size }
+    ensures pending { IfSome result.pending (IsStoppedWith N.image N.budget result.ran) }
+    ensures limit { result.ran.end ≡ Some End.Limit → IsSome result.pending }
+{
+    book.is_sound();
+    match book.freeze() {
+        Ok(frozen) => Stopped {
+            ran: Ran {
+                closed: frozen.closed,
+                end: Some(End::Limit),
+            },
+            pending: Some(frozen.pending),
+        },
+        Err(book) => Stopped {
+            ran: leave(book, None),
+            pending: None,
+        },
+    }
+}
+
+/// Closes a book that stands at this end, where one is told, and keeps what pends where it met its commit limit and is
+/// to go on later.
+pub(crate) fn stop<N: Naming, P: Placer, T: Tap>(
+    book: Book<N, P, T>,
+    end: Option<End>,
+    goes_on: bool,
+) -> Stopped
+    requires fits { IsImage N.image }
+    requires stands { IfSome end (StandsAt (view_of P.policy T.reading book).view) }
+    ensures closes { Closes (view_of P.policy T.reading book) result.ran.closed }
+    ensures end { IfSome result.ran.end (λ told. end ≡ Some told) }
+    ensures run { IsRunOf N.image N.commits N.budget (run_of result.ran.closed result.ran.end) }
+    ensures writable { length result.ran.closed.memory ≡ N.image.data_size }
+    ensures pending { IfSome result.pending (IsStoppedWith N.image N.budget result.ran) }
+    ensures limit { goes_on ≡ true → result.ran.end ≡ Some End.Limit → IsSome result.pending }
+{
+    match end {
+        Some(End::Limit) if goes_on => freeze(book),
+        other => Stopped {
+            ran: leave(book, other),
+            pending: None,
+        },
     }
 }

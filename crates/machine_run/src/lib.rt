@@ -7,9 +7,7 @@ mod left;
 mod lists;
 mod playing;
 mod running;
-#[cfg(test)]
-mod tests;
 
-pub use left::Ran;
+pub use left::{Ran, Stopped};
 pub use playing::{Played, Traced, play_script, trace_script};
-pub use running::run;
+pub use running::{run, run_to_save};

@@ -1,6 +1,6 @@
 //! An image is run to its end: one event for its least task after another, or by workers.
 
-ghost use Rattle.std.specs.Prelude.{◌≡◌, ◌≢◌, ◌≤◌, ◌^◌, List, length, map, IfOk, Some};
+ghost use Rattle.std.specs.Prelude.{◌≡◌, ◌≢◌, ◌≤◌, ◌^◌, true, List, length, map, IfOk, Some, IsSome, IfSome};
 ghost use Rattle.guest_image.specs.ImageValue.{IsImage};
 ghost use Rattle.place_policy.specs.Policy.{Policy};
 ghost use Rattle.trace_tap.specs.Reading.{Reading};
@@ -10,8 +10,9 @@ ghost use Rattle.spec_state.specs.Settings.{IsValid};
 ghost use Rattle.book_event.specs.Opening.{IsOpening};
 ghost use Rattle.conflict_book.specs.Seen.{view_of};
 ghost use Rattle.machine_run.specs.Least.{IsLeastRun, end_of, run_of};
+ghost use Rattle.machine_run.specs.Stopping.{IsStoppedWith};
 
-use crate::left::{Ran, leave};
+use crate::left::{Ran, Stopped, stop};
 use conflict_book::{Book, Halt};
 use guest_image::Image;
 use place_policy::Placer;
@@ -56,30 +57,113 @@ pub fn run<
     ensures writable { IfOk result (λ ran. length ran.closed.memory ≡ image.now.data_size) }
     ensures over { IfOk result (λ ran. ran.end ≢ Some End.Unfinished) }
 {
+    let stopped = run_as::<N, P, T, G, R>(rt, alloc, image, settings, gate, placers, taps, false)?;
+    Ok(stopped.ran)
+}
+
+/// Runs an image as `run` does, and keeps what pends where the run meets its commit limit. Where memory runs out for
+/// that, no end is told.
+pub fn run_to_save<
+    N: Naming + Send + Sync,
+    P: Placer + Send,
+    T: Tap + Send,
+    G: Gate + Sync,
+    R: Threads + Wait + Sync,
+>(
+    rt: &R,
+    alloc: Global,
+    image: &Image,
+    settings: Settings,
+    gate: &G,
+    placers: Vec<P>,
+    taps: Vec<T>,
+) -> Result<Stopped, AllocError>
+    requires fits { IsImage image.now }
+    requires valid { IsValid settings }
+    requires image { image.now ≡ N.image }
+    requires budget { settings.budget ≡ N.budget }
+    requires commits { settings.commits ≡ N.commits }
+    ensures least { let serving = map P.policy placers.items in
+        let noting = map T.reading taps.items in
+        settings.workers ≡ 0 → IfOk result (λ stopped. let ran = stopped.ran in
+        IsLeastRun N image.now settings serving noting ran.closed.steps (run_of ran.closed ran.end)) }
+    ensures run { IfOk result (λ stopped. let ran = stopped.ran in
+        IsRunOf image.now settings.commits settings.budget (run_of ran.closed ran.end)) }
+    ensures writable { IfOk result (λ stopped. length stopped.ran.closed.memory ≡ image.now.data_size) }
+    ensures over { IfOk result (λ stopped. stopped.ran.end ≢ Some End.Unfinished) }
+    ensures pending { IfOk result (λ stopped.
+        IfSome stopped.pending (IsStoppedWith image.now settings.budget stopped.ran)) }
+    ensures limit { IfOk result (λ stopped. stopped.ran.end ≡ Some End.Limit → IsSome stopped.pending) }
+{
+    run_as::<N, P, T, G, R>(rt, alloc, image, settings, gate, placers, taps, true)
+}
+
+/// Runs an image, and keeps what pends at its commit limit where it is to go on.
+fn run_as<
+    N: Naming + Send + Sync,
+    P: Placer + Send,
+    T: Tap + Send,
+    G: Gate + Sync,
+    R: Threads + Wait + Sync,
+>(
+    rt: &R,
+    alloc: Global,
+    image: &Image,
+    settings: Settings,
+    gate: &G,
+    placers: Vec<P>,
+    taps: Vec<T>,
+    goes_on: bool,
+) -> Result<Stopped, AllocError>
+    requires fits { IsImage image.now }
+    requires valid { IsValid settings }
+    requires image { image.now ≡ N.image }
+    requires budget { settings.budget ≡ N.budget }
+    requires commits { settings.commits ≡ N.commits }
+    ensures least { let serving = map P.policy placers.items in
+        let noting = map T.reading taps.items in
+        settings.workers ≡ 0 → IfOk result (λ stopped. let ran = stopped.ran in
+        IsLeastRun N image.now settings serving noting ran.closed.steps (run_of ran.closed ran.end)) }
+    ensures run { IfOk result (λ stopped. let ran = stopped.ran in
+        IsRunOf image.now settings.commits settings.budget (run_of ran.closed ran.end)) }
+    ensures writable { IfOk result (λ stopped. length stopped.ran.closed.memory ≡ image.now.data_size) }
+    ensures over { IfOk result (λ stopped. stopped.ran.end ≢ Some End.Unfinished) }
+    ensures pending { IfOk result (λ stopped.
+        IfSome stopped.pending (IsStoppedWith image.now settings.budget stopped.ran)) }
+    ensures limit { IfOk result (λ stopped.
+        goes_on ≡ true → stopped.ran.end ≡ Some End.Limit → IsSome stopped.pending) }
+{
     let workers = settings.workers;
     let book = Book::<N, P, T>::begin(alloc, image, settings, placers, taps)?;
     if workers == 0 {
-        Ok(run_alone(image, book))
+        Ok(run_alone(image, book, goes_on))
     } else {
-        Ok(run_by_workers(rt, image, book, workers, gate))
+        Ok(run_by_workers(rt, image, book, workers, gate, goes_on))
     }
 }
 
 /// Runs a book by the events of the least tasks, and closes it.
-fn run_alone<N: Naming, P: Placer, T: Tap>(image: &Image, book: Book<N, P, T>) -> Ran
+fn run_alone<N: Naming, P: Placer, T: Tap>(
+    image: &Image,
+    book: Book<N, P, T>,
+    goes_on: bool,
+) -> Stopped
     requires fits { IsImage N.image }
     requires image { image.now ≡ N.image }
     ensures least { let opening = view_of P.policy T.reading book in
         (settings : Settings) (placers : List Policy) (taps : List Reading) → IsValid settings
         → IsOpening N.image settings placers taps opening
-        → IsLeastRun N N.image settings placers taps result.closed.steps (run_of result.closed result.end) }
-    ensures run { IsRunOf N.image N.commits N.budget (run_of result.closed result.end) }
-    ensures writable { length result.closed.memory ≡ N.image.data_size }
-    ensures over { result.end ≢ Some End.Unfinished }
+        → IsLeastRun N N.image settings placers taps result.ran.closed.steps
+        (run_of result.ran.closed result.ran.end) }
+    ensures run { IsRunOf N.image N.commits N.budget (run_of result.ran.closed result.ran.end) }
+    ensures writable { length result.ran.closed.memory ≡ N.image.data_size }
+    ensures over { result.ran.end ≢ Some End.Unfinished }
+    ensures pending { IfSome result.pending (IsStoppedWith N.image N.budget result.ran) }
+    ensures limit { goes_on ≡ true → result.ran.end ≡ Some End.Limit → IsSome result.pending }
 {
     let mut book = book;
     let halt = book.run_least(image);
-    leave(book, end_of(halt))
+    stop(book, end_of(halt), goes_on)
 }
 
 /// Runs a book by workers, and closes it.
@@ -89,17 +173,19 @@ fn run_by_workers<
     T: Tap + Send,
     G: Gate + Sync,
     R: Threads + Wait + Sync,
->(rt: &R, image: &Image, book: Book<N, P, T>, workers: u32, gate: &G) -> Ran
+>(rt: &R, image: &Image, book: Book<N, P, T>, workers: u32, gate: &G, goes_on: bool) -> Stopped
     requires fits { IsImage N.image }
     requires image { image.now ≡ N.image }
     requires workers { (1 ≤ workers) × (workers ≤ 16) }
     requires steps { (view_of P.policy T.reading book).steps ≤ 2 ^ 63 }
-    ensures run { IsRunOf N.image N.commits N.budget (run_of result.closed result.end) }
-    ensures writable { length result.closed.memory ≡ N.image.data_size }
-    ensures over { result.end ≢ Some End.Unfinished }
+    ensures run { IsRunOf N.image N.commits N.budget (run_of result.ran.closed result.ran.end) }
+    ensures writable { length result.ran.closed.memory ≡ N.image.data_size }
+    ensures over { result.ran.end ≢ Some End.Unfinished }
+    ensures pending { IfSome result.pending (IsStoppedWith N.image N.budget result.ran) }
+    ensures limit { goes_on ≡ true → result.ran.end ≡ Some End.Limit → IsSome result.pending }
 {
     let drained = run_tiles(rt, image, book, workers, gate);
-    leave(drained.book, end_of(drained.halt))
+    stop(drained.book, end_of(drained.halt), goes_on)
 }
 
 /// The end of a run that halted so; None where memory ran out.

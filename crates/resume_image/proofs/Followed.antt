@@ -13,7 +13,7 @@ use Rattle.task_desc.specs.declared.desc.Place.{Place}
 use Rattle.task_desc.specs.declared.desc.Place.TheVariants.{Same, Sub, Super}
 use Rattle.pending_list.specs.declared.task.PendingTask.{PendingTask}
 use Rattle.run_journal.specs.declared.journal.Entry.{Entry}
-use Rattle.resume_image.specs.declared.frozen.Pending.{Pending}
+use Rattle.spec_state.specs.declared.pending.Pending.{Pending}
 use Rattle.serial_machine.specs.BagValue.{BagValue}
 use Rattle.serial_machine.specs.State.{State}
 use Rattle.serial_machine.specs.TaskRun.{Done, task_run}
@@ -121,9 +121,9 @@ module _ (image : ImageValue) (budget : ℕ) (initial : List ℕ) (tasks : List 
       ran : (bag : BagValue) (outer : List BagValue) → IsShifted turns pendings bag did.bag → AreShifted turns pendings outer did.outer
           → run_of image budget first bag outer (shifted_task turns pendings did.task) ≡ Done did.done
       ran bag outer one rest =
-          ap (λ ctx. task_run image budget ctx did.task.entry did.task.args first.memory) (context_shifted turns pendings bag did.bag outer did.outer did.task one rest)
-          ∙ ap (task_run image budget (context_of did.bag did.outer did.task) did.task.entry did.task.args) same.memory
-          ∙ sym (same_run image initial tasks budget (context_of did.bag did.outer did.task) did.task.entry did.task.args second.memory)
+          ap (λ ctx. task_run image budget ctx did.task.entry did.task.args first.memory) (context_shifted turns pendings image.version bag did.bag outer did.outer did.task one rest)
+          ∙ ap (task_run image budget (context_of image.version did.bag did.outer did.task) did.task.entry did.task.args) same.memory
+          ∙ sym (same_run image initial tasks budget (context_of image.version did.bag did.outer did.task) did.task.entry did.task.args second.memory)
           ∙ did.run
 
       at : (stack : List BagValue) → inner first.stack ≡ stack → AreShifted turns pendings stack (did.bag ∷ did.outer) → Turns first mid e

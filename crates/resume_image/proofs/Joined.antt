@@ -7,13 +7,13 @@ use Rattle.guest_image.specs.ImageValue.{ImageValue, IsImage}
 use Rattle.task_desc.specs.declared.desc.Name.{Name}
 use Rattle.pending_list.specs.declared.task.PendingTask.{PendingTask}
 use Rattle.run_journal.specs.declared.journal.Entry.{Entry}
-use Rattle.resume_image.specs.declared.frozen.Pending.{Pending}
+use Rattle.spec_state.specs.declared.pending.Pending.{Pending}
 use Rattle.serial_machine.specs.BagValue.{BagValue}
 use Rattle.serial_machine.specs.Run.{IsRun, Runs, opening}
 use Rattle.serial_machine.specs.State.{State}
 use Rattle.serial_machine.specs.Turn.{inner, is_named, is_pending}
 use Rattle.serial_machine.proofs.Proved.{is_pending-inner}
-use Rattle.resume_image.specs.Pendings.{Leaves}
+use Rattle.spec_state.specs.Pendings.{Leaves}
 use Rattle.resume_image.specs.Saved.{saved_image, saved_task}
 use Rattle.resume_image.specs.Joined.{IsJoinedRun, shifted, shifted_entry}
 use Rattle.resume_image.proofs.Followed.{runs_followed}

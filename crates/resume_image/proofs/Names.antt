@@ -8,8 +8,8 @@ use Rattle.std.proofs.lemmas.List.{get_or-map}
 use Rattle.task_desc.specs.declared.desc.Name.{Name}
 use Rattle.pending_list.specs.declared.task.PendingTask.{PendingTask}
 use Rattle.pending_list.specs.Pending.{is_before}
-use Rattle.resume_image.specs.declared.frozen.Pending.{Pending}
-use Rattle.resume_image.specs.Pendings.{IsBefore}
+use Rattle.spec_state.specs.declared.pending.Pending.{Pending}
+use Rattle.spec_state.specs.Pendings.{IsBefore}
 use Rattle.resume_image.specs.Joined.{shifted}
 
 -- whether two names are one

@@ -60,4 +60,4 @@ module _ (image : ImageValue) (memory : List ℕ) (tasks : List ImageTask) where
   pub same_run : (budget : ℕ) (ctx : Ctx) (entry : ℕ) (args bytes : List ℕ)
       → task_run (other image memory tasks) budget ctx entry args bytes ≡ task_run image budget ctx entry args bytes
   unfolding task_run
-  same_run budget ctx entry args bytes = same_steps budget ctx budget (begun entry ctx.ts args bytes)
+  same_run budget ctx entry args bytes = same_steps budget ctx budget (begun image.version entry ctx.ts args bytes)

@@ -4,12 +4,11 @@ use Rattle.std.specs.List.{AllByRecursion}
 use Rattle.guest_image.specs.ImageValue.{ImageValue}
 use Rattle.guest_image.specs.declared.image.Kind.{Kind}
 use Rattle.guest_image.specs.declared.image.Kind.TheVariants.{Unordered, Ordered}
-use Rattle.task_desc.specs.declared.calls.TheConstants.{MAX_CHILDREN}
 use Rattle.task_desc.specs.declared.desc.Ctx.{Ctx}
 use Rattle.task_desc.specs.declared.desc.Spawn.{Spawn}
 use Rattle.task_desc.specs.declared.desc.Place.{Place}
 use Rattle.task_desc.specs.declared.desc.Place.TheVariants.{Same, Sub, Super}
-use Rattle.task_desc.specs.Calls.{allowed, allowed_at, allowed_sub, allowed_super, counted, domain_ts, is_early}
+use Rattle.task_desc.specs.Calls.{most_children, allowed, allowed_at, allowed_sub, allowed_super, counted, domain_ts, is_early}
 use Rattle.pending_list.specs.declared.task.PendingTask.{PendingTask}
 use Rattle.serial_machine.specs.BagValue.{BagValue}
 use Rattle.serial_machine.specs.State.{State}
@@ -66,11 +65,11 @@ allowed_settles ctx spawn ts allows = by_place spawn.place allows
 
     by_time : (b : Bool) (kind : Kind) → if◌then◌else◌ {A = Result ℕ ℕ} b (Err 10) (counted ctx (domain_ts kind spawn.ts)) ≡ Ok ts → IsSettled kind ts
     by_time true kind is = absurd (cc (is))
-    by_time false kind is = by_count (nat_lt ctx.children MAX_CHILDREN) kind is
+    by_time false kind is = by_count (nat_lt ctx.children (most_children ctx.version)) kind is
 
     by_sub : (o : Option Kind) → ctx.sub ≡ o → allowed_sub ctx spawn.ts o ≡ Ok ts → SettlesIn ctx.own ctx.outer ctx.sub Sub ts
     by_sub None at is = absurd (cc (is))
-    by_sub (Some kind) at is = (kind, at, by_count (nat_lt ctx.children MAX_CHILDREN) kind is)
+    by_sub (Some kind) at is = (kind, at, by_count (nat_lt ctx.children (most_children ctx.version)) kind is)
 
     by_super : (o : Option Kind) → ctx.outer ≡ o → allowed_super ctx spawn.ts o ≡ Ok ts → SettlesIn ctx.own ctx.outer ctx.sub Super ts
     by_super None at is = absurd (cc (is))
@@ -109,5 +108,5 @@ run_settles image budget ctx entry args memory =
 -- so it holds of the children of a task that is done
 pub done_settles : (image : ImageValue) (budget : ℕ) (s : State) (bag : BagValue) (outer : List BagValue) (task : PendingTask) (done : TaskState)
     → run_of image budget s bag outer task ≡ Done done → Settle bag.kind (kind_outside outer) done.sub done.spawns
-done_settles image budget s bag outer task done ran = subst (EndHolds (AreSettled (context_of bag outer task))) ran
-    (run_settles image budget (context_of bag outer task) task.entry task.args s.memory)
+done_settles image budget s bag outer task done ran = subst (EndHolds (AreSettled (context_of image.version bag outer task))) ran
+    (run_settles image budget (context_of image.version bag outer task) task.entry task.args s.memory)

@@ -9,7 +9,7 @@ use Rattle.task_desc.specs.declared.desc.Spawn.{Spawn}
 use Rattle.task_desc.specs.declared.desc.Place.{Place}
 use Rattle.task_desc.specs.declared.desc.Place.TheVariants.{Same, Sub, Super}
 use Rattle.pending_list.specs.declared.task.PendingTask.{PendingTask}
-use Rattle.resume_image.specs.declared.frozen.Pending.{Pending}
+use Rattle.spec_state.specs.declared.pending.Pending.{Pending}
 use Rattle.serial_machine.specs.BagValue.{BagValue}
 use Rattle.serial_machine.specs.Turn.{child, children, context_of, find_named, inner, is_least, is_named, kind_outside, stack_after, sub_bags, with_super, without}
 use Rattle.resume_image.specs.Joined.{shifted}
@@ -163,8 +163,8 @@ module _ (turns : ℕ) (pendings : List Pending) where
   kinds_shifted (a ∷ xs) [] same = absurd same
   kinds_shifted (a ∷ xs) (b ∷ ys) same = ap (λ (x : BagValue). Some x.kind) same.0
 
-  pub context_shifted : (a b : BagValue) (xs ys : List BagValue) (t : PendingTask) → IsShifted a b → AreShifted xs ys
-      → context_of a xs (shifted_task t) ≡ context_of b ys t
-  context_shifted a b xs ys t same rest =
-      ap (λ (x : BagValue). context_of x xs (shifted_task t)) same
-      ∙ ap (λ o. record (context_of b ys t) { outer = o }) (kinds_shifted xs ys rest)
+  pub context_shifted : (version : ℕ) (a b : BagValue) (xs ys : List BagValue) (t : PendingTask) → IsShifted a b → AreShifted xs ys
+      → context_of version a xs (shifted_task t) ≡ context_of version b ys t
+  context_shifted version a b xs ys t same rest =
+      ap (λ (x : BagValue). context_of version x xs (shifted_task t)) same
+      ∙ ap (λ o. record (context_of version b ys t) { outer = o }) (kinds_shifted xs ys rest)

@@ -5,13 +5,9 @@ use Rattle.std.proofs.lemmas.Bool.Decides.{nat_tests}
 use Rattle.std.proofs.lemmas.Grind.{common_steps}
 use Rattle.std.proofs.lemmas.List.Sorted.{Contains-permutation}
 use Rattle.std.proofs.lemmas.List.Elements.{recursion_from_All}
-use Rattle.resume_image.specs.declared.frozen.Pending.{Pending}
-use Rattle.resume_image.specs.Pendings.{IsBefore}
-
--- the task stands in the list
-abbrev pub Holds : List Pending → Pending → Type 0
-Holds [] p = ⊥
-Holds (q ∷ qs) p = (q ≡ p) ⊎ Holds qs p
+use Rattle.spec_state.specs.declared.pending.Pending.{Pending}
+use Rattle.spec_state.specs.Pendings.{IsBefore}
+use Rattle.pending_law.proofs.Proved.{Holds}
 
 abbrev pub AreInOrder : List Pending → Type 0
 AreInOrder [] = Unit {0}

@@ -85,7 +85,7 @@ turn_stands image budget s after name e did stands =
     let old : AreGood (AreOld s.count) (did.bag ∷ did.outer) = subst (AreGood (AreOld s.count)) did.may.top (good_inner (AreOld s.count) s.stack stands.old) in
     let fits : SubFits did.bag.depth did.done.sub =
     subst (EndHolds (λ task. SubFits did.bag.depth task.sub)) did.run
-    (task_run-sub_fits image budget (context_of did.bag did.outer did.task) did.task.entry did.task.args s.memory) in
+    (task_run-sub_fits image budget (context_of image.version did.bag did.outer did.task) did.task.entry did.task.args s.memory) in
     subst (Stands image) (sym did.state) (record {
       stack = IsStack-after did.bag did.outer name (s.count + 1) did.task.ts did.done.spawns did.done.sub deep fits;
       root = rooted_after image.kind did.bag did.outer name (s.count + 1) did.task.ts did.done.spawns did.done.sub root;

@@ -5,9 +5,9 @@ use Rattle.std.specs.Prelude.{IsPermutation}
 use Rattle.guest_image.specs.ImageValue.{ImageValue}
 use Rattle.guest_image.specs.declared.image.ImageTask.{ImageTask}
 use Rattle.guest_image.specs.declared.image.Kind.TheVariants.{Ordered}
-use Rattle.resume_image.specs.declared.frozen.Pending.{Pending}
+use Rattle.spec_state.specs.declared.pending.Pending.{Pending}
 use Rattle.serial_machine.specs.Run.{image_task, opening, opening_memory}
-use Rattle.resume_image.specs.Pendings.{Leaves, all_pending, pending_at}
+use Rattle.spec_state.specs.Pendings.{Leaves, all_pending, pending_at}
 
 -- the one task, which pends
 abbrev pub only : ImageTask → Pending

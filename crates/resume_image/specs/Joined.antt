@@ -3,7 +3,7 @@ use Rattle.std.specs.Prelude.{◌≡◌, ℕ, ◌+◌, ◌==◌, true, List, ◌
 use Rattle.guest_image.specs.ImageValue.{ImageValue}
 use Rattle.task_desc.specs.declared.desc.Name.{Name}
 use Rattle.run_journal.specs.declared.journal.Entry.{Entry}
-use Rattle.resume_image.specs.declared.frozen.Pending.{Pending}
+use Rattle.spec_state.specs.declared.pending.Pending.{Pending}
 use Rattle.serial_machine.specs.Run.{IsRun}
 use Rattle.serial_machine.specs.State.{State}
 use Rattle.serial_machine.specs.Turn.{is_pending}

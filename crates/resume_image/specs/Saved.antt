@@ -2,8 +2,8 @@
 use Rattle.std.specs.Prelude.{◌≡◌, ◌≤◌, ◌<◌, ◌-◌, ◌^◌, ℕ, List, length, map, min}
 use Rattle.guest_image.specs.ImageValue.{ImageValue}
 use Rattle.guest_image.specs.declared.image.ImageTask.{ImageTask}
-use Rattle.resume_image.specs.declared.frozen.Frozen.{Frozen}
-use Rattle.resume_image.specs.declared.frozen.Pending.{Pending}
+use Rattle.conflict_book.specs.declared.freezing.Frozen.{Frozen}
+use Rattle.spec_state.specs.declared.pending.Pending.{Pending}
 use Rattle.resume_image.specs.declared.fault.SaveFault.{SaveFault}
 use Rattle.resume_image.specs.declared.fault.SaveFault.TheVariants as faults
 use Rattle.resume_image.specs.Pendings.{AreOfRoot, IsGreatestDepth}

@@ -12,7 +12,7 @@ pub enum SaveFault {
     /// A task pends inside a domain of another task; an image has tasks of the root domain alone.
     #[error("a task pends at depth {depth}")]
     Nested {
-        /// The greatest depth of a pending task: 2 to 8.
+        /// The greatest depth of a pending task: 2 to 16.
         depth: u8,
     },
     /// More than 65,536 tasks pend, which is as many as an image may have.

@@ -3,17 +3,20 @@
 ghost use Rattle.std.specs.Prelude.{◌≡◌, ◌<◌, ◌≤◌, ◌+◌, ◌^◌, ◌++◌, ℕ, List, All, length, IfOk};
 ghost use Rattle.guest_image.specs.ImageValue.{ImageValue, IsImage};
 ghost use Rattle.run_journal.specs.declared.journal.Entry.{Entry};
-ghost use Rattle.resume_image.specs.declared.frozen.Pending.{Pending};
+ghost use Rattle.spec_state.specs.declared.pending.Pending.{Pending};
 ghost use Rattle.serial_machine.specs.Run.{IsRun};
 ghost use Rattle.serial_machine.specs.State.{State};
-ghost use Rattle.resume_image.specs.Pendings.{AreOfRoot, IsFrozenOf, Leaves};
+ghost use Rattle.spec_state.specs.Pendings.{Leaves};
+ghost use Rattle.conflict_book.specs.Frozen.{IsFrozenOf};
+ghost use Rattle.resume_image.specs.Pendings.{AreOfRoot};
 ghost use Rattle.resume_image.specs.Saved.{IsSavedOf, saved_image};
 ghost use Rattle.resume_image.specs.Joined.{IsJoinedRun, joined, shifted, shifted_entry};
 
-use crate::frozen::{Frozen, Pending};
+use conflict_book::Frozen;
 use guest_image::Image;
 use run_journal::{Entry, Journal};
 use serial_machine::MAX_COMMITS;
+use spec_state::Pending;
 use std::alloc::{AllocError, Global};
 use task_desc::Name;
 

@@ -4,18 +4,17 @@
 //! runs from it is what the first run would have gone on with: both journals, the second with its names shifted, are
 //! one run of the first image.
 //!
-//! It stands on the serial machine and its laws; nothing of the program uses it yet. A saved image costs a copy of the
-//! text, the memory and the tasks, a joined journal a copy of both.
+//! It stands on the book's frozen runs, on the serial machine and on the laws of runs; the program saves by it, and a
+//! library's caller joins. A saved image costs a copy of the text, the memory and the tasks, a joined journal a copy of
+//! both.
 #![tactic(auto)]
 
 mod fault;
-mod frozen;
 mod joining;
 mod saving;
-#[cfg(test)]
-mod tests;
 
+pub use conflict_book::Frozen;
 pub use fault::SaveFault;
-pub use frozen::{Frozen, Pending, Pendings};
 pub use joining::{join_runs, runs_join};
 pub use saving::snapshot;
+pub use spec_state::{Pending, Pendings};

@@ -2,14 +2,16 @@
 
 ghost use Rattle.std.specs.Prelude.{◌≡◌, ◌<◌, ◌≤◌, ◌↔◌, ◌-◌, ◌^◌, ℕ, All};
 ghost use Rattle.std.specs.Prelude.{Any, length, map, min, IfOk, IfErr, IsOk, OnOk};
-ghost use Rattle.guest_image.specs.ImageValue.{IsImage, image_value};
+ghost use Rattle.guest_image.specs.ImageValue.{IsImage, IsVersion, image_value, in_version};
 ghost use Rattle.guest_image.specs.Limits.{AreInLimits};
-ghost use Rattle.resume_image.specs.Pendings.{AreOfRoot, IsFrozenOf, IsGreatestDepth};
+ghost use Rattle.conflict_book.specs.Frozen.{IsFrozenOf};
+ghost use Rattle.resume_image.specs.Pendings.{AreOfRoot, IsGreatestDepth};
 ghost use Rattle.resume_image.specs.Saved.{CannotSave, IsSavedOf, saved_task};
 
 use crate::fault::SaveFault;
-use crate::frozen::{Frozen, Pending};
+use conflict_book::Frozen;
 use guest_image::{Image, ImageTask, Kind};
+use spec_state::Pending;
 use std::alloc::{AllocError, Global};
 
 /// How many tasks an image has at most.
@@ -88,9 +90,18 @@ fn tasks_of(alloc: Global, pending: &[Pending]) -> Result<Vec<ImageTask>, AllocE
     Ok(tasks)
 }
 
-/// An image of values that are within the limits.
+/// An image that was made, in a version.
+fn at_version(image: Image, version: u16) -> Image
+    requires known { IsVersion version }
+    requires made { image.version ≡ 1 }
+    ensures { result ≡ in_version version image }
+{
+    if version == 2 { image.upgrade() } else { image }
+}
+
+/// An image of version 1 of values that are within the limits.
 #[tactic(auto, using(crate::proofs::Made::made_is))]
-pub(crate) fn image_of(
+fn first_of(
     kind: Kind,
     text: Vec<u32>,
     initial: Vec<u8>,
@@ -102,6 +113,27 @@ pub(crate) fn image_of(
     ensures { result ≡ image_value kind text.items initial.items data_size window.0 window.1 tasks.items }
 {
     Image::new(kind, text, initial, data_size, window.0, window.1, tasks).unwrap()
+}
+
+/// An image of a version and of values that are within the limits.
+pub(crate) fn image_of(
+    version: u16,
+    kind: Kind,
+    text: Vec<u32>,
+    initial: Vec<u8>,
+    data_size: u32,
+    window: (u32, u32),
+    tasks: Vec<ImageTask>,
+) -> Image
+    requires version { IsVersion version }
+    requires limits { AreInLimits (image_value kind text.items initial.items data_size window.0 window.1 tasks.items) }
+    ensures { result ≡ in_version version
+        (image_value kind text.items initial.items data_size window.0 window.1 tasks.items) }
+{
+    at_version(
+        first_of(kind, text, initial, data_size, window, tasks),
+        version,
+    )
 }
 
 /// The image from which a stopped run of `image` goes on: its data are the memory that the run left, and its tasks the
@@ -122,6 +154,7 @@ pub fn snapshot(alloc: Global, image: &Image, frozen: &Frozen) -> Result<Image, 
     let memory = frozen.closed.memory.as_slice().to_vec(alloc)?;
     let tasks = tasks_of(alloc, pending)?;
     Ok(image_of(
+        image.version(),
         image.kind(),
         text,
         memory,

@@ -1,10 +1,9 @@
 //! A gate shows that two workers run at once: in each of two runs one of them waits for the other.
 
-use crate::program::top;
 use crate::tests::images::ENDING;
-use crate::tests::{bytes_of, split};
-use sim_io::{MemSink, MemSource};
+use crate::tests::{Case, holds_with};
 use std::alloc::{Alloc, Global};
+use std::process::Abort;
 use std::sync::Wait;
 use std::sync::atomic::{AtomicU64, Ordering};
 use std::test::Fail;
@@ -44,40 +43,35 @@ impl Gate for HoldingGate {
     }
 }
 
-/// Runs two tasks by two workers, the first leg of one of which is held: whether another one passed, whether the gate
-/// gave up, and the status.
-fn run_holding(
-    rt: &(impl Alloc<A = Global> + Threads + Wait + Sync),
+const HELD: Case = Case {
+    words: "run --tiles 2 --cores 1 --workers 2",
+    read: (ENDING, ""),
+    written: (
+        "",
+        "fractal 1\n1 0.0 1 1\n2 0.1 1 2\noutput -\nend normal\n",
+    ),
+    left: (0, "normal", 2, None),
+};
+
+/// Two tasks are run by two workers, the first leg of one of which is held until the other one has passed.
+fn other_passes(
+    rt: &(impl Abort + Alloc<A = Global> + Threads + Wait + Sync),
     held: u32,
-) -> Result<(bool, bool, u8), Fail> {
+) -> Result<(), Fail> {
     let alloc = rt.alloc();
     let gate = HoldingGate {
         held,
         passed: AtomicU64::new(0),
         gave_up: AtomicU64::new(0),
     };
-    let words = split(alloc, "run --tiles 2 --cores 1 --workers 2")?;
-    let mut source = MemSource::new(bytes_of(alloc, ENDING, "")?, 4096, Vec::new(alloc));
-    let mut sink = MemSink::new(alloc, 10_000, 4096, Vec::new(alloc))?;
-    let outcome = top(
-        rt,
-        alloc,
-        &words,
-        &mut source,
-        &mut sink,
-        &gate,
-        Vec::new(alloc),
-        Vec::new(alloc),
-    );
-    let passed = gate.passed.load(Ordering::SeqCst) == 1;
-    let gave_up = gate.gave_up.load(Ordering::SeqCst) == 1;
-    Ok((passed, gave_up, outcome.status))
+    holds_with(rt, &HELD, &gate, Vec::new(alloc), Vec::new(alloc))?;
+    assert_eq!(rt; gate.passed.load(Ordering::SeqCst), 1);
+    assert_eq!(rt; gate.gave_up.load(Ordering::SeqCst), 0);
+    Ok(())
 }
 
 #[test]
 fn each_of_two_workers_waits_for_the_other(rt: HostRuntime) -> Result<(), Fail> {
-    for held in 0..2 {
-        assert!(rt; run_holding(&rt, held)? == (true, false, 0));
-    }
-    Ok(())
+    other_passes(&rt, 0)?;
+    other_passes(&rt, 1)
 }

@@ -2,7 +2,7 @@ use Rattle.std.proofs.Common.{map, sym, subst, arith}
 use Rattle.conflict_book.specs.Seen.{view_of}
 use Rattle.machine_run.specs.Least.{IsLeastRun, run_of}
 use Rattle.machine_run.proofs.Least.{opening_steps}
-use Rattle.machine_run.proofs.running.run.Goals as goal
+use Rattle.machine_run.proofs.running.run_as.Goals as goal
 
 pub run_by_workers-requires-clause-steps : goal.run_by_workers-requires-clause-steps
 run_by_workers-requires-clause-steps g c κs within =
@@ -16,6 +16,6 @@ pub returns-then-workers-eq0-clause-least : goal.returns-then-workers-eq0-clause
 returns-then-workers-eq0-clause-least g c = λ none.
     let placers = map g.P.Placer.policy c.args.placers.items in
     let taps = map g.T.Tap.reading c.args.taps.items in
-    let ran = c.run_alone.result in
+    let ran = c.run_alone.result.ran in
     let least = c.run_alone.ensures.least c.args.settings placers taps c.requires.valid c.in_ok-book.ensures in
     subst (λ image. IsLeastRun g.row.N.Denot image c.args.settings placers taps ran.closed.steps (run_of ran.closed ran.end)) (sym c.requires.image) least

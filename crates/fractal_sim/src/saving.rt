@@ -1,0 +1,101 @@
+//! An image is run, and saved where the run meets its commit limit.
+
+ghost use Rattle.std.specs.Prelude.{◌≡◌, ◌<◌, ℕ, length, map, IfSome, Some, None};
+ghost use Rattle.guest_image.specs.ImageValue.{IsImage};
+ghost use Rattle.conflict_book.specs.Frozen.{IsFrozenOf};
+ghost use Rattle.spec_state.specs.Settings.{IsValid};
+ghost use Rattle.machine_run.specs.Stopping.{IsStoppedWith};
+ghost use Rattle.fractal_sim.specs.Deciding.{IsSavedSo, Saves};
+ghost use Rattle.fractal_sim.specs.Finding.{IsWritable};
+
+use crate::finding::{Finding, Saving};
+use crate::running::told_steps;
+use guest_image::{Image, write_image};
+use machine_run::{Ran, Stopped, run_to_save};
+use place_policy::Placer;
+use resume_image::{Frozen, SaveFault, snapshot};
+use serial_machine::End;
+use spec_state::Settings;
+use std::alloc::Global;
+use std::marker::Brand;
+use std::sync::Wait;
+use std::thread::Threads;
+use tile_worker::Gate;
+use trace_tap::Tap;
+
+/// Runs an image up to its end, or as far as memory goes, and makes the image that goes on where the run meets its
+/// commit limit.
+pub(crate) fn save_image<R: Threads + Wait + Sync, G: Gate + Sync, P: Placer + Send, T: Tap + Send>(
+    rt: &R,
+    alloc: Global,
+    image: Image,
+    settings: Settings,
+    gate: &G,
+    placers: Vec<P>,
+    taps: Vec<T>,
+) -> Finding
+    requires fits { IsImage image }
+    requires valid { IsValid settings }
+    ensures found { let serving = map P.policy placers.items in
+        let noting = map T.reading taps.items in
+        IsSavedSo image settings serving noting result }
+    ensures writable { IsWritable result }
+{
+    match run_to_save::<Brand, P, T, G, R>(rt, alloc, &image, settings, gate, placers, taps) {
+        Ok(stopped) => {
+            let Stopped { ran, pending } = stopped;
+            let steps = told_steps(settings.workers, ran.closed.steps);
+            match pending {
+                None => Finding::Ran(image, ran, steps),
+                Some(pending) => {
+                    let frozen = Frozen {
+                        closed: ran.closed,
+                        pending,
+                    };
+                    match save(alloc, &image, &frozen) {
+                        Some(made) => Finding::Stopped(at_limit(frozen), steps, made),
+                        None => Finding::Ran(image, without_end(frozen), steps),
+                    }
+                }
+            }
+        }
+        Err(_) => Finding::Memory,
+    }
+}
+
+/// What was frozen, as a run that met its commit limit.
+fn at_limit(frozen: Frozen) -> Ran
+    ensures { result ≡ record { closed = frozen.closed; end = Some End.Limit } }
+{
+    Ran {
+        closed: frozen.closed,
+        end: Some(End::Limit),
+    }
+}
+
+/// What was frozen, as a run whose end isn't told.
+fn without_end(frozen: Frozen) -> Ran
+    ensures { result ≡ record { closed = frozen.closed; end = None } }
+{
+    Ran {
+        closed: frozen.closed,
+        end: None,
+    }
+}
+
+/// The bytes of the image that goes on, or why there is none; None where memory runs out.
+fn save(alloc: Global, image: &Image, frozen: &Frozen) -> Option<Saving>
+    requires run { (budget : ℕ) × IsFrozenOf image.now budget frozen.now }
+    requires some { 0 < length frozen.now.pending }
+    ensures { IfSome result (Saves image.now frozen.now.closed.memory frozen.now.pending) }
+{
+    match snapshot(alloc, image, frozen) {
+        Ok(saved) => match write_image(alloc, &saved) {
+            Ok(bytes) => Some(Saving::Bytes(bytes)),
+            Err(_) => None,
+        },
+        Err(SaveFault::Nested { depth }) => Some(Saving::Nested(depth)),
+        Err(SaveFault::TooMany { count }) => Some(Saving::TooMany(count)),
+        Err(SaveFault::Memory) => None,
+    }
+}

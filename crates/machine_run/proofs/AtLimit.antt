@@ -1,0 +1,90 @@
+-- A run that met its commit limit leaves the tasks that pend.
+use Rattle.std.proofs.Common.{◌≡◌, ◌<◌, ◌==◌, refl, sym, ap, ◌∙◌, subst, zero, suc, ℕ, true, List, [], ◌∷◌, length, map, Option, Some, None, unwrap_or, if◌then◌else◌, arith}
+use Rattle.std.specs.Prelude.{IfSome}
+use Rattle.std.proofs.lemmas.Bool.Decides.{nat_tests}
+use Rattle.std.proofs.lemmas.Grind.{common_steps}
+use Rattle.std.proofs.lemmas.List.{length-append, length-map}
+use Rattle.std.proofs.lemmas.List.Sorted.{length_permutation}
+use Rattle.guest_image.specs.ImageValue.{ImageValue}
+use Rattle.place_policy.specs.Policy.{Policy}
+use Rattle.trace_tap.specs.Reading.{Reading}
+use Rattle.run_journal.specs.declared.closed.Closed.{Closed}
+use Rattle.run_journal.specs.declared.end.End.{End}
+use Rattle.run_journal.specs.declared.end.End.TheVariants as ends
+use Rattle.run_journal.specs.declared.journal.Entry.{Entry}
+use Rattle.serial_machine.specs.BagValue.{BagValue}
+use Rattle.serial_machine.specs.Run.{opening, Runs}
+use Rattle.serial_machine.specs.State.{State}
+use Rattle.serial_machine.specs.Turn.{inner}
+use Rattle.serial_machine.specs.WholeRun.{IsRunOf}
+use Rattle.spec_state.specs.declared.pending.Pending.{Pending}
+use Rattle.spec_state.specs.declared.settings.Settings.{Settings}
+use Rattle.spec_state.specs.Pendings.{all_pending, pending_at, Leaves}
+use Rattle.book_event.specs.End.{HasEnd}
+use Rattle.spec_state.specs.View.{View}
+use Rattle.machine_run.specs.declared.left.Ran.{Ran}
+use Rattle.machine_run.specs.Least.{IsLeastRun, run_of}
+use Rattle.machine_run.specs.Stopping.{IsStoppedWith}
+
+-- a journal's runs from a state lead to one state
+runs_one : (image : ImageValue) (budget : ℕ) (s : State) (es : List Entry) (a b : State) → Runs image budget s es a → Runs image budget s es b → a ≡ b
+runs_one image budget s [] a b first second = sym first ∙ second
+runs_one image budget s (e ∷ es) a b (mid, at, rest) (other, there, more) =
+    let both : Some (mid, e) ≡ Some (other, e) = sym at ∙ there in
+    let same : mid ≡ other = ap (λ (o : Option (State × Entry)). (unwrap_or o (mid, e)).0) both in
+    runs_one image budget other es a b (subst (λ m. Runs image budget m es a) same rest) more
+
+-- where no task pends no bag is left
+none_left : (stack : List BagValue) → length (all_pending stack) ≡ 0 → inner stack ≡ []
+none_left [] none = refl
+none_left (bag ∷ outer) none =
+    let both = length-append (map (pending_at bag.depth) bag.tasks) (all_pending outer) in
+    let here = length-map bag.tasks (pending_at bag.depth) in
+    let rest : length (all_pending outer) ≡ 0 = omega (arith, both, none) in
+    let empty : length bag.tasks ≡ 0 = omega (arith, both, here, none) in
+    let test : (length bag.tasks == 0) ≡ true = grind (arith, nat_tests, common_steps) in
+    ap (λ b. if b then inner outer else bag ∷ outer) test ∙ none_left outer rest
+
+some_left : (n : ℕ) → (n ≡ 0 → ⊥) → 0 < n
+some_left zero some = absurd (some refl)
+some_left (suc n) some = omega arith
+
+-- where a run stands at the commit limit some task pends
+pub some_pend : (image : ImageValue) (commits budget : ℕ) (closed : Closed) (pendings : List Pending)
+    → IsRunOf image commits budget (run_of closed (Some ends.Limit))
+    → Leaves image budget closed.journal closed.memory closed.output pendings → 0 < length pendings
+some_pend image commits budget closed pendings run left =
+    some_left (length pendings) (λ none.
+    let same = runs_one image budget (opening image) closed.journal left.state run.state left.run run.is_run in
+    let as_long = length_permutation pendings (all_pending left.state.stack) left.pending.held in
+    let empty = none_left left.state.stack (as_long ∙ none) in
+    run.end_is.0 (subst (λ (s : State). inner s.stack ≡ []) same empty))
+
+-- what met its commit limit is stopped with these tasks
+pub stopped : (image : ImageValue) (commits budget : ℕ) (ran : Ran) (pendings : List Pending) → ran.end ≡ Some ends.Limit
+    → IsRunOf image commits budget (run_of ran.closed ran.end)
+    → Leaves image budget ran.closed.journal ran.closed.memory ran.closed.output pendings → IsStoppedWith image budget ran pendings
+stopped image commits budget ran pendings limit run left = record {
+  end_is = limit;
+  left = left;
+  some = some_pend image commits budget ran.closed pendings (subst (λ end. IsRunOf image commits budget (run_of ran.closed end)) limit run) left;
+}
+
+-- an end that is told is that of the book
+pub told_has : (view : View) (end told : Option End) → IfSome end (HasEnd view) → IfSome told (λ e. end ≡ Some e) → IfSome told (HasEnd view)
+told_has view end None has same = tt
+told_has view end (Some e) has same = subst (λ o. IfSome o (HasEnd view)) same has
+
+-- a run by events of the least tasks is one with another end, or none, where the book has that
+pub with_end : (N : Type 0) (image : ImageValue) (settings : Settings) (placers : List Policy) (taps : List Reading)
+    (closed : Closed) (end told : Option End) → IfSome told (λ e. end ≡ Some e)
+    → IsLeastRun N image settings placers taps closed.steps (run_of closed end)
+    → IsLeastRun N image settings placers taps closed.steps (run_of closed told)
+with_end N image settings placers taps closed end told same run = record {
+  opening = run.opening;
+  is_opening = run.is_opening;
+  last = run.last;
+  advances = run.advances;
+  leaves = record { journal_is = run.leaves.journal_is; output_is = run.leaves.output_is; memory_is = run.leaves.memory_is; events_are = run.leaves.events_are };
+  end_is = told_has run.last.view end told run.end_is same;
+}

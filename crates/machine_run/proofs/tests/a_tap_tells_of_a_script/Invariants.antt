@@ -1,4 +1,0 @@
-use Rattle.machine_run.proofs.tests.a_tap_tells_of_a_script.Given as goal
-
-abbrev pub ghosts-traced : goal.ghosts-traced
-ghosts-traced g a = record { image = a.image.now; budget = a.settings.budget; commits = a.settings.commits }
