@@ -6,6 +6,6 @@ use Rattle.tile_worker.specs.declared.round.Place.{Place}
 abbrev pub index_of : Place → ℕ
 index_of place = place.tile * 4 + place.core
 
--- what refused a worker at this count of events is let be up to that one: 64 more, and at most 2^64 - 1
+-- what refused a worker at this count of events is let be up to that one: 512 more, and at most 2^64 - 1
 abbrev pub rested : ℕ → ℕ
-rested steps = min (steps + 64) (2 ^ 64 - 1)
+rested steps = min (steps + 512) (2 ^ 64 - 1)

@@ -89,7 +89,7 @@ fn try_advance<N: Naming, P: Placer, T: Tap>(book: &mut Book<N, P, T>, image: &I
     }
 }
 
-/// Hands in a leg, and lets the core be for a while where it stalls.
+/// Hands in a leg, and lets the core and its tile be for a while where it stalls.
 fn hand_in<N: Naming, P: Placer, T: Tap>(
     book: &mut Book<N, P, T>,
     round: &mut Round,
@@ -108,6 +108,7 @@ fn hand_in<N: Naming, P: Placer, T: Tap>(
     let tried = try_event(book, Event::Step { tile, core, leg });
     if let Tried::Waits = tried {
         round.rest_core(place, book.steps());
+        round.rest_tile(tile, book.steps());
     }
     tried
 }

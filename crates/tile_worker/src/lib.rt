@@ -24,8 +24,6 @@ mod round;
 mod running;
 mod shares;
 mod tally;
-#[cfg(test)]
-mod tests;
 mod watching;
 mod working;
 

@@ -4,10 +4,10 @@ ghost use Rattle.std.specs.Prelude.{◌≡◌, ◌↔◌, ◌<◌, ◌≤◌, �
 ghost use Rattle.std.specs.Prelude.{slice_index_or, slice_set};
 ghost use Rattle.tile_worker.specs.Rounds.{index_of, rested};
 
-/// How many events are made before a core that stalled, or a tile that had nothing to dispatch, is tried again. In
-/// so many events for the least tasks all that a commit queue may hold can commit, so that what stalled doesn't
-/// stall again at once.
-const PATIENCE: u64 = 64;
+/// How many events are made before a core that stalled, with its tile, or a tile that had nothing to dispatch, is
+/// tried again. In so many events for the least tasks all that a commit queue may hold can commit, so that what
+/// stalled doesn't stall again at once, and the core that the least task took isn't filled again before it commits.
+const PATIENCE: u64 = 512;
 
 /// A core of a tile.
 #[derive(Clone, Copy)]
