@@ -9,8 +9,6 @@
 mod closing;
 mod marking;
 mod pulls;
-#[cfg(test)]
-mod tests;
 
 pub use closing::{close, closed_sets, list_marked};
 pub use marking::mark;

@@ -12,8 +12,6 @@ mod exact;
 mod filter;
 mod row;
 mod signature;
-#[cfg(test)]
-mod tests;
 
 pub use exact::Exact;
 pub use filter::Filter;

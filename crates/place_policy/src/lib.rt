@@ -11,8 +11,6 @@ mod least_loaded;
 mod placer;
 mod round_robin;
 mod serving;
-#[cfg(test)]
-mod tests;
 
 pub use by_hint::ByHint;
 pub use least_loaded::LeastLoaded;

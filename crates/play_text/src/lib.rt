@@ -5,8 +5,6 @@
 
 mod line;
 mod replies;
-#[cfg(test)]
-mod tests;
 mod traces;
 
 pub use replies::write_replies;

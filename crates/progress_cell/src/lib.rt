@@ -18,8 +18,6 @@
 mod board;
 mod reading;
 mod steps;
-#[cfg(test)]
-mod tests;
 mod view;
 
 pub use board::{Board, Reader, Writer};

@@ -12,8 +12,6 @@ mod line;
 mod parsing;
 mod reading;
 mod report;
-#[cfg(test)]
-mod tests;
 mod verdict;
 mod window;
 mod writing;

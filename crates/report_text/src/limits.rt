@@ -4,7 +4,7 @@
 pub const MAX_ENTRIES: u32 = 1_000_000;
 
 /// The greatest depth of an entry; the least is 1.
-pub const MAX_DEPTH: u32 = 8;
+pub const MAX_DEPTH: u32 = 16;
 
 /// The greatest cause of a trap; the least is 1.
 pub const MAX_CAUSE: u32 = 17;

@@ -9,8 +9,6 @@ mod closed;
 mod end;
 mod items;
 mod journal;
-#[cfg(test)]
-mod tests;
 
 pub use closed::Closed;
 pub use end::End;

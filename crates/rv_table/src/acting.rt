@@ -9,7 +9,7 @@ use crate::reg::{Reg, Regs};
 
 /// Whether a branch is taken.
 #[inline(always)]
-fn is_met(cond: Cond, x: u32, y: u32) -> bool
+pub fn is_met(cond: Cond, x: u32, y: u32) -> bool
     ensures { result ≡ holds cond x y }
 {
     match cond {
@@ -33,7 +33,7 @@ fn shift_copying_sign(x: u32, by: u32) -> u32
 
 /// What an operation computes.
 #[inline(always)]
-fn compute(op: RegOp, x: u32, y: u32) -> u32
+pub fn compute(op: RegOp, x: u32, y: u32) -> u32
     ensures { result ≡ value_of op x y }
 {
     match op {
@@ -152,7 +152,7 @@ fn store(width: StoreWidth, base: u32, imm: i32, value: u32) -> Effect
 }
 
 /// What an instruction does at a pc with these registers.
-#[inline]
+#[inline(always)]
 pub fn effect(pc: u32, regs: &Regs, instr: &Instr) -> Effect
     ensures { result ≡ acts_on pc regs.now instr.now }
 {

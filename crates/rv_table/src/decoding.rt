@@ -314,6 +314,15 @@ fn decode_system(word: u32) -> Option<Instr>
 pub fn decode(word: u32) -> Option<Instr>
     ensures { result ≡ decoded word }
 {
+    decode_at::<0>(word)
+}
+
+/// The same as `decode`, of which each `CALLER` gets machine code of its own: LLVM joins a function of this size to
+/// the code around a call only where there is no other call of it.
+#[inline]
+pub fn decode_at<const CALLER: usize>(word: u32) -> Option<Instr>
+    ensures { result ≡ decoded word }
+{
     match word & 0x7f {
         0b011_0111 => Some(Instr::Lui {
             rd: rd(word),

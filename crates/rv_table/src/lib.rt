@@ -10,11 +10,9 @@ mod encoding;
 mod instr;
 mod laws;
 mod reg;
-#[cfg(test)]
-mod tests;
 
-pub use acting::{effect, loaded};
-pub use decoding::decode;
+pub use acting::{compute, effect, is_met, loaded};
+pub use decoding::{decode, decode_at};
 pub use encoding::{encode, is_valid};
 pub use instr::{Cond, Effect, ImmOp, Instr, LoadWidth, RegOp, StoreWidth};
 pub use laws::rows_are_apart;

@@ -6,8 +6,6 @@
 
 mod making;
 mod program;
-#[cfg(test)]
-mod tests;
 
 pub use making::image_of;
 pub use program::{FIRST_MAKER, MAKER_TEXT, Program, READER_AND_WRITER};

@@ -13,10 +13,6 @@ mod parsing;
 mod playing;
 mod reading;
 mod saying;
-#[cfg(test)]
-mod schedules;
-#[cfg(test)]
-mod tests;
 
 pub use act::Act;
 pub use fault::ScriptFault;

@@ -6,8 +6,6 @@
 
 mod cutting;
 mod numerals;
-#[cfg(test)]
-mod tests;
 
 pub use cutting::{behind, cut, next_line};
 pub use numerals::{field, number, number_below};

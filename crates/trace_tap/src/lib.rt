@@ -11,8 +11,6 @@ mod last_n;
 mod line_profile;
 mod record;
 mod tap;
-#[cfg(test)]
-mod tests;
 
 pub use last_n::LastN;
 pub use line_profile::LineProfile;

@@ -11,11 +11,9 @@ mod calls;
 mod covered;
 mod log;
 mod memory;
-#[cfg(test)]
-mod tests;
 
 pub use access::Access;
 pub use calls::{load, store, undo, undo_restores};
 pub use covered::{load_with, store_with};
 pub use log::Log;
-pub use memory::Memory;
+pub use memory::{Memory, number_in, write_in};

@@ -65,18 +65,20 @@ impl Memory {
         ensures value { result ≡ number_at self.now offset width }
         ensures below_256 { AreBytes self.now }
     {
-        number(self.bytes.as_slice(), offset as usize, width)
+        number_in(self.bytes.as_slice(), offset as usize, width)
     }
 
     pub(crate) fn write(&mut self, offset: u32, width: u8, value: u32)
         requires { IsAccessible (length self.old) offset width }
         ensures { self.new ≡ written self.old offset width value }
     {
-        write(self.bytes.as_mut_slice(), offset as usize, width, value);
+        write_in(self.bytes.as_mut_slice(), offset as usize, width, value);
     }
 }
 
-fn number(bytes: &[u8], offset: usize, width: u8) -> u32
+/// The number in `width` bytes of a list from `offset` on, the least byte first. Both are as for a memory.
+#[inline]
+pub fn number_in(bytes: &[u8], offset: usize, width: u8) -> u32
     requires { IsAccessible (length bytes.now) offset width }
     ensures { result ≡ number_at bytes.now offset width }
 {
@@ -88,7 +90,9 @@ fn number(bytes: &[u8], offset: usize, width: u8) -> u32
     }
 }
 
-fn write(bytes: &mut [u8], offset: usize, width: u8, value: u32)
+/// Writes the low `width` bytes of a number from `offset` on, the least byte first. Both are as for a memory.
+#[inline]
+pub fn write_in(bytes: &mut [u8], offset: usize, width: u8, value: u32)
     requires { IsAccessible (length bytes.old) offset width }
     ensures { bytes.new ≡ written bytes.old offset width value }
 {

@@ -1,0 +1,481 @@
+//! Books to which events are handed in, one by one or as a list, and what they tell and leave.
+
+ghost use Rattle.std.specs.Prelude.{◌≡◌, All, IsTrue};
+ghost use Rattle.spec_state.specs.Settings.{IsValid};
+ghost use Rattle.conflict_book.specs.Ranges.{IsInRange};
+ghost use Rattle.conflict_book.specs.Seen.{view_of};
+
+use crate::machines::{Hinted, TWO_TILES, image_of, is_normal, one_tap, opened};
+use conflict_book::{Applied, Book, Event, Halt, Reply};
+use guest_image::Image;
+use place_policy::Placer;
+use rv_core::{Naming, run_leg};
+use sample_image::{FIRST_MAKER, Program, READER_AND_WRITER};
+use serial_machine::End;
+use spec_state::{DISPATCH_NUMBERS, Settings};
+use std::alloc::{AllocError, Global};
+use std::marker::Brand;
+use std::process::Abort;
+use std::test::Fail;
+use trace_tap::Tap;
+
+/// Takes what may go to another thread.
+fn is_sent<T: Send>(_value: &T) {}
+
+/// A book with boxed placers and taps may stand in a lock.
+#[allow(dead_code)]
+fn book_is_sent<N: Naming + Send>(book: &Book<N>) {
+    is_sent(book);
+}
+
+/// One tile of four cores, with a task queue of four.
+const FOUR_CORES: Settings = Settings {
+    tiles: 1,
+    cores: 4,
+    task_queue: 4,
+    ..TWO_TILES
+};
+
+/// What a schedule does in a tile; it steps the first core.
+#[derive(Clone, Copy)]
+enum Act {
+    Dispatch(u32),
+    Step(u32),
+    Commit,
+    Split(u32),
+}
+
+const OK: Applied = Applied {
+    reply: Reply::Ok,
+    aborted: 0,
+};
+
+const TAKES_1: Applied = Applied {
+    reply: Reply::Ok,
+    aborted: 1,
+};
+
+const TAKES_2: Applied = Applied {
+    reply: Reply::Ok,
+    aborted: 2,
+};
+
+const STALL: Applied = Applied {
+    reply: Reply::Stall,
+    aborted: 0,
+};
+
+/// The schedule in which the writer comes last and is to come first, and the answer to each event.
+static LATE_WRITER: [(Act, Applied); 17] = [
+    (Act::Dispatch(0), OK),
+    (Act::Step(0), OK),
+    (Act::Step(0), OK),
+    (Act::Step(0), OK),
+    (Act::Dispatch(1), OK),
+    (Act::Step(1), TAKES_2),
+    (Act::Step(1), OK),
+    (Act::Commit, OK),
+    (Act::Dispatch(0), OK),
+    (Act::Step(0), OK),
+    (Act::Step(0), OK),
+    (Act::Step(0), OK),
+    (Act::Step(0), OK),
+    (Act::Commit, OK),
+    (Act::Dispatch(0), OK),
+    (Act::Step(0), OK),
+    (Act::Commit, OK),
+];
+
+/// The schedule in which a task of four cores is spilled, and the answer to each event.
+static FULL_QUEUE: [(Act, Applied); 7] = [
+    (Act::Dispatch(0), OK),
+    (Act::Dispatch(0), OK),
+    (Act::Dispatch(0), OK),
+    (Act::Dispatch(0), OK),
+    (Act::Step(0), TAKES_1),
+    (Act::Step(0), OK),
+    (Act::Split(0), STALL),
+];
+
+/// Whether the event's tile and core are there.
+fn may_take<N: Naming, P: Placer, T: Tap>(book: &Book<N, P, T>, event: &Event<N>) -> bool
+    ensures { let view = (view_of P.policy T.reading book.now).view in
+        IsTrue result → IsInRange view.settings event.now }
+{
+    let settings = book.settings();
+    match event {
+        Event::Step { tile, core, .. } => *tile < settings.tiles && *core < settings.cores,
+        Event::Commit => true,
+        Event::Dispatch { tile }
+        | Event::Abort { tile }
+        | Event::Coalesce { tile }
+        | Event::Split { tile } => *tile < settings.tiles,
+    }
+}
+
+/// Whether the tile and the core of each event are there.
+fn may_take_all<N: Naming, P: Placer, T: Tap>(book: &Book<N, P, T>, events: &[Event<N>]) -> bool
+    ensures { let view = (view_of P.policy T.reading book.now).view in
+        IsTrue result → All (IsInRange view.settings) events.now }
+{
+    for event in events {
+        if !may_take(book, event) {
+            return false;
+        }
+    }
+    true
+}
+
+/// A leg of the task on the first core of a tile; None where that isn't there or no task runs on it.
+fn step_of<N: Naming>(image: &Image, book: &Hinted<N>, tile: u32) -> Option<Event<N>>
+    requires image { image.now ≡ N.image }
+{
+    let (quantum, budget) = (book.settings().quantum, book.settings().budget);
+    let leg = run_leg(image, book.core_at(tile, 0)?, quantum, budget);
+    Some(Event::Step { tile, core: 0, leg })
+}
+
+/// The event of an act as the book stands; None where no task runs that was to be stepped.
+fn event_of<N: Naming>(image: &Image, book: &Hinted<N>, act: Act) -> Option<Event<N>>
+    requires image { image.now ≡ N.image }
+{
+    match act {
+        Act::Commit => Some(Event::Commit),
+        Act::Step(tile) => step_of(image, book, tile),
+        Act::Dispatch(tile) => Some(Event::Dispatch { tile }),
+        Act::Split(tile) => Some(Event::Split { tile }),
+    }
+}
+
+/// Makes the event of an act, and says whether it was answered so.
+fn is_answered<N: Naming>(image: &Image, book: &mut Hinted<N>, act: Act, answer: &Applied) -> bool
+    requires image { image.now ≡ N.image }
+{
+    match event_of(image, book, act) {
+        Some(event) => may_take(book, &event) && book.apply(event) == *answer,
+        None => false,
+    }
+}
+
+/// A book of these settings with one tap.
+fn begun<N: Naming>(alloc: Global, image: &Image, settings: Settings) -> Result<Hinted<N>, Fail>
+    requires valid { IsValid settings }
+    requires image { image.now ≡ N.image }
+    requires budget { settings.budget ≡ N.budget }
+    requires commits { settings.commits ≡ N.commits }
+{
+    let taps = one_tap(alloc)?;
+    Ok(opened(alloc, image, settings, taps)?)
+}
+
+/// Adds an event, if there is one.
+fn add<N: Naming>(events: &mut Vec<Event<N>>, event: Option<Event<N>>) -> Result<(), AllocError> {
+    match event {
+        Some(event) => Ok(events.push(event)?),
+        None => Ok(()),
+    }
+}
+
+/// The events of a schedule, which a book makes one after another; each is answered as the schedule says.
+fn events_of<N: Naming>(
+    rt: &impl Abort,
+    alloc: Global,
+    image: &Image,
+    book: &mut Hinted<N>,
+    schedule: &[(Act, Applied)],
+) -> Result<Vec<Event<N>>, AllocError>
+    requires image { image.now ≡ N.image }
+{
+    let mut events = Vec::new(alloc);
+    for (place, (act, answer)) in schedule.iter().enumerate() {
+        add(&mut events, event_of(image, book, *act))?;
+        assert!(rt; is_answered(image, book, *act, answer), "event {place}");
+    }
+    Ok(events)
+}
+
+/// What a book tells of the run of the reader, its child and the writer, whose 17 events it made.
+fn tells_whole<N: Naming>(rt: &impl Abort, book: &Hinted<N>) {
+    assert_eq!(rt; book.steps(), 17);
+    assert!(rt; is_normal(book.end()));
+}
+
+/// The tap has the last four records.
+fn tap_has_the_last<N: Naming>(rt: &impl Abort, book: &Hinted<N>) {
+    assert!(rt; book.tap_len(0) == Some(20));
+    assert!(rt; book.tap_at(0, 19) == Some(3));
+}
+
+/// What it leaves.
+fn leaves_whole<N: Naming>(rt: &impl Abort, book: Hinted<N>) {
+    let closed = book.close();
+    assert_eq!(rt;
+        closed.memory.as_slice(),
+        [7, 0, 0, 0, 8, 0, 0, 0].as_slice()
+    );
+    assert_eq!(rt; closed.journal.as_slice().len(), 3);
+}
+
+/// The run came to its end.
+fn is_whole<N: Naming>(rt: &impl Abort, book: Hinted<N>) {
+    tells_whole(rt, &book);
+    tap_has_the_last(rt, &book);
+    leaves_whole(rt, book);
+}
+
+/// A book on which the events of a schedule were made one after another.
+fn made<N: Naming>(
+    rt: &impl Abort,
+    alloc: Global,
+    image: &Image,
+    settings: Settings,
+    schedule: &[(Act, Applied)],
+) -> Result<Hinted<N>, Fail>
+    requires valid { IsValid settings }
+    requires image { image.now ≡ N.image }
+    requires budget { settings.budget ≡ N.budget }
+    requires commits { settings.commits ≡ N.commits }
+{
+    let mut book = begun::<N>(alloc, image, settings)?;
+    let _events = events_of(rt, alloc, image, &mut book, schedule)?;
+    Ok(book)
+}
+
+/// The events of the first schedule are made one after another.
+fn made_one_by_one<N: Naming>(
+    rt: &impl Abort,
+    alloc: Global,
+    image: &Image,
+    settings: Settings,
+) -> Result<(), Fail>
+    requires valid { IsValid settings }
+    requires image { image.now ≡ N.image }
+    requires budget { settings.budget ≡ N.budget }
+    requires commits { settings.commits ≡ N.commits }
+{
+    is_whole(rt, made::<N>(rt, alloc, image, settings, &LATE_WRITER)?);
+    Ok(())
+}
+
+#[test]
+fn a_late_writer_takes_the_reader_back(rt: HostRuntime) -> Result<(), Fail> {
+    let image = image_of(rt.alloc(), &READER_AND_WRITER)?;
+    made_one_by_one::<Brand>(&rt, rt.alloc(), &image, TWO_TILES)
+}
+
+/// The events of a schedule, as another book that makes them one after another tells them.
+fn events_to_make<N: Naming>(
+    rt: &impl Abort,
+    alloc: Global,
+    image: &Image,
+    settings: Settings,
+    schedule: &[(Act, Applied)],
+) -> Result<Vec<Event<N>>, Fail>
+    requires valid { IsValid settings }
+    requires image { image.now ≡ N.image }
+    requires budget { settings.budget ≡ N.budget }
+    requires commits { settings.commits ≡ N.commits }
+{
+    let mut book = begun::<N>(alloc, image, settings)?;
+    Ok(events_of(rt, alloc, image, &mut book, schedule)?)
+}
+
+/// The answers are those of a schedule.
+fn are_as_scheduled(rt: &impl Abort, answers: &[Applied], schedule: &[(Act, Applied)]) {
+    assert_eq!(rt; answers.len(), schedule.len());
+    for (answer, (_, wanted)) in answers.iter().zip(schedule) {
+        assert_eq!(rt; answer, wanted);
+    }
+}
+
+/// The book, on which these events were made as one list, and answered as the schedule says.
+fn made_as_list<N: Naming>(
+    rt: &impl Abort,
+    book: Hinted<N>,
+    events: Vec<Event<N>>,
+    schedule: &[(Act, Applied)],
+) -> Result<Hinted<N>, AllocError> {
+    let mut book = book;
+    assert!(rt; may_take_all(&book, &events));
+    let answers = book.apply_all(events)?;
+    are_as_scheduled(rt, &answers, schedule);
+    Ok(book)
+}
+
+/// The events of the first schedule are made as one list.
+fn made_at_once<N: Naming>(
+    rt: &impl Abort,
+    alloc: Global,
+    image: &Image,
+    settings: Settings,
+) -> Result<(), Fail>
+    requires valid { IsValid settings }
+    requires image { image.now ≡ N.image }
+    requires budget { settings.budget ≡ N.budget }
+    requires commits { settings.commits ≡ N.commits }
+{
+    let events = events_to_make::<N>(rt, alloc, image, settings, &LATE_WRITER)?;
+    let book = begun::<N>(alloc, image, settings)?;
+    is_whole(rt, made_as_list(rt, book, events, &LATE_WRITER)?);
+    Ok(())
+}
+
+#[test]
+fn a_list_of_events_takes_the_reader_back(rt: HostRuntime) -> Result<(), Fail> {
+    let image = image_of(rt.alloc(), &READER_AND_WRITER)?;
+    made_at_once::<Brand>(&rt, rt.alloc(), &image, TWO_TILES)
+}
+
+/// The last of seven events was refused, and the queue stays full.
+fn is_full<N: Naming>(rt: &impl Abort, book: &Hinted<N>) {
+    assert_eq!(rt; book.steps(), 6);
+    assert!(rt; book.end().is_none());
+    assert_eq!(rt; book.loads().as_slice(), [4].as_slice());
+}
+
+/// The events of the second schedule are made as one list.
+fn stalls_at_once<N: Naming>(
+    rt: &impl Abort,
+    alloc: Global,
+    image: &Image,
+    settings: Settings,
+) -> Result<(), Fail>
+    requires valid { IsValid settings }
+    requires image { image.now ≡ N.image }
+    requires budget { settings.budget ≡ N.budget }
+    requires commits { settings.commits ≡ N.commits }
+{
+    let events = events_to_make::<N>(rt, alloc, image, settings, &FULL_QUEUE)?;
+    let book = begun::<N>(alloc, image, settings)?;
+    is_full(rt, &made_as_list(rt, book, events, &FULL_QUEUE)?);
+    Ok(())
+}
+
+#[test]
+fn a_list_of_events_fills_a_queue(rt: HostRuntime) -> Result<(), Fail> {
+    let image = image_of(rt.alloc(), &FIRST_MAKER)?;
+    stalls_at_once::<Brand>(&rt, rt.alloc(), &image, FOUR_CORES)
+}
+
+/// The events of the least tasks end the run: a dispatch, its steps and a commit for each.
+fn ends_by_the_least<N: Naming>(rt: &impl Abort, book: &mut Hinted<N>, image: &Image)
+    requires image { image.now ≡ N.image }
+{
+    assert!(rt; matches!(book.run_least(image), Halt::Ended(End::Normal)));
+    assert_eq!(rt; book.steps(), 13);
+    assert_eq!(rt; book.history().len(), 3);
+}
+
+/// A book that was stopped makes no event.
+fn makes_no_more<N: Naming>(rt: &impl Abort, book: &mut Hinted<N>, image: &Image)
+    requires image { image.now ≡ N.image }
+{
+    book.stop();
+    assert!(rt; matches!(book.run_least(image), Halt::Memory));
+}
+
+/// A run by the least tasks.
+fn least_run<N: Naming>(
+    rt: &impl Abort,
+    alloc: Global,
+    image: &Image,
+    settings: Settings,
+) -> Result<(), Fail>
+    requires valid { IsValid settings }
+    requires image { image.now ≡ N.image }
+    requires budget { settings.budget ≡ N.budget }
+    requires commits { settings.commits ≡ N.commits }
+{
+    let mut book = begun::<N>(alloc, image, settings)?;
+    ends_by_the_least(rt, &mut book, image);
+    makes_no_more(rt, &mut book, image);
+    Ok(())
+}
+
+#[test]
+fn the_least_tasks_end_a_run(rt: HostRuntime) -> Result<(), Fail> {
+    let image = image_of(rt.alloc(), &READER_AND_WRITER)?;
+    least_run::<Brand>(&rt, rt.alloc(), &image, TWO_TILES)
+}
+
+#[test]
+fn dispatch_numbers_have_sixteen_bits(rt: HostRuntime) {
+    assert_eq!(rt; DISPATCH_NUMBERS, 65_536);
+}
+
+/// A task at timestamp 2 that emits the last word of its stack, stores 65 there, emits it again, and then loads the
+/// first word of the data. A writer at timestamp 1, which stores 7 into that word.
+const STACK_KEEPER: Program = Program {
+    text: &[
+        0xffc1_2503,
+        0x0050_0893,
+        0x0000_0073,
+        0x0410_0293,
+        0xfe51_2e23,
+        0xffc1_2503,
+        0x0000_0073,
+        0x1000_0337,
+        0x0003_2383,
+        0x0000_0893,
+        0x0000_0073,
+        0x1000_02b7,
+        0x0070_0313,
+        0x0062_a023,
+        0x0000_0893,
+        0x0000_0073,
+    ],
+    initial: &[],
+    data_size: 4,
+    tasks: &[(0x0001_0000, 2), (0x0001_002c, 1)],
+};
+
+/// The schedule in which the writer takes the other task back, which then runs anew.
+static STACK_TAKEN_BACK: [(Act, Applied); 14] = [
+    (Act::Dispatch(0), OK),
+    (Act::Step(0), OK),
+    (Act::Step(0), OK),
+    (Act::Step(0), OK),
+    (Act::Dispatch(1), OK),
+    (Act::Step(1), TAKES_1),
+    (Act::Step(1), OK),
+    (Act::Commit, OK),
+    (Act::Dispatch(0), OK),
+    (Act::Step(0), OK),
+    (Act::Step(0), OK),
+    (Act::Step(0), OK),
+    (Act::Step(0), OK),
+    (Act::Commit, OK),
+];
+
+/// The task found a stack of zeros, and then what it had stored there.
+fn leaves_zero_and_65<N: Naming>(rt: &impl Abort, book: Hinted<N>) {
+    assert!(rt; is_normal(book.end()));
+    let closed = book.close();
+    assert_eq!(rt; closed.output.as_slice(), [0, 65].as_slice());
+    assert_eq!(rt; closed.memory.as_slice(), [7, 0, 0, 0].as_slice());
+}
+
+/// A task that is taken back after a store into its stack begins again with a stack of zeros.
+fn begins_anew<N: Naming>(
+    rt: &impl Abort,
+    alloc: Global,
+    image: &Image,
+    settings: Settings,
+) -> Result<(), Fail>
+    requires valid { IsValid settings }
+    requires image { image.now ≡ N.image }
+    requires budget { settings.budget ≡ N.budget }
+    requires commits { settings.commits ≡ N.commits }
+{
+    leaves_zero_and_65(
+        rt,
+        made::<N>(rt, alloc, image, settings, &STACK_TAKEN_BACK)?,
+    );
+    Ok(())
+}
+
+#[test]
+fn a_task_that_is_taken_back_begins_with_an_empty_stack(rt: HostRuntime) -> Result<(), Fail> {
+    let image = image_of(rt.alloc(), &STACK_KEEPER)?.upgrade();
+    begins_anew::<Brand>(&rt, rt.alloc(), &image, TWO_TILES)
+}

@@ -1,0 +1,23 @@
+//! Tests of the machine's public calls, from its state to whole runs and to runs that are saved.
+//!
+//! They stand in a crate of their own, without code, since a crate with tests is proved twice.
+#![tactic(auto)]
+
+#[cfg(test)]
+mod boards;
+#[cfg(test)]
+mod books;
+#[cfg(test)]
+mod machines;
+#[cfg(test)]
+mod replies;
+#[cfg(test)]
+mod saved_runs;
+#[cfg(test)]
+mod scripts;
+#[cfg(test)]
+mod states;
+#[cfg(test)]
+mod whole_runs;
+#[cfg(test)]
+mod workers;

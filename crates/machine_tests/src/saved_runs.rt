@@ -1,0 +1,467 @@
+//! Books that are frozen, the images that are saved of them, and the runs that go on from these.
+
+ghost use Rattle.std.specs.Prelude.{◌≡◌, ◌<◌, ℕ, length, IfOk};
+ghost use Rattle.conflict_book.specs.Frozen.{IsFrozenOf};
+ghost use Rattle.resume_image.specs.Saved.{IsSavedOf};
+ghost use Rattle.serial_machine.specs.WholeRun.{IsRunOf};
+ghost use Rattle.spec_state.specs.Settings.{IsValid};
+
+use crate::machines::{Hinted, TWO_TILES, image_in, image_of, is_normal, opened};
+use conflict_book::{Frozen, Halt};
+use guest_image::{Image, write_image};
+use resume_image::{SaveFault, join_runs, runs_join, snapshot};
+use run_journal::{Entry, Journal};
+use rv_core::Naming;
+use sample_image::{MAKER_TEXT, Program};
+use serial_machine::{End, SerialRun, run_image};
+use spec_state::{Pending, Settings};
+use std::alloc::Global;
+use std::marker::Brand;
+use std::process::Abort;
+use std::test::Fail;
+use task_desc::Name;
+
+/// What a book keeps for a run that goes on.
+fn frozen_of<N: Naming>(book: Hinted<N>) -> Result<Frozen, Fail>
+    ensures { IfOk result (IsFrozenOf N.image N.budget) }
+{
+    book.is_sound();
+    match book.freeze() {
+        Ok(frozen) => Ok(frozen),
+        Err(_) => Err(Fail::from("no memory")),
+    }
+}
+
+/// What is kept of an image before its first event.
+fn unstarted<N: Naming>(alloc: Global, image: &Image, settings: Settings) -> Result<Frozen, Fail>
+    requires valid { IsValid settings }
+    requires image { image.now ≡ N.image }
+    requires budget { settings.budget ≡ N.budget }
+    requires commits { settings.commits ≡ N.commits }
+    ensures { IfOk result (IsFrozenOf N.image N.budget) }
+{
+    frozen_of(opened::<N>(alloc, image, settings, Vec::new(alloc))?)
+}
+
+/// What is kept of a run that met its commit limit.
+fn stopped<N: Naming>(
+    rt: &impl Abort,
+    alloc: Global,
+    image: &Image,
+    settings: Settings,
+) -> Result<Frozen, Fail>
+    requires valid { IsValid settings }
+    requires image { image.now ≡ N.image }
+    requires budget { settings.budget ≡ N.budget }
+    requires commits { settings.commits ≡ N.commits }
+    ensures { IfOk result (IsFrozenOf N.image N.budget) }
+{
+    let mut book = opened::<N>(alloc, image, settings, Vec::new(alloc))?;
+    assert!(rt; matches!(book.run_least(image), Halt::Ended(End::Limit)));
+    frozen_of(book)
+}
+
+/// The image that is saved.
+fn saved_of(rt: &impl Abort, alloc: Global, image: &Image, frozen: &Frozen) -> Result<Image, Fail>
+    requires { (budget : ℕ) × IsFrozenOf image.now budget frozen.now }
+    ensures { IfOk result (IsSavedOf image.now frozen.now) }
+{
+    assert!(rt; !frozen.pending.as_slice().is_empty());
+    match snapshot(alloc, image, frozen) {
+        Ok(saved) => Ok(saved),
+        Err(_) => Err(Fail::from("not saved")),
+    }
+}
+
+/// A run, and one of its saved image, as one journal.
+fn joined(
+    rt: &impl Abort,
+    alloc: Global,
+    image: &Image,
+    budget: u32,
+    frozen: &Frozen,
+    saved: &Image,
+    run: &SerialRun,
+) -> Result<Journal, Fail>
+    requires frozen { IsFrozenOf image.now budget frozen.now }
+    requires saved { IsSavedOf image.now frozen.now saved.now }
+    requires run { IsRunOf saved.now 1 budget run.now }
+{
+    assert!(rt; frozen.closed.journal.as_slice().len() <= 1);
+    Ok(join_runs(alloc, image, budget, frozen, saved, &run.journal)?)
+}
+
+/// An ordered image of one task, at timestamp 7 and with the arguments 1, 2 and 3, that ends at once.
+static ENDER: [u8; 60] = [
+    0x46, 0x52, 0x41, 0x43, 1, 0, 1, 0, 2, 0, 0, 0, 0, 0, 0, 0, 0, 0, 0, 0, 0, 0, 0, 0, 0, 0, 0, 0,
+    1, 0, 0, 0, 0x93, 0x08, 0, 0, 0x73, 0, 0, 0, 0, 0, 1, 0, 7, 0, 0, 0, 1, 0, 0, 0, 2, 0, 0, 0, 3,
+    0, 0, 0,
+];
+
+/// Two tiles of one core, where a task may execute five instructions.
+const SHORT_TASKS: Settings = Settings {
+    budget: 5,
+    ..TWO_TILES
+};
+
+/// The saved image has the first one's tasks and text.
+fn is_the_same(rt: &impl Abort, saved: &Image, image: &Image) {
+    assert_eq!(rt; saved.tasks(), image.tasks());
+    assert_eq!(rt; saved.text(), image.text());
+}
+
+/// The run of a saved image is the whole run, as nothing ran before.
+fn is_the_whole(
+    rt: &impl Abort,
+    alloc: Global,
+    image: &Image,
+    budget: u32,
+    frozen: &Frozen,
+    saved: &Image,
+) -> Result<(), Fail>
+    requires frozen { IsFrozenOf image.now budget frozen.now }
+    requires saved { IsSavedOf image.now frozen.now saved.now }
+{
+    let run = run_image(alloc, saved, 1, budget)?;
+    let journal = joined(rt, alloc, image, budget, frozen, saved, &run)?;
+    assert_eq!(rt; journal.as_slice().len(), 1);
+    assert_eq!(rt; journal.as_slice(), run.journal.as_slice());
+    Ok(())
+}
+
+/// An image before its first event is saved, and run.
+fn runs_from_the_opening<N: Naming>(
+    rt: &impl Abort,
+    alloc: Global,
+    image: &Image,
+    settings: Settings,
+) -> Result<(), Fail>
+    requires valid { IsValid settings }
+    requires image { image.now ≡ N.image }
+    requires budget { settings.budget ≡ N.budget }
+    requires commits { settings.commits ≡ N.commits }
+{
+    let frozen = unstarted::<N>(alloc, image, settings)?;
+    let saved = saved_of(rt, alloc, image, &frozen)?;
+    is_the_same(rt, &saved, image);
+    is_the_whole(rt, alloc, image, settings.budget, &frozen, &saved)
+}
+
+#[test]
+fn a_run_goes_on_from_its_saved_image(rt: HostRuntime) -> Result<(), Fail> {
+    let image = image_in(rt.alloc(), &ENDER)?;
+    runs_join();
+    runs_from_the_opening::<Brand>(&rt, rt.alloc(), &image, SHORT_TASKS)
+}
+
+/// Two tasks that emit their first arguments: 66 at the greatest timestamp, and 65 at timestamp 0.
+static TWO_EMITTERS: [u8; 88] = [
+    0x46, 0x52, 0x41, 0x43, 1, 0, 1, 0, 4, 0, 0, 0, 0, 0, 0, 0, 0, 0, 0, 0, 0, 0, 0, 0, 0, 0, 0, 0,
+    2, 0, 0, 0, 0x93, 0x08, 0x50, 0, 0x73, 0, 0, 0, 0x93, 0x08, 0, 0, 0x73, 0, 0, 0, 0, 0, 1, 0,
+    0xff, 0xff, 0xff, 0xff, 0x42, 0, 0, 0, 0, 0, 0, 0, 0, 0, 0, 0, 0, 0, 1, 0, 0, 0, 0, 0, 0x41, 0,
+    0, 0, 0, 0, 0, 0, 0, 0, 0, 0,
+];
+
+/// The image that is saved after the second of them.
+static LAST_EMITTER: [u8; 68] = [
+    0x46, 0x52, 0x41, 0x43, 1, 0, 1, 0, 4, 0, 0, 0, 0, 0, 0, 0, 0, 0, 0, 0, 0, 0, 0, 0, 0, 0, 0, 0,
+    1, 0, 0, 0, 0x93, 0x08, 0x50, 0, 0x73, 0, 0, 0, 0x93, 0x08, 0, 0, 0x73, 0, 0, 0, 0, 0, 1, 0,
+    0xff, 0xff, 0xff, 0xff, 0x42, 0, 0, 0, 0, 0, 0, 0, 0, 0, 0, 0,
+];
+
+/// The turn of the second of them, which comes first.
+const EARLY_TURN: Entry = Entry {
+    name: Name {
+        creator: 0,
+        index: 1,
+    },
+    depth: 1,
+    ts: 0,
+};
+
+/// The turn of the first of them.
+const LATE_TURN: Entry = Entry {
+    name: Name {
+        creator: 0,
+        index: 0,
+    },
+    depth: 1,
+    ts: u32::MAX,
+};
+
+/// The first of them, before its turn.
+static LATE_EMITTER: [Pending; 1] = [Pending {
+    name: Name {
+        creator: 0,
+        index: 0,
+    },
+    depth: 1,
+    entry: 0x0001_0000,
+    ts: u32::MAX,
+    args: [66, 0, 0],
+}];
+
+/// One task may commit.
+const ONE_COMMIT: Settings = Settings {
+    commits: 1,
+    ..TWO_TILES
+};
+
+/// The second task took its turn, and the first one pends.
+fn keeps_the_late_one(rt: &impl Abort, frozen: &Frozen) {
+    assert_eq!(rt; frozen.closed.journal.as_slice(), [EARLY_TURN].as_slice());
+    assert_eq!(rt; frozen.closed.output.as_slice(), b"A".as_slice());
+    assert_eq!(rt; frozen.pending.as_slice(), LATE_EMITTER.as_slice());
+}
+
+/// The saved image is written so.
+fn is_written(rt: &impl Abort, alloc: Global, saved: &Image) -> Result<(), Fail> {
+    let bytes = write_image(alloc, saved)?;
+    assert_eq!(rt; bytes.as_slice(), LAST_EMITTER.as_slice());
+    Ok(())
+}
+
+/// What a run of the saved image comes to, and the journal of both runs.
+fn runs_on(
+    rt: &impl Abort,
+    alloc: Global,
+    image: &Image,
+    budget: u32,
+    frozen: &Frozen,
+    saved: &Image,
+) -> Result<(), Fail>
+    requires frozen { IsFrozenOf image.now budget frozen.now }
+    requires saved { IsSavedOf image.now frozen.now saved.now }
+{
+    let run = run_image(alloc, saved, 1, budget)?;
+    assert!(rt; is_normal(run.end) && run.output.as_slice() == b"B".as_slice());
+    assert_eq!(rt; run.journal.as_slice(), [LATE_TURN].as_slice());
+    let journal = joined(rt, alloc, image, budget, frozen, saved, &run)?;
+    assert_eq!(rt; journal.as_slice(), [EARLY_TURN, LATE_TURN].as_slice());
+    Ok(())
+}
+
+/// A run that met its commit limit is saved, and goes on.
+fn goes_on<N: Naming>(
+    rt: &impl Abort,
+    alloc: Global,
+    image: &Image,
+    settings: Settings,
+) -> Result<(), Fail>
+    requires valid { IsValid settings }
+    requires image { image.now ≡ N.image }
+    requires budget { settings.budget ≡ N.budget }
+    requires commits { settings.commits ≡ N.commits }
+{
+    let frozen = stopped::<N>(rt, alloc, image, settings)?;
+    keeps_the_late_one(rt, &frozen);
+    let saved = saved_of(rt, alloc, image, &frozen)?;
+    is_written(rt, alloc, &saved)?;
+    runs_on(rt, alloc, image, settings.budget, &frozen, &saved)
+}
+
+#[test]
+fn a_run_that_met_its_limit_goes_on(rt: HostRuntime) -> Result<(), Fail> {
+    let image = image_in(rt.alloc(), &TWO_EMITTERS)?;
+    goes_on::<Brand>(&rt, rt.alloc(), &image, ONE_COMMIT)
+}
+
+/// Two tasks at timestamp 5, the first of which makes a subdomain with tasks at the timestamps 3, 2 and 1.
+static NESTED: [u8; 124] = [
+    0x46, 0x52, 0x41, 0x43, 1, 0, 1, 0, 13, 0, 0, 0, 0, 0, 0, 0, 0, 0, 0, 0, 0, 0, 0, 0, 0, 0, 0,
+    0, 2, 0, 0, 0, 0x93, 0x04, 0x05, 0, 0x63, 0x84, 0x04, 0x02, 0x13, 0x05, 0x10, 0, 0x93, 0x08,
+    0x40, 0, 0x73, 0, 0, 0, 0x93, 0x08, 0x20, 0, 0x37, 0x05, 0x01, 0, 0x93, 0x85, 0x04, 0, 0x73, 0,
+    0, 0, 0x93, 0x84, 0xf4, 0xff, 0xe3, 0x9a, 0x04, 0xfe, 0x93, 0x08, 0, 0, 0x73, 0, 0, 0, 0, 0, 1,
+    0, 5, 0, 0, 0, 3, 0, 0, 0, 0, 0, 0, 0, 0, 0, 0, 0, 0, 0, 1, 0, 5, 0, 0, 0, 0, 0, 0, 0, 0, 0, 0,
+    0, 0, 0, 0, 0,
+];
+
+/// Two tasks may commit.
+const TWO_COMMITS: Settings = Settings {
+    commits: 2,
+    ..TWO_TILES
+};
+
+/// What pends after the first task and the first task of its subdomain.
+static IN_AND_OUT: [Pending; 3] = [
+    Pending {
+        name: Name {
+            creator: 0,
+            index: 1,
+        },
+        depth: 1,
+        entry: 0x0001_0000,
+        ts: 5,
+        args: [0; 3],
+    },
+    Pending {
+        name: Name {
+            creator: 1,
+            index: 0,
+        },
+        depth: 2,
+        entry: 0x0001_0000,
+        ts: 3,
+        args: [0, 5, 0],
+    },
+    Pending {
+        name: Name {
+            creator: 1,
+            index: 1,
+        },
+        depth: 2,
+        entry: 0x0001_0000,
+        ts: 2,
+        args: [0, 5, 0],
+    },
+];
+
+/// Whether a run isn't saved since a task pends at this depth.
+fn is_nested(saved: Result<Image, SaveFault>, wanted: u8) -> bool {
+    match saved {
+        Err(SaveFault::Nested { depth }) => depth == wanted,
+        _ => false,
+    }
+}
+
+/// A run that stopped inside a domain can't be saved.
+fn stops_inside<N: Naming>(
+    rt: &impl Abort,
+    alloc: Global,
+    image: &Image,
+    settings: Settings,
+) -> Result<(), Fail>
+    requires valid { IsValid settings }
+    requires image { image.now ≡ N.image }
+    requires budget { settings.budget ≡ N.budget }
+    requires commits { settings.commits ≡ N.commits }
+{
+    let frozen = stopped::<N>(rt, alloc, image, settings)?;
+    assert_eq!(rt; frozen.pending.as_slice(), IN_AND_OUT.as_slice());
+    assert!(rt; is_nested(snapshot(alloc, image, &frozen), 2));
+    Ok(())
+}
+
+#[test]
+fn a_run_that_stopped_inside_a_domain_is_not_saved(rt: HostRuntime) -> Result<(), Fail> {
+    let image = image_in(rt.alloc(), &NESTED)?;
+    stops_inside::<Brand>(&rt, rt.alloc(), &image, TWO_COMMITS)
+}
+
+/// A task that makes 64 children at the timestamps 64 down to 1.
+const MAKER: Program = Program {
+    text: &MAKER_TEXT,
+    initial: &[],
+    data_size: 0,
+    tasks: &[(0x0001_0000, 0)],
+};
+
+/// One tile with a task queue of four, where one task may commit.
+const ONE_SHORT_QUEUE: Settings = Settings {
+    tiles: 1,
+    task_queue: 4,
+    commits: 1,
+    ..TWO_TILES
+};
+
+/// The child that was made first, by the task that committed first.
+const FIRST_CHILD: Pending = Pending {
+    name: Name {
+        creator: 1,
+        index: 0,
+    },
+    depth: 1,
+    entry: 0x0001_0020,
+    ts: 64,
+    args: [0; 3],
+};
+
+/// The child that was made last.
+const LAST_CHILD: Pending = Pending {
+    name: Name {
+        creator: 1,
+        index: 63,
+    },
+    ts: 1,
+    ..FIRST_CHILD
+};
+
+/// All children pend, the first at timestamp 64 and the last at 1.
+fn are_the_children(rt: &impl Abort, pending: &[Pending]) {
+    assert_eq!(rt; pending.len(), 64);
+    assert!(rt; pending.first() == Some(&FIRST_CHILD));
+    assert!(rt; pending.last() == Some(&LAST_CHILD));
+}
+
+/// One child is left in the queue and all others are spilled; all of them pend.
+fn keeps_the_spilled<N: Naming>(
+    rt: &impl Abort,
+    alloc: Global,
+    image: &Image,
+    settings: Settings,
+) -> Result<(), Fail>
+    requires valid { IsValid settings }
+    requires image { image.now ≡ N.image }
+    requires budget { settings.budget ≡ N.budget }
+    requires commits { settings.commits ≡ N.commits }
+{
+    let mut book = opened::<N>(alloc, image, settings, Vec::new(alloc))?;
+    assert!(rt; matches!(book.run_least(image), Halt::Ended(End::Limit)));
+    assert_eq!(rt; book.loads().as_slice(), [1].as_slice());
+    let frozen = frozen_of(book)?;
+    are_the_children(rt, frozen.pending.as_slice());
+    Ok(())
+}
+
+#[test]
+fn spilled_children_of_a_committed_task_pend(rt: HostRuntime) -> Result<(), Fail> {
+    let image = image_of(rt.alloc(), &MAKER)?;
+    keeps_the_spilled::<Brand>(&rt, rt.alloc(), &image, ONE_SHORT_QUEUE)
+}
+
+/// The task that makes them, before its turn.
+static THE_MAKER: [Pending; 1] = [Pending {
+    name: Name {
+        creator: 0,
+        index: 0,
+    },
+    depth: 1,
+    entry: 0x0001_0000,
+    ts: 0,
+    args: [0; 3],
+}];
+
+/// Twenty events of the least task are made: its dispatch, and 19 children.
+fn make_children<N: Naming>(book: &mut Hinted<N>, image: &Image)
+    requires image { image.now ≡ N.image }
+{
+    for _ in 0..20 {
+        let _ = book.advance(image);
+    }
+}
+
+/// The children of a task that has not committed don't pend; it does.
+fn keeps_the_maker<N: Naming>(
+    rt: &impl Abort,
+    alloc: Global,
+    image: &Image,
+    settings: Settings,
+) -> Result<(), Fail>
+    requires valid { IsValid settings }
+    requires image { image.now ≡ N.image }
+    requires budget { settings.budget ≡ N.budget }
+    requires commits { settings.commits ≡ N.commits }
+{
+    let mut book = opened::<N>(alloc, image, settings, Vec::new(alloc))?;
+    make_children(&mut book, image);
+    assert_eq!(rt; book.loads().as_slice(), [2].as_slice());
+    let frozen = frozen_of(book)?;
+    assert_eq!(rt; frozen.pending.as_slice(), THE_MAKER.as_slice());
+    Ok(())
+}
+
+#[test]
+fn children_of_a_running_task_do_not_pend(rt: HostRuntime) -> Result<(), Fail> {
+    let image = image_of(rt.alloc(), &MAKER)?;
+    keeps_the_maker::<Brand>(&rt, rt.alloc(), &image, ONE_SHORT_QUEUE)
+}

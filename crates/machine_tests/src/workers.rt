@@ -1,0 +1,276 @@
+//! Workers that run a book to its end: their shares, their gates, and a reader that follows them.
+
+ghost use Rattle.std.specs.Prelude.{◌≡◌, ◌≤◌, ◌^◌, ◌∷◌, [], IfOk};
+ghost use Rattle.progress_cell.specs.Readings.{last_of, opening};
+ghost use Rattle.conflict_book.specs.Counts.{counts_of};
+ghost use Rattle.conflict_book.specs.Seen.{view_of};
+ghost use Rattle.tile_worker.specs.Readings.{AreReadings};
+ghost use Rattle.spec_state.specs.Settings.{IsValid};
+
+use crate::machines::{ENDERS, Hinted, TWO_TILES, image_of, opened};
+use conflict_book::{Book, Halt};
+use guest_image::Image;
+use load_gen::{Load, make};
+use place_policy::{ByHint, Placer};
+use progress_cell::{Board, Reader, Reading, Writer};
+use rv_core::Naming;
+use serial_machine::End;
+use spec_state::Settings;
+use std::alloc::{Alloc, Global};
+use std::marker::Brand;
+use std::process::Abort;
+use std::sync::Wait;
+use std::sync::atomic::{AtomicU64, Ordering};
+use std::test::Fail;
+use std::thread::{Threads, join};
+use tile_worker::{Drained, Gate, OpenGate, Watched, opening_is_reading, run_tiles, run_watched};
+use trace_tap::{LastN, Tap};
+
+/// How many readings a reader takes.
+const ROUNDS: u32 = 1_000;
+
+/// Four tiles of two cores.
+const FOUR_TILES: Settings = Settings {
+    tiles: 4,
+    cores: 2,
+    ..TWO_TILES
+};
+
+/// A gate that keeps the number of each of two workers' last leg, and notes where one isn't the next number.
+#[derive(Drop)]
+struct CountingGate {
+    first: AtomicU64,
+    second: AtomicU64,
+    gaps: AtomicU64,
+}
+
+impl CountingGate {
+    /// A gate that no leg has passed.
+    fn new() -> CountingGate {
+        CountingGate {
+            first: AtomicU64::new(0),
+            second: AtomicU64::new(0),
+            gaps: AtomicU64::new(0),
+        }
+    }
+
+    /// The number of the last leg of the worker that made more of them.
+    fn greatest(&self) -> u64 {
+        let first = self.first.load(Ordering::SeqCst);
+        let second = self.second.load(Ordering::SeqCst);
+        first.max(second)
+    }
+}
+
+impl Gate for CountingGate {
+    fn pass(&self, worker: u32, leg: u64) {
+        let last = if worker == 0 {
+            &self.first
+        } else {
+            &self.second
+        };
+        if leg != last.swap(leg, Ordering::SeqCst).saturating_add(1) {
+            self.gaps.store(1, Ordering::SeqCst);
+        }
+    }
+}
+
+/// The book of an image before its first event, without taps.
+fn book_of<N: Naming>(alloc: Global, image: &Image, settings: Settings) -> Result<Hinted<N>, Fail>
+    requires valid { IsValid settings }
+    requires image { image.now ≡ N.image }
+    requires budget { settings.budget ≡ N.budget }
+    requires commits { settings.commits ≡ N.commits }
+{
+    Ok(opened(alloc, image, settings, Vec::new(alloc))?)
+}
+
+/// The sum of the workers' shares.
+fn sum_of(shares: &[u64]) -> u64 {
+    let mut sum = 0u64;
+    for share in shares {
+        sum = sum.wrapping_add(*share);
+    }
+    sum
+}
+
+/// The run ended with so many commits, and the workers' shares are the book's steps.
+fn is_drained<N: Naming>(rt: &impl Abort, drained: &Drained<N, ByHint, LastN>, commits: usize) {
+    assert!(rt; matches!(drained.halt, Halt::Ended(End::Normal)));
+    assert_eq!(rt; drained.book.history().len(), commits);
+    assert_eq!(rt; sum_of(drained.shares.as_slice()), drained.book.steps());
+}
+
+/// So many workers end the run with so many commits.
+fn run_by<N: Naming + Send + Sync, G: Gate + Sync>(
+    rt: &(impl Abort + Alloc<A = Global> + Threads + Wait + Sync),
+    image: &Image,
+    settings: Settings,
+    workers: u32,
+    gate: &G,
+    commits: usize,
+) -> Result<(), Fail>
+    requires valid { IsValid settings }
+    requires image { image.now ≡ N.image }
+    requires budget { settings.budget ≡ N.budget }
+    requires commits { settings.commits ≡ N.commits }
+    requires workers { (1 ≤ workers) × (workers ≤ 16) }
+{
+    let book = book_of::<N>(rt.alloc(), image, settings)?;
+    assert_eq!(rt; book.steps(), 0);
+    let drained = run_tiles(rt, image, book, workers, gate);
+    is_drained(rt, &drained, commits);
+    Ok(())
+}
+
+#[test]
+fn two_workers_end_a_run(rt: HostRuntime) -> Result<(), Fail> {
+    let image = image_of(rt.alloc(), &ENDERS)?;
+    run_by::<Brand, OpenGate>(&rt, &image, TWO_TILES, 2, &OpenGate, 2)
+}
+
+#[test]
+fn more_workers_than_tiles_end_a_run(rt: HostRuntime) -> Result<(), Fail> {
+    let image = image_of(rt.alloc(), &ENDERS)?;
+    run_by::<Brand, OpenGate>(&rt, &image, TWO_TILES, 16, &OpenGate, 2)
+}
+
+#[test]
+fn legs_of_each_worker_are_numbered_without_a_gap(rt: HostRuntime) -> Result<(), Fail> {
+    let image = make(rt.alloc(), Load::Walk, 7, 200)?;
+    let gate = CountingGate::new();
+    run_by::<Brand, CountingGate>(&rt, &image, FOUR_TILES, 2, &gate, 400)?;
+    assert_eq!(rt; gate.gaps.load(Ordering::SeqCst), 0);
+    assert!(rt; gate.greatest() > 1);
+    Ok(())
+}
+
+/// Takes as many readings as there are rounds, and tells the most commits and the most output that it saw.
+fn follow<R: Wait>(rt: &R, board: &Board, mut reader: Reader) -> (Reader, Reading)
+    requires { reader.board ≡ board.now }
+    ensures { result.0.board ≡ board.now }
+{
+    let mut most = Reading {
+        commits: 0,
+        output: 0,
+    };
+    for _ in 0..ROUNDS {
+        let seen = board.read(rt, &mut reader);
+        most.commits = most.commits.max(seen.commits);
+        most.output = most.output.max(seen.output);
+    }
+    (reader, most)
+}
+
+/// So many workers run a book, while a reader follows it in a thread of its own.
+fn watch<N: Naming + Send + Sync, P: Placer + Send, T: Tap + Send, R: Threads + Wait + Sync>(
+    rt: &R,
+    image: &Image,
+    book: Book<N, P, T>,
+    workers: u32,
+    board: &Board,
+    writer: Writer,
+    reader: Reader,
+) -> (Watched<N, P, T>, (Reader, Reading))
+    requires image { image.now ≡ N.image }
+    requires workers { (1 ≤ workers) × (workers ≤ 16) }
+    requires steps { (view_of P.policy T.reading book).steps ≤ 2 ^ 63 }
+    requires belongs { writer.board ≡ board.now }
+    requires readings { AreReadings N.image N.budget (view_of P.policy T.reading book).view.history writer.told }
+    requires last { last_of writer.told ≡ counts_of (view_of P.policy T.reading book).view }
+    requires reader { reader.board ≡ board.now }
+    ensures belongs { result.0.writer.board ≡ board.now }
+    ensures reader { result.1.0.board ≡ board.now }
+{
+    join(
+        rt,
+        move || -> Watched<N, P, T>
+            requires { (image.now ≡ N.image) × ((1 ≤ workers) × (workers ≤ 16))
+                × ((view_of P.policy T.reading book).steps ≤ 2 ^ 63)
+                × (writer.board ≡ board.now)
+                × AreReadings N.image N.budget (view_of P.policy T.reading book).view.history writer.told
+                × (last_of writer.told ≡ counts_of (view_of P.policy T.reading book).view) }
+            ensures { result.writer.board ≡ board.entry.now }
+        { run_watched(rt, image, book, workers, &OpenGate, board, writer) },
+        move || -> (Reader, Reading)
+            requires { reader.board ≡ board.now }
+            ensures { result.0.board ≡ board.entry.now }
+        { follow(rt, board, reader) },
+    )
+}
+
+/// The book has so many commits and no output, and the writer has told so last.
+fn is_told<N: Naming>(rt: &impl Abort, book: &Hinted<N>, writer: &Writer, commits: u32) {
+    assert_eq!(rt; book.counts(), writer.last());
+    assert_eq!(rt; writer.last().commits, commits);
+    assert_eq!(rt; writer.last().output, 0);
+}
+
+/// So many workers end the run of a new book with so many commits and no output, and no reading of a reader that
+/// follows them is above that.
+fn watch_by<N: Naming + Send + Sync>(
+    rt: &(impl Abort + Threads + Wait + Sync),
+    image: &Image,
+    book: Hinted<N>,
+    workers: u32,
+    commits: u32,
+    board: &Board,
+    writer: Writer,
+    reader: Reader,
+) -> (Writer, Reader)
+    requires image { image.now ≡ N.image }
+    requires workers { (1 ≤ workers) × (workers ≤ 16) }
+    requires told { writer.told ≡ opening ∷ [] }
+    requires belongs { writer.board ≡ board.now }
+    requires reader { reader.board ≡ board.now }
+    ensures belongs { result.0.board ≡ board.now }
+    ensures reader { result.1.board ≡ board.now }
+{
+    opening_is_reading();
+    assert!(rt; book.steps() == 0 && book.counts() == writer.last());
+    let (watched, (reader, most)) = watch(rt, image, book, workers, board, writer, reader);
+    let Watched { drained, writer } = watched;
+    assert!(rt; matches!(drained.halt, Halt::Ended(End::Normal)));
+    is_told(rt, &drained.book, &writer, commits);
+    assert!(rt; most.commits <= commits && most.output == 0);
+    (writer, reader)
+}
+
+/// A board is followed during a whole run.
+fn watch_whole<N: Naming + Send + Sync>(
+    rt: &(impl Abort + Alloc<A = Global> + Threads + Wait + Sync),
+    image: &Image,
+    settings: Settings,
+    workers: u32,
+    commits: u32,
+) -> Result<(), Fail>
+    requires valid { IsValid settings }
+    requires image { image.now ≡ N.image }
+    requires budget { settings.budget ≡ N.budget }
+    requires commits { settings.commits ≡ N.commits }
+    requires workers { (1 ≤ workers) × (workers ≤ 16) }
+{
+    let book = book_of::<N>(rt.alloc(), image, settings)?;
+    let (board, mut writer) = Board::new(rt.alloc())?;
+    let reader = board.reader(&mut writer);
+    let (mut writer, reader) = watch_by(rt, image, book, workers, commits, &board, writer, reader);
+    board.join(rt, &mut writer, reader);
+    Ok(())
+}
+
+#[test]
+fn a_reader_follows_two_workers(rt: HostRuntime) -> Result<(), Fail> {
+    let image = image_of(rt.alloc(), &ENDERS)?;
+    watch_whole::<Brand>(&rt, &image, TWO_TILES, 2, 2)
+}
+
+#[test]
+fn a_reader_follows_a_walk(rt: HostRuntime) -> Result<(), Fail> {
+    let image = make(rt.alloc(), Load::Walk, 7, 200)?;
+    watch_whole::<Brand>(&rt, &image, FOUR_TILES, 2, 400)
+}
+
+#[test]
+fn an_open_gate_lets_all_pass(_rt: HostRuntime) {
+    OpenGate.pass(0, 1);
+}

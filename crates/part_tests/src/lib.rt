@@ -1,0 +1,55 @@
+//! Tests of public calls of the crates from the instruction table up to the report and the words of a command line.
+//!
+//! They stand in a crate of their own, since a crate with tests is proved twice. It has no code but tests.
+#![tactic(auto)]
+
+#[cfg(test)]
+mod arbiter;
+#[cfg(test)]
+mod blocks;
+#[cfg(test)]
+mod cascades;
+#[cfg(test)]
+mod cores;
+#[cfg(test)]
+mod descriptors;
+#[cfg(test)]
+mod generated_images;
+#[cfg(test)]
+mod image_bytes;
+#[cfg(test)]
+mod images;
+#[cfg(test)]
+mod instructions;
+#[cfg(test)]
+mod journals;
+#[cfg(test)]
+mod lines;
+#[cfg(test)]
+mod logs;
+#[cfg(test)]
+mod placers;
+#[cfg(test)]
+mod queues;
+#[cfg(test)]
+mod reports;
+#[cfg(test)]
+mod requests;
+#[cfg(test)]
+mod rooms;
+#[cfg(test)]
+mod samples;
+#[cfg(test)]
+mod sending;
+#[cfg(test)]
+mod serial_runs;
+#[cfg(test)]
+mod streams;
+#[cfg(test)]
+mod taps;
+#[cfg(test)]
+mod texts;
+#[cfg(test)]
+mod virtual_times;
+#[cfg(test)]
+mod words;

@@ -1,0 +1,109 @@
+//! Which lines a task touched and wrote, by the filters of line_table.
+
+use crate::sending::is_sent;
+use line_table::{Exact, Filter, Signature, signatures_agree};
+use std::alloc::{AllocError, Global};
+use std::test::Fail;
+
+/// Whether the lines 3, 5 and 4 are touched, and whether they are wrote.
+fn answers<F: Filter>(filter: &F) -> [(bool, bool); 3] {
+    [3, 5, 4].map(|line| (filter.touched(line), filter.wrote(line)))
+}
+
+/// Loads from the line 3, a store to the line 5 and a load from it.
+fn note_all<F: Filter>(filter: &mut F) -> Result<(), AllocError> {
+    filter.note(3, false)?;
+    filter.note(5, true)?;
+    filter.note(3, false)?;
+    filter.note(5, false)
+}
+
+/// Whether the first filter wrote what the second touched, and the other way round.
+fn meetings<F: Filter>(one: &F, two: &F) -> (bool, bool) {
+    (one.meets(two), two.meets(one))
+}
+
+/// The exact filter of those accesses.
+fn exact_writer(alloc: Global) -> Result<Exact, AllocError> {
+    let mut filter = Exact::new(alloc);
+    note_all(&mut filter)?;
+    Ok(filter)
+}
+
+/// The signature of those accesses.
+fn signature_writer() -> Result<Signature, AllocError> {
+    let mut filter = Signature::new();
+    note_all(&mut filter)?;
+    Ok(filter)
+}
+
+/// The signature of a load of a line that is 5 modulo 1,024.
+fn signature_reader() -> Signature {
+    let mut reader = Signature::new();
+    reader.mark(2_048 + 5, false);
+    reader
+}
+
+const NOTED: [(bool, bool); 3] = [(true, false), (true, true), (false, false)];
+
+#[test]
+fn noted_lines_are_touched_and_stores_are_wrote(rt: HostRuntime) -> Result<(), Fail> {
+    let mut filter = exact_writer(rt.alloc())?;
+    assert_eq!(rt; answers(&filter), NOTED);
+    filter.clear();
+    assert_eq!(rt; answers(&filter), [(false, false); 3]);
+    is_sent(&filter);
+    Ok(())
+}
+
+#[test]
+fn filters_meet_where_one_wrote_what_the_other_touched(rt: HostRuntime) -> Result<(), Fail> {
+    let alloc = rt.alloc();
+    let filter = exact_writer(alloc)?;
+    let mut reader = Exact::new(alloc);
+    reader.note(5, false)?;
+    reader.note(3, true)?;
+    assert_eq!(rt; meetings(&filter, &reader), (true, true));
+    Ok(())
+}
+
+#[test]
+fn filters_that_both_load_a_line_do_not_meet(rt: HostRuntime) -> Result<(), Fail> {
+    let alloc = rt.alloc();
+    let filter = exact_writer(alloc)?;
+    let mut reader = exact_writer(alloc)?;
+    reader.clear();
+    reader.note(3, false)?;
+    assert_eq!(rt; meetings(&filter, &reader), (false, false));
+    Ok(())
+}
+
+#[test]
+fn a_signature_knows_noted_lines(rt: HostRuntime) -> Result<(), Fail> {
+    let mut filter = signature_writer()?;
+    assert_eq!(rt; answers(&filter), NOTED);
+    filter.clear();
+    assert_eq!(rt; answers(&filter), [(false, false); 3]);
+    signatures_agree();
+    is_sent(&filter);
+    Ok(())
+}
+
+#[test]
+fn a_signature_tells_lines_apart_modulo_1024(rt: HostRuntime) -> Result<(), Fail> {
+    let filter = signature_writer()?;
+    assert!(rt; filter.touched(1_024 + 3));
+    assert!(rt; filter.wrote(1_024 * 4_194_303 + 5));
+    assert_eq!(rt; meetings(&filter, &signature_reader()), (true, false));
+    Ok(())
+}
+
+#[test]
+fn a_cleared_signature_meets_none_and_its_copy_stays(rt: HostRuntime) -> Result<(), Fail> {
+    let mut filter = signature_writer()?;
+    let kept = filter;
+    filter.clear();
+    assert_eq!(rt; meetings(&filter, &signature_reader()), (false, false));
+    assert_eq!(rt; meetings(&kept, &signature_reader()), (true, false));
+    Ok(())
+}
