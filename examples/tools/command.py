@@ -4,10 +4,12 @@ import os
 import pathlib
 import re
 import signal
+import stat
 import sys
 import tempfile
 
 REFUSED = 1
+SIGNALS = (signal.SIGINT, signal.SIGTERM, signal.SIGHUP)
 # Nothing that the program takes or writes is longer.
 MOST_READ = 1 << 28
 
@@ -26,24 +28,32 @@ class Stopped(BaseException):
 
 def run_script(name, main):
     """Runs `main` on the words, and ends with its status, or with one sentence and a status other than 0."""
-    status = REFUSED
     try:
-        for number in (signal.SIGINT, signal.SIGTERM, signal.SIGHUP):
+        for number in SIGNALS:
             signal.signal(number, stop)
+        # The first line of each script holds an interrupt back until Python can answer it.
+        signal.pthread_sigmask(signal.SIG_UNBLOCK, SIGNALS)
+        status = answered(name, main)
+        ignore_signals()
+    except Stopped as stopped:
+        say(name, "interrupted.")
+        status = 128 + stopped.number
+    end(status)
+
+
+def answered(name, main):
+    try:
         if sys.stdout is None:
             raise Refused("standard output is closed.")
         sys.stdout.reconfigure(errors="backslashreplace")
         status = main(sys.argv[1:]) or 0
         sys.stdout.flush()
+        return status
     except Refused as refused:
         say(name, refused)
-    except Stopped as stopped:
-        say(name, "interrupted.")
-        status = 128 + stopped.number
     except (OSError, MemoryError) as error:
         say(name, told(error))
-        status = REFUSED
-    end(status)
+    return REFUSED
 
 
 def end(status):
@@ -56,8 +66,13 @@ def end(status):
 
 
 def stop(number, _frame):
-    signal.signal(number, signal.SIG_IGN)
+    ignore_signals()
     raise Stopped(number)
+
+
+def ignore_signals():
+    for number in SIGNALS:
+        signal.signal(number, signal.SIG_IGN)
 
 
 def say(name, sentence):
@@ -69,6 +84,11 @@ def say(name, sentence):
     shown = "".join(it if it.isprintable() or it == "\n" else ascii(it)[1:-1] for it in str(sentence))
     with contextlib.suppress(OSError):
         print(f"{clear}{name}: {shown}", file=sys.stderr, flush=True)
+
+
+def note(sentence):
+    """Tells what may be wrong, and stops nothing."""
+    say("note", sentence)
 
 
 def told(error):
@@ -103,29 +123,60 @@ def read_written(path):
 
 
 def write_whole(files):
-    """Writes bytes to paths, given as a dictionary: each file is there whole, or as it was before."""
+    """Writes bytes to paths, given as a dictionary. A plain file is there whole, or as it was before, and a symbolic
+    link to it stays one. What is no plain file, such as a device, is written to and never replaced."""
     with contextlib.ExitStack() as cleanup:
-        renames = []
+        renames, streams = [], []
         for path, data in files.items():
             path = need_writable(path)
+            if is_stream(path):
+                streams.append((path, data))
+                continue
             handle, unfinished = tempfile.mkstemp(prefix=f".{path.name}.", dir=path.parent)
             cleanup.callback(pathlib.Path(unfinished).unlink, missing_ok=True)
             with os.fdopen(handle, "wb") as file:
                 file.write(data)
-            os.chmod(unfinished, 0o666 & ~umask())
+            os.chmod(unfinished, stat.S_IMODE(path.stat().st_mode) if path.exists() else 0o666 & ~umask())
             renames.append((unfinished, path))
+        for path, data in streams:
+            write_stream(path, data)
         for unfinished, path in renames:
             os.replace(unfinished, path)
 
 
+def write_stream(path, data):
+    """Writes to a device or a pipe; to what is standard output already, behind what was written there."""
+    for own in filter(None, (sys.stdout, sys.stderr)):
+        if os.path.samestat(path.stat(), os.fstat(own.fileno())):
+            own.flush()
+            own.buffer.write(data)
+            own.flush()
+            return
+    with open(path, "wb") as file:
+        file.write(data)
+
+
+def is_stream(path):
+    """Whether writing to a path is no matter of a plain file's bytes alone."""
+    if not path.exists():
+        return False
+    found = path.stat()
+    return not stat.S_ISREG(found.st_mode) or any(
+        os.path.samestat(found, os.fstat(own.fileno())) for own in filter(None, (sys.stdout, sys.stderr)))
+
+
 def need_writable(path):
-    """The path of a file that can be written whole; else a refusal, before any work is done for it."""
+    """The path of a file that can be written, behind all links; else a refusal, before any work is done for it."""
     path = pathlib.Path(path)
     if path.is_dir():
         raise Refused(f"{path}: this is a folder, so no file can be written there.")
-    if not path.parent.is_dir():
-        raise Refused(f"{path}: it can't be written, since there is no such folder.")
-    if not os.access(path.parent, os.W_OK | os.X_OK):
+    if not path.exists() or stat.S_ISREG(path.stat().st_mode):
+        named, path = path, pathlib.Path(os.path.realpath(path))
+        if not path.parent.is_dir():
+            raise Refused(f"{named}: it can't be written, since there is no such folder.")
+        if not os.access(path.parent, os.W_OK | os.X_OK):
+            raise Refused(f"{named}: it can't be written: permission denied.")
+    if path.exists() and not os.access(path, os.W_OK):
         raise Refused(f"{path}: it can't be written: permission denied.")
     return path
 
