@@ -11,7 +11,7 @@ class Tally:
     """The acts of a played schedule by answer, the tasks that they took back, and the commits over acts. What was asked
     after the end of the run, and answered `ended`, is counted apart."""
 
-    def __init__(self, played):
+    def __init__(self, played, acts_a_round=None):
         self.replies = {}
         self.taken_back = collections.Counter()
         self.end = played.report.end
@@ -28,6 +28,8 @@ class Tally:
                 self.curve.append((self.acts, self.commits))
         if self.curve[-1] != (self.acts, self.commits):
             self.curve.append((self.acts, self.commits))
+        # None where the script has no rounds.
+        self.rounds = acts_a_round and -(-self.acts // acts_a_round)
 
     def count(self, word, reply):
         return self.replies[word][reply] if word in self.replies else 0
@@ -55,6 +57,11 @@ def ratio(count, whole):
     return f"{count / whole:.2f}" if whole else "-"
 
 
+def plain_ratio(count, whole):
+    """The same for CSV, in more digits; empty where there is none of it."""
+    return f"{count / whole:.6g}" if whole else ""
+
+
 def by_act(counts):
     """Counts by act, as `step 12, split 3`; a dash where all are 0."""
     return ", ".join(f"{word} {count:,}" for word, count in counts.items() if count) or "-"
@@ -62,7 +69,9 @@ def by_act(counts):
 
 ROWS = (
     ("Acts before the end", lambda it: f"{it.acts:,}"),
+    ("Rounds", lambda it: f"{it.rounds:,}" if it.rounds else "-"),
     ("Commits", lambda it: f"{it.commits:,}"),
+    ("Commits a round", lambda it: ratio(it.commits, it.rounds)),
     ("Commits in 1,000 acts", lambda it: ratio(1_000 * it.commits, it.acts)),
     ("Dispatches", lambda it: f"{it.dispatches():,}"),
     ("Dispatches a commit", lambda it: ratio(it.dispatches(), it.commits)),
@@ -74,9 +83,42 @@ ROWS = (
 )
 
 
+# The same for CSV, in plain numbers.
+PLAIN = (
+    ("acts", lambda it: it.acts),
+    ("rounds", lambda it: it.rounds or ""),
+    ("commits", lambda it: it.commits),
+    ("commits a round", lambda it: plain_ratio(it.commits, it.rounds)),
+    ("commits in 1000 acts", lambda it: plain_ratio(1_000 * it.commits, it.acts)),
+    ("dispatches", lambda it: it.dispatches()),
+    ("dispatches a commit", lambda it: plain_ratio(it.dispatches(), it.commits)),
+    ("taken back", lambda it: it.all_taken_back()),
+    ("taken back a commit", lambda it: plain_ratio(it.all_taken_back(), it.commits)),
+    ("end", lambda it: it.end),
+)
+
+
+def plain_rows(tallies):
+    """The tallies of a dictionary by name as rows of CSV, a row each, under their head; with how often each act had
+    each answer, and how many tasks each took back."""
+    pairs = [(word, reply) for word in NUMBERS for reply in DONE + REFUSALS
+             if any(it.count(word, reply) for it in tallies.values())]
+    words = list(dict.fromkeys(word for word, _ in pairs))
+    yield ["output", *(name for name, _ in PLAIN), *(f"{word} {reply}" for word, reply in pairs),
+           *(f"taken back by {word}" for word in words)]
+    for name, it in tallies.items():
+        yield [name, *(cell(it) for _, cell in PLAIN), *(it.count(*pair) for pair in pairs),
+               *(it.taken_back[word] for word in words)]
+
+
+def row_of(cells):
+    """A row of a table in Markdown."""
+    return f"| {' | '.join(cells)} |"
+
+
 def table(head, rows):
     """A table in Markdown."""
-    return [f"| {' | '.join(cells)} |" for cells in (head, ["---"] * len(head), *rows)]
+    return [row_of(cells) for cells in (head, ["---"] * len(head), *rows)]
 
 
 def summary(tallies):
