@@ -1,4 +1,5 @@
 """Scripts, what the program says when it plays them, and scripts that are made: docs/guest/FORMATS.md has their lines."""
+import collections
 import dataclasses
 import itertools
 import random
@@ -87,6 +88,17 @@ def read_played(acts, text, name):
     return played
 
 
+def read_replies(text):
+    """The replies before a report, as `steps` writes them; none where the text begins otherwise."""
+    replies = []
+    for line in text.split("\n"):
+        found = re.fullmatch(r"([a-z]+) ([0-9]{1,10})", line)
+        if not found or found[1] not in DONE + REFUSALS:
+            break
+        replies.append(Said(found[1], int(found[2])))
+    return replies
+
+
 def read_said(line, place):
     found = re.fullmatch(r"([a-z]+) ([0-9]{1,10})", line)
     if not found or found[1] not in DONE + REFUSALS:
@@ -112,15 +124,35 @@ def read_trace(text, name):
 
 
 def lockstep(tiles, cores, rounds, seed=None):
-    """The acts of so many rounds. In each, tile after tile dispatches and each of its cores steps; then there is a
-    commit for each tile, and each tile splits. With a seed, those of a round are in random order."""
-    acts = []
-    for tile in range(tiles):
-        acts += [Act("dispatch", tile), *(Act("step", tile, core) for core in range(cores))]
-    acts += [Act("commit")] * tiles + [Act("split", tile) for tile in range(tiles)]
+    """The acts of so many rounds; with a seed, those of a round are in random order."""
+    acts = round_of(tiles, cores)
     chance = None if seed is None else random.Random(seed)
     for _ in range(rounds):
         yield from acts if chance is None else shuffled(acts, chance)
+
+
+def round_of(tiles, cores):
+    """The acts of a round: tile after tile dispatches and each of its cores steps; then there is a commit for each
+    tile, and each tile splits."""
+    acts = []
+    for tile in range(tiles):
+        acts += [Act("dispatch", tile), *(Act("step", tile, core) for core in range(cores))]
+    return acts + [Act("commit")] * tiles + [Act("split", tile) for tile in range(tiles)]
+
+
+def acts_a_round(acts):
+    """How many acts a round of a lockstep schedule has, in whatever order within a round; None of other scripts."""
+    tiles = 1 + max((act.tile for act in acts if act.tile is not None), default=-1)
+    cores = 1 + max((act.core for act in acts if act.core is not None), default=-1)
+    whole = round_of(tiles, cores)
+    if not tiles or not cores or len(acts) < len(whole):
+        return None
+    counts = collections.Counter(whole)
+    for first in range(0, len(acts), len(whole)):
+        some = acts[first:first + len(whole)]
+        if some != whole and (len(some) < len(whole) or collections.Counter(some) != counts):
+            return None
+    return len(whole)
 
 
 def shuffled(acts, chance):
