@@ -8,8 +8,8 @@ SYMBOLS = 2
 IS_ALLOCATED = 2
 SECTION = struct.Struct("<10I")
 SYMBOL = struct.Struct("<3I2BH")
-# Kinds of symbols that name no place of the program: sections and source files.
-SECTION_NAME, FILE_NAME = 3, 4
+# Kinds of symbols: the last two name no place of the program.
+FUNCTION, SECTION_NAME, FILE_NAME = 2, 3, 4
 
 
 @dataclasses.dataclass
@@ -27,6 +27,8 @@ class Label:
     name: str
     address: int
     section: str
+    size: int = 0
+    is_function: bool = False
 
 
 def read_elf(data):
@@ -40,6 +42,16 @@ def read_elf(data):
     return sections, [label for row in rows if row[1] == SYMBOLS for label in labels(data, rows, row, sections)]
 
 
+def flags(data):
+    """What the file asks of the machine."""
+    return struct.unpack_from("<I", data, 36)[0]
+
+
+def attributes(data):
+    """The attributes of the file, which tell its architecture; empty where it has none."""
+    return next((it.data for it in read_elf(data)[0] if it.name == ".riscv.attributes"), b"")
+
+
 def content(data, row):
     return b"" if row[1] == NO_BITS else data[row[4]:row[4] + row[5]]
 
@@ -50,9 +62,9 @@ def text_at(names, place):
 
 def labels(data, rows, row, sections):
     names = content(data, rows[row[6]])
-    for name_at, value, _size, info, _other, section in SYMBOL.iter_unpack(content(data, row)):
+    for name_at, value, size, info, _other, section in SYMBOL.iter_unpack(content(data, row)):
         name = text_at(names, name_at)
         is_place = info & 15 not in (SECTION_NAME, FILE_NAME) and 0 < section < len(sections)
         # The assembler's own local labels, and its marks of what is code, begin so.
         if is_place and name and not name.startswith((".L", "$")):
-            yield Label(name, value, sections[section].name)
+            yield Label(name, value, sections[section].name, size, info & 15 == FUNCTION)

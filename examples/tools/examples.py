@@ -2,7 +2,8 @@
 import pathlib
 
 HERE = pathlib.Path(__file__).resolve().parent.parent
-EXAMPLES = ("hello", "fork_join", "pipeline", "reduction", "nested", "trap")
+EXAMPLES = ("hello", "fork_join", "pipeline", "reduction", "nested", "trap", "recursion", "shortest_paths") + tuple(
+    f"c/{name}" for name in ("shortest_paths", "breadth_first", "tree_of_sums", "quicksort", "bank"))
 SCHEDULES = tuple(f"schedules/{name}" for name in (
     "conflict", "stale_leg", "kept_trap", "commit_queue", "commit_wait", "stall", "four_cores", "two_lines",
     "two_lines_apart", "one_word"))
@@ -10,4 +11,4 @@ SCHEDULES = tuple(f"schedules/{name}" for name in (
 
 def with_sources(names):
     """Those of the folders that have sources of their own; the others share an image."""
-    return [name for name in names if any((HERE / name).glob("*.s"))]
+    return [name for name in names if any(path.suffix in (".s", ".c") for path in (HERE / name).iterdir())]

@@ -2,10 +2,12 @@
 import dataclasses
 from xml.sax.saxutils import escape
 
+from tools import density
 from tools.schedules import DONE, NUMBERS
 
-# Up to so many acts have words at their marks; those of a longer schedule are small, and tell them when pointed at.
-MOST_WITH_WORDS, MOST_ACTS = 160, 2_400
+# Up to so many acts have words at their marks; those of a longer schedule are small, and tell them when pointed at. Of
+# more acts than that no mark is drawn, but how many were done, refused and taken back in which rounds.
+MOST_WITH_WORDS, MOST_WITH_MARKS = 160, 400
 MARGIN, TOP, GAP, FOOT = 96, 34, 22, 64
 DONE_COLOUR, COMMIT_COLOUR, REFUSED_COLOUR, TAKEN_COLOUR = "#4e79a7", "#3f8f46", "#b3641c", "#c62828"
 TAKEN_LEG_COLOUR = "#a9c3dd"
@@ -72,9 +74,10 @@ def tasks_told(count):
 
 def drawn(played):
     """The picture of a played schedule."""
+    if len(played.acts) > MOST_WITH_MARKS:
+        return density.drawn(played)
     commits = played.commits()
-    marks = [Mark(place + 1, act, said, commits.get(place))
-             for place, (act, said) in enumerate(list(played.pairs())[:MOST_ACTS])]
+    marks = [Mark(place + 1, act, said, commits.get(place)) for place, (act, said) in enumerate(played.pairs())]
     style = LARGE if len(marks) <= MOST_WITH_WORDS else SMALL
     tiles = 1 + max((act.tile for act in played.acts if act.tile is not None), default=0)
     bands = [marks[first:first + style.across] for first in range(0, len(marks), style.across)] or [[]]
@@ -86,7 +89,7 @@ def drawn(played):
              f'<rect width="{width}" height="{total}" fill="white"/>']
     for place, band in enumerate(bands):
         parts += [f'<g transform="translate(0 {place * height})">', *drawn_band(band, tiles, width, style), "</g>"]
-    parts += [f'<g transform="translate(0 {height * len(bands)})">', *footer(played, len(marks), style), "</g>",
+    parts += [f'<g transform="translate(0 {height * len(bands)})">', *footer(played, style), "</g>",
               "</svg>"]
     return "\n".join(parts) + "\n"
 
@@ -156,13 +159,12 @@ def text(x, y, words, colour, size, anchor, is_bold=False):
             f"{escape(words)}</text>")
 
 
-def footer(played, shown, style):
+def footer(played, style):
     """The whole in numbers, and what the marks mean."""
     taken = sum(said.taken_back for said in played.said)
     commits = len(played.report.entries)
     acts = "1 act" if len(played.acts) == 1 else f"{len(played.acts):,} acts"
-    first = f"The first {shown:,} of {acts}" if shown < len(played.acts) else acts
-    told = [first, "1 commit" if commits == 1 else f"{commits:,} commits", f"{tasks_told(taken)} taken back",
+    told = [acts, "1 commit" if commits == 1 else f"{commits:,} commits", f"{tasks_told(taken)} taken back",
             f"end {played.report.end}"]
     yield text(12, 14, "; ".join(told), "#333333", 12, "start", True)
     blue = painted(DONE_COLOUR, DONE_COLOUR)

@@ -56,7 +56,7 @@ def listing_of(sources, assembled):
 def listing_text(sources, assembled, image):
     """The listing as text, a line each for labels, instructions and up to 16 bytes of data."""
     listing = listing_of(sources, assembled)
-    names = ", ".join(source.name for source in sources)
+    names = ", ".join(source.name for source in sources) + (f" by {assembled.compiler}" if assembled.compiler else "")
     lines = [f"What stands where in image.bin, made of {names}: address, word, instruction, source line.", ""]
     code = {at: word for at, word in listing.words.items() if at < TEXT + assembled.code_size}
     for address, word in code.items():
@@ -126,7 +126,8 @@ def read_listing(text, name):
 
 def read_instruction(listing, address, word, rest):
     words, *place = rest.split(" | ", 2)
-    found = re.fullmatch("(.+):([0-9]{1,9})", place[0]) if place else None
+    # A line of C has many instructions; its text stands beside the first of them.
+    found = re.fullmatch("(.+):([0-9]{1,9})", place[0].removesuffix(" |")) if place else None
     source, line = (found[1], int(found[2])) if found else ("", 0)
     listing.words[address] = word
     listing.instructions[address] = Instruction(words.strip(), source, line)

@@ -1,21 +1,36 @@
 """Runs the tasks of a report again, in its order, to know what the report doesn't tell: where each task enters.
 
 This is no second judge: `./fractal check` says whether a report is that of a run. Here is the plain reading of RV32I
-(RISC-V Unprivileged ISA 20191213, chapter 2), and of the six calls of docs/guest/TASKS.md.
+(RISC-V Unprivileged ISA 20191213, chapter 2), and of the six calls and the traps of docs/guest/TASKS.md.
 """
 import dataclasses
 
-from tools.image import DATA, TEXT
+from tools.image import DATA, STACK, TEXT
 from tools.report import Name
 
 MASK = 0xFFFFFFFF
 # How many instructions are run at most, which takes some seconds.
 MOST_STEPS = 3_000_000
-ENTRY, TIMESTAMP, FIRST_ARGUMENT, CALL = 10, 11, 12, 17
+# The greatest budget of a task, and how many bytes it may emit.
+MOST_BUDGET, MOST_BYTES = 65_536, 256
+STACK_POINTER, ENTRY, TIMESTAMP, FIRST_ARGUMENT, CALL = 2, 10, 11, 12, 17
+REGISTERS = ("zero", "ra", "sp", "gp", "tp", "t0", "t1", "t2", "s0", "s1", *(f"a{place}" for place in range(8)),
+             *(f"s{place}" for place in range(2, 12)), "t3", "t4", "t5", "t6")
+# Causes of traps.
+FETCH, ILLEGAL, TARGET, LOAD_MULTIPLE, LOAD_RANGE, STORE_MULTIPLE, STORE_RANGE, BREAK = range(1, 9)
+BAD_CALL, EARLY, NO_SUBDOMAIN, SECOND_SUBDOMAIN, NO_SUPERDOMAIN, TOO_DEEP, CHILD, BYTE, BUDGET = range(9, 18)
 
 
 class Lost(Exception):
     """The tasks can't be followed further; the text says why."""
+
+
+class Trapped(Exception):
+    """A task traps: its cause, and the address of the load or store that does."""
+
+    def __init__(self, cause, address=None):
+        super().__init__(cause)
+        self.cause, self.address = cause, address
 
 
 @dataclasses.dataclass
@@ -23,6 +38,8 @@ class Domain:
     depth: int
     is_ordered: bool
     outer: "Domain" = None
+    # The timestamp of the task that made it.
+    floor: int = 0
 
 
 @dataclasses.dataclass
@@ -44,6 +61,8 @@ class Machine:
         self.memory = bytearray(image.initial) + bytes(image.size - len(image.initial))
         self.steps = 0
         self.tasks = {}
+        # What the tasks emitted, and whether a turn was none of this image.
+        self.output, self.is_other = bytearray(), False
         root = Domain(1, image.is_ordered)
         for index, initial in enumerate(image.tasks):
             self.add(Name(0, index), initial.entry, initial.timestamp, initial.arguments, root)
@@ -56,12 +75,30 @@ class Machine:
         for entry in entries:
             task = self.tasks.get(entry.name)
             if not task or task.turn or (task.domain.depth, task.timestamp) != (entry.depth, entry.timestamp):
+                self.is_other = True
                 return f"turn {entry.turn} isn't one that the image allows; ./fractal check says more"
             task.turn = entry.turn
             try:
                 Run(self, task).go()
             except Lost as lost:
                 return f"turn {entry.turn} {lost}"
+            except Trapped as trapped:
+                self.is_other = True
+                return f"turn {entry.turn} traps with cause {trapped.cause}; ./fractal check says more"
+        return None
+
+    def trapped(self, trap):
+        """The run of a pending task at its trap, and the trap as it is found here; None where another one is."""
+        task = self.tasks.get(trap.name)
+        if not task or task.turn:
+            return None
+        run = Run(self, task)
+        try:
+            run.go()
+        except Trapped as found:
+            return (run, found) if (found.cause, run.pc) == (trap.cause, trap.pc) else None
+        except Lost:
+            return None
         return None
 
 
@@ -69,22 +106,26 @@ class Run:
     """One task's run, up to its end call."""
 
     def __init__(self, machine, task):
-        self.machine, self.task = machine, task
+        self.machine, self.task, self.limits = machine, task, machine.image.limits
+        self.stack = bytearray(self.limits.stack)
         self.registers = [0] * 32
+        self.registers[STACK_POINTER] = STACK + len(self.stack) if self.stack else 0
         self.registers[10:13] = task.arguments
         self.registers[13] = task.timestamp
-        self.pc, self.inner, self.children, self.is_over = task.entry, None, 0, False
+        self.pc, self.inner, self.children, self.emitted, self.is_over = task.entry, None, 0, 0, False
 
     def go(self):
-        machine = self.machine
+        machine, last = self.machine, self.machine.steps + MOST_BUDGET
         while not self.is_over:
+            if machine.steps == last:
+                raise Trapped(BUDGET)
             word = machine.image.word(self.pc)
             if word is None or self.pc % 4:
-                raise Lost("leaves the text; ./fractal check says more")
+                raise Trapped(FETCH)
             if machine.steps == MOST_STEPS:
                 raise Lost(f"comes after {MOST_STEPS:,} instructions, and no more are run again for labels")
-            machine.steps += 1
             self.step(word)
+            machine.steps += 1
 
     def step(self, word):
         opcode, registers = word & 0x7F, self.registers
@@ -112,40 +153,74 @@ class Run:
         elif word == 0x73:
             self.call()
         elif opcode != 0x0F:
-            raise Lost("comes to a word that is no instruction; ./fractal check says more")
+            raise Trapped(BREAK if word == 0x100073 else ILLEGAL)
+        if following % 4:
+            raise Trapped(TARGET)
         if result is not None and word >> 7 & 31:
             registers[word >> 7 & 31] = result & MASK
         self.pc = following & MASK
 
     def load(self, kind, address):
         width = 1 << (kind & 3)
-        start, data = (TEXT, self.machine.image.text) if address < DATA else (DATA, self.machine.memory)
+        if address % width:
+            raise Trapped(LOAD_MULTIPLE, address)
+        start, data = (TEXT, self.machine.image.text) if address < DATA else self.changing(address)
         place = address - start
         if not 0 <= place <= len(data) - width:
-            raise Lost("loads from outside; ./fractal check says more")
+            raise Trapped(LOAD_RANGE, address)
         value = int.from_bytes(data[place:place + width], "little")
         return value if kind & 4 else signed(value, 8 * width)
 
     def store(self, width, address, value):
-        place = address - DATA
-        if not 0 <= place <= len(self.machine.memory) - width:
-            raise Lost("stores outside the data; ./fractal check says more")
-        self.machine.memory[place:place + width] = (value & (1 << 8 * width) - 1).to_bytes(width, "little")
+        if address % width:
+            raise Trapped(STORE_MULTIPLE, address)
+        start, data = self.changing(address)
+        place = address - start
+        if not 0 <= place <= len(data) - width:
+            raise Trapped(STORE_RANGE, address)
+        data[place:place + width] = (value & (1 << 8 * width) - 1).to_bytes(width, "little")
+
+    def changing(self, address):
+        """The bytes that an address may belong to, and where they begin: the task's stack, or the data."""
+        return (STACK, self.stack) if address >= STACK else (DATA, self.machine.memory)
 
     def call(self):
-        number, registers, own = self.registers[CALL], self.registers, self.task.domain
+        number, registers = self.registers[CALL], self.registers
         if number == 0:
             self.is_over = True
-        elif number == 4:
-            self.inner = Domain(own.depth + 1, registers[ENTRY] == 1, own)
+        elif number == 4 and registers[ENTRY] <= 1:
+            self.make_subdomain(registers[ENTRY] == 1)
+        elif number == 5:
+            if self.emitted == MOST_BYTES:
+                raise Trapped(BYTE)
+            self.emitted += 1
+            self.machine.output.append(registers[ENTRY] & 0xFF)
         elif number in (1, 2, 3):
-            domain = {1: own, 2: self.inner, 3: own.outer}[number]
-            if domain is None:
-                raise Lost("enqueues to a domain that isn't there; ./fractal check says more")
-            name = Name(self.task.turn, self.children)
-            self.children += 1
-            arguments = registers[FIRST_ARGUMENT:FIRST_ARGUMENT + 3]
-            self.machine.add(name, registers[ENTRY], registers[TIMESTAMP], arguments, domain)
+            self.enqueue(number, registers[ENTRY], registers[TIMESTAMP], registers[FIRST_ARGUMENT:FIRST_ARGUMENT + 3])
+        else:
+            raise Trapped(BAD_CALL)
+
+    def make_subdomain(self, is_ordered):
+        own = self.task.domain
+        if self.inner:
+            raise Trapped(SECOND_SUBDOMAIN)
+        if own.depth == self.limits.depth:
+            raise Trapped(TOO_DEEP)
+        self.inner = Domain(own.depth + 1, is_ordered, own, self.task.timestamp)
+
+    def enqueue(self, number, entry, timestamp, arguments):
+        own = self.task.domain
+        domain = {1: own, 2: self.inner, 3: own.outer}[number]
+        if domain is None:
+            raise Trapped(NO_SUBDOMAIN if number == 2 else NO_SUPERDOMAIN)
+        # A subdomain's timestamps start afresh.
+        least = {1: self.task.timestamp, 2: 0, 3: own.floor}[number]
+        if domain.is_ordered and timestamp < least:
+            raise Trapped(EARLY)
+        if self.children == self.limits.children:
+            raise Trapped(CHILD)
+        self.machine.add(Name(self.task.turn, self.children), entry, timestamp, arguments, domain)
+        self.children += 1
 
 
 def signed(value, bits):

@@ -18,10 +18,12 @@ def end_of(report):
 
 @dataclasses.dataclass
 class Option:
-    """An option: its name without the dashes, the values that it may have, and the one that it has unless given."""
+    """An option: its name without the dashes, the values that it may have, the one that it has unless given, and what
+    it bounds."""
     name: str
     values: range
     default: int
+    purpose: str
 
     def told(self):
         if isinstance(self.values, range):
@@ -30,18 +32,26 @@ class Option:
 
 
 class Table:
-    """The commands, options and statuses of the program, from the launcher's table."""
+    """What the launcher's table tells: the program's commands, options and statuses, the kinds of generated images, and
+    the launcher's own words."""
 
     def __init__(self):
-        self.commands, self.options, self.statuses = {}, {}, {}
+        self.commands, self.command_rows, self.options, self.statuses = {}, {}, {}, {}
+        self.kinds, self.own, self.version = {}, {}, ""
         for line in table_lines():
             kind, name, *rest = line.split("|")
             if kind == "command":
-                self.commands[name] = rest[0]
+                self.commands[name], self.command_rows[name] = rest[0], rest
             elif kind == "option":
-                self.options[name] = Option(name, values_in(rest[0]), int(rest[1]))
+                self.options[name] = Option(name, values_in(rest[0]), int(rest[1]), rest[2])
+            elif kind == "kind":
+                self.kinds[name] = values_in(rest[0]), rest[1]
             elif kind == "status":
                 self.statuses[int(name)] = rest[0]
+            elif kind == "own":
+                self.own[name] = rest[1]
+            elif kind == "version":
+                self.version = name
 
 
 def table_lines():

@@ -5,6 +5,8 @@ import re
 from tools.command import Refused
 
 NUMBER = "([0-9]{1,10})"
+# From 1 to 16.
+DEPTH = "([1-9]|1[0-6])"
 
 
 @dataclasses.dataclass(frozen=True)
@@ -68,7 +70,7 @@ def read_report(text, name, start=0):
     lines = Lines(name, text.removesuffix("\n").split("\n"), start)
     lines.need("fractal 1", "the line `fractal 1`")
     entries = []
-    while found := lines.take(rf"{NUMBER} {NUMBER}\.{NUMBER} ([1-8]) {NUMBER}"):
+    while found := lines.take(rf"{NUMBER} {NUMBER}\.{NUMBER} {DEPTH} {NUMBER}"):
         turn, creator, index, depth, timestamp = map(int, found.groups())
         if turn != len(entries) + 1:
             lines.taken -= 1

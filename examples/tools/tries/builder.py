@@ -1,7 +1,9 @@
 """Tries of examples/build."""
 import signal
+import time
 
 from tools.examples import EXAMPLES, SCHEDULES, with_sources
+from tools.source import SUFFIXES
 from tools.tries.place import expect, one_sentence_each
 
 # A task that ends, and the line that describes it.
@@ -13,7 +15,9 @@ MISSHAPEN = (
     ("# image: root order", "root ordered"),
     ("# image: root", "root ordered"),
     ("# image: root ordered now", "root ordered"),
-    ("# image: window foo", "window LABEL WORDS"),
+    ("# image: window", "window LABEL [WORDS]"),
+    ("# image: window foo", "no label `foo`"),
+    ("# image: window first", "a number of words is wanted"),
     ("# image: window foo 1", "no label `foo`"),
     ("# image: window first -1", "0 to 4096"),
     ("# image: window first 3", "ends after the data"),
@@ -30,13 +34,17 @@ MISSHAPEN = (
     ("# image: task main ts 4294967296", "0 to 4294967295"),
     ("# image: task main args", "one to three"),
     ("# image: task main args 1 2 3 4", "and not 4"),
-    ("# image: task main args one", "not `one`"),
+    ("# image: task main args one", "no label `one`"),
+    ("# image: task main args -1", "0 to 4294967295, in decimal or after 0x, and not `-1`"),
     ("# image: task main arg 5", "`arg` isn't known"),
-    ("# image: task main args 5 ts 1", "not `ts`"),
+    ("# image: task main args 5 ts 1", "no label `ts`"),
     ("# image: task main 5", "`5` isn't known"),
     ("# image: tasks main", "`tasks` describes nothing"),
     ("# image:", "describes nothing"),
     ("#image: rooot ordered", "`rooot` describes nothing"),
+    ("# image: version", "version 1` or"),
+    ("# image: version 3", "version 1` or"),
+    ("# image: version 1 2", "version 1` or"),
     ("# image task main", "a colon is missing"),
 )
 
@@ -51,15 +59,17 @@ def folder_with(place, name, **sources):
 
 
 def nothing_is_written(folder):
-    left = sorted(path.name for path in folder.iterdir() if path.suffix != ".s")
+    left = sorted(path.name for path in folder.iterdir() if path.suffix not in SUFFIXES)
     expect(not left, "nothing written", left)
 
 
 def examples_are_rebuilt(place):
-    """the project's examples and schedules come out byte for byte, by name or all, with their listings"""
+    """the project's examples and schedules come out byte for byte, by name or all, with their listings; C's aside"""
     answer = place.call("examples/build")
     built = len(with_sources(EXAMPLES + SCHEDULES))
     expect(answer.status == 0 and answer.output.count(b"image.bin\n") == built, "all examples and schedules", answer)
+    # Each compiler, and each version of it, makes other images of C.
+    place.call("/usr/bin/env", "git", "-C", str(place.clone), "checkout", "-q", "examples/c")
     place.is_clean()
     for name in ("hello", "schedules/stall"):
         expect(place.call("examples/build", name).status == 0, f"{name} by its name")
@@ -188,6 +198,37 @@ def faults_of_the_source_are_told(place):
     nothing_is_written(folder)
 
 
+def other_machines_are_refused(place):
+    """a source that asks for more than RV32I is refused at its line, by attribute, option or instruction"""
+    for number, (text, *parts) in enumerate((
+            ('    .attribute arch, "rv32im"\n' + GOOD, ":1:", "rv32i", "_m"),
+            ("    .option arch, +m\n" + GOOD + "    mul a0, a0, a0\n", ":1:", "_m"),
+            ("    .option rvc\n" + GOOD, ":1:", "RV32I alone"),
+            (GOOD + "    .insn r 0x33, 0, 1, a0, a0, a0\n", ":5:", "no instruction of RV32I"))):
+        folder = folder_with(place, f"machine {number}", task=text)
+        place.call("examples/build", str(folder)).sentence("task.s", *parts)
+        nothing_is_written(folder)
+    folder = folder_with(place, "words", task=GOOD + "    .word 0x02a50533, 0\n    fence.tso\n")
+    expect(place.call("examples/build", str(folder)).status == 0, "words that are given as data, and a fence")
+
+
+def huge_sections_are_refused(place):
+    """a section that no image can have is refused before it is made, at the line that asks for it"""
+    small = "    .data\n    .space 4096\n"
+    for number, (text, line) in enumerate((
+            (small + "    .space 1073741824\n", 7), (small + "    .space 1 << 30\n", 7), ("    .zero 0x40000000\n", 5),
+            (small + "    .fill 100000000, 4, 1\n", 7), (small + "    .balign 0x40000000\n    .word 1\n", 7))):
+        folder = folder_with(place, f"huge {number}", task=GOOD + text)
+        start = time.monotonic()
+        place.call("examples/build", str(folder)).sentence(f"task.s:{line}:", "16,777,216")
+        expect(time.monotonic() - start < 60, "a refusal before the section is made")
+        nothing_is_written(folder)
+    for text in ("    .data\n    .space 16777220\n", "    .bss\n    .space 1073741824\n"):
+        folder = folder_with(place, f"large {text[5:8]}", task=GOOD + text)
+        place.call("examples/build", str(folder)).sentence("bytes of data are more than an image may have")
+        nothing_is_written(folder)
+
+
 def bad_words_are_refused(place):
     """words that are no folder, folders without a source, and options are told in a sentence"""
     empty = folder_with(place, "empty")
@@ -237,6 +278,6 @@ TRIES = (
     examples_are_rebuilt, folders_are_anywhere, sources_are_linked, sections_are_placed, other_sections_are_refused,
     sections_without_flags_are_refused,
     misshapen_lines_are_refused, second_lines_are_refused, odd_windows_are_refused, missing_tasks_are_told,
-    faults_of_the_source_are_told, bad_words_are_refused, missing_assembler_is_told, unwritable_folders_are_told,
+    faults_of_the_source_are_told, other_machines_are_refused, huge_sections_are_refused, bad_words_are_refused, missing_assembler_is_told, unwritable_folders_are_told,
     interrupts_leave_nothing,
 )

@@ -1,7 +1,9 @@
 """Tries of examples/explain, examples/check, examples/sweep and the gate."""
 import csv
 import io
+import json
 import pathlib
+import re
 import shutil
 import xml.etree.ElementTree
 
@@ -15,6 +17,22 @@ case $1 in
     load) printf 'load %s %s %s\\ncommits 200\\noutput 41\\nwindow 10000000 00000007\\nend normal\\n' "$2" "$3" "$4" ;;
     *) echo 'fault usage'; exit 1 ;;
 esac
+"""
+
+
+# What rt says of cases that all go as stored, but for those whose answer isn't the program's.
+STUB_CASES = """echo "$1" >>"$(dirname "$0")/../calls"
+for file in "$3"/*.args; do
+    case=${file%.args}
+    status=0
+    case $(head -n 2 "$case.stdout" | tr '\\0' ' ') in
+        'fault usage'*) status=1 ;; 'fault image'*) status=2 ;; 'fault long'*) status=10 ;; 'fault journal'*) status=8 ;;
+        'fault script'*) status=9 ;; 'fault nested'*) status=12 ;; 'fault tasks'*) status=13 ;; FRAC*) status=4 ;;
+    esac
+    ! grep -aq '^end trap' "$case.stdout" || status=3
+    ! grep -aq '^end limit' "$case.stdout" || status=4
+    echo "case=${case##*/} run=ended status=$status runners=1 output=expected proved=no" >&2
+done
 """
 
 
@@ -73,12 +91,57 @@ def faults_are_explained(place):
         expect(answer.status == 0 and part in answer.output.decode(), f"`{part}`", answer)
 
 
-def other_runs_are_told(place):
-    """a report that isn't the image's is explained as far as it goes, and says so"""
+def other_runs_are_refused(place):
+    """a report that isn't of the image is refused before anything is written, with what speaks against it"""
     image, report = files_of(place, "nested")
-    text = pathlib.Path(report).read_bytes().replace(b"2 1.0 2 1", b"2 0.1 1 0")
-    answer = place.call("examples/explain", image, "-", stdin=text)
-    expect(answer.status == 0 and b"./fractal check" in answer.output, "a hint at check", answer)
+    text = pathlib.Path(report).read_bytes()
+    other = str(place.clone / "examples" / "schedules" / "conflict" / "said")
+    for given, part in ((text.replace(b"2 1.0 2 1", b"2 0.1 1 0"), "turn 2 isn't one"),
+                        (text.replace(b"output -", b"output 41"), "emit other bytes"),
+                        (text.replace(b"00000058", b"00000059"), "leave 00000058 at 10000000"),
+                        (text.replace(b"window 10000008 00000002\n", b""), "3 words from 10000000 on"),
+                        (pathlib.Path(other).read_bytes(), "turn 1 isn't one")):
+        for form in ([], ["--json"], ["--csv"], ["--picture"]):
+            answer = place.call("examples/explain", image, "-", *form, stdin=given)
+            answer.sentence("no report of a run of", part)
+            expect(answer.output == b"", "nothing before a refusal", answer)
+
+
+def played_scripts_are_explained(place):
+    """what `steps` wrote is explained with its replies in words, and of a long script with how often each came"""
+    for name, parts in (("conflict", ("     6  ok, 2 taken back", "17 acts", "2 tasks were taken back", "child")),
+                        ("stall", ("     5  stall: a queue is full", "The report ends early"))):
+        folder = place.clone / "examples" / "schedules" / name
+        answer = place.call("examples/explain", str(folder / "image.bin"), str(folder / "said"))
+        expect((answer.status, answer.errors) == (0, ""), "an explanation", answer)
+        for part in parts:
+            expect(part in answer.output.decode(), f"`{part}`", answer.output.decode())
+    said = b"stall 0\n" * 300 + b"ok 1\n" * 1_000 + b"fractal 1\noutput -\nend open\n"
+    answer = place.call("examples/explain", files_of(place, "hello")[0], "-", stdin=said)
+    for part in ("1,300 acts", "    300  stall: a queue is full", "  1,000  ok\n", "1,000 tasks were taken back"):
+        expect(part in answer.output.decode(), f"`{part}`", answer.output.decode())
+
+
+def explanations_are_for_programs(place):
+    """--json has all that is told, with registers and address of a trap, and --csv a row for each task"""
+    image, report = files_of(place, "trap")
+    told = json.loads(place.call("examples/explain", image, report, "--json").output)
+    end = told["end"]
+    expect((end["kind"], end["cause"], end["task"], end["registers"]["a1"]) == ("trap", 10, "0.1", 6), "the trap", end)
+    expect([task["label"] for task in told["tasks"]] == ["good"] and told["output"]["text"] == "g", "the rest", told)
+    image, report = files_of(place, "nested")
+    rows = rows_in(place.call("examples/explain", image, report, "--csv").output)
+    expect([row["name"] for row in rows] == "0.0 1.0 1.1 3.0 0.1 5.0 5.1 7.0".split(), "a row for each task", rows)
+    expect((rows[3]["label"], rows[3]["argument 2"], rows[3]["depth"]) == ("note", "2", "3"), "a row", rows[3])
+    folder = place.clone / "examples" / "schedules" / "conflict"
+    answer = place.call("examples/explain", str(folder / "image.bin"), str(folder / "said"), "--json")
+    expect(json.loads(answer.output)["replies"][5] == {"act": 6, "reply": "ok", "taken_back": 2}, "a reply", answer)
+    answer = place.call("examples/explain", image, "-", "--json", stdin=b"fault nested 2\n")
+    expect("depth 2" in json.loads(answer.output)["meaning"], "a fault in words", answer)
+    one_sentence_each([
+        (place.call("examples/explain", image, "-", "--csv", stdin=b"fault nested 2\n"), ["has no tasks", "depth 2"]),
+        (place.call("examples/explain", image, report, "--csv", "--json"), ["--picture, --json and --csv"]),
+    ])
 
 
 def explain_refuses_bad_files(place):
@@ -122,15 +185,43 @@ def closed_pipes_are_borne(place):
 
 
 def accepted_examples_are_named(place):
-    """each accepted example and schedule is named, in an unwritable clone, from another folder, with a folder beside"""
+    """each accepted example and schedule is named and all is counted, in an unwritable clone, with a folder beside"""
     place.needs_program()
     (place.clone / "examples" / "mine").mkdir()
-    wanted = "".join(f"{name}: accepted\n" for name in EXAMPLES + SCHEDULES).encode()
-    answer = place.call("examples/check", cwd="/")
-    expect(answer == Answer(0, wanted, ""), "all examples", answer)
+    wanted = [f"{name}: accepted" for name in EXAMPLES + SCHEDULES]
+    for words in (["examples/check"], ["fractal", "test"]):
+        answer = place.call(*words, cwd="/")
+        *lines, answers, count = answer.output.decode().splitlines()
+        expect((answer.status, answer.errors, lines) == (0, "", wanted), "all examples", answer)
+        found = re.fullmatch(r"answers: ([0-9]+) accepted", answers)
+        expect(found and int(found[1]) >= 100, "a table of a hundred answers", answers)
+        total = int(found[1]) + 2 * len(wanted)
+        expect(count.startswith(f"{total} of {total} answers are as stored, in ") and "Nothing was proved" in count,
+               "a count, and what wasn't proved", count)
     place.make_unwritable()
+    answer = place.call("examples/check", "hello", "schedules/stall")
+    expect(answer.status == 0 and answer.output.count(b": accepted\n") == 2, "two where nothing can be written", answer)
+
+
+def one_unproved_run_plays_all(place):
+    """where the program isn't built, one unproved run plays all that is named, and says that nothing was proved"""
+    place.stub_tool("rt", STUB_CASES)
     answer = place.call("examples/check")
-    expect(answer == Answer(0, wanted, ""), "all examples where nothing can be written", answer)
+    names = [line.partition(":")[0] for line in answer.output.decode().splitlines()]
+    expect(answer.status == 0 and names[:-1] == [*EXAMPLES, *SCHEDULES, "answers"], "all", answer)
+    answer.tells("one unproved run")
+    expect(b"without its proofs" in answer.output, "what wasn't proved", answer)
+    expect((place.root / "calls").read_text().count("try") == 1, "one run")
+    place.stub_tool("rt", STUB_CASES.replace("status=$status", "status=9"))
+    answer = place.call("examples/check", "hello")
+    expect(answer.status == 1 and b"hello: its run has the status 9, and not 0" in answer.output, "a failure", answer)
+    place.stub_tool("rt", "echo 'error: no such thing' >&2; exit 1\n")
+    answer = place.call("examples/check", "hello")
+    expect(answer.status == 1, "status 1", answer)
+    answer.tells("gave no answer", "error: no such thing")
+    place.is_clean()
+    place.without("rt")
+    place.call("examples/check", "hello").sentence("rt", "isn't in the path")
 
 
 def other_reports_fail(place):
@@ -155,7 +246,7 @@ def lying_programs_fail(place):
     (place.root / "report").write_bytes(TRAP)
     place.stub(place.program, f"cat >/dev/null; cat '{place.root}/report'; exit 0\n")
     answer = place.call("examples/check", "trap")
-    expect(answer == Answer(1, b"trap: its run has the status 0\n", ""), "a failure", answer)
+    expect(answer.status == 1 and b"trap: its run has the status 0, and not 3\n" in answer.output, "a failure", answer)
 
 
 def each_fails_the_gate(place):
@@ -203,15 +294,47 @@ def grids_are_swept(place):
 
 
 def broken_programs_are_rows(place):
-    """a program that can't be started, or is killed, is a row, and the sweep goes on"""
+    """a program that can't be started, or is killed, is a row, and the sweep goes on; where each row failed it fails"""
     image = files_of(place, "hello")[0]
     for text, status in (("exit 5\n", "5"), ("kill -9 $$\n", "137"), (None, "126")):
         place.stub(place.program, text or "")
         if text is None:
             place.program.chmod(0o644)
         answer = place.call("examples/sweep", image, "--budget", "1,2")
-        rows = rows_in(answer.output)
-        expect(answer.status == 0 and [row["status"] for row in rows] == [status] * 2, f"the status {status}", answer)
+        answer.sentence("each of 2 runs failed", f"status {status}")
+        expect([row["status"] for row in rows_in(answer.output)] == [status] * 2, f"the status {status}", answer)
+    place.stub(place.program, 'cat >/dev/null; case $* in *budget=2*) exit 5 ;; esac\n'
+                              "printf '\\n1 0.0 1 0\\noutput -\\nend normal\\n'\n")
+    answer = place.call("examples/sweep", image, "--budget", "1,2")
+    expect(answer.status == 0 and [row["status"] for row in rows_in(answer.output)] == ["0", "5"], "one that failed", answer)
+
+
+def files_are_written_through(place):
+    """a file that is named for output stays a link, and a device stays one; where it can't be written no row is lost"""
+    place.needs_program()
+    image = files_of(place, "hello")[0]
+    (place.root / "link.csv").symlink_to("target.csv")
+    words = ["examples/sweep", image, "--budget", "1,2"]
+    for _ in range(2):
+        expect(place.call(*words, "--csv", "link.csv") == Answer(0, b"", ""), "rows through a link")
+        expect((place.root / "link.csv").is_symlink(), "a link", list(place.root.iterdir()))
+        expect(len(rows_in((place.root / "target.csv").read_bytes())) == 2, "two rows behind the link")
+    for device in ("/dev/null", "/dev/stdout"):
+        answer = place.call(*words, "--csv", device)
+        expect((answer.status, answer.errors) == (0, ""), f"rows to {device}", answer)
+        expect(pathlib.Path("/dev/null").is_char_device(), "the device")
+        expect(len(rows_in(answer.output)) == (2 if device == "/dev/stdout" else 0), "rows", answer)
+    answer = place.call("/bin/sh", "-c", '"$0" "$1" --budget 1,2 --csv /dev/stdout >own.csv', place.command(words[0]), image)
+    expect(len(rows_in((place.root / "own.csv").read_bytes())) == 2, "rows in the file that is standard output", answer)
+    (place.root / "kept.csv").write_text("old")
+    (place.root / "kept.csv").chmod(0o640)
+    place.call(*words, "--csv", "kept.csv")
+    expect((place.root / "kept.csv").stat().st_mode & 0o777 == 0o640, "the file's own mode")
+    answer = place.call(*words, "--csv", "/dev/full")
+    answer.sentence("no space")
+    expect(len(rows_in(answer.output)) == 2, "the rows on standard output", answer)
+    for words in (["examples/sweep", "nowhere"], ["examples/sweep", image, "--csv", "nowhere/x"]):
+        expect(place.call(*words).output == b"", "nothing before a refusal", words)
 
 
 def shards_are_joined(place):
@@ -284,14 +407,18 @@ def sweep_refuses_bad_words(place):
 
 
 def interrupted_sweeps_leave_nothing(place):
-    """a sweep that is interrupted says so, ends its runs and leaves no file"""
+    """a sweep that is interrupted says so, ends its runs, leaves no file, and has what was finished on standard output"""
     mark = place.root / "started"
-    place.stub(place.program, f"touch '{mark}'; exec sleep 100\n")
     image = files_of(place, "hello")[0]
     words = ["examples/sweep", image, "--jobs", "2", "--budget", "1..9", "--csv", "x.csv"]
-    answer = place.interrupted(*words, ready=mark.exists)
-    answer.sentence("interrupted", status=130)
-    expect(not (place.root / "x.csv").exists(), "no rows")
+    report = "cat >/dev/null; case $* in *budget=1\\ *) printf '\\n1 0.0 1 0\\noutput -\\nend normal\\n'; exit ;; esac\n"
+    for start, finished in (("", 0), (report, 1)):
+        mark.unlink(missing_ok=True)
+        place.stub(place.program, f"{start}touch '{mark}'; exec sleep 100\n")
+        answer = place.interrupted(*words, ready=mark.exists)
+        answer.sentence("interrupted", status=130)
+        expect(not (place.root / "x.csv").exists(), "no file")
+        expect(len(rows_in(answer.output)) == finished, "the rows that were finished", answer)
     place.is_clean()
 
 
@@ -306,9 +433,11 @@ def programs_are_handed_on(place):
 
 
 TRIES = (
-    reports_are_explained, traps_are_explained, pictures_are_drawn, faults_are_explained, other_runs_are_told,
-    explain_refuses_bad_files, closed_pipes_are_borne, accepted_examples_are_named, other_reports_fail,
-    lying_programs_fail, each_fails_the_gate, grids_are_swept, broken_programs_are_rows, shards_are_joined,
+    reports_are_explained, traps_are_explained, pictures_are_drawn, faults_are_explained, other_runs_are_refused,
+    played_scripts_are_explained, explanations_are_for_programs,
+    explain_refuses_bad_files, closed_pipes_are_borne, accepted_examples_are_named, one_unproved_run_plays_all, other_reports_fail,
+    lying_programs_fail, each_fails_the_gate, grids_are_swept, broken_programs_are_rows,
+    files_are_written_through, shards_are_joined,
     loads_are_swept, progress_is_shown, sweep_refuses_bad_words, interrupted_sweeps_leave_nothing,
     programs_are_handed_on,
 )

@@ -17,8 +17,8 @@ from tools.examples import HERE
 from tools.program import PROGRAM
 
 NOBODY = 65534
-# A call that lasts longer has failed.
-MOST_SECONDS = 180
+# A call that lasts longer has failed, also on a machine that is at much other work.
+MOST_SECONDS = 600
 
 
 class Failed(Exception):
@@ -123,8 +123,11 @@ class Place:
 
     def call(self, *words, stdin=b"", cwd=None):
         """Calls a script of the clone, or a command, with no terminal."""
-        done = subprocess.run([self.command(words[0]), *words[1:]], input=stdin, capture_output=True,
-                              timeout=MOST_SECONDS, cwd=cwd or self.root, env=self.environment, **self.user())
+        try:
+            done = subprocess.run([self.command(words[0]), *words[1:]], input=stdin, capture_output=True,
+                                  timeout=MOST_SECONDS, cwd=cwd or self.root, env=self.environment, **self.user())
+        except subprocess.TimeoutExpired:
+            raise Failed(f"expected an end of {words[0]} within {MOST_SECONDS} seconds") from None
         return Answer(done.returncode, done.stdout, done.stderr.decode("utf-8", "replace"))
 
     def command(self, word):

@@ -1,4 +1,5 @@
 """Tries of schedules, pictures and sums of them, generated images, studies, and runs with threads or scarce memory."""
+import csv
 import re
 import xml.etree.ElementTree
 
@@ -38,14 +39,22 @@ def schedules_are_drawn(place):
 
 
 def long_schedules_are_drawn(place):
-    """a long schedule has small marks, and of one that is too long the first acts are drawn, which the picture tells"""
-    for rounds, acts, told in (("60", 1_200, "1,200 acts; "), ("200", 4_000, "The first 2,400 of 4,000 acts; ")):
-        script = written(place, "script", place.call("examples/lockstep", "4", "2", rounds).output)
-        answer = place.call("examples/draw", script, "-", stdin=b"empty 0\n" * acts + OPEN_REPORT)
+    """up to 400 acts have marks; a longer schedule is drawn by rounds, and a script without rounds by acts"""
+    def drawn(script, acts, tail=b""):
+        answer = place.call("examples/draw", script, "-", stdin=b"empty 0\n" * acts + tail + OPEN_REPORT)
         root = xml.etree.ElementTree.fromstring(answer.output)
-        titles = [element for element in root.iter() if element.tag.endswith("title")]
-        expect(len(titles) == min(acts, 2_400), "a mark for each act", len(titles))
-        expect(any(text.startswith(told) for text in picture_in(answer.output)), f"`{told}`")
+        return len([it for it in root.iter() if it.tag.endswith("title")]), " ".join(picture_in(answer.output))
+
+    lockstep = ["examples/lockstep", "4", "2"]
+    script = written(place, "script", place.call(*lockstep, "20").output)
+    titles, text = drawn(script, 400)
+    expect(titles == 400 and "400 acts; 0 commits" in text, "a mark for each act", text)
+    script = written(place, "script", place.call(*lockstep, "200").output)
+    titles, text = drawn(script, 3_400, b"ended 0\n" * 600)
+    expect("3,400 acts and 600 after the end; a column is 2 rounds; 0 commits" in text, "rounds", text)
+    expect(titles == 4 * 85, "a cell for each tile and two rounds before the end", titles)
+    script = written(place, "script", b"commit\n" * 500 + b"split 1\n")
+    expect("501 acts; a column is 5 acts; " in drawn(script, 501)[1], "acts")
 
 
 def schedules_are_summed_up(place):
@@ -60,6 +69,11 @@ def schedules_are_summed_up(place):
     answer = place.call("examples/tally", script, said, apart, "--plot", "a plot.svg")
     expect("| Tasks taken back | 1 | 0 |" in answer.output.decode(), "both outputs", answer)
     expect("commits" in picture_in((place.root / "a plot.svg").read_bytes()), "the axis's name")
+    script = written(place, "lockstep", place.call("examples/lockstep", "2", "1", "30").output)
+    answer = place.call("examples/tally", script, "-", "--csv", "t.csv", stdin=b"empty 0\n" * 236 + b"ended 0\n" * 4 + OPEN_REPORT)
+    expect("| Rounds | 30 |" in answer.output.decode(), "rounds of a lockstep schedule", answer)
+    row, = csv.DictReader((place.root / "t.csv").read_text().splitlines())
+    expect((row["acts"], row["rounds"], row["split empty"], row["split ended"]) == ("236", "30", "58", "2"), "CSV", row)
 
 
 def other_outputs_are_refused(place):
@@ -147,6 +161,7 @@ def studies_are_made(place):
     expect(answer == again, "the same lines", again)
     expect([re.findall(r"\d+", line)[:2] for line in lines[2:]] == [["1", "4"], ["1", "64"], ["2", "4"], ["2", "64"]],
            "each choice", lines)
+    expect("| Rounds | Acts | Commits a round |" in lines[0], "rounds beside acts", lines)
     one_sentence_each([
         (place.call("examples/study"), ["one IMAGE"]),
         (place.call("examples/study", "nowhere"), ["nowhere", "no such file"]),
@@ -154,7 +169,31 @@ def studies_are_made(place):
         (place.call("examples/study", image, "--line", "5"), ["--line", "`5`"]),
         (place.call("examples/study", image, "--program", "nowhere"), ["nowhere", "isn't built"]),
         (place.call("examples/study", str(place.clone / "README.md")), ["fault image 2 0"]),
+        (place.call("examples/study", image, "--rounds", "0"), ["--rounds"]),
+        (place.call("examples/study", image, "--csv", "nowhere/x"), ["nowhere/x", "no such folder"]),
     ])
+
+
+def endless_choices_are_rows(place):
+    """a choice without an end is a row that says so, with its numbers, and so is one that fails; CSV has plain numbers"""
+    place.needs_program()
+    image = written(place, "image", place.call("examples/generate", "walk", "7", "500").output)
+    words = ["examples/study", image, "--rounds", "250", "--csv", "study.csv"]
+    answer = place.call(*words, "--tiles", "1,16")
+    lines = answer.output.decode().splitlines()
+    expect(answer.status == 0 and lines[2].endswith("| none in 250 rounds |") and lines[3].endswith("| normal |"),
+           "a row without an end, and one with", answer)
+    rows = list(csv.DictReader((place.root / "study.csv").read_text().splitlines()))
+    expect([row["--tiles"] for row in rows] == ["1", "16"] and rows[0]["acts"] == "1250", "plain numbers", rows)
+    expect(abs(int(rows[1]["commits"]) / int(rows[1]["rounds"]) - float(rows[1]["commits a round"])) < 0.01, "a ratio", rows)
+    answer = place.call(*words, "--tiles", "1")
+    answer.sentence("no run came to an end")
+    expect(b"none in 250 rounds" in answer.output, "the row", answer)
+    program = str(place.program)
+    stub = place.stub(place.root / "stub", f"case $* in *tiles=2*) cat >/dev/null; exit 5 ;; esac; exec '{program}' \"$@\"\n")
+    answer = place.call("examples/study", image, "--tiles", "16,2,8", "--program", str(stub))
+    ends = [line.split(" | ")[-1] for line in answer.output.decode().splitlines()[2:]]
+    expect((answer.status, ends) == (0, ["normal |", "none: status 5 |", "normal |"]), "all rows", answer)
 
 
 def threads_are_checked(place):
@@ -228,6 +267,6 @@ def interrupted_plays_leave_nothing(place):
 
 TRIES = (
     schedules_are_drawn, long_schedules_are_drawn, schedules_are_summed_up, other_outputs_are_refused,
-    lockstep_is_written, images_are_generated, studies_are_made, threads_are_checked, swept_threads_are_checked,
+    lockstep_is_written, images_are_generated, studies_are_made, endless_choices_are_rows, threads_are_checked, swept_threads_are_checked,
     scarce_memory_is_answered, benches_are_told, interrupted_plays_leave_nothing,
 )

@@ -1,0 +1,17 @@
+"""From a folder of sources to its image and its listing."""
+from tools.command import write_whole
+from tools.image import image_bytes
+from tools.listing import listing_text
+from tools.source import assemble, described, sources_in
+from tools.stack import check_stack
+
+
+def build(folder, compiler):
+    """Writes the image and the listing of a folder's sources, and hands out the image with what it was made of."""
+    sources = sources_in(folder)
+    assembled = assemble(sources, compiler)
+    image = described(sources, assembled)
+    check_stack(assembled, image)
+    listing = listing_text(sources, assembled, image).encode()
+    write_whole({folder / "listing": listing, folder / "image.bin": image_bytes(image)})
+    return image, assembled

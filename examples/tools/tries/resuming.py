@@ -1,0 +1,94 @@
+"""Tries of examples/resume."""
+from tools.image import image_bytes
+from tools.loads import generated
+from tools.tries.place import expect, one_sentence_each
+
+WALK = ("walk", 7, 2000)
+
+
+def example(place, name, file="image.bin"):
+    return place.clone / "examples" / name / file
+
+
+def written_walk(place):
+    image = place.root / "walk.bin"
+    image.write_bytes(image_bytes(generated(*WALK)))
+    return image
+
+
+def pieces_join_to_one_run(place):
+    """an image whose run is the only one gives the report of the run in one go, whatever the pieces' length"""
+    place.needs_program()
+    image, report = example(place, "pipeline"), example(place, "pipeline", "report").read_bytes()
+    for every in range(1, 11):
+        folder = place.root / f"pieces {every}"
+        answer = place.call("examples/resume", image, folder, "--every", str(every))
+        expect((answer.status, answer.errors) == (0, ""), "a joined report", answer)
+        expect((folder / "report").read_bytes() == report, "the report of the run in one go", every)
+
+
+def uncut_runs_are_told(place):
+    """where a run can't be cut the fault is told, with the next count of commits at which it can"""
+    place.needs_program()
+    answer = place.call("examples/resume", example(place, "nested"), place.root / "pieces", "--every", "2")
+    expect(answer.status == 0, "a joined report", answer)
+    answer.tells("after 2 commits the run can't be cut (fault nested 2); the next cut is after 4",
+                 "after 6 commits the run can't be cut (fault nested 2); nor anywhere behind")
+
+
+def interrupted_pieces_go_on(place):
+    """an interrupt leaves whole pieces, the same words go on with them, and other words are refused"""
+    place.needs_program()
+    image, folder = written_walk(place), place.root / "pieces"
+    words = ("examples/resume", image, folder, "--every", "50")
+    answer = place.interrupted(*words, ready=lambda: (folder / "0004.report").exists())
+    expect(answer.status == 130, "status 130", answer)
+    expect(not (folder / "report").exists(), "no joined report yet")
+    first = (folder / "0002.report").stat().st_mtime_ns
+    for _ in range(2):
+        answer = place.call(*words)
+        expect(answer.output.endswith(b"4,000 commits in 80 pieces; accepted by check.\n"), "80 pieces", answer)
+    expect((folder / "0002.report").stat().st_mtime_ns == first, "a piece that was done is not done again")
+    place.call(*words[:-1], "51").sentence("the pieces of another run")
+    place.call(*words, "--budget", "60000").sentence("the pieces of another run")
+
+
+def changed_pieces_are_told(place):
+    """a saved image that isn't what the piece before left is refused"""
+    place.needs_program()
+    image, folder = example(place, "pipeline"), place.root / "pieces"
+    words = ("examples/resume", image, folder, "--every", "3")
+    expect(place.call(*words).status == 0, "a joined report")
+    saved = bytearray((folder / "0002.image").read_bytes())
+    saved[-12] ^= 1
+    (folder / "0002.image").write_bytes(saved)
+    place.call(*words).sentence("its task", "which pends after the piece before")
+
+
+def resume_refuses_bad_words(place):
+    """bad words, images and folders get one sentence, and no folder comes of them"""
+    place.needs_program()
+    image, folder = example(place, "hello"), place.root / "pieces"
+    other = place.root / "other"
+    other.mkdir()
+    (other / "notes").write_text("mine")
+    one_sentence_each([(place.call("examples/resume", *words), parts) for words, parts in (
+        ((image, folder), ("--every N",)),
+        ((image, folder, "--every", "0"), ("1 to 1000000", "`0`")),
+        ((image, folder, "--every", "2", "--workers", "2"), ("--workers takes 0 alone",)),
+        ((image, folder, "--every", "2", "--commits", "2"), ("--commits has no place here",)),
+        ((image, folder, "--every", "2", "--tiles", "99"), ("--tiles takes 1 to 16", "`99`")),
+        ((image, folder, "--every", "2", "--tyles", "9"), ("`--tyles` isn't known",)),
+        ((image, "--every", "2"), ("an image and a folder",)),
+        ((place.root / "none", folder, "--every", "2"), ("no such file",)),
+        ((example(place, "hello", "report"), folder, "--every", "2"), ("this is no image",)),
+        ((image, other, "--every", "2"), ("holds other files",)),
+        ((image, other / "notes", "--every", "2"), ("no folder",)),
+    )])
+    expect(not folder.exists(), "no folder of pieces")
+
+
+TRIES = (
+    pieces_join_to_one_run, uncut_runs_are_told, interrupted_pieces_go_on, changed_pieces_are_told,
+    resume_refuses_bad_words,
+)
