@@ -37,6 +37,13 @@ impl<T> Buffer<T> {
         }
     }
 
+    /// How many items it has room for.
+    pub fn room(&self) -> usize
+        ensures { result ≡ self.now }
+    {
+        self.empty.capacity()
+    }
+
     /// Makes room for so many items. Where there is as much, no memory is taken; after an error there is as much as
     /// before.
     pub fn reserve(&mut self, items: usize) -> Result<(), AllocError>

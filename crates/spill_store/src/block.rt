@@ -1,6 +1,6 @@
 ghost use Rattle.std.specs.Prelude.{◌≡◌, ◌+◌, ◌<◌, ◌≤◌, ◌↔◌, [], ◌∷◌, length, map, slice_get, Some, IfSome};
 ghost use Rattle.std.specs.Prelude.{IfNone};
-ghost use Rattle.std.specs.Prelude.{IsNone, IsOk, IsTrue, OnOk, OnSome, option_map};
+ghost use Rattle.std.specs.Prelude.{IsNone, IsOk, IsTrue, OnErr, OnOk, OnSome, option_map};
 ghost use Rattle.std.specs.List.Sorted.{IsStrictlyIncreasing};
 ghost use Rattle.fractal_vt.specs.Sorted.{IsInOrder, place_for};
 ghost use Rattle.task_desc.specs.Record.{IsDesc};
@@ -51,6 +51,7 @@ impl Block {
         ensures spare { OnOk result (more ≤ self.new.spare) }
         ensures stays { self.old.spare ≤ self.new.spare }
         ensures enough { more ≤ self.old.spare → IsOk result }
+        ensures err { OnErr result (self.new ≡ self.old) }
     {
         self.shelf.reserve(more)
     }

@@ -1,5 +1,5 @@
 ghost use Rattle.std.specs.Prelude.{◌≡◌, ◌+◌, ◌<◌, ◌≤◌, ◌↔◌, ℕ, [], length, map, replicate, slice_get, slice_index_or};
-ghost use Rattle.std.specs.Prelude.{All, IfOk, IfSome, IsNone, IsOk, OnOk, Some};
+ghost use Rattle.std.specs.Prelude.{All, IfOk, IfSome, IsNone, IsOk, OnErr, OnOk, Some};
 ghost use Rattle.std.specs.Ordering.{is_lt};
 ghost use Rattle.std.specs.List.Sorted.{IsStrictlyIncreasing};
 ghost use Rattle.task_desc.specs.Record.{IsDesc};
@@ -69,6 +69,7 @@ impl Blocks {
             OnOk result ((block : BlockValue) → block ≡ slice_index_or all tile block → more ≤ block.spare) }
         ensures enough { let all = self.old.items in
             (block : BlockValue) → block ≡ slice_index_or all tile block → more ≤ block.spare → IsOk result }
+        ensures err { OnErr result (self.new ≡ self.old) }
     {
         self.blocks[tile as usize].reserve(more)
     }

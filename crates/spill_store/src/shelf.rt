@@ -1,5 +1,5 @@
 ghost use Rattle.std.specs.Prelude.{◌≡◌, ◌+◌, ◌<◌, ◌≤◌, ◌↔◌, [], ◌∷◌, length, map, slice_get, Some, IfSome, IfNone};
-ghost use Rattle.std.specs.Prelude.{IsNone, IsOk, OnOk, OnSome};
+ghost use Rattle.std.specs.Prelude.{IsNone, IsOk, OnErr, OnOk, OnSome};
 ghost use Rattle.std.specs.List.{insert};
 ghost use Rattle.std.specs.List.Sorted.{IsStrictlyIncreasing};
 ghost use Rattle.task_desc.specs.Record.{IsDesc};
@@ -72,6 +72,7 @@ impl Shelf {
         ensures spare { OnOk result (more ≤ self.new.spare) }
         ensures stays { self.old.spare ≤ self.new.spare }
         ensures enough { more ≤ self.old.spare → IsOk result }
+        ensures err { OnErr result (self.new ≡ self.old) }
     {
         if more <= self.room - self.order.len() {
             return Ok(());
