@@ -89,6 +89,32 @@ impl<N: Naming> Leg<N> {
     {
         self.stop
     }
+
+    /// Becomes the leg that [`run_leg_decoded`] runs from a core on. Nothing of it moves but that core.
+    pub fn run_again(
+        &mut self,
+        decoded: &Decoded<N>,
+        image: &Image,
+        from: &Core,
+        quantum: u32,
+        budget: u32,
+    )
+        requires image { image.now ≡ N.image }
+        requires budget { budget ≡ N.budget }
+        requires quantum { (1 ≤ quantum) × (quantum ≤ 1024) }
+        requires used { from.now.used ≤ budget }
+        ensures from { self.new.from ≡ from.now }
+        ensures leg { let to = self.new.to in
+            IsLeg image.now image.now.data_size budget quantum from.now to self.new.steps self.new.stop }
+        ensures run { IsRun image.now budget self.new }
+    {
+        self.from = *from;
+        self.to = *from;
+        let size = image.data_size();
+        let (steps, stop) = run_decoded(decoded, image, size, &mut self.to, quantum, budget);
+        self.steps = steps;
+        self.stop = stop;
+    }
 }
 
 /// Runs plain instructions as [`run_plain`](crate::run_plain) does, and keeps in the type of the answer what was run.
