@@ -7,14 +7,10 @@ ghost use Rattle.spec_state.specs.Tasks.{is_dispatched, sub_bit, child_domain, c
 ghost use Rattle.spec_state.specs.Tasks.{child_descriptor, idle_task};
 ghost use Rattle.spec_state.specs.Stored.{IsWellFormed};
 
-use fractal_vt::{Key, Vt, as_domain};
+use fractal_vt::{Vt, as_domain};
 use guest_image::Kind;
-use line_table::Signature;
-use rv_core::Core;
-use spec_state::{Creator, Emitted, Spawns, Status, Task, TaskId};
-use std::alloc::Global;
+use spec_state::{Creator, Fresh, Task, TaskId};
 use task_desc::{Place, Spawn};
-use undo_log::Log;
 
 /// The domain in which this one lies: its levels but the last one.
 fn superdomain(domain: &Vt) -> Vt
@@ -68,14 +64,7 @@ fn kinds_of(parent: &Task, place: Place) -> u16
 }
 
 /// The child that a dispatched task asks for, idle, in a tile.
-pub(crate) fn child_of(
-    alloc: Global,
-    version: u16,
-    parent: &Task,
-    id: TaskId,
-    spawn: &Spawn,
-    tile: u32,
-) -> Task
+pub(crate) fn child_of(version: u16, parent: &Task, id: TaskId, spawn: &Spawn, tile: u32) -> Fresh
     requires formed { (size commits : ℕ) × IsWellFormed size commits parent.now }
     requires dispatched { is_dispatched parent.now ≡ true }
     requires made { spawn.now.place ≡ Sub → IsSome parent.now.sub }
@@ -83,27 +72,18 @@ pub(crate) fn child_of(
         let descriptor = child_descriptor parent.now spawn.now in
         result ≡ idle_task version descriptor creator tile }
 {
-    Task {
+    Fresh {
+        version,
         entry: spawn.entry,
         args: spawn.args,
         hint: spawn.hint,
         kinds: kinds_of(parent, spawn.place),
-        key: Key {
-            domain: domain_of(parent, spawn.place),
-            ts: spawn.ts,
-            tb: None,
-        },
+        domain: domain_of(parent, spawn.place),
+        ts: spawn.ts,
         creator: Creator::Live {
             task: id,
             index: parent.spawns.as_slice().len() as u32,
         },
         tile,
-        status: Status::Idle,
-        core: Core::start(version, spawn.entry, spawn.ts, spawn.args),
-        log: Log::new(alloc),
-        lines: Signature::new(),
-        spawns: Spawns::new(alloc),
-        bytes: Emitted::new(),
-        sub: None,
     }
 }

@@ -62,16 +62,9 @@ fn spawn_reserved<N: Naming>(
         → Enqueues id.0 task leg.now spawn tile state.old.view state.new.view }
     ensures room { state.new.room ≡ record state.old.room { spawns = state.new.room.spawns } }
 {
-    let child = child_of(
-        state.alloc,
-        state.version,
-        &state.tasks[id.0],
-        id,
-        &spawn,
-        tile,
-    );
+    let child = child_of(state.version, &state.tasks[id.0], id, &spawn, tile);
     add_spawn(state, id, leg, spawn);
-    let _ = state.put(child);
+    let _ = state.put(&child);
 }
 
 /// A task enqueues a child: an idle task, which stands last in the task queue of this tile, where

@@ -311,3 +311,27 @@ commits size id old made left noted new task entry same stored there leaves note
     let one : least.0 ≡ task = cc in
     committed_task size id old left noted new task entry (subst (IsStored size) same stored) there_old (subst (λ v. Leaves id v left) same leaves) noted_is adopts rest named
     (subst (IsLeastTask old id) one least.1) (ap (λ (t : Task). t.status) (sym one) ∙ least.2) least.3.0 least.3.1 (ap (λ (t : Task). t.creator) (sym one) ∙ least.3.2)
+
+-- a commit that is recorded before its task leaves
+pub commits_recorded : (size id : ℕ) (old made recorded left new : View) (task : Task) (entry : Entry) → made ≡ old → IsStored size made → task_at made id ≡ Some task
+    → recorded ≡ record made { history = made.history ++ entry ∷ []; output = made.output ++ task.bytes; path = task.key.domain ++ own_level task ∷ [] }
+    → Leaves id recorded left
+    → ((k : ℕ) → task_at new k ≡ adopted id (length left.history) (task_at left k))
+    → new ≡ record left { tasks = new.tasks }
+    → ((turn index : ℕ) → task.creator ≡ Committed turn index → entry ≡ record { name = record { creator = turn; index = index }; depth = depth_of task; ts = task.key.ts })
+    → (t : Task) × IsLeastTask old id t × (t.status ≡ Finished) × ((turn : ℕ) × (index : ℕ) × (t.creator ≡ Committed turn index))
+    → Commits old new × (new.history ≡ old.history ++ entry ∷ [])
+commits_recorded size id old made recorded left new task entry same stored there recorded_is leaves adopts rest named least =
+    let noted = record made { history = made.history ++ entry ∷ []; output = made.output ++ task.bytes; path = task.key.domain ++ own_level task ∷ [] } in
+    let goes : Leaves id noted left = subst (λ v. Leaves id v left) recorded_is leaves in
+    let before : View = record left { history = made.history; output = made.output; path = made.path } in
+    let gone : Leaves id made before = record {
+      changes = record { changed = goes.changes.changed; others = goes.changes.others };
+      queues = goes.queues;
+      finished = goes.finished;
+      cores = goes.cores;
+      rest = ap (λ (v : View). record v { history = made.history; output = made.output; path = made.path }) goes.rest;
+    } in
+    let after : left ≡ record before { history = before.history ++ entry ∷ []; output = before.output ++ task.bytes; path = task.key.domain ++ own_level task ∷ [] } =
+    goes.rest ∙ sym (ap (λ (v : View). record v { history = made.history ++ entry ∷ []; output = made.output ++ task.bytes; path = task.key.domain ++ own_level task ∷ [] }) goes.rest) in
+    commits size id old made before left new task entry same stored there gone after adopts rest named least

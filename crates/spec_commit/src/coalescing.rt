@@ -45,6 +45,7 @@ fn reserve_pushes<N: Naming>(state: &mut State<N>, tile: u32) -> Result<(), Allo
     ensures view { state.new.view ≡ state.old.view }
     ensures covers { OnOk result (CoversPushes state.new tile 8) }
     ensures enough { CoversPushes state.old tile 8 → IsOk result }
+    ensures err { OnErr result (state.new ≡ state.old) }
     ensures room { KeepsOtherRoom tile state.old.room state.new.room }
 {
     state.blocks.reserve(tile, MAX_MOVED)
@@ -77,9 +78,11 @@ fn spill<N: Naming>(state: &mut State<N>, tile: u32, id: TaskId)
 {
     state.is_stored();
     let count = state.history.count();
-    let task = state.take_out(id);
-    let desc = spilled_desc(&task, count);
-    push_spilled(state, tile, &desc, &task.key.domain);
+    let task = state.task(id);
+    let desc = spilled_desc(task, count);
+    let domain = task.key.domain.copied();
+    state.take_out(id);
+    push_spilled(state, tile, &desc, &domain);
 }
 
 /// Moves the chosen tasks into the block of their tile, one after another, the least of them first.
@@ -104,7 +107,7 @@ pub fn coalesce<N: Naming>(state: &mut State<N>, tile: u32) -> Result<u32, Alloc
     requires some { (id : ℕ) × IsMovable state.old.view tile id }
     ensures ok { IfOk result (λ n. (moved : Coalesces tile state.old.view state.new.view)
         × (n ≡ length moved.ids)) }
-    ensures err { OnErr result (state.new.view ≡ state.old.view) }
+    ensures err { OnErr result (state.new ≡ state.old) }
     ensures covered { CoversPushes state.old tile 8 → IsOk result }
     ensures room { KeepsOtherRoom tile state.old.room state.new.room }
 {

@@ -16,9 +16,9 @@ ghost use Rattle.spec_state.specs.View.{task_at};
 ghost use Rattle.spec_commit.specs.Committing.{IsAdoptedOrSame, adopted};
 
 use fractal_vt::as_domain;
+use kept_slab::KeptSlab;
 use rv_core::Naming;
 use serial_machine::Entry;
-use slab::Slab;
 use spec_state::{Children, Creator, State, Task, TaskId};
 use std::alloc::AllocError;
 use task_desc::Name;
@@ -39,7 +39,7 @@ fn adopt_one(task: &mut Task, id: usize, turn: u32)
 }
 
 /// The same for what stands under one key.
-fn adopt_at(tasks: &mut Slab<Task>, key: usize, id: usize, turn: u32)
+fn adopt_at(tasks: &mut KeptSlab<Task>, key: usize, id: usize, turn: u32)
     ensures changed { get tasks.new key ≡ adopted id turn (get tasks.old key) }
     ensures others { (k : ℕ) → k ≢ key → get tasks.new k ≡ get tasks.old k }
     ensures len { slab_len tasks.new ≡ slab_len tasks.old }
@@ -51,7 +51,7 @@ fn adopt_at(tasks: &mut Slab<Task>, key: usize, id: usize, turn: u32)
 }
 
 /// The same for all tasks. It costs a look at each slot.
-fn adopt_all(tasks: &mut Slab<Task>, id: usize, turn: u32)
+fn adopt_all(tasks: &mut KeptSlab<Task>, id: usize, turn: u32)
     ensures each { (k : ℕ) → get tasks.new k ≡ adopted id turn (get tasks.old k) }
     ensures len { slab_len tasks.new ≡ slab_len tasks.old }
     ensures capacity { tasks.new.capacity ≡ tasks.old.capacity }
@@ -62,7 +62,7 @@ fn adopt_all(tasks: &mut Slab<Task>, id: usize, turn: u32)
 }
 
 /// The same for what stands under each of these keys.
-fn adopt_noted(tasks: &mut Slab<Task>, keys: &[u32], id: usize, turn: u32)
+fn adopt_noted(tasks: &mut KeptSlab<Task>, keys: &[u32], id: usize, turn: u32)
     ensures each { (k : ℕ) → IsAdoptedOrSame id turn (get tasks.old k) (get tasks.new k) }
     ensures noted { (place k : ℕ) → slice_get keys.now place ≡ Some k
         → get tasks.new k ≡ adopted id turn (get tasks.old k) }
@@ -76,7 +76,7 @@ fn adopt_noted(tasks: &mut Slab<Task>, keys: &[u32], id: usize, turn: u32)
 
 /// The same for all children of a task. It costs a look at each place among its children; and, where the notes
 /// aren't complete, at each slot.
-fn adopt(tasks: &mut Slab<Task>, children: &Children, id: usize, turn: u32)
+fn adopt(tasks: &mut KeptSlab<Task>, children: &Children, id: usize, turn: u32)
     requires noted { AreNoted tasks.old.slots children.now }
     ensures each { (k : ℕ) → get tasks.new k ≡ adopted id turn (get tasks.old k) }
     ensures len { slab_len tasks.new ≡ slab_len tasks.old }
@@ -131,6 +131,7 @@ fn reserve_output<N: Naming>(state: &mut State<N>, id: TaskId) -> Result<(), All
     ensures covers { OnOk result (IfSome (task_at state.old.view id.0) (λ t.
         length state.old.view.output + length t.bytes ≤ state.new.room.output)) }
     ensures enough { CoversOutput state.old id.0 → IsOk result }
+    ensures err { OnErr result (state.new ≡ state.old) }
     ensures room { state.new.room ≡ record state.old.room { output = state.new.room.output } }
 {
     let wanted = state.output.as_slice().len() + state.task(id).bytes.as_slice().len();
@@ -138,23 +139,35 @@ fn reserve_output<N: Naming>(state: &mut State<N>, id: TaskId) -> Result<(), All
 }
 
 /// Adds a task to the history and its bytes to the output, for which there is room, and makes its levels the path.
-fn record_commit<N: Naming>(state: &mut State<N>, entry: Entry, task: &Task)
+fn record_commit<N: Naming>(state: &mut State<N>, id: TaskId) -> Entry
+    requires firm { IfSome (task_at state.old.view id.0) (λ task.
+        (turn : ℕ) × (index : ℕ) × (task.creator ≡ Committed turn index)) }
+    requires live { IsSome (task_at state.old.view id.0) }
     requires more { length state.old.view.history < state.old.view.settings.commits }
-    requires output { length state.old.view.output + length task.now.bytes ≤ state.old.room.output }
-    requires closed { IsSome task.now.key.tb }
-    requires shallow { length task.now.key.domain < MAX_LEVELS }
-    ensures view { state.new.view ≡ record state.old.view {
-      history = state.old.view.history ++ entry ∷ [];
-      output = state.old.view.output ++ task.now.bytes;
-      path = task.now.key.domain ++ own_level task.now ∷ [];
-    } }
+    requires output { CoversOutput state.old id.0 }
+    requires closed { IfSome (task_at state.old.view id.0) (λ task. IsSome task.key.tb) }
+    requires shallow { IfSome (task_at state.old.view id.0) (λ task. length task.key.domain < MAX_LEVELS) }
+    ensures entry { IfSome (task_at state.old.view id.0) (λ task. (turn index : ℕ)
+        → task.creator ≡ Committed turn index → result ≡ record {
+          name = record { creator = turn; index = index };
+          depth = depth_of task;
+          ts = task.key.ts;
+        }) }
+    ensures view { IfSome (task_at state.old.view id.0) (λ task. state.new.view ≡ record state.old.view {
+      history = state.old.view.history ++ result ∷ [];
+      output = state.old.view.output ++ task.bytes;
+      path = task.key.domain ++ own_level task ∷ [];
+    }) }
     ensures room { state.new.room ≡ record state.old.room { output = state.new.room.output } }
 {
+    let task = &state.tasks[id.0];
+    let entry = entry_of(task);
     state.history.push(entry);
     state
         .output
         .append_with(&mut state.buffers.output, task.bytes.as_slice());
     state.path = as_domain(&task.key);
+    entry
 }
 
 /// Commits the least task, which is finished and was made by the image or a committed task: its entry joins the
@@ -166,15 +179,14 @@ pub fn commit<N: Naming>(state: &mut State<N>, id: TaskId) -> Result<Entry, Allo
     requires more { length state.old.view.history < state.old.view.settings.commits }
     ensures ok { IfOk result (λ entry. Commits state.old.view state.new.view
         × (state.new.view.history ≡ state.old.view.history ++ entry ∷ [])) }
-    ensures err { OnErr result (state.new.view ≡ state.old.view) }
+    ensures err { OnErr result (state.new ≡ state.old) }
     ensures enough { CoversOutput state.old id.0 → IsOk result }
     ensures room { state.new.room ≡ record state.old.room { output = state.new.room.output } }
 {
     reserve_output(state, id)?;
     state.is_stored();
-    let task = state.take_out(id);
-    let entry = entry_of(&task);
-    record_commit(state, entry, &task);
+    let entry = record_commit(state, id);
+    state.take_out(id);
     adopt_children(state, id);
     Ok(entry)
 }

@@ -14,13 +14,11 @@ ghost use Rattle.spec_state.specs.Fronts.{IsFirmBy, name_given};
 ghost use Rattle.spec_state.specs.Room.{HasFreeEntry, Splits};
 ghost use Rattle.spec_commit.specs.Spilling.{KeepsOtherRoom};
 
-use fractal_vt::{Key, Vt};
-use line_table::Signature;
-use rv_core::{Core, Naming};
-use spec_state::{Creator, Emitted, Spawns, State, Status, Task, TaskId};
-use std::alloc::{AllocError, Global};
+use fractal_vt::Vt;
+use rv_core::Naming;
+use spec_state::{Creator, Fresh, State, TaskId};
+use std::alloc::AllocError;
 use task_desc::{Desc, Name};
-use undo_log::Log;
 
 /// The creator that gives this name, where so many tasks have committed: one of them, or the heir.
 fn creator_named(name: Name, count: u32, heir: Option<TaskId>) -> Creator
@@ -41,37 +39,21 @@ fn creator_named(name: Name, count: u32, heir: Option<TaskId>) -> Creator
     }
 }
 
-/// The idle task that a spilled one becomes, in a tile. It takes no memory.
-fn idle_spilled(
-    alloc: Global,
-    version: u16,
-    desc: &Desc,
-    domain: Vt,
-    creator: Creator,
-    tile: u32,
-) -> Task
+/// The idle task that a spilled one becomes, in a tile.
+fn idle_spilled(version: u16, desc: &Desc, domain: Vt, creator: Creator, tile: u32) -> Fresh
     ensures { let s : Spilled = record { desc = desc.now; domain = domain } in
         result ≡ idle_task version (spilled_descriptor s) creator tile }
 {
-    Task {
+    Fresh {
+        version,
         entry: desc.entry,
         args: desc.args,
         hint: desc.hint,
         kinds: desc.kinds,
-        key: Key {
-            domain,
-            ts: desc.ts,
-            tb: None,
-        },
+        domain,
+        ts: desc.ts,
         creator,
         tile,
-        status: Status::Idle,
-        core: Core::start(version, desc.entry, desc.ts, desc.args),
-        log: Log::new(alloc),
-        lines: Signature::new(),
-        spawns: Spawns::new(alloc),
-        bytes: Emitted::new(),
-        sub: None,
     }
 }
 
@@ -111,6 +93,6 @@ pub fn split<N: Naming>(state: &mut State<N>, tile: u32) -> Result<(), AllocErro
     let heir = state.heir();
     let (desc, domain) = take_spilled(state, tile);
     let creator = creator_named(desc.name, state.history.count(), heir);
-    state.put(idle_spilled(state.alloc, state.version, &desc, domain, creator, tile));
+    state.put(&idle_spilled(state.version, &desc, domain, creator, tile));
     Ok(())
 }

@@ -9,8 +9,8 @@ ghost use Rattle.spill_store.specs.Entries.{renumbered_entry, HoldsEntries};
 
 use crate::table::fill;
 use fractal_vt::{renumber as renumber_path, renumber_key};
+use kept_slab::KeptSlab;
 use rv_core::Naming;
-use slab::Slab;
 use spec_state::{State, Task};
 use spill_store::Blocks;
 
@@ -23,7 +23,7 @@ fn renumber_task(task: &mut Task, table: &[u64])
 }
 
 /// Replaces the tiebreakers of all tasks by their places in the table.
-fn renumber_tasks(tasks: &mut Slab<Task>, table: &[u64])
+fn renumber_tasks(tasks: &mut KeptSlab<Task>, table: &[u64])
     requires { IsStrictlyIncreasing table.now }
     ensures slots { tasks.new.slots ≡ map (option_map (renumbered_task table.now)) tasks.old.slots }
     ensures capacity { tasks.new.capacity ≡ tasks.old.capacity }

@@ -8,7 +8,7 @@ ghost use Rattle.slab.specs.Slab.{slab_len, entries};
 ghost use Rattle.spec_dispatch.specs.Table.{numbers_of, held_numbers};
 
 use fractal_vt::Vt;
-use slab::Slab;
+use kept_slab::KeptSlab;
 use spec_state::Task;
 
 /// Adds a number at the end, where there is room.
@@ -35,14 +35,14 @@ fn note_path(numbers: &mut Vec<u64>, path: &Vt)
 }
 
 /// Adds the numbers of the dispatched tasks.
-fn note_tasks(numbers: &mut Vec<u64>, tasks: &Slab<Task>)
+fn note_tasks(numbers: &mut Vec<u64>, tasks: &KeptSlab<Task>)
     requires room { vec_len numbers.old + slab_len tasks.now ≤ vec_capacity numbers.old }
     ensures items { numbers.new.items ≡ numbers.old.items ++ numbers_of (entries tasks.now) }
     ensures few { vec_len numbers.new ≤ vec_len numbers.old + slab_len tasks.now }
     ensures capacity { vec_capacity numbers.old ≤ vec_capacity numbers.new }
 {
     for (_, task) in tasks.iter() {
-        if let Some(number) = task.key.tb {
+        if let Some(number) = task.value().key.tb {
             note(numbers, number);
         }
     }
@@ -61,7 +61,7 @@ fn arrange(numbers: &mut Vec<u64>)
 
 /// Fills the table with the numbers of the path and of the dispatched tasks, in rising order, each once. It has
 /// room for them.
-pub(crate) fn fill(table: &mut Vec<u64>, path: &Vt, tasks: &Slab<Task>)
+pub(crate) fn fill(table: &mut Vec<u64>, path: &Vt, tasks: &KeptSlab<Task>)
     requires room { MAX_LEVELS + slab_len tasks.now ≤ vec_capacity table.old }
     ensures rising { IsStrictlyIncreasing table.new.items }
     ensures exact { (number : ℕ) → Contains table.new.items number ↔ Contains (held_numbers path.now tasks.now) number }

@@ -9,15 +9,15 @@ ghost use Rattle.spec_rollback.specs.Pulled.{ListsMarked};
 
 use abort_cascade::{Pulls, close};
 use fractal_vt::cmp;
+use kept_slab::KeptSlab;
 use line_table::Filter;
 use rv_core::Naming;
-use slab::Slab;
 use spec_state::{Creator, State, Task};
 
 /// Of the tasks of a slab, which are taken back with one.
 #[derive(Drop)]
 struct Cascade<'a> {
-    tasks: &'a Slab<Task>,
+    tasks: &'a KeptSlab<Task>,
 }
 
 /// Whether the uncommitted task of this id made the task.

@@ -15,12 +15,12 @@ ghost use Rattle.spec_rollback.specs.Removed.{RemovesThese};
 use crate::releasing::member;
 use crate::undoing::undo_marked;
 use abort_cascade::list_marked;
+use kept_slab::KeptSlab;
 use rv_core::Naming;
-use slab::Slab;
 use spec_state::{State, Task, TaskId};
 
 /// Marks the ids of all tasks.
-fn mark_tasks(tasks: &Slab<Task>, marks: &mut [bool])
+fn mark_tasks(tasks: &KeptSlab<Task>, marks: &mut [bool])
     requires { length tasks.now.slots ≤ length marks.old }
     ensures marks { (id : ℕ) → slice_index_or marks.new id false ≡ is_some (get tasks.now id) }
     ensures count { length marks.new ≡ length marks.old }
@@ -53,7 +53,7 @@ fn remove_marked<N: Naming>(state: &mut State<N>, found: usize)
         RemovesThese these state.old.view state.new.view }
 {
     for place in 0..found {
-        let _gone = state.take_out(TaskId(member(state, place)));
+        state.take_out(TaskId(member(state, place)));
     }
 }
 

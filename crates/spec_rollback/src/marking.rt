@@ -9,16 +9,16 @@ ghost use Rattle.spec_rollback.specs.Marking.{has_line, conflicts, conflicts_at,
 ghost use Rattle.spec_rollback.specs.Marking.{IsInTiles, Finds, FindsConflicts};
 
 use fractal_vt::cmp;
+use kept_slab::KeptSlab;
 use line_table::Filter;
 use rv_core::Naming;
-use slab::Slab;
 use spec_state::{State, Task, TaskId};
 use tile_queues::CommitQueue;
 
 /// An access of a task, beside the tasks with which it may conflict.
 #[derive(Drop)]
 struct Access<'a> {
-    tasks: &'a Slab<Task>,
+    tasks: &'a KeptSlab<Task>,
     task: &'a Task,
     line: u32,
     write: bool,

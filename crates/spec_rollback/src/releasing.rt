@@ -37,7 +37,7 @@ fn release<N: Naming>(state: &mut State<N>, id: usize)
     ensures room { state.new.room ≡ state.old.room }
 {
     if has_marked_creator(&state.tasks[id], state.marks.as_slice()) {
-        let _gone = state.take_out(TaskId(id));
+        state.take_out(TaskId(id));
     } else {
         state.set_back(TaskId(id));
     }

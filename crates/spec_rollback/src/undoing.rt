@@ -12,14 +12,14 @@ ghost use Rattle.spec_rollback.specs.Pulled.{ListsMarked};
 ghost use Rattle.spec_rollback.specs.Undone.{ids_cmp, Falls, undone_one, undone_down};
 
 use fractal_vt::cmp;
+use kept_slab::KeptSlab;
 use rv_core::Naming;
-use slab::Slab;
 use spec_state::{State, Task};
 use std::cmp::Ordering;
 use undo_log::{Memory, undo};
 
 /// What stands under two ids, by its keys. An id with no task comes before all others.
-fn compare(tasks: &Slab<Task>, a: usize, b: usize) -> Ordering
+fn compare(tasks: &KeptSlab<Task>, a: usize, b: usize) -> Ordering
     ensures { result ≡ ids_cmp tasks.now.slots a b }
 {
     match (tasks.get(a), tasks.get(b)) {
@@ -31,7 +31,7 @@ fn compare(tasks: &Slab<Task>, a: usize, b: usize) -> Ordering
 }
 
 /// Puts the latest first.
-fn sort_latest_first(tasks: &Slab<Task>, ids: &mut [usize])
+fn sort_latest_first(tasks: &KeptSlab<Task>, ids: &mut [usize])
     ensures permutation { IsPermutation ids.old ids.new }
     ensures falls { Falls tasks.now.slots ids.new }
 {
@@ -39,7 +39,7 @@ fn sort_latest_first(tasks: &Slab<Task>, ids: &mut [usize])
 }
 
 /// Undoes the log of the task, where it is there and dispatched.
-fn undo_one(tasks: &Slab<Task>, memory: &mut Memory, id: usize)
+fn undo_one(tasks: &KeptSlab<Task>, memory: &mut Memory, id: usize)
     requires logs { let size = length memory.old in
         (k : ℕ) (task : Task) → get tasks.now k ≡ Some task → AllAccessible size task.log }
     ensures undone { memory.new ≡ undone_one (get tasks.now id) memory.old }
@@ -56,7 +56,7 @@ fn undo_one(tasks: &Slab<Task>, memory: &mut Memory, id: usize)
 }
 
 /// Undoes the logs of these, the first one first.
-fn undo_in_order(tasks: &Slab<Task>, memory: &mut Memory, ids: &[usize])
+fn undo_in_order(tasks: &KeptSlab<Task>, memory: &mut Memory, ids: &[usize])
     requires logs { let size = length memory.old in
         (k : ℕ) (task : Task) → get tasks.now k ≡ Some task → AllAccessible size task.log }
     ensures undone { memory.new ≡ undone_down tasks.now.slots ids.now memory.old }
@@ -68,7 +68,12 @@ fn undo_in_order(tasks: &Slab<Task>, memory: &mut Memory, ids: &[usize])
 }
 
 /// Undoes the logs of the first `found` members, the latest first, which puts these in that order.
-fn undo_latest_first(tasks: &Slab<Task>, memory: &mut Memory, members: &mut [usize], found: usize)
+fn undo_latest_first(
+    tasks: &KeptSlab<Task>,
+    memory: &mut Memory,
+    members: &mut [usize],
+    found: usize,
+)
     requires within { found ≤ length members.old }
     requires logs { let size = length memory.old in
         (k : ℕ) (task : Task) → get tasks.now k ≡ Some task → AllAccessible size task.log }

@@ -13,7 +13,7 @@ pub mod Kept
 pub mod Noted
 pub mod Left
 pub mod Renumbered
-pub mod Fresh
+pub mod Arriving
 pub mod Fronts
 pub mod Leasts
 pub mod Depths

@@ -137,3 +137,27 @@ root_formed version desc size commits tile task made is = subst (IsWellFormed si
       dispatched = refl;
       turn = λ turn index same. (let by : desc.name.creator ≡ turn = cc in omega (arith, by, is.by_image));
     })
+
+-- the same where the tile is told by another name
+pub adds_seen_at : (version : ℕ) (settings : Settings) (tasks : List (Option Task)) (memory : List ℕ) (history : List Entry) (output : List ℕ) (next : ℕ) (path : List Level)
+    (queues finished : List QueueValue) (cores : List (List (Option ℕ))) (blocks : List (List Spilled)) (now : List (Option Task)) (id : ℕ) (task : Task) (queue after : QueueValue)
+    (tile : ℕ) → tile ≡ task.tile → tile < length queues → queue ≡ slice_index_or queues tile queue → after.ids ≡ queue.ids ++ id ∷ []
+    → slice_index_or tasks id None ≡ None → slice_index_or now id None ≡ Some task → ((k : ℕ) → k ≢ id → slice_index_or now k None ≡ slice_index_or tasks k None)
+    → (view : View) → seen version settings tasks memory history output next path queues finished cores blocks ≡ view
+    → Adds id task view (seen version settings now memory history output next path (slice_set queues tile after) finished cores blocks)
+adds_seen_at version settings tasks memory history output next path queues finished cores blocks now id task queue after tile is_tile within is ids vacant changed others view same =
+    subst (λ (t : ℕ). Adds id task view (seen version settings now memory history output next path (slice_set queues t after) finished cores blocks)) (sym is_tile)
+    (adds_seen version settings tasks memory history output next path queues finished cores blocks now id task queue after (subst (λ (t : ℕ). t < length queues) is_tile within)
+    (subst (λ (t : ℕ). queue ≡ slice_index_or queues t queue) is_tile is) ids vacant changed others view same)
+
+pub entered_put_at : (tasks now : List (Option Task)) (queues : List QueueValue) (arrivals : List ℕ) (arrival : ℕ) (entries entries_now : List Indexed) (id : ℕ) (task kept : Task) (queue after : QueueValue)
+    (tile : ℕ) → tile ≡ task.tile → IsIndexed tasks (map (λ q. q.ids) queues) arrivals arrival entries → tile < length queues → queue ≡ slice_index_or queues tile queue → after.ids ≡ queue.ids ++ id ∷ []
+    → slice_index_or tasks id None ≡ None → slice_index_or now id None ≡ Some task → ((k : ℕ) → k ≢ id → slice_index_or now k None ≡ slice_index_or tasks k None) → id < length arrivals
+    → ((tile k : ℕ) → Contains (slice_index_or (map (λ q. q.ids) queues) tile []) k → k ≢ id) → slice_index_or now id None ≡ Some kept
+    → entries_now ≡ inserted entry_cmp (record { key = kept.key; tile = tile; arrival = arrival; id = id }) entries
+    → IsIndexed now (map (λ q. q.ids) (slice_set queues tile after)) (slice_set arrivals id arrival) (arrival + 1) entries_now
+entered_put_at tasks now queues arrivals arrival entries entries_now id task kept queue after tile is_tile is within there ids vacant changed others below unqueued found entries_are =
+    subst (λ (t : ℕ). IsIndexed now (map (λ q. q.ids) (slice_set queues t after)) (slice_set arrivals id arrival) (arrival + 1) entries_now) (sym is_tile)
+    (entered_put tasks now queues arrivals arrival entries entries_now id task kept queue after is (subst (λ (t : ℕ). t < length queues) is_tile within)
+    (subst (λ (t : ℕ). queue ≡ slice_index_or queues t queue) is_tile there) ids vacant changed others below unqueued found
+    (entries_are ∙ ap (λ (t : ℕ). inserted entry_cmp (record { key = kept.key; tile = t; arrival = arrival; id = id }) entries) is_tile))

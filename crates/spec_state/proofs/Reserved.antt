@@ -1,9 +1,10 @@
 -- A block with more room: what is seen of the blocks stays, and no room is less.
-use Rattle.std.proofs.Common.{◌≡◌, ◌<◌, ◌≤◌, ◌∷◌, ℕ, zero, suc, List, [], length, map, refl, sym, ap, ◌∙◌, arith, slice_index_or}
-use Rattle.std.specs.Prelude.{slice_set, IfSome, OnOk, Result, Ok, Err}
+use Rattle.std.proofs.Common.{◌≡◌, ◌+◌, ◌<◌, ◌≤◌, ◌∷◌, ℕ, zero, suc, List, [], length, map, refl, sym, ap, ◌∙◌, arith, slice_index_or}
+use Rattle.std.specs.Prelude.{slice_set, IfSome, IsSome, OnOk, Result, Ok, Err, Some, None, unwrap_or}
 use Rattle.std.proofs.Common.{Option}
 use Rattle.std.specs.declared.alloc.AllocError.{AllocError}
 use Rattle.spill_store.specs.Entries.{BlockValue}
+use Rattle.spec_state.specs.declared.task.Task.{Task}
 use Rattle.spec_state.specs.declared.task.TaskId.{TaskId}
 use Rattle.spec_state.specs.StateValue.{StateValue, CoversLog, CoversChild, Covers}
 
@@ -43,3 +44,31 @@ covered state task tile spare log child is (Err error) more = tt
 pub on_ok : {P Q : Type 0} (result : Result (Unit {0}) AllocError) → (P → Q) → OnOk result P → OnOk result Q
 on_ok (Ok done) weaker more = weaker more
 on_ok (Err error) weaker more = tt
+
+-- a larger buffer, where one was needed, has the room that is wanted, and no less than there was
+pub grown_covers : (made : Option ℕ) (items old : ℕ) → (made ≡ None → items ≤ old) → IfSome made (λ larger. (items ≤ larger) × (old ≤ larger))
+    → (items ≤ unwrap_or made old) × (old ≤ unwrap_or made old)
+grown_covers None items old none some = (none refl, omega arith)
+grown_covers (Some larger) items old none some = some
+
+module _ {X : Type 0} (slots : List (Option Task)) (listed : Task → List X) (count room : ℕ) where
+  fits_at : (found : Option Task) → IfSome found (λ t. count ≡ length (listed t) + 1) → count ≤ room → IfSome found (λ t. length (listed t) < room)
+  fits_at None is most = tt
+  fits_at (Some t) is most = omega (arith, is, most)
+
+  needs_at : (found : Option Task) → IsSome found → IfSome found (λ t. count ≡ length (listed t) + 1) → IfSome found (λ t. length (listed t) < room) → count ≤ room
+  needs_at None there is fits = absurd (cc (there))
+  needs_at (Some t) there is fits = omega (arith, is, fits)
+
+  -- one more of a task's list fits where the room is as large as was counted
+  pub one_more_fits : (task : Option TaskId) → IfSome task (λ id. IfSome (slice_index_or slots id.0 None) (λ t. count ≡ length (listed t) + 1)) → count ≤ room
+      → IfSome task (λ id. IfSome (slice_index_or slots id.0 None) (λ t. length (listed t) < room))
+  one_more_fits None is most = tt
+  one_more_fits (Some id) is most = fits_at (slice_index_or slots id.0 None) is most
+
+  -- and where it fits, as much room is there
+  pub room_is_there : (task : Option TaskId) → IfSome task (λ id. IsSome (slice_index_or slots id.0 None)) → (task ≡ None → count ≡ 0)
+      → IfSome task (λ id. IfSome (slice_index_or slots id.0 None) (λ t. count ≡ length (listed t) + 1))
+      → IfSome task (λ id. IfSome (slice_index_or slots id.0 None) (λ t. length (listed t) < room)) → count ≤ room
+  room_is_there None there none is fits = (let zero_is = none refl in omega (arith, zero_is))
+  room_is_there (Some id) there none is fits = needs_at (slice_index_or slots id.0 None) there is fits

@@ -1,24 +1,23 @@
 //! A task that comes to be.
 
-ghost use Rattle.std.specs.Prelude.{◌≡◌, ◌<◌, [], ◌∷◌, ◌++◌, length, Contains, IsOk, IfOk};
+ghost use Rattle.std.specs.Prelude.{◌≡◌, ◌+◌, ◌<◌, [], ◌∷◌, ◌++◌, length, Contains, IsOk, IfOk, None, Some};
+ghost use Rattle.slab.specs.Slab.{get, slab_len, HasRoomFor, Updates};
 ghost use Rattle.spec_state.specs.declared.task.Creator.TheVariants.{Committed};
-ghost use Rattle.spec_state.specs.declared.task.Status.TheVariants.{Idle};
 ghost use Rattle.spec_state.specs.Tasks.{idle_task, root_descriptor};
 ghost use Rattle.spec_state.specs.Stored.{IsWellFormed};
 ghost use Rattle.spec_state.specs.Opening.{Adds, IsOfImage};
 ghost use Rattle.spec_state.specs.Room.{HasFreeEntry};
 
 use crate::arrival::fresh_arrival;
-use crate::emitted::Emitted;
+use crate::fresh::Fresh;
 use crate::state::State;
-use crate::task::{Creator, Spawns, Status, Task, TaskId};
-use fractal_vt::Key;
-use line_table::Signature;
-use rv_core::{Core, Naming};
-use std::alloc::{AllocError, Global};
+use crate::task::{Creator, Task, TaskId};
+use fractal_vt::Vt;
+use kept_slab::KeptSlab;
+use rv_core::Naming;
+use std::alloc::AllocError;
 use task_desc::Desc;
 use tile_queues::TaskQueue;
-use undo_log::Log;
 
 /// Puts an id that is not there into a queue with a free entry, as the last one.
 fn put_last(queue: &mut TaskQueue, id: usize)
@@ -29,44 +28,53 @@ fn put_last(queue: &mut TaskQueue, id: usize)
     let _ = queue.put(id);
 }
 
-/// An idle task of the root domain with a committed creator, in a tile. It takes no memory.
-fn root_task(alloc: Global, version: u16, desc: &Desc, tile: u32) -> Task
+/// An idle task of the root domain with a committed creator, in a tile.
+fn root_task(version: u16, desc: &Desc, tile: u32) -> Fresh
     ensures { let name = desc.now.name in
         result ≡ idle_task version (root_descriptor desc.now) (Committed name.creator name.index) tile }
 {
-    Task {
+    Fresh {
+        version,
         entry: desc.entry,
         args: desc.args,
         hint: desc.hint,
         kinds: desc.kinds,
-        key: Key::root(desc.ts),
+        domain: Vt::empty(),
+        ts: desc.ts,
         creator: Creator::Committed {
             turn: desc.name.creator,
             index: desc.name.index,
         },
         tile,
-        status: Status::Idle,
-        core: Core::start(version, desc.entry, desc.ts, desc.args),
-        log: Log::new(alloc),
-        lines: Signature::new(),
-        spawns: Spawns::new(alloc),
-        bytes: Emitted::new(),
-        sub: None,
     }
+}
+
+/// Puts an idle task under the next id, for which there is room, in the place of one that has left. It takes no
+/// memory.
+fn put_in(tasks: &mut KeptSlab<Task>, task: &Fresh) -> usize
+    requires { HasRoomFor tasks.old 1 }
+    ensures was_vacant { get tasks.old result ≡ None }
+    ensures updates { Updates tasks.old tasks.new result (Some task.now) }
+    ensures len { slab_len tasks.new ≡ slab_len tasks.old + 1 }
+    ensures key_in_range { result < tasks.new.capacity }
+    ensures capacity { tasks.new.capacity ≡ tasks.old.capacity }
+{
+    let id = tasks.insert_spare();
+    task.write_to(&mut tasks[id]);
+    id
 }
 
 impl<N: Naming> State<N> {
     /// Puts an idle task under a free id, as the last one of the task queue of its tile, which has a free entry. It
     /// takes no memory.
-    pub fn put(&mut self, task: Task) -> TaskId
-        requires tile { task.tile < self.old.view.settings.tiles }
-        requires free { HasFreeEntry self.old.view task.tile }
-        requires idle { task.status ≡ Idle }
-        requires formed { IsWellFormed N.image.data_size (length self.old.view.history) task }
-        ensures adds { Adds result.0 task self.old.view self.new.view }
+    pub fn put(&mut self, task: &Fresh) -> TaskId
+        requires tile { task.now.tile < self.old.view.settings.tiles }
+        requires free { HasFreeEntry self.old.view task.now.tile }
+        requires formed { IsWellFormed N.image.data_size (length self.old.view.history) task.now }
+        ensures adds { Adds result.0 task.now self.old.view self.new.view }
         ensures room { self.new.room ≡ self.old.room }
     {
-        let tile = task.tile;
+        let tile = task.tile();
         let arrival = fresh_arrival(
             &mut self.index,
             &mut self.arrivals,
@@ -75,7 +83,7 @@ impl<N: Naming> State<N> {
             self.settings.task_queue,
             self.next_arrival,
         );
-        let id = self.tasks.insert_reserved(task);
+        let id = put_in(&mut self.tasks, task);
         put_last(&mut self.queues[tile as usize], id);
         self.arrivals[id] = arrival;
         self.index.insert(&self.tasks[id].key, tile, arrival, id);
@@ -97,6 +105,6 @@ impl<N: Naming> State<N> {
         ensures covered { IsOk result }
         ensures room { self.new.room ≡ self.old.room }
     {
-        Ok(self.put(root_task(self.alloc, self.version, desc, tile)))
+        Ok(self.put(&root_task(self.version, desc, tile)))
     }
 }

@@ -9,7 +9,7 @@ ghost use Rattle.spec_state.specs.Stored.{IsIndexed, AreTheirs, AreBelow, KeepsO
 
 use crate::task::Task;
 use commit_arbiter::Index;
-use slab::Slab;
+use kept_slab::KeptSlab;
 use tile_queues::TaskQueue;
 
 /// Enters a task of the index anew, under its key and this arrival number.
@@ -47,7 +47,7 @@ fn move_arrival(index: &mut Index, arrivals: &mut Vec<u64>, task: &Task, id: usi
 fn renumber_queue(
     index: &mut Index,
     arrivals: &mut Vec<u64>,
-    tasks: &Slab<Task>,
+    tasks: &KeptSlab<Task>,
     queues: &[TaskQueue],
     tile: usize,
     next: u64,
@@ -79,7 +79,7 @@ fn renumber_queue(
 pub(crate) fn fresh_arrival(
     index: &mut Index,
     arrivals: &mut Vec<u64>,
-    tasks: &Slab<Task>,
+    tasks: &KeptSlab<Task>,
     queues: &[TaskQueue],
     longest: u32,
     next: u64,

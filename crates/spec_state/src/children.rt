@@ -8,7 +8,7 @@ ghost use Rattle.spec_state.specs.Children.{Notes, NotesAt, noted_of};
 
 use crate::task::{Creator, Task};
 use arrayvec::ArrayVec;
-use slab::Slab;
+use kept_slab::KeptSlab;
 use std::alloc::{AllocError, Global};
 use std::marker::Model;
 use task_desc::MAX_CHILDREN;
@@ -82,7 +82,7 @@ impl Places {
 }
 
 /// Whether the child at this place of the task of this id stands under this key.
-fn is_child_at(tasks: &Slab<Task>, key: usize, id: usize, place: usize) -> bool
+fn is_child_at(tasks: &KeptSlab<Task>, key: usize, id: usize, place: usize) -> bool
     ensures { IsTrue result ↔ IsChildAt id place (get tasks.now key) }
 {
     match tasks.get(key) {
@@ -142,7 +142,7 @@ impl Children {
     }
 
     /// Whether no other child than the one of this id stands where the child at this place of this creator was noted.
-    fn is_free(&self, tasks: &Slab<Task>, id: usize, creator: usize, place: usize) -> bool
+    fn is_free(&self, tasks: &KeptSlab<Task>, id: usize, creator: usize, place: usize) -> bool
         ensures { IsTrue result ↔ IsFree tasks.now.slots id creator place self.now }
     {
         match self.noted(creator, place) {
@@ -165,7 +165,7 @@ impl Children {
 
     /// Notes the child at this place of this creator, which stands under the id, where all others are noted. The notes
     /// stay complete exactly where it can be noted.
-    fn note_child(&mut self, tasks: &Slab<Task>, id: usize, creator: usize, place: usize)
+    fn note_child(&mut self, tasks: &KeptSlab<Task>, id: usize, creator: usize, place: usize)
         requires child { IsChildAt creator place (get tasks.now id) }
         requires others { AreNotedBut id tasks.now.slots self.old }
         ensures noted { AreNoted tasks.now.slots self.new }
@@ -181,7 +181,7 @@ impl Children {
 
     /// Notes what stands under the id, where all others are noted. The notes stay complete exactly where that is no
     /// child, or can be noted.
-    pub(crate) fn note(&mut self, tasks: &Slab<Task>, id: usize)
+    pub(crate) fn note(&mut self, tasks: &KeptSlab<Task>, id: usize)
         requires { AreNotedBut id tasks.now.slots self.old }
         ensures noted { AreNoted tasks.now.slots self.new }
         ensures complete { IsTrue self.new.complete ↔ (IsTrue self.old.complete

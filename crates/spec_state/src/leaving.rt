@@ -1,6 +1,6 @@
 //! A task that leaves its lists, or is idle again.
 
-ghost use Rattle.std.specs.Prelude.{◌≡◌, ◌+◌, ◌<◌, Contains, IsSome, Some, length, map};
+ghost use Rattle.std.specs.Prelude.{◌≡◌, ◌+◌, ◌<◌, Contains, IsSome, length, map};
 ghost use Rattle.tile_queues.specs.Queue.{without};
 ghost use Rattle.spec_state.specs.declared.task.Status.TheVariants.{Finished};
 ghost use Rattle.spec_state.specs.View.{core_ids, task_at};
@@ -65,20 +65,20 @@ fn reset(task: &mut Task, version: u16)
 impl<N: Naming> State<N> {
     /// Takes a task out: of the slab, of its queue, of the index, and of its core or its commit
     /// queue. It takes no memory.
-    pub fn take_out(&mut self, id: TaskId) -> Task
+    pub fn take_out(&mut self, id: TaskId)
         requires live { IsSome (task_at self.old.view id.0) }
-        ensures task { task_at self.old.view id.0 ≡ Some result }
         ensures leaves { Leaves id.0 self.old.view self.new.view }
         ensures room { self.new.room ≡ self.old.room }
         ensures scratch { self.new.scratch ≡ self.old.scratch }
     {
-        let task = self.tasks.remove(id.0);
+        let task = &self.tasks[id.0];
         let tile = task.tile as usize;
+        let status = task.status;
+        self.tasks.remove(id.0);
         leave_queue(&mut self.queues[tile], id.0);
-        leave_commits(&mut self.finished[tile], task.status, id.0);
-        leave_core(&mut self.cores[tile], task.status, id.0);
+        leave_commits(&mut self.finished[tile], status, id.0);
+        leave_core(&mut self.cores[tile], status, id.0);
         self.index.remove(id.0);
-        task
     }
 
     /// Makes a task idle again, in its own entry of its queue and with its arrival number: its core

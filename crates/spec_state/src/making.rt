@@ -15,9 +15,9 @@ use crate::task::TaskId;
 use commit_arbiter::Index;
 use fractal_vt::Vt;
 use guest_image::Image;
+use kept_slab::KeptSlab;
 use rv_core::{Decoded, Naming};
 use serial_machine::Bytes;
-use slab::Slab;
 use spill_store::Blocks;
 use std::alloc::{AllocError, Global};
 use std::marker::PhantomData;
@@ -94,7 +94,7 @@ impl<N: Naming> State<N> {
         ensures { IfOk result (λ state. IsEmptyView N.image settings state.view) }
     {
         let entries = entries_of(&settings);
-        let tasks = Slab::with_capacity(alloc, entries as usize)?;
+        let tasks = KeptSlab::with_capacity(alloc, entries as usize)?;
         let slots = tasks.capacity();
         Ok(State {
             version: image.version(),

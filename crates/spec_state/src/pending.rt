@@ -10,9 +10,9 @@ ghost use Rattle.spec_state.specs.Pendings.{spilled_pending, pendings_in};
 
 use crate::state::State;
 use crate::task::{Creator, Task};
+use kept_slab::KeptSlab;
 use run_journal::Items;
 use rv_core::Naming;
-use slab::Slab;
 use spill_store::Block;
 use std::alloc::AllocError;
 use task_desc::{Desc, Name};
@@ -55,7 +55,7 @@ fn pending_of(task: &Task) -> Option<Pending>
 }
 
 /// The queued task under an id as one that pends; None where there is none, and where its creator has not committed.
-fn queued_at(tasks: &Slab<Task>, id: usize) -> Option<Pending>
+fn queued_at(tasks: &KeptSlab<Task>, id: usize) -> Option<Pending>
     ensures { result ≡ pending_queued (get tasks.now id) }
 {
     match tasks.get(id) {
@@ -92,7 +92,7 @@ fn add(list: &mut Vec<Pending>, task: Option<Pending>) -> Result<(), AllocError>
 }
 
 /// Adds the queued tasks that pend, by their ids.
-fn add_queued(list: &mut Vec<Pending>, tasks: &Slab<Task>) -> Result<(), AllocError>
+fn add_queued(list: &mut Vec<Pending>, tasks: &KeptSlab<Task>) -> Result<(), AllocError>
     ensures { OnOk result (list.new.items ≡ list.old.items ++ filter_map pending_queued tasks.now.slots) }
 {
     for id in 0..tasks.capacity() {

@@ -5,9 +5,9 @@ use crate::settings::Settings;
 use crate::task::{Task, TaskId};
 use commit_arbiter::Index;
 use fractal_vt::Vt;
+use kept_slab::KeptSlab;
 use rv_core::{Decoded, Naming};
 use serial_machine::Bytes;
-use slab::Slab;
 use spill_store::Blocks;
 use std::alloc::Global;
 use std::marker::{Model, PhantomData};
@@ -31,7 +31,7 @@ pub struct State<N: Naming> {
     /// How large it is and how far it runs.
     pub settings: Settings,
     /// The uncommitted tasks that aren't spilled, by their ids.
-    pub tasks: Slab<Task>,
+    pub tasks: KeptSlab<Task>,
     /// The data memory, with the stores of all dispatched tasks.
     pub memory: Memory,
     /// The committed tasks, in the order of their commits.

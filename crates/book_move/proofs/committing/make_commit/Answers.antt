@@ -1,5 +1,6 @@
-use Rattle.std.proofs.Common.{◌≡◌, subst}
+use Rattle.std.proofs.Common.{◌≡◌, ap, subst}
 use Rattle.std.specs.Prelude.{IfSome}
+use Rattle.spec_state.specs.StateValue.{StateValue}
 use Rattle.step_law.proofs.Proved.{below_limit, least_is_committed}
 use Rattle.book_move.proofs.Committed.{commit_runs_out, committed}
 use Rattle.book_move.proofs.committing.make_commit.Goals as goal
@@ -25,4 +26,5 @@ returns-in-Ok g c =
 pub returns-in-Err : goal.returns-in-Err
 returns-in-Err g c =
     let is = c.requires.finished in
-    commit_runs_out g.row.N.Denot c.args.state.now.view c.requires.goes_on c.args.id.0 is.0 is.1 is.2 c.commit.new.state.view c.in-Err.ensures.err
+    commit_runs_out g.row.N.Denot c.args.state.now.view c.requires.goes_on c.args.id.0 is.0 is.1 is.2 c.commit.new.state.view
+    (ap (λ (s : StateValue). s.view) c.in-Err.ensures.err)

@@ -1,3 +1,5 @@
+use Rattle.std.proofs.Common.{ap}
+use Rattle.spec_state.specs.StateValue.{StateValue}
 use Rattle.book_move.proofs.Moved.{coalesce_runs_out, coalesced}
 use Rattle.book_move.proofs.spilling.make_coalesce.Goals as goal
 
@@ -9,4 +11,4 @@ returns-in-Ok g c =
 pub returns-in-Err : goal.returns-in-Err
 returns-in-Err g c =
     coalesce_runs_out g.row.N.Denot c.args.state.now.view c.requires.goes_on c.args.tile c.requires.some.0 c.requires.some.1 c.coalesce.new.state.view
-    c.in-Err.ensures.err
+    (ap (λ (s : StateValue). s.view) c.in-Err.ensures.err)

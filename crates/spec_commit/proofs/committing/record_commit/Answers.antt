@@ -6,7 +6,7 @@ use Rattle.spec_commit.proofs.committing.record_commit.Goals as goal
 
 pub invariant_of-state : goal.invariant_of-state
 invariant_of-state g c =
-    let entries = ap (λ (h : HistoryValue). length h.entries) c.push.ensures ∙ length_push c.state.inside.history.entries c.args.entry in (
+    let entries = ap (λ (h : HistoryValue). length h.entries) c.push.ensures ∙ length_push c.state.inside.history.entries c.entry_of-entry.result in (
       subst (HasLimits g.N.Naming.budget g.N.Naming.commits c.state.inside.settings) (ap (λ (h : HistoryValue). h.limit) (sym c.push.ensures)) c.state.invariant.0,
       c.state.invariant.1,
       c.state.invariant.2,

@@ -6,8 +6,8 @@ use Rattle.spec_rollback.proofs.ending.remove_marked.Goals as goal
 pub loop-place-init : goal.loop-place-init
 loop-place-init g c = record { removes = none_removed c.args.state.now.view; scratch = refl }
 
-pub take_out-gone-requires : goal.take_out-gone-requires
-take_out-gone-requires g c =
+pub take_out-requires : goal.take_out-requires
+take_out-requires g c =
     record {
       live = member_stays c.args.state.now.scratch c.args.found c.requires.listed c.loop-place.place c.member.result
           (omega arith)
@@ -23,8 +23,8 @@ loop-place-preserved g c =
           c.member.result (omega arith)
           (ap (λ (s : Scratch). slice_get s.members c.loop-place.place) (sym c.loop-place.invariant.scratch)
           ∙ c.member.ensures) c.requires.once c.args.state.now.view c.loop-place.state.view
-          c.loop-place.invariant.removes c.take_out-gone.new.self.view c.take_out-gone.ensures.leaves;
-      scratch = c.take_out-gone.ensures.scratch ∙ c.loop-place.invariant.scratch;
+          c.loop-place.invariant.removes c.take_out.new.self.view c.take_out.ensures.leaves;
+      scratch = c.take_out.ensures.scratch ∙ c.loop-place.invariant.scratch;
     }
 
 pub returns : goal.returns

@@ -2,7 +2,7 @@ use Rattle.std.proofs.Common.{rules, ◌<◌, [], ap, length, arith}
 use Rattle.std.proofs.lemmas.List.{length-map}
 use Rattle.tile_queues.specs.Queue.{QueueValue}
 use Rattle.spec_state.proofs.Joined.{ids_at}
-use Rattle.spec_state.proofs.Fresh.{next_tile, all_early, none_yet}
+use Rattle.spec_state.proofs.Arriving.{next_tile, all_early, none_yet}
 use Rattle.spec_state.proofs.arrival.fresh_arrival.Goals as goal
 
 pub loop-tile-init : goal.loop-tile-init

@@ -1,6 +1,6 @@
 use Rattle.std.proofs.Common.{◌≡◌, ◌≤◌, length, map}
 use Rattle.spec_state.specs.Stored.{IsIndexed}
-use Rattle.spec_state.proofs.Fresh.{AllBelow}
+use Rattle.spec_state.proofs.Arriving.{AllBelow}
 use Rattle.spec_state.proofs.arrival.fresh_arrival.Given as goal
 
 abbrev pub invariant-loop-tile : goal.invariant-loop-tile

@@ -1,10 +1,10 @@
-use Rattle.std.proofs.Common.{rules, ◌<◌, ◌≤◌, ap, sym, subst, ◌∙◌, List, map, length, slice_index_or, arith}
+use Rattle.std.proofs.Common.{rules, ◌<◌, ◌≤◌, ℕ, ap, sym, subst, ◌∙◌, List, map, length, slice_index_or, arith}
 use Rattle.std.proofs.lemmas.List.{get_or-set_same}
 use Rattle.spec_state.specs.View.{core_ids}
 use Rattle.spill_store.specs.Entries.{Entry as Spilled, BlockValue}
 use Rattle.spec_state.specs.StateValue.{StateValue, HasNoLessRoom}
 use Rattle.spec_state.specs.Fits.{seen}
-use Rattle.spec_state.proofs.Reserved.{same_entries, spare_at, spare_before, spare_grows, covered, on_ok}
+use Rattle.spec_state.proofs.Reserved.{same_entries, spare_at, spare_grows, grown_covers, one_more_fits, room_is_there}
 use Rattle.spec_state.proofs.state.State.reserve.Goals as goal
 
 pub returns-clause-view : goal.returns-clause-view
@@ -20,23 +20,33 @@ returns-clause-covers g c =
     let r = c.reserve.ensures.one in
     let within : c.args.tile < length c.self.inside.blocks.items = search rules in
     let here = sym (ap (λ (bs : List BlockValue). slice_index_or bs c.args.tile r.after) r.one.now ∙ get_or-set_same c.self.inside.blocks.items c.args.tile r.after r.after within) in
-    covered _ c.args.task c.args.tile r.after.spare c.in_ok-cover_task.ensures.log c.in_ok-cover_task.ensures.child
-    (ap (λ (bs : List BlockValue). slice_index_or (map (λ (b : BlockValue). b.spare) bs) c.args.tile 0) r.one.now ∙ spare_at c.self.inside.blocks.items c.args.tile r.after within) c.reserve.result
-    (on_ok c.reserve.result (λ all. all r.after here) c.reserve.ensures.spare)
+    let spare = ap (λ (bs : List BlockValue). slice_index_or (map (λ (b : BlockValue). b.spare) bs) c.args.tile 0) r.one.now ∙ spare_at c.self.inside.blocks.items c.args.tile r.after within in
+    let most = c.in_ok-reserve.ensures.spare r.after here in
+    let log = grown_covers c.in_ok-log.log c.next_access-accesses.result c.self.inside.buffers.log c.in_ok-log.ensures.none c.in_ok-log.ensures.some in
+    let spawns = grown_covers c.in_ok-spawns.spawns c.next_child-children.result c.self.inside.buffers.spawns c.in_ok-spawns.ensures.none c.in_ok-spawns.ensures.some in
+    record {
+      log = one_more_fits c.self.inside.tasks.slots (λ t. t.log) _ _ c.args.task c.next_access-accesses.ensures.some
+          (subst (λ (n : ℕ). c.next_access-accesses.result ≤ n) (sym c.cover.ensures.log) log.0);
+      child = one_more_fits c.self.inside.tasks.slots (λ t. t.spawns) _ _ c.args.task c.next_child-children.ensures.some
+          (subst (λ (n : ℕ). c.next_child-children.result ≤ n) (sym c.cover.ensures.spawns) spawns.0);
+      pushes = omega (arith, spare, most);
+    }
 
 pub returns-clause-stays : goal.returns-clause-stays
 returns-clause-stays g c =
     let r = c.reserve.ensures.one in
+    let log = grown_covers c.in_ok-log.log c.next_access-accesses.result c.self.inside.buffers.log c.in_ok-log.ensures.none c.in_ok-log.ensures.some in
+    let spawns = grown_covers c.in_ok-spawns.spawns c.next_child-children.result c.self.inside.buffers.spawns c.in_ok-spawns.ensures.none c.in_ok-spawns.ensures.some in
     subst (λ (v : StateValue). HasNoLessRoom v.room (record {
-      log = c.cover_task.new.buffers.log;
-      spawns = c.cover_task.new.buffers.spawns;
-      output = c.cover_task.new.buffers.output;
+      log = c.cover.new.self.log;
+      spawns = c.cover.new.self.spawns;
+      output = c.cover.new.self.output;
       blocks = map (λ (b : BlockValue). b.spare) c.reserve.new.self.items;
     })) c.self.view_is
     (record {
-      log = c.in_ok-cover_task.ensures.log_stays;
-      spawns = c.in_ok-cover_task.ensures.spawns_stay;
-      output = (let same = c.in_ok-cover_task.ensures.output_stays in omega (arith, same));
+      log = subst (λ (n : ℕ). c.self.inside.buffers.log ≤ n) (sym c.cover.ensures.log) log.1;
+      spawns = subst (λ (n : ℕ). c.self.inside.buffers.spawns ≤ n) (sym c.cover.ensures.spawns) spawns.1;
+      output = (let same = c.cover.ensures.output in omega (arith, same));
       blocks = λ k. subst (λ (bs : List BlockValue). slice_index_or (map (λ (b : BlockValue). b.spare) c.self.inside.blocks.items) k 0 ≤ slice_index_or (map (λ (b : BlockValue). b.spare) bs) k 0) (sym r.one.now)
           (spare_grows c.self.inside.blocks.items c.args.tile r.before r.after r.one.was r.stays k);
     })
