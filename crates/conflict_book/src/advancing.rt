@@ -1,6 +1,6 @@
 //! The events for the least task.
 
-ghost use Rattle.std.specs.Prelude.{◌≡◌, ◌+◌, ◌*◌, ℕ, List, IfSome, IsNone, map};
+ghost use Rattle.std.specs.Prelude.{◌≡◌, ◌≤◌, ◌+◌, ◌*◌, ℕ, List, IfSome, IsNone, map};
 ghost use Rattle.place_policy.specs.Policy.{Policy};
 ghost use Rattle.trace_tap.specs.Reading.{Reading};
 ghost use Rattle.spec_law.specs.Sound.{Sound};
@@ -8,7 +8,7 @@ ghost use Rattle.spec_state.specs.declared.task.Task.{Task};
 ghost use Rattle.spec_state.specs.declared.task.Where.TheVariants as where_;
 ghost use Rattle.spec_state.specs.Least.{IsLeast, IsLeastTask, IsLeastSpilled};
 ghost use Rattle.spec_state.specs.Settings.{IsValid};
-ghost use Rattle.book_event.specs.Advancing.{AdvanceAnswers, IsLegFrom};
+ghost use Rattle.book_event.specs.Advancing.{AdvanceAnswers, HasRest, IsLegFrom};
 ghost use Rattle.book_event.specs.End.{IsOver};
 ghost use Rattle.book_move.specs.Moving.{book_of};
 ghost use Rattle.conflict_book.specs.Halting.{FallsIfMoved, GoesOn, NextComes, RunsLeast};
@@ -24,33 +24,34 @@ use book_room::end_with;
 use book_step::make_step;
 use guest_image::Image;
 use place_policy::Placer;
-use rv_core::{Leg, Naming, run_leg_decoded};
+use rv_core::{Leg, Naming};
 use serial_machine::End;
 use spec_state::{Settings, State, TaskId, Where};
 use trace_tap::{Deed, Record, Tap};
 
-/// The leg of a running task from its kept core, with the quantum of the settings.
-fn leg_of<N: Naming>(state: &State<N>, image: &Image, id: TaskId) -> Leg<N>
+/// Runs the leg of a running task from its kept core, with the quantum of the settings.
+fn run_leg_of<N: Naming>(leg: &mut Leg<N>, state: &State<N>, image: &Image, id: TaskId)
     requires sound { Sound N.image state.now.view }
     requires image { image.now ≡ N.image }
     requires least { IsLeast state.now.view (where_.Running id) }
     ensures { (task : Task) → IsLeastTask state.now.view id.0 task
-        → IsLegFrom N.image state.now.view task result }
+        → IsLegFrom N.image state.now.view task leg.new }
 {
     has_limits(state);
     let settings = state.settings();
-    run_leg_decoded(
+    leg.run_again(
         &state.decoded,
         image,
         &state.task(id).core,
         settings.quantum,
         settings.budget,
-    )
+    );
 }
 
 /// A leg of the least task, which runs.
 fn step_least<N: Naming, P: Placer>(
     state: &mut State<N>,
+    leg: &mut Leg<N>,
     placers: &mut [P],
     image: &Image,
     id: TaskId,
@@ -65,8 +66,8 @@ fn step_least<N: Naming, P: Placer>(
         (map P.policy placers.new) }
 {
     let tile = state.tile_of(id);
-    let leg = leg_of(state, image, id);
-    make_step(state, placers, tile, id, &leg)
+    run_leg_of(leg, state, image, id);
+    make_step(state, placers, tile, id, leg)
 }
 
 /// The dispatch of the least task, which is idle.
@@ -116,6 +117,7 @@ fn split_least<N: Naming>(state: &mut State<N>, tile: u32) -> Came
 /// The event for the least task, where the run isn't over.
 fn come_least<N: Naming, P: Placer>(
     state: &mut State<N>,
+    leg: &mut Leg<N>,
     placers: &mut Vec<P>,
     image: &Image,
     least: Where,
@@ -131,7 +133,7 @@ fn come_least<N: Naming, P: Placer>(
 {
     match least {
         Where::Idle(id) => dispatch_least(state, id),
-        Where::Running(id) => step_least(state, placers.as_mut_slice(), image, id),
+        Where::Running(id) => step_least(state, leg, placers.as_mut_slice(), image, id),
         Where::Finished(id) => commit_least(state, placers, id),
         Where::Spilled(tile) => split_least(state, tile),
         Where::Trapped(_) => unreachable!(),
@@ -159,7 +161,10 @@ impl<N: Naming> SoundState<N> {
             return Next::Over(end);
         }
         match least {
-            Some(stands) => Next::Came(come_least(&mut self.state, placers, image, stands)),
+            Some(stands) => {
+                let SoundState { state, leg, .. } = self;
+                Next::Came(come_least(state, leg, placers, image, stands))
+            }
             None => unreachable!(),
         }
     }
@@ -221,13 +226,15 @@ impl<N: Naming, P: Placer, T: Tap> Book<N, P, T> {
     /// Makes the event for the least task: a split where it is spilled, a dispatch where it is idle, a leg where it
     /// runs, and its commit where it is finished. `Ended` where the run is over, and `Memory` where memory runs
     /// out or the book was stopped; nothing changes then. Less is left up to the next commit after each event
-    /// but that.
+    /// but that, and never more than the task budget and 4.
     pub fn advance(&mut self, image: &Image) -> Advance
         requires image { image.now ≡ N.image }
         ensures answers { let old = view_of P.policy T.reading self.old in
             AdvanceAnswers N N.image old result (view_of P.policy T.reading self.new) }
         ensures falls { let old = view_of P.policy T.reading self.old in
             FallsIfMoved result old.view (view_of P.policy T.reading self.new).view }
+        ensures bound { let new = view_of P.policy T.reading self.new in
+            (left : ℕ) → HasRest new.view left → left ≤ new.view.settings.budget + 4 }
         ensures settings { let old = view_of P.policy T.reading self.old in
             (view_of P.policy T.reading self.new).view.settings ≡ old.view.settings }
     {

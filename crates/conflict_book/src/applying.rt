@@ -1,15 +1,18 @@
 //! Events that are handed in.
 
-ghost use Rattle.std.specs.Prelude.{◌≡◌, ◌+◌, ◌≤◌, ◌++◌, ◌∷◌, [], All, IfOk, OnErr};
+ghost use Rattle.std.specs.Prelude.{◌≡◌, ◌+◌, ◌<◌, ◌≤◌, ◌++◌, ◌∷◌, [], All, IfOk, OnErr};
 ghost use Rattle.std.specs.Prelude.{length, map, vec_capacity};
 ghost use Rattle.book_event.specs.Happens.{Happens, HappenAll};
+ghost use Rattle.book_event.specs.declared.event.Event.TheVariants as event;
+ghost use Rattle.conflict_book.specs.Legless.{event_of};
 ghost use Rattle.conflict_book.specs.Ranges.{IsInRange};
 ghost use Rattle.conflict_book.specs.Seen.{told, view_of};
 
 use crate::book::Book;
+use crate::legless::Legless;
 use book_event::{Applied, Came, Event, Reply};
 use place_policy::Placer;
-use rv_core::Naming;
+use rv_core::{Leg, Naming};
 use std::alloc::AllocError;
 use trace_tap::{Record, Tap, note_all};
 
@@ -35,13 +38,13 @@ impl<N: Naming, P: Placer, T: Tap> Book<N, P, T> {
         note_all(self.taps.as_mut_slice(), seen);
     }
 
-    /// The same as `apply`, of an event that the caller keeps.
-    fn apply_kept(&mut self, event: &Event<N>) -> Applied
+    /// Makes an event without a leg, as `apply` does.
+    pub fn apply_legless(&mut self, event: Legless) -> Applied
         requires given { let old = view_of P.policy T.reading self.old in
-            IsInRange old.view.settings event.now }
+            IsInRange {N = N} old.view.settings (event_of event) }
         ensures happens { let old = view_of P.policy T.reading self.old in
             let new = view_of P.policy T.reading self.new in
-            Happens old event.now result.reply result.aborted new }
+            Happens {N = N} old (event_of event) result.reply result.aborted new }
         ensures settings { let old = view_of P.policy T.reading self.old in
             (view_of P.policy T.reading self.new).view.settings ≡ old.view.settings }
     {
@@ -60,6 +63,54 @@ impl<N: Naming, P: Placer, T: Tap> Book<N, P, T> {
                 }
             }
             Came::Refused(reply) => Applied { reply, aborted: 0 },
+        }
+    }
+
+    /// Hands in a leg that the caller keeps, as `apply` does with a step.
+    pub fn apply_step(&mut self, tile: u32, core: u32, leg: &Leg<N>) -> Applied
+        requires tile { tile < (view_of P.policy T.reading self.old).view.settings.tiles }
+        requires core { core < (view_of P.policy T.reading self.old).view.settings.cores }
+        ensures happens { let old = view_of P.policy T.reading self.old in
+            let new = view_of P.policy T.reading self.new in
+            Happens {N = N} old (event.Step tile core leg.now) result.reply result.aborted new }
+        ensures settings { let old = view_of P.policy T.reading self.old in
+            (view_of P.policy T.reading self.new).view.settings ≡ old.view.settings }
+    {
+        if self.stopped {
+            return Applied {
+                reply: Reply::Memory,
+                aborted: 0,
+            };
+        }
+        match self.sound.come_step(&mut self.placers, tile, core, leg) {
+            Came::Made(seen) => {
+                self.note(&seen);
+                Applied {
+                    reply: Reply::Ok,
+                    aborted: seen.aborted,
+                }
+            }
+            Came::Refused(reply) => Applied { reply, aborted: 0 },
+        }
+    }
+
+    /// The same as `apply`, of an event that the caller keeps.
+    fn apply_kept(&mut self, event: &Event<N>) -> Applied
+        requires given { let old = view_of P.policy T.reading self.old in
+            IsInRange old.view.settings event.now }
+        ensures happens { let old = view_of P.policy T.reading self.old in
+            let new = view_of P.policy T.reading self.new in
+            Happens old event.now result.reply result.aborted new }
+        ensures settings { let old = view_of P.policy T.reading self.old in
+            (view_of P.policy T.reading self.new).view.settings ≡ old.view.settings }
+    {
+        match event {
+            Event::Step { tile, core, leg } => self.apply_step(*tile, *core, leg),
+            Event::Dispatch { tile } => self.apply_legless(Legless::Dispatch { tile: *tile }),
+            Event::Abort { tile } => self.apply_legless(Legless::Abort { tile: *tile }),
+            Event::Commit => self.apply_legless(Legless::Commit),
+            Event::Coalesce { tile } => self.apply_legless(Legless::Coalesce { tile: *tile }),
+            Event::Split { tile } => self.apply_legless(Legless::Split { tile: *tile }),
         }
     }
 

@@ -3,16 +3,18 @@ ghost use Rattle.book_event.specs.Book.{counted};
 ghost use Rattle.spec_law.specs.Sound.{Sound};
 
 use place_policy::Placer;
-use rv_core::Naming;
+use rv_core::{Leg, Naming};
 use spec_state::State;
 use std::marker::Model;
 use trace_tap::Tap;
 
-/// A sound state, and how many events have been made on it, up to 2^64 - 1. Its type keeps the soundness.
+/// A sound state, and how many events have been made on it, up to 2^64 - 1. Its type keeps the soundness. Beside them
+/// stands the leg that was run last for the least task, whose place serves the next one.
 #[derive(Drop)]
 pub struct SoundState<N: Naming> {
     pub(crate) state: State<N>,
     pub(crate) steps: u64,
+    pub(crate) leg: Leg<N>,
 }
 
 impl<N: Naming> Model for SoundState<N> {

@@ -30,7 +30,11 @@ fn close_state<N: Naming>(sound: SoundState<N>) -> Closed
         → Closes book result }
     ensures sound { Sound N.image sound.view }
 {
-    let SoundState { mut state, steps } = sound;
+    let SoundState {
+        mut state,
+        steps,
+        ..
+    } = sound;
     undo(&mut state);
     let parts = state.into_parts();
     Closed {

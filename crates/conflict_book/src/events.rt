@@ -9,15 +9,17 @@ ghost use Rattle.book_event.specs.Book.{placers_after_commit};
 ghost use Rattle.book_event.specs.Comes.{Comes};
 ghost use Rattle.book_event.specs.Events.{IsGiven};
 ghost use Rattle.book_move.specs.Moving.{CommitComes, book_of, placers_after};
+ghost use Rattle.conflict_book.specs.Legless.{event_of};
 ghost use Rattle.conflict_book.specs.Ranges.{IsInRange};
 ghost use Rattle.conflict_book.specs.Seen.{going};
 
 use crate::book::SoundState;
-use book_event::{Came, Event};
+use crate::legless::Legless;
+use book_event::Came;
 use book_move::{abort, coalesce, commit, dispatch, split};
 use book_step::step;
 use place_policy::Placer;
-use rv_core::Naming;
+use rv_core::{Leg, Naming};
 use spec_state::State;
 
 /// Lets the next placer serve where so many commits end a phase, unless the last one serves already.
@@ -66,55 +68,101 @@ fn commit_event<N: Naming, P: Placer>(state: &mut State<N>, placers: &mut Vec<P>
     came
 }
 
-/// Law: an event whose tile and core are there may be handed in, since the type of its leg keeps whose leg that is.
-fn is_given<N: Naming>(state: &State<N>, event: &Event<N>)
-    requires { IsInRange state.now.view.settings event.now }
-    ensures { IsGiven N.image state.now.view.settings event.now }
+/// Law: an event without a leg whose tile is there may be handed in.
+fn is_given<N: Naming>(state: &State<N>, event: Legless)
+    requires { IsInRange {N = N} state.now.view.settings (event_of event) }
+    ensures { IsGiven {N = N} N.image state.now.view.settings (event_of event) }
 {
     has_limits(state);
     match event {
-        Event::Step { leg, .. } => {
-            let _ = leg.from();
-        }
-        Event::Dispatch { .. }
-        | Event::Abort { .. }
-        | Event::Commit
-        | Event::Coalesce { .. }
-        | Event::Split { .. } => {}
+        Legless::Dispatch { .. }
+        | Legless::Abort { .. }
+        | Legless::Commit
+        | Legless::Coalesce { .. }
+        | Legless::Split { .. } => {}
     }
 }
 
-/// What comes of an event on a tile and a core that are there.
-fn come<N: Naming, P: Placer>(state: &mut State<N>, placers: &mut Vec<P>, event: &Event<N>) -> Came
+/// Law: a leg may be handed in for a tile and a core that are there, since its type keeps whose leg it is.
+fn leg_is_given<N: Naming>(state: &State<N>, tile: u32, core: u32, leg: &Leg<N>)
+    requires tile { tile < state.now.view.settings.tiles }
+    requires core { core < state.now.view.settings.cores }
+    ensures { IsGiven {N = N} N.image state.now.view.settings (event.Step tile core leg.now) }
+{
+    has_limits(state);
+    let _ = leg.from();
+}
+
+/// What comes of an event without a leg, on a tile that is there.
+fn come<N: Naming, P: Placer>(state: &mut State<N>, placers: &mut Vec<P>, event: Legless) -> Came
     requires sound { Sound N.image state.old.view }
-    requires given { IsInRange state.old.view.settings event.now }
+    requires given { IsInRange {N = N} state.old.view.settings (event_of event) }
     ensures { let before = map P.policy placers.old.items in
         (taps : List Reading) (steps : ℕ)
-        → Comes (book_of state.old.view before taps steps) event.now result state.new.view
+        → Comes {N = N} (book_of state.old.view before taps steps) (event_of event) result state.new.view
         (map P.policy placers.new.items) }
 {
     match event {
-        Event::Dispatch { tile } => dispatch(state, *tile),
-        Event::Step { tile, core, leg } => step(state, placers.as_mut_slice(), *tile, *core, leg),
-        Event::Abort { tile } => abort(state, *tile),
-        Event::Commit => commit_event(state, placers),
-        Event::Coalesce { tile } => coalesce(state, *tile),
-        Event::Split { tile } => split(state, *tile),
+        Legless::Dispatch { tile } => dispatch(state, tile),
+        Legless::Abort { tile } => abort(state, tile),
+        Legless::Commit => commit_event(state, placers),
+        Legless::Coalesce { tile } => coalesce(state, tile),
+        Legless::Split { tile } => split(state, tile),
     }
 }
 
+/// What comes of a leg that is handed in for a core that is there.
+fn come_step<N: Naming, P: Placer>(
+    state: &mut State<N>,
+    placers: &mut Vec<P>,
+    tile: u32,
+    core: u32,
+    leg: &Leg<N>,
+) -> Came
+    requires sound { Sound N.image state.old.view }
+    requires tile { tile < state.old.view.settings.tiles }
+    requires core { core < state.old.view.settings.cores }
+    ensures { let before = map P.policy placers.old.items in
+        (taps : List Reading) (steps : ℕ)
+        → Comes {N = N} (book_of state.old.view before taps steps) (event.Step tile core leg.now) result state.new.view
+        (map P.policy placers.new.items) }
+{
+    step(state, placers.as_mut_slice(), tile, core, leg)
+}
+
 impl<N: Naming> SoundState<N> {
-    /// What comes of an event on a tile and a core that are there.
-    pub(crate) fn come<P: Placer>(&mut self, placers: &mut Vec<P>, event: &Event<N>) -> Came
-        requires given { IsInRange self.old.view.settings event.now }
+    /// What comes of an event without a leg, on a tile that is there.
+    pub(crate) fn come<P: Placer>(&mut self, placers: &mut Vec<P>, event: Legless) -> Came
+        requires given { IsInRange {N = N} self.old.view.settings (event_of event) }
         ensures comes { let before = map P.policy placers.old.items in
             (taps : List Reading)
-            → Comes (going self.old before taps) event.now result self.new.view
+            → Comes {N = N} (going self.old before taps) (event_of event) result self.new.view
             (map P.policy placers.new.items) }
         ensures settings { self.new.view.settings ≡ self.old.view.settings }
         ensures steps { self.new.steps ≡ self.old.steps }
     {
         is_given(&self.state, event);
         come(&mut self.state, placers, event)
+    }
+
+    /// What comes of a leg that is handed in for a core that is there.
+    pub(crate) fn come_step<P: Placer>(
+        &mut self,
+        placers: &mut Vec<P>,
+        tile: u32,
+        core: u32,
+        leg: &Leg<N>,
+    ) -> Came
+        requires tile { tile < self.old.view.settings.tiles }
+        requires core { core < self.old.view.settings.cores }
+        ensures comes { let before = map P.policy placers.old.items in
+            (taps : List Reading)
+            → Comes {N = N} (going self.old before taps) (event.Step tile core leg.now) result self.new.view
+            (map P.policy placers.new.items) }
+        ensures settings { self.new.view.settings ≡ self.old.view.settings }
+        ensures steps { self.new.steps ≡ self.old.steps }
+    {
+        leg_is_given(&self.state, tile, core, leg);
+        come_step(&mut self.state, placers, tile, core, leg)
     }
 }

@@ -13,9 +13,11 @@ mod book;
 mod closing;
 mod events;
 mod freezing;
+mod legless;
 mod opening;
 mod reading;
 
 pub use book::{Book, SoundState};
 pub use book_event::{Advance, Applied, Closed, Event, Halt, Reply};
 pub use freezing::Frozen;
+pub use legless::Legless;

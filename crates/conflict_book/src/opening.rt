@@ -20,9 +20,9 @@ ghost use Rattle.conflict_book.specs.Fresh.{AreFresh};
 ghost use Rattle.conflict_book.specs.Seen.{going, view_of};
 
 use crate::book::{Book, SoundState};
-use guest_image::{Image, ImageTask, Kind};
+use guest_image::{Image, ImageTask, Kind, TEXT_START};
 use place_policy::{Placer, serving_pick, serving_placed};
-use rv_core::Naming;
+use rv_core::{Core, Decoded, Leg, Naming, run_leg_decoded};
 use spec_commit::coalesce;
 use spec_state::{Settings, State};
 use std::alloc::{AllocError, Global};
@@ -181,6 +181,15 @@ fn opening<N: Naming, P: Placer>(
     Ok(state)
 }
 
+/// Some leg, from the first word of the text on.
+fn first_leg<N: Naming>(decoded: &Decoded<N>, image: &Image, budget: u32) -> Leg<N>
+    requires image { image.now ≡ N.image }
+    requires budget { budget ≡ N.budget }
+{
+    let start = Core::start(image.version(), TEXT_START, 0, [0; 3]);
+    run_leg_decoded(decoded, image, &start, 1, budget)
+}
+
 /// A sound state with the tasks of the image, on which no event was made.
 fn sound_opening<N: Naming, P: Placer>(
     alloc: Global,
@@ -198,7 +207,12 @@ fn sound_opening<N: Naming, P: Placer>(
         → IsOpening N.image settings before taps (going sound after taps)) }
 {
     let state = opening(alloc, image, settings, placers.as_mut_slice())?;
-    Ok(SoundState { state, steps: 0 })
+    let leg = first_leg(&state.decoded, image, settings.budget);
+    Ok(SoundState {
+        state,
+        steps: 0,
+        leg,
+    })
 }
 
 impl<N: Naming, P: Placer, T: Tap> Book<N, P, T> {

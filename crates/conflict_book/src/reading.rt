@@ -17,10 +17,11 @@ use crate::events::has_limits;
 use book_room::end_of;
 use place_policy::Placer;
 use progress_cell::Reading;
-use rv_core::{Core, Naming};
+use rv_core::{Core, Decoded, Naming};
 use serial_machine::{End, Entry};
 use spec_dispatch::free_core;
 use spec_state::{Loads, Settings, State, Status, TaskId};
+use std::alloc::Global;
 use trace_tap::Tap;
 
 /// The settings of a state, which are within their limits.
@@ -74,6 +75,16 @@ impl<N: Naming, P: Placer, T: Tap> Book<N, P, T> {
     {
         self.sound.is_sound();
         has_limits(self.sound.state());
+    }
+
+    /// What its parts take their memory from.
+    pub fn alloc(&self) -> Global {
+        self.sound.state().alloc
+    }
+
+    /// The text of the image, decoded.
+    pub fn decoded(&self) -> &Decoded<N> {
+        &self.sound.state().decoded
     }
 
     /// The settings with which it began: they are valid, with the task budget that `N` names.

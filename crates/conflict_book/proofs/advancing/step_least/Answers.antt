@@ -6,16 +6,16 @@ pub make_step-requires-clause-takes : goal.make_step-requires-clause-takes
 make_step-requires-clause-takes g c = (
   c.requires.least.1,
   c.requires.least.0,
-  step_takes g.row.N.Denot g.N.Naming.image c.args.state.now.view c.requires.sound c.requires.goes_on c.args.id c.requires.least c.tile_of-tile.result c.leg_of-leg.result
-      c.tile_of-tile.ensures c.leg_of-leg.ensures,
+  step_takes g.row.N.Denot g.N.Naming.image c.args.state.now.view c.requires.sound c.requires.goes_on c.args.id c.requires.least c.tile_of-tile.result c.run_leg_of.new.leg
+      c.tile_of-tile.ensures c.run_leg_of.ensures,
 )
 
 pub returns : goal.returns
 returns g c taps steps = (
-  event.Step c.tile_of-tile.result c.requires.least.1 c.leg_of-leg.result,
-  next_step g.row.N.Denot g.N.Naming.image c.args.state.now.view c.requires.sound c.requires.goes_on c.args.id c.requires.least c.tile_of-tile.result c.leg_of-leg.result
-      c.tile_of-tile.ensures c.leg_of-leg.ensures,
+  event.Step c.tile_of-tile.result c.requires.least.1 c.run_leg_of.new.leg,
+  next_step g.row.N.Denot g.N.Naming.image c.args.state.now.view c.requires.sound c.requires.goes_on c.args.id c.requires.least c.tile_of-tile.result c.run_leg_of.new.leg
+      c.tile_of-tile.ensures c.run_leg_of.ensures,
   c.make_step.ensures c.requires.least.1 c.requires.least.0
-      (step_takes g.row.N.Denot g.N.Naming.image c.args.state.now.view c.requires.sound c.requires.goes_on c.args.id c.requires.least c.tile_of-tile.result c.leg_of-leg.result
-      c.tile_of-tile.ensures c.leg_of-leg.ensures) taps steps,
+      (step_takes g.row.N.Denot g.N.Naming.image c.args.state.now.view c.requires.sound c.requires.goes_on c.args.id c.requires.least c.tile_of-tile.result c.run_leg_of.new.leg
+      c.tile_of-tile.ensures c.run_leg_of.ensures) taps steps,
 )

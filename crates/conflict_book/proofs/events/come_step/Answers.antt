@@ -1,0 +1,15 @@
+use Rattle.std.proofs.Common.{arith, map}
+use Rattle.std.proofs.lemmas.List.{with_items_is}
+use Rattle.book_event.specs.declared.event.Event.TheVariants as event
+use Rattle.book_event.specs.Comes.{Comes}
+use Rattle.book_move.specs.Moving.{book_of}
+use Rattle.conflict_book.proofs.Slices.{as_slice}
+use Rattle.conflict_book.proofs.events.come_step.Goals as goal
+
+pub returns : goal.returns
+returns g c taps steps =
+    as_slice g.P.Placer.policy c.args.placers.now.items c.as_mut_slice.result.now c.step.new.placers _
+    (λ before after. Comes {N = g.row.N.Denot} (book_of c.args.state.now.view before taps steps) (event.Step c.args.tile c.args.core c.args.leg.now) c.step.result c.step.new.state.view after)
+    c.as_mut_slice.ensures.value
+    (with_items_is c.args.placers.now c.step.new.placers (omega (arith, c.step.auto.placers, c.as_mut_slice.ensures.len)))
+    (c.step.ensures taps steps)
