@@ -1,7 +1,9 @@
 //! A script that is played on a book.
 
-ghost use Rattle.std.specs.Prelude.{◌≡◌, ◌<◌, All, IfOk, IfSome, IsNone, List, OnErr};
+ghost use Rattle.std.specs.Prelude.{◌≡◌, ◌<◌, All, IfOk, IfSome, IsNone, IsTrue, List, OnErr, false};
 ghost use Rattle.book_event.specs.declared.event.Reply.{Reply};
+ghost use Rattle.book_event.specs.declared.event.Event.TheVariants as event;
+ghost use Rattle.conflict_book.specs.Legless.{event_of};
 ghost use Rattle.conflict_book.specs.Ranges.{IsInRange};
 ghost use Rattle.conflict_book.specs.Seen.{view_of};
 ghost use Rattle.step_script.specs.Playing.{Does, DoesAdvance, Gives, HandsIn, HasLegAt, HeldLeg, NoneRuns, Plays};
@@ -12,11 +14,11 @@ ghost use Rattle.step_script.specs.Ranges.{IsWithin};
 use crate::act::Act;
 use crate::holding::{Held, forget, hand_out, hold};
 use crate::saying::{Said, Word};
-use book_event::{Advance, Event, Reply};
-use conflict_book::Book;
-use guest_image::Image;
+use book_event::{Advance, Reply};
+use conflict_book::{Book, Legless};
+use guest_image::{Image, TEXT_START};
 use place_policy::Placer;
-use rv_core::{Leg, Naming, run_leg};
+use rv_core::{Core, Leg, Naming, run_leg_decoded};
 use std::alloc::{AllocError, Global};
 use trace_tap::Tap;
 
@@ -30,21 +32,47 @@ fn plainly(reply: Reply) -> Said
     }
 }
 
-/// Hands an event in.
+/// Hands an event without a leg in.
 fn hand_in<N: Naming, P: Placer, T: Tap>(
     book: &mut Book<N, P, T>,
-    event: Event<N>,
+    event: Legless,
 ) -> Result<Said, AllocError>
     requires given { let old = view_of P.policy T.reading book.old in
-        IsInRange old.view.settings event }
+        IsInRange {N = N} old.view.settings (event_of event) }
     ensures hands_in { let old = view_of P.policy T.reading book.old in
         let new = view_of P.policy T.reading book.new in
-        IfOk result (λ said. HandsIn event old said new) }
+        IfOk result (λ said. HandsIn {N = N} (event_of event) old said new) }
     ensures out_of_memory { OnErr result (view_of P.policy T.reading book.new ≡ view_of P.policy T.reading book.old) }
     ensures settings { let old = view_of P.policy T.reading book.old in
         (view_of P.policy T.reading book.new).view.settings ≡ old.view.settings }
 {
-    let applied = book.apply(event);
+    let applied = book.apply_legless(event);
+    match applied.reply {
+        Reply::Memory => Err(AllocError),
+        reply => Ok(Said {
+            word: Word::Plain(reply),
+            aborted: applied.aborted,
+        }),
+    }
+}
+
+/// Hands a leg in for a core.
+fn hand_in_leg<N: Naming, P: Placer, T: Tap>(
+    book: &mut Book<N, P, T>,
+    tile: u32,
+    core: u32,
+    leg: &Leg<N>,
+) -> Result<Said, AllocError>
+    requires tile { tile < (view_of P.policy T.reading book.old).view.settings.tiles }
+    requires core { core < (view_of P.policy T.reading book.old).view.settings.cores }
+    ensures hands_in { let old = view_of P.policy T.reading book.old in
+        let new = view_of P.policy T.reading book.new in
+        IfOk result (λ said. HandsIn {N = N} (event.Step tile core leg.now) old said new) }
+    ensures out_of_memory { OnErr result (view_of P.policy T.reading book.new ≡ view_of P.policy T.reading book.old) }
+    ensures settings { let old = view_of P.policy T.reading book.old in
+        (view_of P.policy T.reading book.new).view.settings ≡ old.view.settings }
+{
+    let applied = book.apply_step(tile, core, leg);
     match applied.reply {
         Reply::Memory => Err(AllocError),
         reply => Ok(Said {
@@ -72,11 +100,46 @@ fn leg_at<N: Naming, P: Placer, T: Tap>(
 {
     let (quantum, budget) = (book.settings().quantum, book.settings().budget);
     let from = book.core_at(tile, core)?;
-    Some(run_leg(image, from, quantum, budget))
+    Some(run_leg_decoded(book.decoded(), image, from, quantum, budget))
 }
 
-/// `step`: a leg of the running task on a core is run and handed in.
+/// The same in the place of another leg, which stays where no task runs there. It tells whether one does.
+fn run_at<N: Naming, P: Placer, T: Tap>(
+    leg: &mut Leg<N>,
+    image: &Image,
+    book: &Book<N, P, T>,
+    tile: u32,
+    core: u32,
+) -> bool
+    requires image { image.now ≡ N.image }
+    requires tile { tile < (view_of P.policy T.reading book.now).view.settings.tiles }
+    requires core { core < (view_of P.policy T.reading book.now).view.settings.cores }
+    ensures some { let book = view_of P.policy T.reading book.now in
+        IsTrue result → HasLegAt N.image book.view tile core leg.new }
+    ensures none { let book = view_of P.policy T.reading book.now in
+        result ≡ false → NoneRuns book.view tile core }
+{
+    let (quantum, budget) = (book.settings().quantum, book.settings().budget);
+    match book.core_at(tile, core) {
+        Some(from) => {
+            leg.run_again(book.decoded(), image, from, quantum, budget);
+            true
+        }
+        None => false,
+    }
+}
+
+/// Some leg, from the first word of the text on.
+fn first_leg<N: Naming, P: Placer, T: Tap>(image: &Image, book: &Book<N, P, T>) -> Leg<N>
+    requires image { image.now ≡ N.image }
+{
+    let start = Core::start(image.version(), TEXT_START, 0, [0; 3]);
+    run_leg_decoded(book.decoded(), image, &start, 1, book.settings().budget)
+}
+
+/// `step`: a leg of the running task on a core is run, in the place of another, and handed in.
 fn step<N: Naming, P: Placer, T: Tap>(
+    leg: &mut Leg<N>,
     image: &Image,
     book: &mut Book<N, P, T>,
     tile: u32,
@@ -96,9 +159,10 @@ fn step<N: Naming, P: Placer, T: Tap>(
     if book.end().is_some() {
         return Ok(plainly(Reply::Ended));
     }
-    match leg_at(image, book, tile, core) {
-        Some(leg) => hand_in(book, Event::Step { tile, core, leg }),
-        None => Ok(plainly(Reply::Stale)),
+    if run_at(leg, image, book, tile, core) {
+        hand_in_leg(book, tile, core, leg)
+    } else {
+        Ok(plainly(Reply::Stale))
     }
 }
 
@@ -151,7 +215,7 @@ fn give<N: Naming, P: Placer, T: Tap>(
         return Ok(plainly(Reply::Ended));
     }
     match hand_out(held, tile, core) {
-        Some(leg) => hand_in(book, Event::Step { tile, core, leg }),
+        Some(leg) => hand_in_leg(book, tile, core, &leg),
         None => Ok(plainly(Reply::Stale)),
     }
 }
@@ -184,8 +248,9 @@ fn advance<N: Naming, P: Placer, T: Tap>(
     }
 }
 
-/// Plays one act, and says what came of it.
+/// Plays one act, and says what came of it. A step is run in the place of the leg.
 fn play_act<N: Naming, P: Placer, T: Tap>(
+    leg: &mut Leg<N>,
     image: &Image,
     book: &mut Book<N, P, T>,
     held: &mut Vec<Held<N>>,
@@ -203,14 +268,14 @@ fn play_act<N: Naming, P: Placer, T: Tap>(
         (view_of P.policy T.reading book.new).view.settings ≡ old.view.settings }
 {
     match act {
-        Act::Dispatch(tile) => hand_in(book, Event::Dispatch { tile }),
-        Act::Step(tile, core) => step(image, book, tile, core),
+        Act::Dispatch(tile) => hand_in(book, Legless::Dispatch { tile }),
+        Act::Step(tile, core) => step(leg, image, book, tile, core),
         Act::Take(tile, core) => take(image, book, held, tile, core),
         Act::Give(tile, core) => give(book, held, tile, core),
-        Act::Abort(tile) => hand_in(book, Event::Abort { tile }),
-        Act::Commit => hand_in(book, Event::Commit),
-        Act::Coalesce(tile) => hand_in(book, Event::Coalesce { tile }),
-        Act::Split(tile) => hand_in(book, Event::Split { tile }),
+        Act::Abort(tile) => hand_in(book, Legless::Abort { tile }),
+        Act::Commit => hand_in(book, Legless::Commit),
+        Act::Coalesce(tile) => hand_in(book, Legless::Coalesce { tile }),
+        Act::Split(tile) => hand_in(book, Legless::Split { tile }),
         Act::Advance => advance(image, book),
     }
 }
@@ -236,8 +301,9 @@ pub fn play<N: Naming, P: Placer, T: Tap>(
     // All room for the words comes first, so that no act is made whose word finds none.
     let mut said = Vec::with_capacity(alloc, acts.len())?;
     let mut held = Vec::new(alloc);
+    let mut leg = first_leg(image, book);
     for act in acts {
-        let one = play_act(image, book, &mut held, *act)?;
+        let one = play_act(&mut leg, image, book, &mut held, *act)?;
         said.push(one)?;
     }
     Ok(said)

@@ -10,7 +10,7 @@ use crate::shares::Shares;
 use crate::tally::Part;
 use crate::working::drive;
 use guest_image::Image;
-use rv_core::Naming;
+use rv_core::{Decoded, Naming};
 use std::sync::Wait;
 use std::sync::ledger::{Ledger, Share};
 use std::thread::{Threads, join};
@@ -69,6 +69,7 @@ pub(crate) fn fan<
 >(
     rt: &R,
     image: &Image,
+    decoded: &Option<Decoded<N>>,
     lock: &K,
     share: Share<L>,
     first: u32,
@@ -84,7 +85,9 @@ pub(crate) fn fan<
 {
     if count == 1 {
         let part = Part::new(share);
-        return Gathered::one(drive::<N, L, K, G, R>(rt, image, lock, part, first, workers, gate));
+        return Gathered::one(drive::<N, L, K, G, R>(
+            rt, image, decoded, lock, part, first, workers, gate,
+        ));
     }
     let half = count / 2;
     let mut mine = share;
@@ -95,7 +98,7 @@ pub(crate) fn fan<
             requires { IsSync R.row × IsSync G.row × IsSync K.row × (image.now ≡ N.image)
                 × (theirs.parts ≡ half) × (theirs.amount ≡ 0) × (0 < half) × (first + half ≤ workers) × (workers ≤ 16) }
             ensures { length result.shares ≡ half }
-        { fan::<N, L, K, G, R>(rt, image, lock, theirs, first, half, workers, gate) },
+        { fan::<N, L, K, G, R>(rt, image, decoded, lock, theirs, first, half, workers, gate) },
         move || -> Gathered<L>
             requires { IsSync R.row × IsSync G.row × IsSync K.row × (image.now ≡ N.image) × (mine.parts ≡ count - half)
                 × (mine.amount ≡ 0) × (0 < count - half) × (half ≤ count) × (first + count ≤ workers) × (workers ≤ 16) }
@@ -104,6 +107,7 @@ pub(crate) fn fan<
             fan::<N, L, K, G, R>(
                 rt,
                 image,
+                decoded,
                 lock,
                 mine,
                 first + half,

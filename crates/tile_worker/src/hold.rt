@@ -3,14 +3,13 @@
 
 ghost use Rattle.std.specs.Prelude.{◌≡◌, ◌<◌, ◌≤◌, ℕ, IfSome};
 ghost use Rattle.book_event.specs.Book.{BookView};
-ghost use Rattle.conflict_book.specs.Ranges.{IsInRange};
 ghost use Rattle.conflict_book.specs.Seen.{view_of};
 ghost use Rattle.tile_worker.specs.Counts.{CountsSo};
 ghost use Rattle.tile_worker.specs.Founds.{IsDoneAt, IsWithin};
 ghost use Rattle.tile_worker.specs.Holds.{HoldsOnce};
 
 use crate::round::{Place, Round};
-use conflict_book::{Advance, Book, Event, Reply};
+use conflict_book::{Advance, Book, Legless, Reply};
 use guest_image::Image;
 use place_policy::Placer;
 use rv_core::{Core, Leg, Naming};
@@ -53,14 +52,38 @@ pub(crate) enum Tried {
     Over,
 }
 
-/// Hands in an event on a tile and a core that are there. Where memory runs out the book is stopped.
+/// Dispatches in a tile that is there. Where memory runs out the book is stopped.
 #[tactic(auto, using(crate::proofs::Holding::event_tries))]
-fn try_event<N: Naming, P: Placer, T: Tap>(book: &mut Book<N, P, T>, event: Event<N>) -> Tried
-    requires given { IsInRange (view_of P.policy T.reading book.old).view.settings event }
+fn try_dispatch<N: Naming, P: Placer, T: Tap>(book: &mut Book<N, P, T>, tile: u32) -> Tried
+    requires { tile < (view_of P.policy T.reading book.old).view.settings.tiles }
     ensures { let old = view_of P.policy T.reading book.old in
         CountsSo N old result (view_of P.policy T.reading book.new) }
 {
-    match book.apply(event).reply {
+    match book.apply_legless(Legless::Dispatch { tile }).reply {
+        Reply::Ok => Tried::Made,
+        Reply::Empty | Reply::Busy | Reply::Stall => Tried::Waits,
+        Reply::Stale | Reply::Firm => Tried::Missed,
+        Reply::Ended => Tried::Over,
+        Reply::Memory => {
+            book.stop();
+            Tried::Over
+        }
+    }
+}
+
+/// Hands in a leg for a core that is there. Where memory runs out the book is stopped.
+#[tactic(auto, using(crate::proofs::Holding::event_tries))]
+fn try_leg<N: Naming, P: Placer, T: Tap>(
+    book: &mut Book<N, P, T>,
+    place: Place,
+    leg: &Leg<N>,
+) -> Tried
+    requires tile { place.tile < (view_of P.policy T.reading book.old).view.settings.tiles }
+    requires core { place.core < (view_of P.policy T.reading book.old).view.settings.cores }
+    ensures { let old = view_of P.policy T.reading book.old in
+        CountsSo N old result (view_of P.policy T.reading book.new) }
+{
+    match book.apply_step(place.tile, place.core, leg).reply {
         Reply::Ok => Tried::Made,
         Reply::Empty | Reply::Busy | Reply::Stall => Tried::Waits,
         Reply::Stale | Reply::Firm => Tried::Missed,
@@ -98,17 +121,16 @@ fn hand_in<N: Naming, P: Placer, T: Tap>(
     ensures { let old = view_of P.policy T.reading book.old in
         CountsSo N old result (view_of P.policy T.reading book.new) }
 {
-    let Handed { place, leg } = handed;
-    let Place { tile, core } = place;
+    let place = handed.place;
     let settings = book.settings();
     // No type tells that the settings are still those of the hold in which the core was found.
-    if tile >= settings.tiles || core >= settings.cores {
+    if place.tile >= settings.tiles || place.core >= settings.cores {
         return Tried::Missed;
     }
-    let tried = try_event(book, Event::Step { tile, core, leg });
+    let tried = try_leg(book, place, &handed.leg);
     if let Tried::Waits = tried {
         round.rest_core(place, book.steps());
-        round.rest_tile(tile, book.steps());
+        round.rest_tile(place.tile, book.steps());
     }
     tried
 }
@@ -130,7 +152,7 @@ fn dispatch_own<N: Naming, P: Placer, T: Tap>(book: &mut Book<N, P, T>, round: &
 {
     for tile in 0..book.settings().tiles {
         if round.tries_tile(tile, book.steps()) && may_have_free_core(book, tile) {
-            match try_event(book, Event::Dispatch { tile }) {
+            match try_dispatch(book, tile) {
                 Tried::Made => return Tried::Made,
                 Tried::Over => return Tried::Over,
                 Tried::Waits | Tried::Missed => round.rest_tile(tile, book.steps()),

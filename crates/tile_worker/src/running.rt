@@ -12,7 +12,7 @@ use crate::tally::Tallied;
 use conflict_book::{Book, Halt};
 use guest_image::Image;
 use place_policy::Placer;
-use rv_core::Naming;
+use rv_core::{Decoded, Naming};
 use std::marker::Brand;
 use std::sync::ledger::{Blank, Ledger, Share};
 use std::sync::{Mutex, Wait, ledger};
@@ -105,8 +105,12 @@ fn work_all<
         sum result.shares + before ≡ (view_of P.policy T.reading result.book).steps }
 {
     let (total, mine, theirs) = open_ledger(blank, workers, book.steps());
+    // Where memory doesn't reach for a second decoded text, the workers run on the text itself.
+    let decoded = Decoded::new(book.alloc(), image).ok();
     let lock = Mutex::new(Tallied::new(book, total));
-    let gathered = fan::<N, L, _, G, R>(rt, image, &lock, theirs, 0, workers, workers, gate);
+    let gathered = fan::<N, L, _, G, R>(
+        rt, image, &decoded, &lock, theirs, 0, workers, workers, gate,
+    );
     settle(lock.into_inner(), mine, gathered)
 }
 

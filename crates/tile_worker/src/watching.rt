@@ -16,7 +16,7 @@ use conflict_book::Book;
 use guest_image::Image;
 use place_policy::Placer;
 use progress_cell::{Board, Writer};
-use rv_core::Naming;
+use rv_core::{Decoded, Naming};
 use std::marker::Brand;
 use std::sync::ledger::Blank;
 use std::sync::{Mutex, Wait};
@@ -72,11 +72,14 @@ fn watch_all<
     ensures last { last_of result.1.told ≡ counts_of (view_of P.policy T.reading result.0.book).view }
 {
     let (total, mine, theirs) = open_ledger(blank, workers, book.steps());
+    // Where memory doesn't reach for a second decoded text, the workers run on the text itself.
+    let decoded = Decoded::new(book.alloc(), image).ok();
     let tallied = Tallied::new(book, total);
     let lock = Mutex::new(Followed { tallied, writer });
     let gathered = fan::<N, L, _, G, R>(
         rt,
         image,
+        &decoded,
         &FollowedLock { lock: &lock, board },
         theirs,
         0,

@@ -10,33 +10,53 @@ use crate::round::Round;
 use crate::tally::{Part, Tallied};
 use guest_image::Image;
 use place_policy::Placer;
-use rv_core::{Naming, run_leg};
+use rv_core::{Decoded, Naming, run_leg, run_leg_decoded};
 use spec_state::Settings;
 use std::sync::ledger::Ledger;
 use std::sync::{Mutex, Wait};
 use trace_tap::Tap;
 
-/// Computes the leg of a core that was found.
-fn compute<N: Naming>(image: &Image, settings: &Settings, running: &Running) -> Handed<N>
+/// Computes the leg of a core that was found, on the decoded text where there is one.
+fn compute<N: Naming>(
+    image: &Image,
+    decoded: &Option<Decoded<N>>,
+    settings: &Settings,
+    running: &Running,
+) -> Handed<N>
     requires image { image.now ≡ N.image }
     requires valid { IsValid settings.now }
     requires budget { settings.now.budget ≡ N.budget }
     requires within { running.now.from.used ≤ N.budget }
 {
+    let (quantum, budget) = (settings.quantum, settings.budget);
+    let leg = match decoded {
+        Some(text) => run_leg_decoded(text, image, &running.from, quantum, budget),
+        None => run_leg(image, &running.from, quantum, budget),
+    };
     Handed {
         place: running.place,
-        leg: run_leg(image, &running.from, settings.quantum, settings.budget),
+        leg,
     }
 }
 
-/// Drives the tiles of a worker, as `work` says, over any lock in which a book stands.
+/// Drives the tiles of a worker, as `work` says, over any lock in which a book stands. Its legs run on the decoded text
+/// where there is one.
 pub(crate) fn drive<
     N: Naming,
     L: Ledger,
     K: BookLock<N, Part<L>, Handed<N>>,
     G: Gate + Sync,
     R: Wait,
->(rt: &R, image: &Image, lock: &K, part: Part<L>, worker: u32, workers: u32, gate: &G) -> Part<L>
+>(
+    rt: &R,
+    image: &Image,
+    decoded: &Option<Decoded<N>>,
+    lock: &K,
+    part: Part<L>,
+    worker: u32,
+    workers: u32,
+    gate: &G,
+) -> Part<L>
     requires image { image.now ≡ N.image }
     requires workers { (worker < workers) × (workers ≤ 16) }
     ensures { K.amount part ≤ K.amount result }
@@ -53,7 +73,7 @@ pub(crate) fn drive<
             Found::Done => break,
             Found::Nothing => None,
             Found::Core(running) => {
-                let leg = compute(image, &settings, &running);
+                let leg = compute(image, decoded, &settings, &running);
                 legs = legs.saturating_add(1);
                 gate.pass(worker, legs);
                 Some(leg)
@@ -69,7 +89,7 @@ pub(crate) fn drive<
 ///
 /// It hands in legs of its running cores, each after it passed the gate, and dispatches where an own tile has an
 /// idle task and a free core. Only where it has neither, or all of these were refused, it makes the event for the
-/// least task. What was refused is let be for 64 events of the book: a core whose leg stalled gets no leg, and in a
+/// least task. What was refused is let be for 512 events of the book: a core whose leg stalled gets no leg, and in a
 /// tile whose dispatch was refused none is tried, even if a task has come to stand there meanwhile.
 ///
 /// A hold costs one event and a look at each core of its own tiles; a leg is computed outside the lock.
@@ -86,5 +106,6 @@ pub fn work<N: Naming, L: Ledger, P: Placer, T: Tap, G: Gate + Sync, R: Wait>(
     requires workers { (worker < workers) × (workers ≤ 16) }
     ensures { part.amount ≤ result.amount }
 {
-    drive::<N, L, _, G, R>(rt, image, lock, part, worker, workers, gate)
+    let decoded = None;
+    drive::<N, L, _, G, R>(rt, image, &decoded, lock, part, worker, workers, gate)
 }

@@ -6,5 +6,5 @@ pub returns-in-Over : goal.returns-in-Over
 returns-in-Over g c =
     still_over g.row.N.Denot (view_of g.P.Placer.policy g.T.Tap.reading c.args.book.now)
     (view_of g.P.Placer.policy g.T.Tap.reading c.loop-tile.book)
-    (view_of g.P.Placer.policy g.T.Tap.reading c.try_event.new.book) c.try_event.result c.try_event.ensures c.in-Over.is
+    (view_of g.P.Placer.policy g.T.Tap.reading c.try_dispatch.new.book) c.try_dispatch.result c.try_dispatch.ensures c.in-Over.is
     c.loop-tile.invariant
