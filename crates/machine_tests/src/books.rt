@@ -5,7 +5,7 @@ ghost use Rattle.spec_state.specs.Settings.{IsValid};
 ghost use Rattle.conflict_book.specs.Ranges.{IsInRange};
 ghost use Rattle.conflict_book.specs.Seen.{view_of};
 
-use crate::machines::{Hinted, TWO_TILES, image_of, is_normal, one_tap, opened};
+use crate::machines::{ENDERS, Hinted, TWO_TILES, image_of, is_normal, one_tap, opened};
 use conflict_book::{Applied, Book, Event, Halt, Reply};
 use guest_image::Image;
 use place_policy::Placer;
@@ -396,6 +396,53 @@ fn least_run<N: Naming>(
 fn the_least_tasks_end_a_run(rt: HostRuntime) -> Result<(), Fail> {
     let image = image_of(rt.alloc(), &READER_AND_WRITER)?;
     least_run::<Brand>(&rt, rt.alloc(), &image, TWO_TILES)
+}
+
+/// One tile of one core.
+const ONE_CORE: Settings = Settings {
+    tiles: 1,
+    ..TWO_TILES
+};
+
+/// Two tasks of one tile take turns on its one core, and whether the tile is ready after each event: it has a task for
+/// the core where the core is free, and a free core where a task is idle.
+static TURNS_ON_ONE_CORE: [(Act, bool); 4] = [
+    (Act::Dispatch(0), false),
+    (Act::Step(0), true),
+    (Act::Dispatch(0), false),
+    (Act::Step(0), false),
+];
+
+/// Whether a tile is there, and is ready.
+fn is_ready<N: Naming>(book: &Hinted<N>, tile: u32) -> bool {
+    tile < book.settings().tiles && book.ready(tile)
+}
+
+/// The tile is ready as long as a dispatch would be made at once.
+fn is_ready_by_turns<N: Naming>(
+    rt: &impl Abort,
+    alloc: Global,
+    image: &Image,
+    settings: Settings,
+) -> Result<(), Fail>
+    requires valid { IsValid settings }
+    requires image { image.now ≡ N.image }
+    requires budget { settings.budget ≡ N.budget }
+    requires commits { settings.commits ≡ N.commits }
+{
+    let mut book = begun::<N>(alloc, image, settings)?;
+    assert!(rt; is_ready(&book, 0));
+    for (act, ready) in &TURNS_ON_ONE_CORE {
+        assert!(rt; is_answered(image, &mut book, *act, &OK));
+        assert!(rt; is_ready(&book, 0) == *ready);
+    }
+    Ok(())
+}
+
+#[test]
+fn a_tile_with_an_idle_task_and_a_free_core_is_ready(rt: HostRuntime) -> Result<(), Fail> {
+    let image = image_of(rt.alloc(), &ENDERS)?;
+    is_ready_by_turns::<Brand>(&rt, rt.alloc(), &image, ONE_CORE)
 }
 
 #[test]

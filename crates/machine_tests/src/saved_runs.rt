@@ -85,17 +85,70 @@ fn joined(
 ) -> Result<Journal, Fail>
     requires frozen { IsFrozenOf image.now budget frozen.now }
     requires saved { IsSavedOf image.now frozen.now saved.now }
-    requires run { IsRunOf saved.now 1 budget run.now }
+    requires run { IsRunOf saved.now 3 budget run.now }
 {
     assert!(rt; frozen.closed.journal.as_slice().len() <= 1);
     Ok(join_runs(alloc, image, budget, frozen, saved, &run.journal)?)
 }
 
+/// A turn: the creator and the place in its name, its depth and its timestamp.
+type Turn = (u32, u32, u8, u32);
+
+/// A run that is saved, and goes on.
+struct Join {
+    name: &'static str,
+    image: &'static [u8],
+    settings: Settings,
+    /// Whether a task commits before the run is saved.
+    is_begun: bool,
+    /// The turns before that, what they emit, and the tasks that pend behind them, as turns with a first argument.
+    one: &'static [Turn],
+    output: &'static [u8],
+    pending: &'static [(Turn, u32)],
+    /// The saved image, its turns, and what they emit.
+    saved: &'static [u8],
+    two: &'static [Turn],
+    behind: &'static [u8],
+    /// The turns of both, by the names of the first image.
+    joined: &'static [Turn],
+}
+
 /// An ordered image of one task, at timestamp 7 and with the arguments 1, 2 and 3, that ends at once.
-static ENDER: [u8; 60] = [
+const ENDER: [u8; 60] = [
     0x46, 0x52, 0x41, 0x43, 1, 0, 1, 0, 2, 0, 0, 0, 0, 0, 0, 0, 0, 0, 0, 0, 0, 0, 0, 0, 0, 0, 0, 0,
     1, 0, 0, 0, 0x93, 0x08, 0, 0, 0x73, 0, 0, 0, 0, 0, 1, 0, 7, 0, 0, 0, 1, 0, 0, 0, 2, 0, 0, 0, 3,
     0, 0, 0,
+];
+
+/// Two tasks that emit their first arguments: 66 at the greatest timestamp, and 65 at timestamp 0.
+const TWO_EMITTERS: [u8; 88] = [
+    0x46, 0x52, 0x41, 0x43, 1, 0, 1, 0, 4, 0, 0, 0, 0, 0, 0, 0, 0, 0, 0, 0, 0, 0, 0, 0, 0, 0, 0, 0,
+    2, 0, 0, 0, 0x93, 0x08, 0x50, 0, 0x73, 0, 0, 0, 0x93, 0x08, 0, 0, 0x73, 0, 0, 0, 0, 0, 1, 0,
+    0xff, 0xff, 0xff, 0xff, 0x42, 0, 0, 0, 0, 0, 0, 0, 0, 0, 0, 0, 0, 0, 1, 0, 0, 0, 0, 0, 0x41, 0,
+    0, 0, 0, 0, 0, 0, 0, 0, 0, 0,
+];
+
+/// The image that is saved after the second of them.
+const LAST_EMITTER: [u8; 68] = [
+    0x46, 0x52, 0x41, 0x43, 1, 0, 1, 0, 4, 0, 0, 0, 0, 0, 0, 0, 0, 0, 0, 0, 0, 0, 0, 0, 0, 0, 0, 0,
+    1, 0, 0, 0, 0x93, 0x08, 0x50, 0, 0x73, 0, 0, 0, 0x93, 0x08, 0, 0, 0x73, 0, 0, 0, 0, 0, 1, 0,
+    0xff, 0xff, 0xff, 0xff, 0x42, 0, 0, 0, 0, 0, 0, 0, 0, 0, 0, 0,
+];
+
+/// A task at timestamp 9, and one at timestamp 0 whose child makes one more, each one timestamp later.
+const CHAIN: [u8; 104] = [
+    0x46, 0x52, 0x41, 0x43, 1, 0, 1, 0, 8, 0, 0, 0, 0, 0, 0, 0, 0, 0, 0, 0, 0, 0, 0, 0, 0, 0, 0, 0,
+    2, 0, 0, 0, 0x63, 0x0c, 0x05, 0, 0x13, 0x06, 0xf5, 0xff, 0x37, 0x05, 0x01, 0, 0x93, 0x85, 0x16,
+    0, 0x93, 0x08, 0x10, 0, 0x73, 0, 0, 0, 0x93, 0x08, 0, 0, 0x73, 0, 0, 0, 0, 0, 1, 0, 9, 0, 0, 0,
+    0, 0, 0, 0, 0, 0, 0, 0, 0, 0, 0, 0, 0, 0, 1, 0, 0, 0, 0, 0, 2, 0, 0, 0, 0, 0, 0, 0, 0, 0, 0, 0,
+];
+
+/// The image that is saved after the second of them: its child stands in its place.
+const REST_OF_CHAIN: [u8; 104] = [
+    0x46, 0x52, 0x41, 0x43, 1, 0, 1, 0, 8, 0, 0, 0, 0, 0, 0, 0, 0, 0, 0, 0, 0, 0, 0, 0, 0, 0, 0, 0,
+    2, 0, 0, 0, 0x63, 0x0c, 0x05, 0, 0x13, 0x06, 0xf5, 0xff, 0x37, 0x05, 0x01, 0, 0x93, 0x85, 0x16,
+    0, 0x93, 0x08, 0x10, 0, 0x73, 0, 0, 0, 0x93, 0x08, 0, 0, 0x73, 0, 0, 0, 0, 0, 1, 0, 9, 0, 0, 0,
+    0, 0, 0, 0, 0, 0, 0, 0, 0, 0, 0, 0, 0, 0, 1, 0, 1, 0, 0, 0, 1, 0, 0, 0, 0, 0, 0, 0, 0, 0, 0, 0,
 ];
 
 /// Two tiles of one core, where a task may execute five instructions.
@@ -104,166 +157,191 @@ const SHORT_TASKS: Settings = Settings {
     ..TWO_TILES
 };
 
-/// The saved image has the first one's tasks and text.
-fn is_the_same(rt: &impl Abort, saved: &Image, image: &Image) {
-    assert_eq!(rt; saved.tasks(), image.tasks());
-    assert_eq!(rt; saved.text(), image.text());
-}
-
-/// The run of a saved image is the whole run, as nothing ran before.
-fn is_the_whole(
-    rt: &impl Abort,
-    alloc: Global,
-    image: &Image,
-    budget: u32,
-    frozen: &Frozen,
-    saved: &Image,
-) -> Result<(), Fail>
-    requires frozen { IsFrozenOf image.now budget frozen.now }
-    requires saved { IsSavedOf image.now frozen.now saved.now }
-{
-    let run = run_image(alloc, saved, 1, budget)?;
-    let journal = joined(rt, alloc, image, budget, frozen, saved, &run)?;
-    assert_eq!(rt; journal.as_slice().len(), 1);
-    assert_eq!(rt; journal.as_slice(), run.journal.as_slice());
-    Ok(())
-}
-
-/// An image before its first event is saved, and run.
-fn runs_from_the_opening<N: Naming>(
-    rt: &impl Abort,
-    alloc: Global,
-    image: &Image,
-    settings: Settings,
-) -> Result<(), Fail>
-    requires valid { IsValid settings }
-    requires image { image.now ≡ N.image }
-    requires budget { settings.budget ≡ N.budget }
-    requires commits { settings.commits ≡ N.commits }
-{
-    let frozen = unstarted::<N>(alloc, image, settings)?;
-    let saved = saved_of(rt, alloc, image, &frozen)?;
-    is_the_same(rt, &saved, image);
-    is_the_whole(rt, alloc, image, settings.budget, &frozen, &saved)
-}
-
-#[test]
-fn a_run_goes_on_from_its_saved_image(rt: HostRuntime) -> Result<(), Fail> {
-    let image = image_in(rt.alloc(), &ENDER)?;
-    runs_join();
-    runs_from_the_opening::<Brand>(&rt, rt.alloc(), &image, SHORT_TASKS)
-}
-
-/// Two tasks that emit their first arguments: 66 at the greatest timestamp, and 65 at timestamp 0.
-static TWO_EMITTERS: [u8; 88] = [
-    0x46, 0x52, 0x41, 0x43, 1, 0, 1, 0, 4, 0, 0, 0, 0, 0, 0, 0, 0, 0, 0, 0, 0, 0, 0, 0, 0, 0, 0, 0,
-    2, 0, 0, 0, 0x93, 0x08, 0x50, 0, 0x73, 0, 0, 0, 0x93, 0x08, 0, 0, 0x73, 0, 0, 0, 0, 0, 1, 0,
-    0xff, 0xff, 0xff, 0xff, 0x42, 0, 0, 0, 0, 0, 0, 0, 0, 0, 0, 0, 0, 0, 1, 0, 0, 0, 0, 0, 0x41, 0,
-    0, 0, 0, 0, 0, 0, 0, 0, 0, 0,
-];
-
-/// The image that is saved after the second of them.
-static LAST_EMITTER: [u8; 68] = [
-    0x46, 0x52, 0x41, 0x43, 1, 0, 1, 0, 4, 0, 0, 0, 0, 0, 0, 0, 0, 0, 0, 0, 0, 0, 0, 0, 0, 0, 0, 0,
-    1, 0, 0, 0, 0x93, 0x08, 0x50, 0, 0x73, 0, 0, 0, 0x93, 0x08, 0, 0, 0x73, 0, 0, 0, 0, 0, 1, 0,
-    0xff, 0xff, 0xff, 0xff, 0x42, 0, 0, 0, 0, 0, 0, 0, 0, 0, 0, 0,
-];
-
-/// The turn of the second of them, which comes first.
-const EARLY_TURN: Entry = Entry {
-    name: Name {
-        creator: 0,
-        index: 1,
-    },
-    depth: 1,
-    ts: 0,
-};
-
-/// The turn of the first of them.
-const LATE_TURN: Entry = Entry {
-    name: Name {
-        creator: 0,
-        index: 0,
-    },
-    depth: 1,
-    ts: u32::MAX,
-};
-
-/// The first of them, before its turn.
-static LATE_EMITTER: [Pending; 1] = [Pending {
-    name: Name {
-        creator: 0,
-        index: 0,
-    },
-    depth: 1,
-    entry: 0x0001_0000,
-    ts: u32::MAX,
-    args: [66, 0, 0],
-}];
-
 /// One task may commit.
 const ONE_COMMIT: Settings = Settings {
     commits: 1,
     ..TWO_TILES
 };
 
-/// The second task took its turn, and the first one pends.
-fn keeps_the_late_one(rt: &impl Abort, frozen: &Frozen) {
-    assert_eq!(rt; frozen.closed.journal.as_slice(), [EARLY_TURN].as_slice());
-    assert_eq!(rt; frozen.closed.output.as_slice(), b"A".as_slice());
-    assert_eq!(rt; frozen.pending.as_slice(), LATE_EMITTER.as_slice());
+/// A name of the saved image's run is that of the task that pends at its place, or one whose creator took its turn as
+/// many turns later as were before.
+static JOINS: [Join; 3] = [
+    Join {
+        name: "no turn before, and each name is as it was",
+        image: &ENDER,
+        settings: SHORT_TASKS,
+        is_begun: false,
+        one: &[],
+        output: b"",
+        pending: &[((0, 0, 1, 7), 1)],
+        saved: &ENDER,
+        two: &[(0, 0, 1, 7)],
+        behind: b"",
+        joined: &[(0, 0, 1, 7)],
+    },
+    Join {
+        name: "a task of the first image pends",
+        image: &TWO_EMITTERS,
+        settings: ONE_COMMIT,
+        is_begun: true,
+        one: &[(0, 1, 1, 0)],
+        output: b"A",
+        pending: &[((0, 0, 1, u32::MAX), 66)],
+        saved: &LAST_EMITTER,
+        two: &[(0, 0, 1, u32::MAX)],
+        behind: b"B",
+        joined: &[(0, 1, 1, 0), (0, 0, 1, u32::MAX)],
+    },
+    Join {
+        name: "a child pends, and makes one more",
+        image: &CHAIN,
+        settings: ONE_COMMIT,
+        is_begun: true,
+        one: &[(0, 1, 1, 0)],
+        output: b"",
+        pending: &[((0, 0, 1, 9), 0), ((1, 0, 1, 1), 1)],
+        saved: &REST_OF_CHAIN,
+        two: &[(0, 1, 1, 1), (1, 0, 1, 2), (0, 0, 1, 9)],
+        behind: b"",
+        joined: &[(0, 1, 1, 0), (1, 0, 1, 1), (2, 0, 1, 2), (0, 0, 1, 9)],
+    },
+];
+
+/// Whether these are the turns of a journal.
+fn are_turns(journal: &[Entry], turns: &[Turn]) -> bool {
+    for (entry, turn) in journal.iter().zip(turns) {
+        if (entry.name.creator, entry.name.index, entry.depth, entry.ts) != *turn {
+            return false;
+        }
+    }
+    journal.len() == turns.len()
+}
+
+/// Whether these tasks pend.
+fn do_pend(pending: &[Pending], wanted: &[(Turn, u32)]) -> bool {
+    for (task, (turn, first)) in pending.iter().zip(wanted) {
+        if (task.name.creator, task.name.index, task.depth, task.ts) != *turn
+            || task.args[0] != *first
+        {
+            return false;
+        }
+    }
+    pending.len() == wanted.len()
+}
+
+/// What is kept of the first run.
+fn is_kept(rt: &impl Abort, frozen: &Frozen, join: &Join) {
+    assert!(rt;
+        are_turns(frozen.closed.journal.as_slice(), join.one),
+        "{}",
+        join.name
+    );
+    assert!(rt;
+        frozen.closed.output.as_slice() == join.output,
+        "{}",
+        join.name
+    );
+    assert!(rt;
+        do_pend(frozen.pending.as_slice(), join.pending),
+        "{}",
+        join.name
+    );
 }
 
 /// The saved image is written so.
-fn is_written(rt: &impl Abort, alloc: Global, saved: &Image) -> Result<(), Fail> {
+fn is_written(rt: &impl Abort, alloc: Global, saved: &Image, join: &Join) -> Result<(), Fail> {
     let bytes = write_image(alloc, saved)?;
-    assert_eq!(rt; bytes.as_slice(), LAST_EMITTER.as_slice());
+    assert_eq!(rt; bytes.as_slice(), join.saved, "{}", join.name);
     Ok(())
 }
 
-/// What a run of the saved image comes to, and the journal of both runs.
-fn runs_on(
+/// What a run of the saved image comes to.
+fn runs_on(rt: &impl Abort, run: &SerialRun, join: &Join) {
+    assert!(rt; is_normal(run.end), "{}", join.name);
+    assert!(rt; run.output.as_slice() == join.behind, "{}", join.name);
+    assert!(rt;
+        are_turns(run.journal.as_slice(), join.two),
+        "{}",
+        join.name
+    );
+}
+
+/// The saved image runs to its end, and both runs are one.
+fn joins(
     rt: &impl Abort,
     alloc: Global,
     image: &Image,
     budget: u32,
     frozen: &Frozen,
     saved: &Image,
+    join: &Join,
 ) -> Result<(), Fail>
     requires frozen { IsFrozenOf image.now budget frozen.now }
     requires saved { IsSavedOf image.now frozen.now saved.now }
 {
-    let run = run_image(alloc, saved, 1, budget)?;
-    assert!(rt; is_normal(run.end) && run.output.as_slice() == b"B".as_slice());
-    assert_eq!(rt; run.journal.as_slice(), [LATE_TURN].as_slice());
+    let run = run_image(alloc, saved, 3, budget)?;
+    runs_on(rt, &run, join);
     let journal = joined(rt, alloc, image, budget, frozen, saved, &run)?;
-    assert_eq!(rt; journal.as_slice(), [EARLY_TURN, LATE_TURN].as_slice());
+    assert!(rt; are_turns(journal.as_slice(), join.joined), "{}", join.name);
     Ok(())
 }
 
-/// A run that met its commit limit is saved, and goes on.
+/// What is kept of a run before its first event, or at its commit limit.
+fn kept<N: Naming>(
+    rt: &impl Abort,
+    alloc: Global,
+    image: &Image,
+    join: &Join,
+) -> Result<Frozen, Fail>
+    requires valid { IsValid join.now.settings }
+    requires image { image.now ≡ N.image }
+    requires budget { join.now.settings.budget ≡ N.budget }
+    requires commits { join.now.settings.commits ≡ N.commits }
+    ensures { IfOk result (IsFrozenOf N.image N.budget) }
+{
+    if join.is_begun {
+        stopped::<N>(rt, alloc, image, join.settings)
+    } else {
+        unstarted::<N>(alloc, image, join.settings)
+    }
+}
+
+/// A run is saved, and goes on.
 fn goes_on<N: Naming>(
     rt: &impl Abort,
     alloc: Global,
     image: &Image,
-    settings: Settings,
+    join: &Join,
 ) -> Result<(), Fail>
-    requires valid { IsValid settings }
+    requires valid { IsValid join.now.settings }
     requires image { image.now ≡ N.image }
-    requires budget { settings.budget ≡ N.budget }
-    requires commits { settings.commits ≡ N.commits }
+    requires budget { join.now.settings.budget ≡ N.budget }
+    requires commits { join.now.settings.commits ≡ N.commits }
 {
-    let frozen = stopped::<N>(rt, alloc, image, settings)?;
-    keeps_the_late_one(rt, &frozen);
+    let frozen = kept::<N>(rt, alloc, image, join)?;
+    is_kept(rt, &frozen, join);
     let saved = saved_of(rt, alloc, image, &frozen)?;
-    is_written(rt, alloc, &saved)?;
-    runs_on(rt, alloc, image, settings.budget, &frozen, &saved)
+    is_written(rt, alloc, &saved, join)?;
+    joins(
+        rt,
+        alloc,
+        image,
+        join.settings.budget,
+        &frozen,
+        &saved,
+        join,
+    )
 }
 
 #[test]
-fn a_run_that_met_its_limit_goes_on(rt: HostRuntime) -> Result<(), Fail> {
-    let image = image_in(rt.alloc(), &TWO_EMITTERS)?;
-    goes_on::<Brand>(&rt, rt.alloc(), &image, ONE_COMMIT)
+fn a_saved_run_goes_on_under_the_names_of_one_run(rt: HostRuntime) -> Result<(), Fail> {
+    runs_join();
+    for join in &JOINS {
+        let image = image_in(rt.alloc(), join.image)?;
+        assert!(rt; join.settings.valid());
+        goes_on::<Brand>(&rt, rt.alloc(), &image, join)?;
+    }
+    Ok(())
 }
 
 /// Two tasks at timestamp 5, the first of which makes a subdomain with tasks at the timestamps 3, 2 and 1.

@@ -75,6 +75,43 @@ fn a_sink_goes_on_behind_a_failed_call_and_fails_where_it_is_full(
     Ok(())
 }
 
+/// How many bytes a sink takes a call at most, which of its calls fails, and how many of ten bytes it has in the end.
+/// No more calls are made than it wants for all ten, so none is handed less than it takes.
+static HANDED: [(usize, u32, usize); 8] = [
+    (10, 1, 0),
+    (10, 2, 10),
+    (9, 2, 9),
+    (9, 3, 10),
+    (4, 3, 8),
+    (4, 4, 10),
+    (1, 10, 9),
+    (1, 11, 10),
+];
+
+/// A sink with room for ten bytes, which takes so many of them a call at most, and of which this call fails.
+fn sink_that_fails_at(alloc: Global, takes: usize, call: u32) -> Result<MemSink, AllocError> {
+    let fail_at = [call].to_vec(alloc)?;
+    MemSink::new(alloc, 10, takes.max(1), fail_at)
+}
+
+#[test]
+fn a_text_is_handed_on_in_as_few_pieces_as_the_sink_takes(rt: HostRuntime) -> Result<(), Fail> {
+    for (takes, call, taken) in &HANDED {
+        let mut sink = sink_that_fails_at(rt.alloc(), *takes, *call)?;
+        let is_whole = write_all(&mut sink, b"ten bytes.") == Ok(());
+        assert!(rt;
+            is_whole == (*taken == 10),
+            "{takes} a call, of which {call} fails"
+        );
+        assert_eq!(rt;
+            sink.bytes().len(),
+            *taken,
+            "{takes} a call, of which {call} fails"
+        );
+    }
+    Ok(())
+}
+
 #[test]
 fn the_standard_streams_give_and_take(rt: HostRuntime) {
     let mut nothing = [0u8; 0];
