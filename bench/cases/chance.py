@@ -1,0 +1,48 @@
+"""Choices that a seed makes."""
+import random
+
+
+class Chance:
+    """A generator's `random` alone gives the same numbers in all versions of Python, so all is made of it."""
+
+    def __init__(self, seed):
+        self.next = random.Random(seed).random
+
+    def below(self, count):
+        return int(self.next() * count)
+
+    def between(self, least, most):
+        return least + self.below(most - least + 1)
+
+    def is_one_of(self, count):
+        """True once in so many times."""
+        return self.next() * count < 1
+
+    def pick(self, values):
+        return values[self.below(len(values))]
+
+    def weighted(self, weights):
+        """A key of a dictionary, as often as its number says."""
+        left = self.next() * sum(weights.values())
+        for key, weight in weights.items():
+            left -= weight
+            if left < 0:
+                return key
+        return key
+
+    def mixed(self, values):
+        """The values in random order."""
+        values = list(values)
+        for last in range(len(values) - 1, 0, -1):
+            place = self.below(last + 1)
+            values[last], values[place] = values[place], values[last]
+        return values
+
+    def word(self):
+        """A number of 32 bits; small ones, and those at the ends, come often."""
+        kind = self.below(4)
+        if kind == 0:
+            return self.below(16)
+        if kind == 1:
+            return self.pick((0, 1, 0x7FF, 0x800, 0xFFF, 0x7FFFFFFF, 0x80000000, 0xFFFFFFFE, 0xFFFFFFFF, 0xFFFF8000))
+        return self.below(1 << 32)
