@@ -16,6 +16,16 @@ MOST_UNPROVED = 1_000_000
 MOST_TASKS = 65_536
 # li a7, 1; ecall; ecall; li a7, 0; ecall: a task that makes two children.
 TWINS = (0x00100893, 0x00000073, 0x00000073, 0x00000893, 0x00000073)
+# beqz a0, end; addi a2, a0, -1; lui a0, 0x10; addi a1, a3, 1; li a5, 3; li a7, 1; ecall; end: li a7, 0; ecall: a task
+# that makes one child, a timestamp later and with the hint 3, as many times as its argument tells.
+CHAIN = (0x00050e63, 0xfff50613, 0x00010537, 0x00168593, 0x00300793, 0x00100893, 0x00000073, 0x00000893, 0x00000073)
+# The commands that read an image, and the statuses that a call of each can show.
+READERS = ("run", "save", "check", "steps", "trace")
+SHOWN = {"run": (0, 1, 2, 3, 4, 5, 6, 7, 10), "load": (0, 1, 3, 4, 5, 7), "save": (0, 1, 2, 3, 4, 5, 6, 7, 10, 12, 13),
+         "check": (0, 1, 2, 5, 6, 7, 8, 10), "steps": (0, 1, 2, 3, 4, 5, 6, 7, 9, 10),
+         "trace": (0, 1, 2, 5, 6, 7, 9, 10)}
+# What a tap notes of an event first: docs/guest/FORMATS.md.
+DISPATCH, ACCESS, CALL, GOES_ON, ABORT, COMMIT, COALESCING, SPLIT = range(1, 9)
 
 
 @dataclasses.dataclass(frozen=True)
@@ -43,14 +53,21 @@ def changed(data, offset, number, size=4):
 
 
 def all_answers():
-    return [*of_words(), *of_images(), *of_runs(), *of_loads(), *of_checks(), *of_scripts(), *of_saves()]
+    return [*of_words(), *of_images(), *of_runs(), *of_loads(), *of_checks(), *of_scripts(), *of_ends(), *of_traces(),
+            *of_saves()]
+
+
+def unshown(shown):
+    """A sentence on each status of a command that none of these pairs of a command and a status shows."""
+    return [f"no call of `{word}` shows the status {status}" for word, statuses in SHOWN.items() for status in statuses
+            if (word, status) not in shown]
 
 
 def of_words():
     """Words that are refused: nothing is read."""
     for words in ("rum", "--tiles 2 run", "run --tiles 17", "run --tiles 0", "run --tiles 2 --tiles 2", "run --tiles",
                   "run --tiles --cores 2", "run --tiles=00000000002", "run --line 12", "run --tower 2", "run --",
-                  "run twice", "save twice", "load walk 7", "load hop 7 20", "load walk 4294967296 20",
+                  *(f"{word} twice" for word in READERS), "load walk 7", "load hop 7 20", "load walk 4294967296 20",
                   "load walk 7 100001", "load nest 7 10001"):
         yield answer(f"words: {words}", words, b"", 1, USAGE)
 
@@ -72,7 +89,10 @@ def of_images():
             ("no task", changed(hello, 28, 0), "7 28"),
             ("two faults", changed(changed(hello, 16, 16_777_217), 12, 16_777_218), "5 16")):
         yield answer(f"image: {name}", "run", given, 2, f"fault image {fault}")
-    yield answer("input: too long", "run", hello + bytes(MOST_INPUT + 1 - len(hello)), 10, "fault long")
+    long = hello + bytes(MOST_INPUT + 1 - len(hello))
+    for word in READERS:
+        yield answer(f"image of {word}: 105 bytes", word, hello[:-1], 2, "fault image 1 105")
+        yield answer(f"input of {word}: too long", word, long, 10, "fault long")
 
 
 def of_runs():
@@ -93,6 +113,10 @@ def of_loads():
     walk = "load walk 7 1\ncommits 2\noutput -\nwindow 1000000c 00000001\nend normal"
     yield answer("load: a walk", "load walk 7 1", b"", 0, walk)
     yield answer("load: leading zeros", "load --tiles 2 walk 0000000007 --cores=1 01", b"", 0, walk)
+    yield answer("load: one commit", "load walk 7 1 --commits 1", b"", 4,
+                 "load walk 7 1\ncommits 1\noutput -\nwindow 1000000c 00000001\nend limit")
+    yield answer("load: one instruction", "load walk 7 1 --budget 1", b"", 3,
+                 "load walk 7 1\ncommits 0\noutput -\nwindow 1000000c 00000000\nend trap 17 00010004 0.0")
     cells = "\n".join(f"window {DATA + 4 * cell:08x} {5 if cell in (0, 3) else 0:08x}" for cell in range(8))
     yield answer("load: nested additions", "load nest 5 1", b"", 0,
                  f"load nest 5 1\ncommits 3\noutput -\n{cells}\nend normal")
@@ -128,15 +152,76 @@ def of_scripts():
     yield answer("steps: no act", "steps", hello, 0, open_report)
     yield answer("steps: refused acts", "steps --tiles 2", hello + b"commit\nstep 1 0\ngive 0 1\nsplit 1", 0,
                  f"empty 0\nstale 0\nstale 0\nempty 0\n{open_report}")
-    zeros = "0\n" * 17
-    yield answer("trace: no act", "trace", hello, 0, f"trace 1\ntap 0 0\ntap 1 17\n{zeros}end trace")
-    yield answer("trace: a dispatch", "trace", hello + b"dispatch 0\n", 0,
-                 f"trace 1\ntap 0 5\n1\n0\n0\n0\n0\ntap 1 17\n{zeros}end trace")
     for line in ("halt", "", "commit ", "commit\r", "step 0", "step 00 0", "step 4 0", "step 0 2", "dispatch -1"):
         for word in ("steps", "trace"):
             yield answer(f"{word}: `{line!r}`", word, hello + f"commit\n{line}\ncommit\n".encode(), 9, "fault script 2")
     yield answer("steps: a tile of a larger machine", "steps --tiles 5", hello + b"split 4\n", 0,
                  f"empty 0\n{open_report}")
+
+
+def of_ends():
+    """Scripts after which the run is over: in a trap, and at its limit. `trace` tells no end."""
+    hello, two = stored("hello"), stored("schedules/commit_queue")
+    trap = "end trap 17 0001000c 0.0"
+    yield answer("steps: to a trap", "steps --budget 3", hello + b"advance\nadvance\nadvance\n", 3,
+                 f"moved 0\nmoved 0\nended 0\nfractal 1\noutput -\n{trap}")
+    yield answer("steps: to the limit", "steps --commits 1", two + b"advance\n" * 4, 4,
+                 "moved 0\nmoved 0\ncommitted 0\nended 0\nfractal 1\n1 0.0 1 1\noutput -\nend limit")
+    yield answer("trace: to a trap", "trace --budget 3", hello + b"advance\n" * 3, 0,
+                 traced([(DISPATCH, 0, 0, 0, 0), (GOES_ON, 0, 0, 0, 0)]))
+    yield answer("trace: to the limit", "trace --commits 1", two + b"advance\n" * 4, 0,
+                 traced([(DISPATCH, 0, 0, 0, 0), (CALL, 0, 0, 0, 0), (COMMIT, 0, 0, 0, 1)]))
+
+
+def traced(events, taken_back=None):
+    """What `trace` writes of these events: five numbers of each of the last 16, and how many tasks were taken back by
+    accesses to each of the first 16 lines, by their numbers; 16 stands for all further lines."""
+    numbers = [number for event in events[-16:] for number in event]
+    lines = [(taken_back or {}).get(line, 0) for line in range(17)]
+    return "\n".join(map(str, ["trace 1", f"tap 0 {len(numbers)}", *numbers, "tap 1 17", *lines, "end trace"]))
+
+
+def of_traces():
+    """What the program's two taps note of each kind of event, and where its three placers put tasks."""
+    hello, conflict, stall = (stored(name) for name in ("hello", "schedules/conflict", "schedules/stall"))
+    yield answer("trace: no act", "trace", hello, 0, traced([]))
+    yield answer("trace: a dispatch", "trace", hello + b"dispatch 0\n", 0, traced([(DISPATCH, 0, 0, 0, 0)]))
+    before = [(DISPATCH, 0, 0, 0), (ACCESS, 0, 1, 0), (ACCESS, 0, 1, 0), (CALL, 0, 0, 0), (DISPATCH, 1, 0, 0),
+              (ACCESS, 1, 1, 2), (CALL, 1, 0, 0)]
+    behind = [(COMMIT, 1, 0, 0), (DISPATCH, 0, 0, 0), (ACCESS, 0, 1, 0), (ACCESS, 0, 1, 0), (CALL, 0, 0, 0),
+              (CALL, 0, 0, 0)]
+    last = [(COMMIT, 0, 0, 0), (DISPATCH, 0, 0, 0), (CALL, 0, 0, 0)]
+    told = [(*event, commits) for commits, events in enumerate((before, behind, last, [(COMMIT, 0, 0, 0)]))
+            for event in events]
+    yield answer("trace: 17 events", "trace --tiles 2 --cores 1", conflict + stored("schedules/conflict", "script"), 0,
+                 traced(told, {0: 2}))
+    yield answer("trace: a coalescing and a split", "trace --tiles 2 --cores 1 --task-queue 4",
+                 stall + stored("schedules/stall", "script"), 0,
+                 traced([(DISPATCH, 0, 0, 0, 0), *[(CALL, 0, 0, 0, 0)] * 3, (DISPATCH, 1, 0, 0, 0), (CALL, 1, 0, 0, 0),
+                         (COMMIT, 1, 0, 0, 1), (CALL, 0, 0, 0, 1), (COALESCING, 0, 0, 0, 1), (SPLIT, 0, 0, 0, 1)]))
+    yield answer("trace: an abort", "trace --tiles 2 --quantum 1", conflict + b"dispatch 0\nstep 0 0\nabort 0\n", 0,
+                 traced([(DISPATCH, 0, 0, 0, 0), (GOES_ON, 0, 0, 0, 0), (ABORT, 0, 0, 1, 0)]))
+    # The writer's first word becomes auipc t0, 0xfff4: it stores to the reader's word, in the line 1,024.
+    far = changed(stored("schedules/two_lines"), 52, 0x0fff4297) + stored("schedules/two_lines", "script")
+    yield answer("trace: a far line", "trace --tiles 2 --cores 1", far, 0,
+                 traced([(DISPATCH, 0, 0, 0, 0), (ACCESS, 0, 1_025, 0, 0), (DISPATCH, 1, 0, 0, 0),
+                         (ACCESS, 1, 1_025, 1, 0)], {16: 1}))
+    yield from of_placers()
+
+
+def of_placers():
+    """A chain of four tasks beside a task in tile 0, each with the hint 3: the first stands in tile 1 by its place in
+    the image, and makes the second before any commit, that the third after one commit, and that the last after two."""
+    text = b"".join(word.to_bytes(4, "little") for word in CHAIN)
+    tasks = [InitialTask(TEXT, 100, (0, 0, 0)), InitialTask(TEXT, 0, (3, 0, 0))]
+    chain = image_bytes(Image(True, text, b"", 0, 0, 0, tasks)) + b"advance\n" * 15
+    # With the phase 1: by the hint, to the lowest tile of the least load, and in turn from tile 0 on.
+    for words, tiles in (("trace", (1, 3, 3, 3)), ("trace --phase 2", (1, 3, 3, 1)), ("trace --phase 1", (1, 3, 1, 0))):
+        told = [(kind, tile, 0, 0, commits + (kind == COMMIT)) for commits, tile in enumerate(tiles)
+                for kind in (DISPATCH, CALL, CALL, COMMIT)]
+        # The last task makes no child.
+        del told[-2]
+        yield answer(f"{words}: placers", words, chain, 0, traced(told))
 
 
 def of_saves():

@@ -14,7 +14,7 @@ import time
 from tools.answers import Case
 from tools.command import Refused, say
 from tools.examples import HERE, SCHEDULES
-from tools.launching import launched
+from tools.launching import end_all, launched
 from tools.program import PROGRAM, STATUSES, end_of
 from tools.report import read_report
 
@@ -68,6 +68,9 @@ def played_built(cases):
     pool = concurrent.futures.ThreadPoolExecutor(os.cpu_count())
     try:
         yield from zip(cases, pool.map(play, cases))
+    except BaseException:
+        end_all()
+        raise
     finally:
         pool.shutdown(cancel_futures=True)
 

@@ -224,13 +224,13 @@ def take_option(words, name):
     return (values or [None])[0], rest
 
 
-def need_words(words, count, script, what):
+def need_words(words, count, script, what, folder="examples"):
     """Words of which there are to be so many, none of them an option."""
     option = next((word for word in words if word.startswith("--")), None)
     if option is not None:
-        raise Refused(f"`{option}` isn't known; examples/{script} --help tells the words.")
+        raise Refused(f"`{option}` isn't known; {folder}/{script} --help tells the words.")
     if len(words) != count:
-        raise Refused(f"it wants {what}; examples/{script} --help tells more.")
+        raise Refused(f"it wants {what}; {folder}/{script} --help tells more.")
     return words
 
 

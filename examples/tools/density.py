@@ -6,10 +6,10 @@ from xml.sax.saxutils import escape
 from tools.schedules import DONE, acts_a_round, is_commit
 
 MOST_COLUMNS = 120
-MARGIN, TOP, FOOT, COLUMN, LANE, COMMIT_LANE, GAP = 96, 40, 78, 9, 34, 60, 4
+MARGIN, TOP, FOOT, COLUMN, LANE, COMMIT_LANE, GAP = 96, 40, 78, 9, 34, 60, 6
 DONE_COLOUR, STALLED_COLOUR, IDLE_COLOUR = "#4e79a7", "#e0913f", "#d5dde6"
 COMMIT_COLOUR, TAKEN_COLOUR = "#3f8f46", "#c62828"
-LANE_COLOUR, COMMIT_LANE_COLOUR = "#f4f7fb", "#eef6ee"
+LANE_COLOUR, COMMIT_LANE_COLOUR, GROUND_COLOUR = "#f1f4f9", "#eef6ee", "#8a97a8"
 # Bars grow up from the bottom of a lane for what was asked for, and down from its top for what was taken back.
 ASKED_PART, TAKEN_PART = 0.62, 0.34
 
@@ -93,6 +93,7 @@ def axis(grid):
 
 def lane_of(grid, tile, y, asked, taken, width):
     yield band(y, LANE, width, LANE_COLOUR)
+    yield ground(y + LANE, width)
     yield text(12, y + LANE / 2 + 4, f"tile {tile}", "#333333", 12, True)
     for column, cell in enumerate(grid.cells[tile]):
         x = MARGIN + COLUMN * column
@@ -108,8 +109,14 @@ def band(y, height, width, colour):
     return f'<rect x="{MARGIN}" y="{y}" width="{width - MARGIN - 16}" height="{height}" fill="{colour}"/>'
 
 
+def ground(y, width):
+    """The line on which the bars of a lane stand: what is below it belongs to the next lane."""
+    return f'<rect x="{MARGIN}" y="{y}" width="{width - MARGIN - 16}" height="1" fill="{GROUND_COLOUR}"/>'
+
+
 def commits_of(grid, y, width):
     yield band(y, COMMIT_LANE, width, COMMIT_LANE_COLOUR)
+    yield ground(y + COMMIT_LANE, width)
     yield text(12, y + COMMIT_LANE / 2 + 4, "commits", "#333333", 12, True)
     lane = grid.cells[-1]
     most = max((cell.commits for cell in lane), default=0) or 1

@@ -4,6 +4,7 @@ This is no second judge: `./fractal check` says whether a report is that of a ru
 (RISC-V Unprivileged ISA 20191213, chapter 2), and of the six calls and the traps of docs/guest/TASKS.md.
 """
 import dataclasses
+import heapq
 
 from tools.image import DATA, STACK, TEXT
 from tools.report import Name
@@ -40,6 +41,8 @@ class Domain:
     outer: "Domain" = None
     # The timestamp of the task that made it.
     floor: int = 0
+    # The timestamps of its pending tasks, as a heap.
+    pending: list = dataclasses.field(default_factory=list)
 
 
 @dataclasses.dataclass
@@ -51,6 +54,9 @@ class Task:
     arguments: tuple
     domain: Domain
     turn: int = 0
+
+    def is_told_by(self, entry):
+        return (self.domain.depth, self.timestamp) == (entry.depth, entry.timestamp)
 
 
 class Machine:
@@ -64,27 +70,43 @@ class Machine:
         # What the tasks emitted, and whether a turn was none of this image.
         self.output, self.is_other = bytearray(), False
         root = Domain(1, image.is_ordered)
+        # The domains from the root to the innermost one.
+        self.domains = [root]
         for index, initial in enumerate(image.tasks):
             self.add(Name(0, index), initial.entry, initial.timestamp, initial.arguments, root)
 
     def add(self, name, entry, timestamp, arguments, domain):
-        self.tasks[name] = Task(name, entry, timestamp if domain.is_ordered else 0, tuple(arguments), domain)
+        timestamp = timestamp if domain.is_ordered else 0
+        self.tasks[name] = Task(name, entry, timestamp, tuple(arguments), domain)
+        heapq.heappush(domain.pending, timestamp)
+
+    def is_next(self, task):
+        """Whether a task is of the innermost domain that has one pending, and has the least timestamp there."""
+        while len(self.domains) > 1 and not self.domains[-1].pending:
+            self.domains.pop()
+        domain = self.domains[-1]
+        return task.domain is domain and task.timestamp == domain.pending[0]
 
     def follow(self, entries):
         """Takes the turns of these entries. It ends with None, or with a sentence on why it can't go on."""
         for entry in entries:
             task = self.tasks.get(entry.name)
-            if not task or task.turn or (task.domain.depth, task.timestamp) != (entry.depth, entry.timestamp):
+            is_known = task and not task.turn
+            if not is_known or not self.is_next(task) or not task.is_told_by(entry):
                 self.is_other = True
                 return f"turn {entry.turn} isn't one that the image allows; ./fractal check says more"
             task.turn = entry.turn
+            heapq.heappop(task.domain.pending)
+            run = Run(self, task)
             try:
-                Run(self, task).go()
+                run.go()
             except Lost as lost:
                 return f"turn {entry.turn} {lost}"
             except Trapped as trapped:
                 self.is_other = True
                 return f"turn {entry.turn} traps with cause {trapped.cause}; ./fractal check says more"
+            if run.inner:
+                self.domains.append(run.inner)
         return None
 
     def trapped(self, trap):

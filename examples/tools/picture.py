@@ -1,5 +1,6 @@
 """The tree of a report's tasks as a picture: one column a turn, one row a depth."""
 import dataclasses
+import math
 from xml.sax.saxutils import escape
 
 # Up to so many tasks are boxes with their labels, the others of a larger run are dots that tell them when pointed at.
@@ -8,7 +9,7 @@ DOTS_WIDTH = 1_800
 MARGIN, TOP, ROW = 90, 20, 110
 FRAME = 47
 COLOURS = ("#4e79a7", "#f28e2b", "#59a14f", "#b07aa1", "#76b7b2", "#9c755f", "#edc948", "#ff9da7")
-TRAP_COLOUR = "#c62828"
+TRAP_COLOUR, FRAME_COLOUR = "#c62828", "#f3f6fa"
 
 
 @dataclasses.dataclass
@@ -40,8 +41,10 @@ def drawn(nodes, total):
     parts = [f'<svg xmlns="http://www.w3.org/2000/svg" width="{width:.0f}" height="{height}" '
              f'viewBox="0 0 {width:.0f} {height}" font-family="sans-serif" font-size="12">',
              f'<rect width="{width:.0f}" height="{height}" fill="white"/>']
-    parts += [*rows(depths, width), *domains(nodes, style)]
+    frames = list(domains(nodes, style))
+    parts += [*rows(depths, width), *(frame for frame, _ in frames)]
     parts += [edge(nodes, place, style) for place, node in enumerate(nodes) if node.creator >= 0]
+    parts += [kind for _, kind in frames]
     parts += [task(node, place, style) for place, node in enumerate(nodes)]
     rest = f", and {total - len(nodes)} more" if total > len(nodes) else ""
     parts += [text(MARGIN, height - 14, f"{len(nodes)} tasks in the order of their turns{rest}; "
@@ -79,19 +82,19 @@ def rows(depths, width):
 
 
 def domains(nodes, style):
-    """A frame round the tasks of each domain."""
+    """A frame round the tasks of each domain, and the name of its kind."""
     places = {}
     for place, node in enumerate(nodes):
         places.setdefault(id(node.domain), (node.domain, []))[1].append(place)
+    # A line may cross the name of a kind, which therefore stands above it, with a rim of the frame's colour.
+    rim = f' stroke="{FRAME_COLOUR}" stroke-width="4" paint-order="stroke" fill="#6b7a90" font-size="10"'
     for domain, members in places.values():
         half = style.width / 2 + (8 if style.has_labels else 2)
         x, y = middle(members[0], style) - half, level(domain.depth) - FRAME
         width = middle(members[-1], style) + half - x
-        yield (f'<rect x="{x:.1f}" y="{y}" width="{width:.1f}" height="{2 * FRAME}" rx="8" fill="#f3f6fa" '
-               'stroke="#b8c4d6"/>')
-        if style.has_labels:
-            kind = "ordered" if domain.is_ordered else "unordered"
-            yield text(x + 8, y + 2 * FRAME - 8, kind, ' fill="#6b7a90" font-size="10"')
+        kind = "ordered" if domain.is_ordered else "unordered"
+        yield (f'<rect x="{x:.1f}" y="{y}" width="{width:.1f}" height="{2 * FRAME}" rx="8" fill="{FRAME_COLOUR}" '
+               'stroke="#b8c4d6"/>', text(x + 8, y + 2 * FRAME - 8, kind, rim) if style.has_labels else "")
 
 
 def edge(nodes, place, style):
@@ -101,7 +104,7 @@ def edge(nodes, place, style):
     top, bottom = level(nodes[creator].depth), level(nodes[place].depth)
     half = style.height / 2
     if top == bottom:
-        up = top - half - min(24, 6 + 4 * (place - creator))
+        up = top - half - 6 - 18 * math.sqrt((place - creator) / len(nodes))
         path = f"M{start:.1f} {top - half:.1f} C{start:.1f} {up:.1f} {end:.1f} {up:.1f} {end:.1f} {bottom - half:.1f}"
     else:
         side = 1 if bottom > top else -1

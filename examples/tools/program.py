@@ -37,7 +37,7 @@ class Table:
 
     def __init__(self):
         self.commands, self.command_rows, self.options, self.statuses = {}, {}, {}, {}
-        self.kinds, self.own, self.version = {}, {}, ""
+        self.kinds, self.own, self.own_words, self.version = {}, {}, {}, ""
         for line in table_lines():
             kind, name, *rest = line.split("|")
             if kind == "command":
@@ -49,7 +49,7 @@ class Table:
             elif kind == "status":
                 self.statuses[int(name)] = rest[0]
             elif kind == "own":
-                self.own[name] = rest[1]
+                self.own_words[name], self.own[name] = rest
             elif kind == "version":
                 self.version = name
 

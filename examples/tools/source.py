@@ -1,5 +1,6 @@
 """From sources to an image: assembling or compiling, placing, and the lines of comments that describe it."""
 import dataclasses
+import itertools
 import os
 import pathlib
 import re
@@ -42,6 +43,8 @@ INSTRUCTIONS = frozenset("""
     lui auipc jal jalr beq bne blt bge bltu bgeu lb lh lw lbu lhu sb sh sw addi slti sltiu xori ori andi slli srli srai
     add sub sll slt sltu xor srl sra or and fence fence.tso pause ecall ebreak
 """.split())
+# What the disassembler calls an instruction that RV32I hasn't; words that are given as data have other names.
+UNKNOWN = frozenset((".insn", ".2byte", ".4byte", ".8byte"))
 # What a file's flags ask for beyond that.
 FLAGS = ((0x1, "compressed instructions"), (0x6, "a floating-point unit"), (0x8, "16 registers alone"))
 # The end call after the call of a task's body, in C.
@@ -205,7 +208,20 @@ def assemble(sources, by=compiler.GCC):
     assembled.compiler = compiler.compiler_told(by) if has_c else None
     assembled.paths = {source.name: source.path for source in sources}
     refuse_other_instructions(assembled)
+    tell_entries(assembled, sources)
     return assembled
+
+
+def tell_entries(assembled, sources):
+    """Gives the instructions of each entry that TASK made the line of that TASK, which no compiler tells."""
+    for label in assembled.tasks_of_c():
+        lines = ((source.name, number) for source in sources if source.is_c
+                 for number, text in enumerate(source.lines, 1)
+                 if re.search(rf"\bTASK\s*\(\s*{re.escape(label.name)}\b", text))
+        for name, number in itertools.islice(lines, 1):
+            for address in range(label.address, label.address + ENTRY_BYTES, 4):
+                found = assembled.instructions[address]
+                assembled.instructions[address] = dataclasses.replace(found, source=name, line=number)
 
 
 def source_words(source, target, prefix, by):
@@ -240,9 +256,9 @@ def refuse_other_instructions(assembled):
     """Refuses an instruction that isn't one of RV32I; words that the source gives as data aren't looked at."""
     for address, found in assembled.instructions.items():
         name = found.words.partition(" ")[0]
-        if name not in INSTRUCTIONS and not name.startswith((".", "0x")):
+        if name in UNKNOWN or name not in INSTRUCTIONS and not name.startswith((".", "0x")):
             place = assembled.place(address) or f"at {address:08x}"
-            raise Refused(f"{place}: `{name}` is no instruction of RV32I.")
+            raise Refused(f"{place}: `{found.words if name in UNKNOWN else name}` is no instruction of RV32I.")
 
 
 def section_names(source, data):

@@ -278,6 +278,6 @@ TRIES = (
     examples_are_rebuilt, folders_are_anywhere, sources_are_linked, sections_are_placed, other_sections_are_refused,
     sections_without_flags_are_refused,
     misshapen_lines_are_refused, second_lines_are_refused, odd_windows_are_refused, missing_tasks_are_told,
-    faults_of_the_source_are_told, other_machines_are_refused, huge_sections_are_refused, bad_words_are_refused, missing_assembler_is_told, unwritable_folders_are_told,
-    interrupts_leave_nothing,
+    faults_of_the_source_are_told, other_machines_are_refused, huge_sections_are_refused, bad_words_are_refused,
+    missing_assembler_is_told, unwritable_folders_are_told, interrupts_leave_nothing,
 )

@@ -366,8 +366,9 @@ def scratch_of_all_conflicts(place):
         folder, _ = built(place, name, source)
         results.append(re.findall(rb"window \w+ (\w+)", run_of(place, folder)))
         answer = place.call("examples/study", str(folder / "image.bin"), "--tiles", "4", "--cores", "2")
-        row = answer.output.decode().splitlines()[-1].split(" | ")
-        expect((row[4] != "0") == is_taken_back, f"what is taken back with {name} scratch", answer)
+        head, _, row = (line.strip("| ").split(" | ") for line in answer.output.decode().splitlines())
+        taken_back = dict(zip(head, row))["Taken back"]
+        expect((taken_back != "0") == is_taken_back, f"what is taken back with {name} scratch", answer)
     expect(results[0] == results[1] and len(results[0]) == 16, "the same results", results)
 
 

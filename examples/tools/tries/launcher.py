@@ -103,6 +103,27 @@ def first_look_needs_no_writing(place):
     expect((answer.status, answer.output) == (0, HELLO), "the report", answer)
 
 
+def unproved_runs_show_their_seconds(place):
+    """while an unproved run compiles, a terminal shows the seconds gone, and later how long the last such run took"""
+    place.environment["XDG_CACHE_HOME"] = str(place.root / "cache")
+    place.stub_tool("rt", "cat >/dev/null; sleep 5; echo yes; echo 'run=ended status=0 runners=1 proved=no' >&2\n")
+    for parts in (("as measured", "compiling the program, unproved, 2 s"),
+                  ("s here the last time", "unproved, 2 s of some ")):
+        answer = place.on_terminal("fractal", "run", stdin=b"")
+        expect((answer.status, answer.output) == (0, b"yes\n"), "the program's own answer", answer)
+        answer.tells(*parts)
+    place.is_clean()
+
+
+def long_runs_show_their_seconds(place):
+    """while the built program runs for long, a terminal shows the seconds gone, and nothing of it is left"""
+    place.stub(place.program, "cat >/dev/null; sleep 5; echo yes\n")
+    answer = place.on_terminal("fractal", "run", stdin=b"")
+    expect((answer.status, answer.output) == (0, b"yes\n"), "the program's own answer", answer)
+    answer.tells("fractal: running, 2 s")
+    expect(answer.errors.endswith("\r\x1b[K") and "\n" not in answer.errors, "a line that is taken away", answer)
+
+
 def large_runs_want_a_build(place):
     """an unproved run that is too large is told in a sentence, with a status of the launcher's own"""
     place.stub_tool("rt", "cat >/dev/null; echo 'checked: no-answer: the program did not end' >&2; exit 6\n")
@@ -231,6 +252,7 @@ TRIES = (
     missing_clones_are_told, missing_toolchain_is_told, unwritable_clones_are_told, progress_is_one_line,
     failed_builds_are_told,
     large_runs_want_a_build, broken_tries_are_told, interrupted_tries_leave_nothing, old_programs_are_told,
-    statuses_get_a_sentence, awaited_images_are_told, interrupted_programs_are_told, first_look_is_unproved,
+    statuses_get_a_sentence, awaited_images_are_told, interrupted_programs_are_told, unproved_runs_show_their_seconds,
+    long_runs_show_their_seconds, first_look_is_unproved,
     first_look_needs_no_writing, interrupted_builds_leave_nothing,
 )

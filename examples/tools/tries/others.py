@@ -8,6 +8,7 @@ import shutil
 import xml.etree.ElementTree
 
 from tools.examples import EXAMPLES, SCHEDULES
+from tools.tries.builder import folder_with
 from tools.tries.launcher import TRAP, image_of
 from tools.tries.place import Answer, expect, one_sentence_each
 
@@ -70,6 +71,28 @@ def traps_are_explained(place):
         answer = place.call("examples/explain", image, report, *source)
         for part in ("cause 10: a timestamp in the past", "0.1 (bad; timestamp 7", "task.s:18: ecall", "bad+16"):
             expect(part in answer.output.decode(), f"`{part}`", answer)
+
+
+def each_instruction_has_its_line(place):
+    """each instruction of a listing has its source line, also the second one of a line, where a trap names it"""
+    for name in EXAMPLES:
+        text = (place.clone / "examples" / name / "listing").read_text()
+        counts = []
+        for function in re.split(r"(?m)^[0-9a-f]{8} <.*>:$", text)[1:]:
+            lines = re.findall(r"(?m)^[0-9a-f]{8}  [0-9a-f]{8}  .*$", function)
+            without = [line for line in lines if not re.search(r" \| [\w.]+:[0-9]+ \|", line)]
+            # What stands in a library has no lines at all.
+            is_library = name.startswith("c/") and len(without) == len(lines)
+            expect(not without or is_library, f"a source line of each instruction of {name}", without)
+            counts.append(len(lines) - len(without))
+        expect(sum(counts) > 2, f"instructions of {name}", text)
+    text = "# image: task main\nmain:\n    lw a0, odd\n    li a7, 0\n    ecall\n    .data\n    .byte 1\nodd:\n    .word 5\n"
+    folder = folder_with(place, "second", task=text)
+    expect(place.call("examples/build", str(folder)).status == 0, "an image")
+    report = b"fractal 1\noutput -\nend trap 4 00010004 0.0\n"
+    answer = place.call("examples/explain", str(folder / "image.bin"), "-", stdin=report)
+    for part in ("task.s:3: lw a0, odd", "main+4", "odd, in the data"):
+        expect(part in answer.output.decode(), f"`{part}`", answer)
 
 
 def pictures_are_drawn(place):
@@ -433,9 +456,10 @@ def programs_are_handed_on(place):
 
 
 TRIES = (
-    reports_are_explained, traps_are_explained, pictures_are_drawn, faults_are_explained, other_runs_are_refused,
+    reports_are_explained, traps_are_explained, each_instruction_has_its_line, pictures_are_drawn, faults_are_explained, other_runs_are_refused,
     played_scripts_are_explained, explanations_are_for_programs,
-    explain_refuses_bad_files, closed_pipes_are_borne, accepted_examples_are_named, one_unproved_run_plays_all, other_reports_fail,
+    explain_refuses_bad_files, closed_pipes_are_borne, accepted_examples_are_named, one_unproved_run_plays_all,
+    other_reports_fail,
     lying_programs_fail, each_fails_the_gate, grids_are_swept, broken_programs_are_rows,
     files_are_written_through, shards_are_joined,
     loads_are_swept, progress_is_shown, sweep_refuses_bad_words, interrupted_sweeps_leave_nothing,

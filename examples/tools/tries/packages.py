@@ -1,13 +1,10 @@
 """Tries of ./fractal package, what its archive installs, completions, the manual page, and the exercises."""
-import os
 import shutil
-import signal
 import subprocess
-import time
 
 from tools.program import PROGRAM, Table
 from tools.tries.launcher import HELLO, image_of
-from tools.tries.place import Answer, expect, one_sentence_each
+from tools.tries.place import Answer, expect, need_built, one_sentence_each
 
 EXERCISES = ("journal", "abort", "stall", "false_conflict", "order")
 # An rt that builds by copying.
@@ -15,7 +12,7 @@ STUB_BUILD = "cat >/dev/null; mkdir -p out; cp '{}' out/fractal_sim\n"
 
 
 def build(place):
-    expect(PROGRAM.exists(), f"a built program at {PROGRAM}: ./fractal build comes before this try")
+    need_built()
     place.stub_tool("rt", STUB_BUILD.format(PROGRAM))
     expect(place.call("fractal", "build").status == 0, "a build")
 
@@ -122,6 +119,7 @@ def shells_are_helped(place):
         for name in (*table.commands, *table.own, *(f"--{option}" for option in table.options)):
             expect(name in texts[kind], f"`{name}` for {kind}")
         (place.root / kind).write_bytes(answer.output)
+    expect("package [FOLDER]" in texts["man"] and "load KIND SEED SIZE" in texts["man"], "the words behind a command")
     for status, meaning in table.statuses.items():
         expect(f".B {status}\n{meaning}" in texts["man"].replace("\\(aq", "'"), f"the status {status}")
     for shell in ("bash", "zsh"):
@@ -191,20 +189,7 @@ def exercises_are_rebuilt(place):
     place.is_clean()
 
 
-def early_interrupts_are_borne(place):
-    """an interrupt at any moment of a script's start leaves no traceback"""
-    command = [place.command("examples/lockstep"), "16", "4", "20000"]
-    for hundredths in range(0, 60, 3):
-        process = subprocess.Popen(command, stdout=subprocess.DEVNULL, stderr=subprocess.PIPE, start_new_session=True,
-                                   env=place.environment, text=True)
-        time.sleep(hundredths / 100)
-        os.killpg(process.pid, signal.SIGINT)
-        errors = process.communicate(timeout=60)[1]
-        expect(process.returncode in (0, 130, -signal.SIGINT), f"an end at {hundredths} hundredths", process.returncode)
-        expect(errors in ("", "lockstep: interrupted.\n"), f"one sentence or none at {hundredths} hundredths", errors)
-
-
 TRIES = (
     packages_run_elsewhere, packages_are_installed, packages_are_of_one_commit, shells_are_helped, exercises_are_judged,
-    exercises_are_rebuilt, early_interrupts_are_borne,
+    exercises_are_rebuilt,
 )

@@ -19,10 +19,15 @@ from tools.program import PROGRAM
 NOBODY = 65534
 # A call that lasts longer has failed, also on a machine that is at much other work.
 MOST_SECONDS = 600
+MOST_SECONDS_OF_ENDING = 60
 
 
 class Failed(Exception):
     """A try went otherwise than its sentence says."""
+
+
+class NotBuilt(Exception):
+    """A try wants the built program, and the own clone has none."""
 
 
 @dataclasses.dataclass
@@ -51,9 +56,19 @@ def expect(is_so, what, seen=None):
         raise Failed(f"expected {what}" + (f"; seen {seen}" if seen is not None else ""))
 
 
+def need_built():
+    if not PROGRAM.exists():
+        raise NotBuilt
+
+
 def one_sentence_each(answers):
     for answer, parts in answers:
         answer.sentence(*parts)
+
+
+def written_tree(folder):
+    """All files and folders below a folder, but those that git keeps for itself."""
+    return {path for path in folder.rglob("*") if ".git" not in path.parts}
 
 
 class Place:
@@ -78,7 +93,7 @@ class Place:
 
     def needs_program(self):
         """Puts the built program of the own clone into the fresh one."""
-        expect(PROGRAM.exists(), f"a built program at {PROGRAM}: ./fractal build comes before this try")
+        need_built()
         self.program.parent.mkdir(parents=True, exist_ok=True)
         shutil.copy(PROGRAM, self.program)
 
@@ -139,9 +154,18 @@ class Place:
         process = subprocess.Popen([self.command(words[0]), *words[1:]], stdin=subprocess.DEVNULL,
                                    stdout=subprocess.PIPE, stderr=subprocess.PIPE, cwd=cwd or self.root,
                                    env=self.environment, start_new_session=True)
-        wait_for(ready)
+        wait_for(lambda: process.poll() is not None or ready())
+        if process.poll() is not None:
+            raise Failed(f"expected {words[0]} to wait; it ended with {process.communicate()}")
+        # A signal that comes right before a read is answered only once that read ends.
+        time.sleep(0.3)
         os.killpg(process.pid, number)
-        output, errors = process.communicate(timeout=MOST_SECONDS)
+        try:
+            output, errors = process.communicate(timeout=MOST_SECONDS_OF_ENDING)
+        except subprocess.TimeoutExpired:
+            os.killpg(process.pid, signal.SIGKILL)
+            process.communicate()
+            raise Failed(f"expected an end of {words[0]} once it is interrupted") from None
         return Answer(process.returncode, output, errors.decode("utf-8", "replace"))
 
     def is_clean(self):

@@ -1,5 +1,6 @@
 """Tries of schedules, pictures and sums of them, generated images, studies, and runs with threads or scarce memory."""
 import csv
+import pathlib
 import re
 import xml.etree.ElementTree
 
@@ -70,8 +71,14 @@ def schedules_are_summed_up(place):
     expect("| Tasks taken back | 1 | 0 |" in answer.output.decode(), "both outputs", answer)
     expect("commits" in picture_in((place.root / "a plot.svg").read_bytes()), "the axis's name")
     script = written(place, "lockstep", place.call("examples/lockstep", "2", "1", "30").output)
-    answer = place.call("examples/tally", script, "-", "--csv", "t.csv", stdin=b"empty 0\n" * 236 + b"ended 0\n" * 4 + OPEN_REPORT)
+    said = b"empty 0\n" * 236 + b"ended 0\n" * 4 + OPEN_REPORT
+    answer = place.call("examples/tally", script, "-", "--csv", "t.csv", stdin=said)
     expect("| Rounds | 30 |" in answer.output.decode(), "rounds of a lockstep schedule", answer)
+    (place.root / "link.csv").symlink_to("t.csv")
+    for target in ("/dev/null", "link.csv"):
+        answer = place.call("examples/tally", script, "-", "--csv", target, stdin=said)
+        expect((answer.status, answer.errors) == (0, ""), f"CSV to {target}", answer)
+    expect((place.root / "link.csv").is_symlink() and pathlib.Path("/dev/null").is_char_device(), "a link and a device")
     row, = csv.DictReader((place.root / "t.csv").read_text().splitlines())
     expect((row["acts"], row["rounds"], row["split empty"], row["split ended"]) == ("236", "30", "58", "2"), "CSV", row)
 
@@ -199,7 +206,7 @@ def endless_choices_are_rows(place):
 def threads_are_checked(place):
     """runs with host threads are checked, a report that isn't a run's fails, and so does another status"""
     place.needs_program()
-    wanted = "".join(f"hello with {workers} workers: 3 runs accepted, one report\n" for workers in (2, 4, 16))
+    wanted = "".join(f"hello with {workers} workers: 3 runs accepted, one answer\n" for workers in (2, 4, 16))
     answer = place.call("examples/workers", "hello", "--runs", "3", "--jobs", "2")
     expect(answer == Answer(0, wanted.encode(), ""), "nine runs", answer)
     for text, part in (("exit 3", "status 3"), ("[ $1 = run ] || { echo 'fault journal 2'; exit 8; }", "fault journal 2")):
@@ -243,13 +250,64 @@ def scarce_memory_is_answered(place):
     ])
 
 
+def refused_allocations_are_answered(place):
+    """each allocation of three schedules is refused in turn, and the program answers with status 5 or whole"""
+    place.needs_program()
+    answer = place.call("examples/allocations")
+    told = re.findall(r"(\w+): [\d,]+ allocations, each refused once: ([\d,]+) out of memory, [\d,]+ whole answers, "
+                      "0 killed", answer.output.decode())
+    expect((answer.status, [name for name, _ in told]) == (0, ["conflict", "children", "four_cores"]), "lines", answer)
+    expect(all(count != "0" for _, count in told), "status 5", told)
+    stub = str(place.stub(place.root / "stub", "cat >/dev/null; exit 3\n"))
+    one_sentence_each([
+        (place.call("examples/allocations", "--program", stub), ["conflict", "status 3"]),
+        (place.call("examples/allocations", "mine"), ["`mine`", "conflict, children"]),
+        (place.call("examples/allocations", "--program"), ["value is missing"]),
+        (place.call("examples/allocations", "--program", "nowhere"), ["nowhere", "isn't built"]),
+        (place.call("examples/allocations", "--program", files_of(place, "hello")[0]), ["image.bin", "can't be run"]),
+    ])
+
+
 def benches_are_told(place):
-    """the bench tells its words, refuses others, and wants the built program"""
+    """the bench tells its words, refuses others, wants the built program, and tells what is worse in a second file"""
     expect(b"--lockstep" in place.call("bench/run", "--help").output, "a help page")
+    before = place.clone / "bench" / "before"
+    old, new = str(before / "version_1.csv"), str(before / "version_2.csv")
+    answer = place.call("bench/run", "--compare", old, new)
+    expect((answer.status, answer.errors) == (1, "") and b"| load nest 0 1000 | host instructions |" in answer.output,
+           "what is worse, and status 1", answer)
+    same = place.call("bench/run", "--compare", old, old)
+    expect((same.status, b"0 got worse" in same.output) == (0, True), "nothing that is worse", same)
     one_sentence_each([
         (place.call("bench/run", "--fast"), ["--lockstep"]),
         (place.call("bench/run", "--loads", "--workers"), ["one word"]),
         (place.call("bench/run", "--loads"), ["isn't built"]),
+        (place.call("bench/run", "--loads", "--csv"), ["--csv"]),
+        (place.call("bench/run", "--compare", old), ["bench/run --help"]),
+        (place.call("bench/run", "--compare", old, str(place.clone / "README.md")), ["README.md", "no figures"]),
+    ])
+
+
+def programs_are_held_against_each_other(place):
+    """two programs that say the same are told so, by kinds; at the first difference both answers are kept"""
+    one = str(place.stub(place.root / "one", "cat >/dev/null; echo fault usage; exit 1\n"))
+    other = str(place.stub(place.root / "other", "cat >/dev/null; echo fault usage; [ $1 = trace ]; exit $((2 - $?))\n"))
+    answer = place.call("bench/same", one, one, "20")
+    expect((answer.status, answer.errors) == (0, "") and b"20 cases, with " in answer.output, "the same answers", answer)
+    kept = place.root / "kept"
+    kept.mkdir()
+    answer = place.call("bench/same", one, other, "40", "--to", str(kept))
+    expect(answer.status == 1, "a difference", answer)
+    answer.tells("status 2", "they wrote the same", "To play it again", f"{other}' trace", "--case")
+    files = {path.name for path in kept.iterdir()}
+    expect(files == {"input", "old", "new", "old.errors", "new.errors"}, "the input and both answers", files)
+    one_sentence_each([
+        (place.call("bench/same", one), ["OLD and NEW", "bench/same --help"]),
+        (place.call("bench/same", one, "nowhere"), ["nowhere", "isn't built"]),
+        (place.call("bench/same", one, one, "0"), ["COUNT"]),
+        (place.call("bench/same", one, one, "--jobs", "0"), ["--jobs"]),
+        (place.call("bench/same", one, one, "9", "--case", "3"), ["one case"]),
+        (place.call("bench/same", one, one, "--to", "nowhere"), ["nowhere", "no such folder"]),
     ])
 
 
@@ -259,7 +317,8 @@ def interrupted_plays_leave_nothing(place):
     place.stub(place.program, f"touch '{mark}'; exec sleep 100\n")
     image = files_of(place, "hello")[0]
     for words in (["examples/study", image, "--jobs", "2", "--line", "4,8"], ["examples/workers", "hello"],
-                  ["examples/memory", "steps"], ["bench/run", "--workers"]):
+                  ["examples/memory", "steps"], ["bench/run", "--workers"],
+                  ["bench/same", str(place.program), str(place.program), "9"]):
         mark.unlink(missing_ok=True)
         place.interrupted(*words, ready=mark.exists).sentence("interrupted", status=130)
     place.is_clean()
@@ -267,6 +326,8 @@ def interrupted_plays_leave_nothing(place):
 
 TRIES = (
     schedules_are_drawn, long_schedules_are_drawn, schedules_are_summed_up, other_outputs_are_refused,
-    lockstep_is_written, images_are_generated, studies_are_made, endless_choices_are_rows, threads_are_checked, swept_threads_are_checked,
-    scarce_memory_is_answered, benches_are_told, interrupted_plays_leave_nothing,
+    lockstep_is_written, images_are_generated, studies_are_made, endless_choices_are_rows, threads_are_checked,
+    swept_threads_are_checked, scarce_memory_is_answered, refused_allocations_are_answered, benches_are_told,
+    programs_are_held_against_each_other,
+    interrupted_plays_leave_nothing,
 )
