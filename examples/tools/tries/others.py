@@ -294,6 +294,23 @@ def each_fails_the_gate(place):
     expect(set((place.root / "words").read_text().split("\n")) == {"ci", ""}, "plain rt ci")
 
 
+def wide_lines_only_fall(place):
+    """one more wide line in a proof or in a script fails the lint, and the same one in place of another doesn't"""
+    proofs = sorted((place.clone / "crates").rglob("proofs/**/*.antt"))
+    wide = next(path for path in proofs if any(len(line) > 120 for line in path.read_text().splitlines()))
+    for path, comment in ((wide, "--"), (place.clone / "examples" / "tools" / "plot.py", "#")):
+        text = path.read_text()
+        path.write_text(f"{text}{comment} {'wide ' * 30}\n")
+        answer = place.call(".ci/lint")
+        expect(answer.status == 1 and b"break new ones" in answer.output, "a failure for one more wide line", answer)
+        path.write_text(text)
+    lines = wide.read_text().splitlines()
+    lines[next(at for at, line in enumerate(lines) if len(line) > 120)] = "wide " * 30
+    wide.write_text("\n".join(lines) + "\n")
+    answer = place.call(".ci/lint")
+    expect(answer.status == 0 and b"break" not in answer.output, "no failure where their number stays", answer)
+
+
 # ---- sweep
 
 
@@ -456,11 +473,11 @@ def programs_are_handed_on(place):
 
 
 TRIES = (
-    reports_are_explained, traps_are_explained, each_instruction_has_its_line, pictures_are_drawn, faults_are_explained, other_runs_are_refused,
-    played_scripts_are_explained, explanations_are_for_programs,
+    reports_are_explained, traps_are_explained, each_instruction_has_its_line, pictures_are_drawn,
+    faults_are_explained, other_runs_are_refused, played_scripts_are_explained, explanations_are_for_programs,
     explain_refuses_bad_files, closed_pipes_are_borne, accepted_examples_are_named, one_unproved_run_plays_all,
     other_reports_fail,
-    lying_programs_fail, each_fails_the_gate, grids_are_swept, broken_programs_are_rows,
+    lying_programs_fail, each_fails_the_gate, wide_lines_only_fall, grids_are_swept, broken_programs_are_rows,
     files_are_written_through, shards_are_joined,
     loads_are_swept, progress_is_shown, sweep_refuses_bad_words, interrupted_sweeps_leave_nothing,
     programs_are_handed_on,
