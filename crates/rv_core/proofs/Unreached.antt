@@ -1,5 +1,5 @@
 -- A task of version 1 neither reads nor writes a stack.
-use Rattle.std.proofs.Common.{◌≡◌, ℕ, ◌%◌, ◌==◌, not, Bool, true, false, List, Option, Some, None, refl, ap, nat_lt, if◌then◌else◌, sym, ◌∙◌}
+use Rattle.std.proofs.Common.{◌≡◌, ℕ, zero, suc, [], ◌%◌, ◌==◌, not, Bool, true, false, List, Option, Some, None, refl, ap, nat_lt, if◌then◌else◌, sym, ◌∙◌}
 use Rattle.std.specs.Option.{option_or}
 use Rattle.guest_image.specs.ImageValue.{ImageValue}
 use Rattle.guest_image.specs.Fetch.{fetched, text_loaded}
@@ -15,8 +15,9 @@ use Rattle.rv_core.specs.declared.state.Core.{Core}
 use Rattle.rv_core.specs.declared.state.Stop.TheVariants as stop
 use Rattle.rv_core.specs.Next.{Next, Goes, Stops}
 use Rattle.rv_core.specs.Memory.{is_within, load_bytes, store_bytes, stack_loaded}
-use Rattle.rv_core.specs.Legs.{next_at, word_next, instr_next, effect_next, load_next, store_next, plain_loaded, traps}
-use Rattle.rv_core.specs.Stackless.{with_stack, next_with_stack, NoAddressReachesAStack}
+use Rattle.rv_core.specs.Legs.{next_at, word_next, instr_next, effect_next, load_next, store_next, plain_loaded, traps, PlainStep, PlainSteps}
+use Rattle.rv_core.specs.LegValue.{LegValue, IsRun}
+use Rattle.rv_core.specs.Stackless.{with_stack, next_with_stack, NoAddressReachesAStack, LegsKeepTheStack}
 
 -- of either of two ways
 either_way : (stack : List ℕ) (test : Bool) (a b one other : Next) → a ≡ next_with_stack stack one → b ≡ next_with_stack stack other
@@ -81,3 +82,24 @@ unfolding next_at
 no_address_reaches image size budget core stack first =
     either_way stack (nat_lt core.used budget) (word_next image size (with_stack stack core) (fetched image.text core.pc)) (traps core 17)
     (word_next image size core (fetched image.text core.pc)) (traps core 17) (word_alike image size core stack first (fetched image.text core.pc)) refl
+
+-- the stack of the core to which it goes on
+abbrev stack_of : Next → List ℕ
+stack_of (Goes core) = core.stack
+stack_of (Stops found) = []
+
+-- a plain instruction of version 1 leaves the stack as it was
+step_keeps : (image : ImageValue) (size budget : ℕ) (from to : Core) → image.version ≡ 1 → PlainStep image size budget from to
+    → to.stack ≡ from.stack
+step_keeps image size budget from to first step =
+    ap stack_of (sym step ∙ no_address_reaches image size budget from from.stack first ∙ ap (next_with_stack from.stack) step)
+
+-- so do any number of them
+pub steps_keep : (image : ImageValue) (size budget n : ℕ) (from to : Core) → image.version ≡ 1 → PlainSteps image size budget n from to
+    → to.stack ≡ from.stack
+steps_keep image size budget zero from to first same = ap (λ (core : Core). core.stack) (sym same)
+steps_keep image size budget (suc n) from to first (mid, front, last) =
+    step_keeps image size budget mid to first last ∙ steps_keep image size budget n from mid first front
+
+pub legs_keep_the_stack : LegsKeepTheStack
+legs_keep_the_stack image budget leg run first = steps_keep image image.data_size budget leg.steps leg.from leg.to first run.run

@@ -4,6 +4,7 @@ use Rattle.guest_image.specs.ImageValue.{ImageValue}
 use Rattle.rv_core.specs.declared.state.Core.{Core}
 use Rattle.rv_core.specs.Next.{Next, Goes, Stops}
 use Rattle.rv_core.specs.Legs.{next_at}
+use Rattle.rv_core.specs.LegValue.{LegValue, IsRun}
 
 -- a core with other bytes as its stack
 abbrev pub with_stack : List ℕ → Core → Core
@@ -18,3 +19,8 @@ next_with_stack stack (Stops found) = Stops found
 abbrev pub NoAddressReachesAStack : Type 0
 NoAddressReachesAStack = (image : ImageValue) (size budget : ℕ) (core : Core) (stack : List ℕ) → image.version ≡ 1
     → next_at image size budget (with_stack stack core) ≡ next_with_stack stack (next_at image size budget core)
+
+-- in an image of version 1 a leg leaves the stack as it was
+abbrev pub LegsKeepTheStack : Type 0
+LegsKeepTheStack = (image : ImageValue) (budget : ℕ) (leg : LegValue) → IsRun image budget leg → image.version ≡ 1
+    → leg.to.stack ≡ leg.from.stack

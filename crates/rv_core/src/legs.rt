@@ -332,31 +332,10 @@ pub fn after_load(core: &Core, width: LoadWidth, rd: Reg, raw: u32) -> Core
     ensures { result ≡ after_load_of core.now width rd raw }
 {
     let mut after = *core;
-    put_after_load(&mut after, core, width, rd, raw);
+    after.regs.set(rd, loaded(width, raw));
+    after.pc = core.pc.wrapping_add(4);
+    after.used += 1;
     after
-}
-
-/// Puts the core after a load in the place of another, as [`after_load`] tells it.
-#[inline(always)]
-pub fn put_after_load(core: &mut Core, from: &Core, width: LoadWidth, rd: Reg, raw: u32)
-    requires { from.now.used < 2 ^ 32 - 1 }
-    ensures { core.new ≡ after_load_of from.now width rd raw }
-{
-    *core = *from;
-    core.regs.set(rd, loaded(width, raw));
-    core.pc = from.pc.wrapping_add(4);
-    core.used += 1;
-}
-
-/// Puts the core after an instruction that writes no register in the place of another, as [`after_other`] tells it.
-#[inline(always)]
-pub fn put_after_other(core: &mut Core, from: &Core)
-    requires { from.now.used < 2 ^ 32 - 1 }
-    ensures { core.new ≡ after_other_of from.now }
-{
-    *core = *from;
-    core.pc = from.pc.wrapping_add(4);
-    core.used += 1;
 }
 
 /// The core after an instruction that writes no register. It goes on to the next instruction.

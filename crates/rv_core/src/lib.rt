@@ -8,14 +8,15 @@ mod decoded;
 mod laws;
 mod legs;
 mod naming;
+mod noted;
 mod op;
 mod state;
 
 pub use decoded::{Decoded, run_decoded};
-pub use laws::no_address_reaches_a_stack;
+pub use laws::{a_leg_keeps_the_stack_of_version_1, no_address_reaches_a_stack};
 pub use legs::{
-    after_load, after_other, bytes_of_load, bytes_of_store, put_after_load, put_after_other,
-    run_plain, run_plain_within,
+    after_load, after_other, bytes_of_load, bytes_of_store, run_plain, run_plain_within,
 };
 pub use naming::{Leg, Naming, run_leg, run_leg_decoded};
+pub use noted::NotedCore;
 pub use state::{Core, Plain, Stop};

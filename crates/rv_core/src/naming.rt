@@ -1,15 +1,16 @@
 //! Legs that keep in their type which image and which budget they ran with.
 
-ghost use Rattle.std.specs.Prelude.{◌≡◌, ◌≤◌, ℕ, []};
+ghost use Rattle.std.specs.Prelude.{◌≡◌, ◌^◌, ◌-◌, ◌<◌, ◌≤◌, ◌↔◌, ℕ, [], IsTrue};
 ghost use Rattle.guest_image.specs.ImageValue.{ImageValue, image_value};
 ghost use Rattle.guest_image.specs.declared.image.Kind.TheVariants.{Unordered};
-ghost use Rattle.rv_core.specs.Legs.{IsLeg};
+ghost use Rattle.rv_core.specs.Legs.{IsLeg, after_load_of, after_other_of};
 ghost use Rattle.rv_core.specs.LegValue.{IsRun};
 
-use crate::decoded::{Decoded, run_decoded};
-use crate::legs::run_in_place;
+use crate::decoded::Decoded;
+use crate::noted::NotedCore;
 use crate::state::{Core, Stop};
 use guest_image::Image;
+use rv_table::{LoadWidth, Reg};
 use std::marker::{Brand, Model, PhantomData};
 
 /// A name for an image and for the task budget and the commit limit that go with it. It has no functions: generic
@@ -38,8 +39,8 @@ impl Naming for Brand {
 /// something else than a plain instruction stands, or where it did as many as it may.
 #[derive(Drop)]
 pub struct Leg<N: Naming> {
-    from: Core,
-    to: Core,
+    from: NotedCore,
+    to: NotedCore,
     steps: u32,
     stop: Stop,
     naming: PhantomData<N>,
@@ -63,7 +64,7 @@ impl<N: Naming> Leg<N> {
         ensures value { result.now ≡ self.now.from }
         ensures run { IsRun N.image N.budget self.now }
     {
-        &self.from
+        self.from.core()
     }
 
     /// The core at which it ends.
@@ -71,7 +72,7 @@ impl<N: Naming> Leg<N> {
         ensures value { result.now ≡ self.now.to }
         ensures run { IsRun N.image N.budget self.now }
     {
-        &self.to
+        self.to.core()
     }
 
     /// How many instructions it has.
@@ -95,7 +96,7 @@ impl<N: Naming> Leg<N> {
         &mut self,
         decoded: &Decoded<N>,
         image: &Image,
-        from: &Core,
+        from: &NotedCore,
         quantum: u32,
         budget: u32,
     )
@@ -108,12 +109,47 @@ impl<N: Naming> Leg<N> {
             IsLeg image.now image.now.data_size budget quantum from.now to self.new.steps self.new.stop }
         ensures run { IsRun image.now budget self.new }
     {
-        self.from = *from;
-        self.to = *from;
-        let size = image.data_size();
-        let (steps, stop) = run_decoded(decoded, image, size, &mut self.to, quantum, budget);
+        self.from.put(from);
+        self.to.put(from);
+        let (steps, stop) = self.to.run_decoded(decoded, image, quantum, budget);
         self.steps = steps;
         self.stop = stop;
+    }
+
+    /// Whether it begins at a core.
+    #[inline(always)]
+    pub fn begins_at(&self, core: &NotedCore) -> bool
+        ensures { IsTrue result ↔ (core.now ≡ self.now.from) }
+    {
+        core.is(&self.from)
+    }
+
+    /// Puts the core at which it ends in the place of another.
+    #[inline(always)]
+    pub fn put_end(&self, core: &mut NotedCore)
+        ensures { core.new ≡ self.now.to }
+    {
+        core.put(&self.to);
+    }
+
+    /// Puts the core after the load at which it ends in the place of another, as
+    /// [`after_load`](crate::after_load) tells it.
+    #[inline(always)]
+    pub fn put_after_load(&self, core: &mut NotedCore, width: LoadWidth, rd: Reg, raw: u32)
+        requires { self.now.to.used < 2 ^ 32 - 1 }
+        ensures { core.new ≡ after_load_of self.now.to width rd raw }
+    {
+        core.put_after_load(&self.to, width, rd, raw);
+    }
+
+    /// Puts the core after the instruction at which it ends, which writes no register, in the place of another, as
+    /// [`after_other`](crate::after_other) tells it.
+    #[inline(always)]
+    pub fn put_after_other(&self, core: &mut NotedCore)
+        requires { self.now.to.used < 2 ^ 32 - 1 }
+        ensures { core.new ≡ after_other_of self.now.to }
+    {
+        core.put_after_other(&self.to);
     }
 }
 
@@ -128,14 +164,15 @@ pub fn run_leg<N: Naming>(image: &Image, from: &Core, quantum: u32, budget: u32)
     ensures leg { IsLeg image.now image.now.data_size budget quantum from.now result.to result.steps result.stop }
     ensures run { IsRun image.now budget result }
 {
+    let from = NotedCore::of(from);
     let mut leg = Leg {
-        from: *from,
-        to: *from,
+        to: from.copied(),
+        from,
         steps: 0,
         stop: Stop::Quantum,
         naming: PhantomData,
     };
-    let (steps, stop) = run_in_place(image, image.data_size(), &mut leg.to, quantum, budget);
+    let (steps, stop) = leg.to.run(image, quantum, budget);
     leg.steps = steps;
     leg.stop = stop;
     leg
@@ -158,15 +195,15 @@ pub fn run_leg_decoded<N: Naming>(
     ensures leg { IsLeg image.now image.now.data_size budget quantum from.now result.to result.steps result.stop }
     ensures run { IsRun image.now budget result }
 {
+    let from = NotedCore::of(from);
     let mut leg = Leg {
-        from: *from,
-        to: *from,
+        to: from.copied(),
+        from,
         steps: 0,
         stop: Stop::Quantum,
         naming: PhantomData,
     };
-    let size = image.data_size();
-    let (steps, stop) = run_decoded(decoded, image, size, &mut leg.to, quantum, budget);
+    let (steps, stop) = leg.to.run_decoded(decoded, image, quantum, budget);
     leg.steps = steps;
     leg.stop = stop;
     leg

@@ -1,7 +1,8 @@
 //! A task's core, and what a run of its plain instructions stops at.
 
 ghost use Rattle.std.specs.Prelude.{◌≡◌, ◌<◌};
-ghost use Rattle.rv_core.specs.Memory.{stack_top};
+ghost use Rattle.rv_core.specs.Memory.{empty_stack, stack_top};
+ghost use Rattle.rv_core.specs.Legs.{start_of};
 
 use guest_image::{STACK_BYTES, STACK_START};
 use rv_table::{LoadWidth, Reg, Regs, StoreWidth};
@@ -34,23 +35,30 @@ impl Core {
     /// The core of a task that starts, in an image of a version: `x10` to `x12` are its arguments, `x13` is its
     /// timestamp, all other registers are 0, no instruction is used, and the stack is zero. In version 2 `x2` is the
     /// end of the stack.
-    #[tactic(auto, unfolding(crate::specs::Memory::empty_stack))]
     pub fn start(version: u16, entry: u32, ts: u32, args: [u32; 3]) -> Core
         ensures { result ≡ start_of version entry ts args }
     {
-        let mut regs = Regs::zero();
-        regs.set(register(2), top_of_stack(version));
-        regs.set(register(10), args[0]);
-        regs.set(register(11), args[1]);
-        regs.set(register(12), args[2]);
-        regs.set(register(13), ts);
         Core {
             pc: entry,
-            regs,
+            regs: start_regs(version, ts, args),
             used: 0,
-            stack: [0; 1024],
+            stack: no_bytes(),
         }
     }
+}
+
+/// The registers of a task that starts.
+#[inline(always)]
+pub(crate) fn start_regs(version: u16, ts: u32, args: [u32; 3]) -> Regs
+    ensures { result ≡ (start_of version 0 ts args).regs }
+{
+    let mut regs = Regs::zero();
+    regs.set(register(2), top_of_stack(version));
+    regs.set(register(10), args[0]);
+    regs.set(register(11), args[1]);
+    regs.set(register(12), args[2]);
+    regs.set(register(13), ts);
+    regs
 }
 
 /// What stands next where a run of plain instructions stops.
@@ -98,7 +106,17 @@ pub struct Plain {
     pub stop: Stop,
 }
 
+/// The stack of a task that starts.
+#[inline(always)]
+#[tactic(auto, unfolding(crate::specs::Memory::empty_stack))]
+pub(crate) fn no_bytes() -> [u8; 1024]
+    ensures { result ≡ empty_stack }
+{
+    [0; 1024]
+}
+
 /// What `x2` is at the start of a task.
+#[inline(always)]
 fn top_of_stack(version: u16) -> u32
     ensures { result ≡ stack_top version }
 {
@@ -109,6 +127,7 @@ fn top_of_stack(version: u16) -> u32
     }
 }
 
+#[inline(always)]
 fn register(number: u8) -> Reg
     requires { number < 32 }
     ensures { result ≡ number }

@@ -9,4 +9,4 @@
 
 mod request;
 
-pub use request::{Request, request_of};
+pub use request::{Request, request_of, request_of_stop};

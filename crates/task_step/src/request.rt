@@ -1,7 +1,9 @@
 //! From the stop of a leg to what its task asks for.
 
-ghost use Rattle.std.specs.Prelude.{◌≡◌, ◌<◌, ◌%◌, ℕ, slice_index};
+ghost use Rattle.std.specs.Prelude.{◌≡◌, ◌<◌, ◌%◌, ℕ, slice_index, IfSome};
+ghost use Rattle.rv_core.specs.declared.state.Core.{Core};
 ghost use Rattle.rv_core.specs.Legs.{IsInside};
+ghost use Rattle.task_desc.specs.declared.desc.Ctx.{Ctx};
 ghost use Rattle.task_step.specs.Requests.{register_at, spawn_at, enqueue_at, sub_at, byte_at, call_at, request_at};
 ghost use Rattle.task_step.specs.Conditions.{IsInData, HasRoom};
 
@@ -151,5 +153,26 @@ pub fn request_of(ctx: &Ctx, core: &Core, stop: &Stop) -> Request
         Stop::Call => call(ctx, core),
         Stop::Trap { cause, .. } => Request::Trap { cause },
         Stop::Quantum => Request::Continue,
+    }
+}
+
+/// What the stop of a leg asks for whatever its task has done, which is to say each stop but a call; None for a call.
+#[inline(always)]
+pub fn request_of_stop(stop: &Stop) -> Option<Request>
+    ensures { IfSome result (λ request. (ctx : Ctx) (core : Core) → request_at ctx core stop.now ≡ request) }
+{
+    match *stop {
+        Stop::Load { width, rd, addr } => {
+            let offset = addr.saturating_sub(DATA_START);
+            Some(Request::Load { width, rd, offset })
+        }
+        Stop::Store { width, addr, value } => Some(Request::Store {
+            offset: addr.saturating_sub(DATA_START),
+            bytes: bytes_of_store(width),
+            value,
+        }),
+        Stop::Call => None,
+        Stop::Trap { cause, .. } => Some(Request::Trap { cause }),
+        Stop::Quantum => Some(Request::Continue),
     }
 }
