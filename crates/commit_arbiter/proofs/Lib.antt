@@ -1,3 +1,4 @@
+pub mod Closed
 pub mod Deepest
 pub mod Heaps
 pub mod InSlots

@@ -1,7 +1,7 @@
 -- The tasks that may commit, in the order in which they do.
 use Rattle.std.specs.Prelude.{◌≡◌, ◌≢◌, ℕ, ◌==◌, Option, Some, None, List, [], ◌∷◌, Any, All, AllPairs, Contains}
 use Rattle.std.specs.Prelude.{map, filter}
-use Rattle.std.specs.Prelude.{not}
+use Rattle.std.specs.Prelude.{not, cond, is_some, sum_by}
 use Rattle.std.specs.Ordering.{nat_cmp, on, then_cmp}
 use Rattle.std.specs.List.Sorted.{IsPermutation}
 use Rattle.std.specs.declared.cmp.Ordering.{Ordering}
@@ -45,6 +45,14 @@ pub record IsOpenIn (id : ℕ) (entries : List Entry) : Type 0 where
   pub there : Contains entries entry
   pub is : entry.id ≡ id
   pub open_tie : entry.key.tb ≡ None
+
+-- 1 where the tiebreaker is closed, and 0 where it is open
+abbrev pub one_closed : Option ℕ → ℕ
+one_closed tb = cond (is_some tb) 1 0
+
+-- how many of the entries have a closed tiebreaker
+abbrev pub closed_in : List Entry → ℕ
+closed_in entries = sum_by (λ e. one_closed e.key.tb) entries
 
 -- whatever entry of this id was there, it stands in order with this tiebreaker now
 abbrev pub IsTied : ℕ → Option ℕ → List Entry → List Entry → Type 0

@@ -1,6 +1,6 @@
 ghost use Rattle.std.specs.Prelude.{◌≡◌};
 ghost use Rattle.std.specs.List.Sorted.{IsStrictlyIncreasing};
-ghost use Rattle.commit_arbiter.specs.Indexed.{entry_cmp, renumbered_entry};
+ghost use Rattle.commit_arbiter.specs.Indexed.{entry_cmp, renumbered_entry, one_closed};
 ghost use Rattle.commit_arbiter.specs.Slots.{blank};
 
 use fractal_vt::{Key, cmp, renumber_key};
@@ -43,6 +43,35 @@ pub(crate) fn no_entry() -> Entry
         arrival: 0,
         id: 0,
     }
+}
+
+/// Makes a key another one. Where both are of the root domain no levels are moved.
+fn put_key(key: &mut Key, from: &Key)
+    ensures { key.new ≡ from.now }
+{
+    if key.domain.levels().is_empty() && from.domain.levels().is_empty() {
+        key.ts = from.ts;
+        key.tb = from.tb;
+    } else {
+        *key = from.copied();
+    }
+}
+
+/// Makes an entry that of a task, in its place.
+pub(crate) fn put_entry(entry: &mut Entry, key: &Key, tile: u32, arrival: u64, id: usize)
+    ensures { entry.new ≡ record { key = key.now; tile = tile; arrival = arrival; id = id } }
+{
+    put_key(&mut entry.key, key);
+    entry.tile = tile;
+    entry.arrival = arrival;
+    entry.id = id;
+}
+
+/// 1 where the tiebreaker is closed, and 0 where it is open.
+pub(crate) fn one_closed(tb: Option<u64>) -> usize
+    ensures { result ≡ one_closed tb }
+{
+    if tb.is_some() { 1 } else { 0 }
 }
 
 /// Replaces each tiebreaker of the key by its place in the table.

@@ -1,5 +1,5 @@
-ghost use Rattle.std.specs.Prelude.{◌≡◌, ◌≢◌, ◌<◌, ◌≤◌, ◌↔◌, AllPairs, map, [], length, IfOk, IfSome, IsNone, None};
-ghost use Rattle.std.specs.Prelude.{Some};
+ghost use Rattle.std.specs.Prelude.{◌≡◌, ◌≢◌, ◌<◌, ◌≤◌, ◌+◌, ◌↔◌, AllPairs, map, [], length, IfOk, IfSome};
+ghost use Rattle.std.specs.Prelude.{IsNone, None, Some};
 ghost use Rattle.std.specs.Prelude.{IsSome, IsTrue};
 ghost use Rattle.std.specs.List.Sorted.{IsStrictlyIncreasing};
 ghost use Rattle.fractal_vt.specs.Keys.{key_cmp};
@@ -7,11 +7,11 @@ ghost use Rattle.fractal_vt.specs.Least.{IsFirstLeast};
 ghost use Rattle.fractal_vt.specs.Sorted.{IsInOrder, inserted};
 ghost use Rattle.commit_arbiter.specs.Indexed.{entry_cmp, keys, renumbered_entry, HoldsEntries, HasId, without};
 ghost use Rattle.commit_arbiter.specs.Indexed.{IsOpenIn, IsTied};
-ghost use Rattle.commit_arbiter.specs.Indexed.{first_id};
+ghost use Rattle.commit_arbiter.specs.Indexed.{first_id, closed_in, one_closed};
 ghost use Rattle.commit_arbiter.specs.Slots.{IsPlaceOf};
 ghost use Rattle.commit_arbiter.specs.declared.entry.Entry.{Entry};
 
-use crate::entry::Entry;
+use crate::entry::one_closed;
 use crate::heap::{settle, sift_up, take_out};
 use crate::slots::Slots;
 use fractal_vt::Key;
@@ -25,17 +25,20 @@ use std::marker::Model;
 #[derive(Drop)]
 pub struct Index {
     slots: Slots,
+    /// How many of them have a closed tiebreaker.
+    closed: usize,
 }
 
 impl Model for Index {
-    ghost use Rattle.commit_arbiter.specs.Indexed.{IndexValue};
+    ghost use Rattle.std.specs.Prelude.{◌≡◌};
+    ghost use Rattle.commit_arbiter.specs.Indexed.{IndexValue, closed_in};
     ghost use Rattle.commit_arbiter.specs.Heap.{ordered, IsHeapIndex};
 
     ghost Value = { IndexValue };
 
     ghost view = { λ x. record { capacity = x.slots.capacity; entries = ordered x.slots.entries } };
 
-    ghost invariant = { λ x. IsHeapIndex x.slots.entries };
+    ghost invariant = { λ x. IsHeapIndex x.slots.entries × (x.closed ≡ closed_in x.slots.entries) };
 }
 
 impl Index {
@@ -45,7 +48,7 @@ impl Index {
         ensures { IfOk result (λ index. index ≡ record { capacity = capacity; entries = [] }) }
     {
         let slots = Slots::new(alloc, capacity)?;
-        Ok(Index { slots })
+        Ok(Index { slots, closed: 0 })
     }
 
     /// Adds a task. No memory.
@@ -57,13 +60,9 @@ impl Index {
             self.new.entries ≡ inserted entry_cmp entry self.old.entries }
     {
         let place = self.slots.len();
-        self.slots.push(Entry {
-            key: key.copied(),
-            tile,
-            arrival,
-            id,
-        });
+        self.slots.push(key, tile, arrival, id);
         sift_up(&mut self.slots, place);
+        self.closed = closed_with(&self.slots, self.closed, key.tb);
     }
 
     /// Takes the task with an id out; false exactly where there is none. No memory.
@@ -74,7 +73,9 @@ impl Index {
     {
         match place_of(&self.slots, id) {
             Some(place) => {
+                let tb = self.slots.get(place).key.tb;
                 take_out(&mut self.slots, place);
+                self.closed -= one_closed(tb);
                 true
             }
             None => false,
@@ -92,6 +93,7 @@ impl Index {
             Some(place) => {
                 self.slots.set_tb(place, Some(tb));
                 sift_up(&mut self.slots, place);
+                self.closed = closed_with(&self.slots, self.closed, Some(tb));
             }
             None => unreachable!(),
         }
@@ -106,8 +108,10 @@ impl Index {
     {
         match place_of(&self.slots, id) {
             Some(place) => {
+                let was = self.slots.get(place).key.tb;
                 self.slots.set_tb(place, None);
                 settle(&mut self.slots, place);
+                self.closed -= one_closed(was);
             }
             None => unreachable!(),
         }
@@ -133,6 +137,13 @@ impl Index {
         ensures entries { self.new.entries ≡ map (renumbered_entry table.now) self.old.entries }
     {
         self.slots.renumber(table);
+    }
+
+    /// How many of its tasks have a closed tiebreaker, which are those that are dispatched.
+    pub fn closed(&self) -> usize
+        ensures { result ≡ closed_in self.now.entries }
+    {
+        self.closed
     }
 
     /// How many tasks it holds.
@@ -163,6 +174,16 @@ impl Index {
     {
         let _ = &self.slots;
     }
+}
+
+/// So many closed entries and, where this tiebreaker is closed, one more: as many as there are.
+fn closed_with(slots: &Slots, closed: usize, tb: Option<u64>) -> usize
+    requires { closed_in slots.now.entries ≡ closed + one_closed tb }
+    ensures { result ≡ closed_in slots.now.entries }
+{
+    // They are no more than the entries, whose number is a `usize`.
+    let _all = slots.len();
+    closed + one_closed(tb)
 }
 
 /// The place of the entry with an id.

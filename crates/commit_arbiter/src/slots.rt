@@ -4,10 +4,12 @@ ghost use Rattle.std.specs.Prelude.{Some, IfOk, map};
 ghost use Rattle.std.specs.Prelude.{vec_capacity};
 ghost use Rattle.std.specs.List.{range_with_len};
 ghost use Rattle.std.specs.List.Sorted.{IsStrictlyIncreasing};
+ghost use Rattle.commit_arbiter.specs.declared.entry.Entry.{Entry};
 ghost use Rattle.commit_arbiter.specs.Indexed.{renumbered_entry, tied};
 ghost use Rattle.commit_arbiter.specs.Slots.{blank, entry_at, HasSwapped};
 
-use crate::entry::{Entry, no_entry, renumber_entry};
+use crate::entry::{Entry, no_entry, put_entry, renumber_entry};
+use fractal_vt::Key;
 use std::alloc::{AllocError, Global};
 use std::marker::Model;
 
@@ -87,15 +89,16 @@ impl Slots {
         }
     }
 
-    /// Adds an entry at the end, without a note of its place.
-    pub(crate) fn push(&mut self, entry: Entry)
+    /// Adds an entry at the end, without a note of its place. It is made in its slot.
+    pub(crate) fn push(&mut self, key: &Key, tile: u32, arrival: u64, id: usize)
         requires { length self.old.entries < self.old.capacity }
         ensures capacity { self.new.capacity ≡ self.old.capacity }
-        ensures entries { self.new.entries ≡ self.old.entries ++ entry ∷ [] }
+        ensures entries { let entry : Entry = record { key = key.now; tile = tile; arrival = arrival; id = id } in
+            self.new.entries ≡ self.old.entries ++ entry ∷ [] }
     {
         match self.free.pop() {
             Some(slot) => {
-                self.table[slot as usize] = entry;
+                put_entry(&mut self.table[slot as usize], key, tile, arrival, id);
                 match self.order.push(slot) {
                     Ok(()) => {}
                     Err(_) => unreachable!(),

@@ -148,13 +148,28 @@ impl Block {
     }
 }
 
+/// The number of tasks where the last one's key isn't greater, and else 0: what is spilled mostly belongs behind all
+/// that was spilled before.
+#[tactic(auto, using(crate::proofs::Pushed::search_beyond))]
+fn low_for(shelf: &Shelf, fresh: &Kept) -> usize
+    requires { IsInOrder by_key shelf.now.entries }
+    ensures { result ≤ place_for by_key fresh.now shelf.now.entries }
+{
+    let many = shelf.len();
+    if many > 0 && !cmp(fresh.key(), shelf.get(many - 1).key()).is_lt() {
+        many
+    } else {
+        0
+    }
+}
+
 /// The place of the first task with a greater key, or their number where there is none.
 #[tactic(auto, using(crate::proofs::Pushed::search_upto, crate::proofs::Pushed::search_beyond, fractal_vt::proofs::Sorted::place_within))]
 fn place_for(shelf: &Shelf, fresh: &Kept) -> usize
     requires { IsInOrder by_key shelf.now.entries }
     ensures { result ≡ place_for by_key fresh.now shelf.now.entries }
 {
-    let mut low = 0;
+    let mut low = low_for(shelf, fresh);
     let mut high = shelf.len();
     while low < high {
         let middle = low + (high - low) / 2;

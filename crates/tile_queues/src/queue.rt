@@ -71,13 +71,14 @@ impl<Kind> Queue<Kind> {
         self.ids.push(id).map_err(|refused| refused.value)
     }
 
-    /// Takes the id out, and says whether it was there. The others keep their order.
+    /// Takes the id out, and says whether it was there. The others keep their order. It looks from the last id on,
+    /// since tasks that are spilled or taken back stand there.
     pub fn take(&mut self, id: usize) -> bool
         ensures there { IsTrue result ↔ Contains self.old.ids id }
         ensures taken { self.new ≡ record self.old { ids = without id self.old.ids } }
         ensures absent { OnFalse result (self.new ≡ self.old) }
     {
-        match self.ids.iter().position(|other| *other == id) {
+        match self.ids.iter().rposition(|other| *other == id) {
             Some(place) => {
                 self.ids.remove(place);
                 true

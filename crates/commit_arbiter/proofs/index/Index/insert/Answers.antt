@@ -3,7 +3,8 @@ use Rattle.fractal_vt.specs.Sorted.{inserted}
 use Rattle.commit_arbiter.specs.declared.entry.Entry.{Entry}
 use Rattle.commit_arbiter.specs.Indexed.{entry_cmp, HasId}
 use Rattle.commit_arbiter.specs.Slots.{entry_at}
-use Rattle.commit_arbiter.specs.Heap.{IsHeapUp, ordered, upto}
+use Rattle.commit_arbiter.specs.Heap.{IsHeapUp, upto}
+use Rattle.commit_arbiter.proofs.Closed.{grown_closed}
 use Rattle.commit_arbiter.proofs.Ordered.{as_long, heap_grown, ids_grown, put_in_heap, ordered-permutation}
 use Rattle.commit_arbiter.proofs.index.Index.insert.Goals as goal
 
@@ -13,27 +14,37 @@ push-requires c =
 
 pub sift_up-requires-clause-heap : goal.sift_up-requires-clause-heap
 sift_up-requires-clause-heap c =
-    let entry : Entry = record { key = c.copied.result; tile = c.args.tile; arrival = c.args.arrival; id = c.args.id } in
+    let entry : Entry = record { key = c.args.key.now; tile = c.args.tile; arrival = c.args.arrival; id = c.args.id } in
     let old = c.self.inside.slots.entries in
     let new = c.push.new.self.entries in
     subst (IsHeapUp upto (entry_at new) (length new)) (sym c.len-place.ensures)
-    (heap_grown old new entry c.push.ensures.entries c.self.invariant.heap)
+    (heap_grown old new entry c.push.ensures.entries c.self.invariant.0.heap)
 
 pub invariant_of-self : goal.invariant_of-self
 invariant_of-self c =
-    let entry : Entry = record { key = c.copied.result; tile = c.args.tile; arrival = c.args.arrival; id = c.args.id } in
+    let entry : Entry = record { key = c.args.key.now; tile = c.args.tile; arrival = c.args.arrival; id = c.args.id } in
+    let old = c.self.inside.slots.entries in
+    let put = put_in_heap entry old c.push.new.self.entries c.sift_up.new.slots.entries c.push.ensures.entries c.sift_up.ensures.permuted in (
+      record {
+        heap = c.sift_up.ensures.heap;
+        ids = ids_grown entry old c.sift_up.new.slots.entries (λ has. c.requires.other (subst (λ v. HasId c.args.id v.entries) c.self.view_is has)) put c.self.invariant.0.ids;
+      },
+      c.closed_with-self-inside.ensures,
+    )
+
+pub closed_with-self-inside-requires : goal.closed_with-self-inside-requires
+closed_with-self-inside-requires c =
+    let entry : Entry = record { key = c.args.key.now; tile = c.args.tile; arrival = c.args.arrival; id = c.args.id } in
     let old = c.self.inside.slots.entries in
     let put = put_in_heap entry old c.push.new.self.entries c.sift_up.new.slots.entries c.push.ensures.entries c.sift_up.ensures.permuted in
-    record {
-      heap = c.sift_up.ensures.heap;
-      ids = ids_grown entry old c.sift_up.new.slots.entries (λ has. c.requires.other (subst (λ v. HasId c.args.id v.entries) c.self.view_is has)) put c.self.invariant.ids;
-    }
+    let more = grown_closed entry old c.sift_up.new.slots.entries put in
+    let was = c.self.invariant.1 in
+    omega (arith, more, was)
 
 pub returns-clause-entries : goal.returns-clause-entries
 returns-clause-entries c =
-    let entry : Entry = record { key = c.copied.result; tile = c.args.tile; arrival = c.args.arrival; id = c.args.id } in
+    let entry : Entry = record { key = c.args.key.now; tile = c.args.tile; arrival = c.args.arrival; id = c.args.id } in
     let old = c.self.inside.slots.entries in
     let put = put_in_heap entry old c.push.new.self.entries c.sift_up.new.slots.entries c.push.ensures.entries c.sift_up.ensures.permuted in
     ordered-permutation (entry ∷ old) c.sift_up.new.slots.entries put
-    ∙ ap (λ k. inserted entry_cmp (record { key = k; tile = c.args.tile; arrival = c.args.arrival; id = c.args.id }) (ordered old)) c.copied.ensures
     ∙ ap (λ v. inserted entry_cmp (record { key = c.args.key.now; tile = c.args.tile; arrival = c.args.arrival; id = c.args.id }) v.entries) c.self.view_is

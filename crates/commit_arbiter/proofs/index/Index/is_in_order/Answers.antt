@@ -9,4 +9,4 @@ pub returns-clause-order : goal.returns-clause-order
 returns-clause-order c = subst (λ v. IsInOrder entry_cmp v.entries) c.self.view_is (ordered-in_order c.self.inside.slots.entries)
 
 pub returns-clause-ids : goal.returns-clause-ids
-returns-clause-ids c = subst (λ v. AllPairs (λ a b. a.id ≢ b.id) v.entries) c.self.view_is (ids_in_order c.self.inside.slots.entries c.self.invariant.ids)
+returns-clause-ids c = subst (λ v. AllPairs (λ a b. a.id ≢ b.id) v.entries) c.self.view_is (ids_in_order c.self.inside.slots.entries c.self.invariant.0.ids)
