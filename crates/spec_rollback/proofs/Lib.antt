@@ -1,3 +1,4 @@
+pub mod Unmarked
 pub mod Pulled
 pub mod Marked
 pub mod Sorted

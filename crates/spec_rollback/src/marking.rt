@@ -175,7 +175,7 @@ pub(crate) fn mark_one<N: Naming>(state: &mut State<N>, task: TaskId)
 }
 
 /// Marks the tasks with which an access of this task conflicts, if there are any, and tells
-/// whether there are.
+/// whether there are. It looks at the dispatched tasks of all tiles, where there are others than this one.
 pub(crate) fn mark_conflicts<N: Naming>(
     state: &mut State<N>,
     task: TaskId,
@@ -189,6 +189,10 @@ pub(crate) fn mark_conflicts<N: Naming>(
     ensures view { state.new.view ≡ state.old.view }
     ensures room { state.new.room ≡ state.old.room }
 {
+    // The tasks of a run without workers are dispatched one at a time.
+    if state.is_alone(task) {
+        return false;
+    }
     // Each id is below the number of slots, and there are as many marks.
     let _slots = state.tasks.capacity();
     let access = Access {

@@ -13,6 +13,7 @@ pub mod Kept
 pub mod Noted
 pub mod Left
 pub mod Renumbered
+pub mod Alone
 pub mod Arriving
 pub mod Fronts
 pub mod Leasts

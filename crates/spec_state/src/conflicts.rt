@@ -1,6 +1,6 @@
 //! With which tasks an access conflicts. No call takes memory.
 
-ghost use Rattle.std.specs.Prelude.{◌≡◌, ◌<◌, ◌↔◌, ℕ, IsTrue, Some, IsSome, IsNone, IfSome};
+ghost use Rattle.std.specs.Prelude.{◌≡◌, ◌<◌, ◌↔◌, ℕ, Bool, IsTrue, Some, IsSome, IsNone, IfSome};
 ghost use Rattle.fractal_vt.specs.Keys.{key_cmp};
 ghost use Rattle.spec_state.specs.declared.task.Task.{Task};
 ghost use Rattle.spec_state.specs.View.{task_at};
@@ -130,6 +130,15 @@ impl<N: Naming> State<N> {
             best = self.earlier(best, self.conflict_in(found, line, write, tile));
         }
         best
+    }
+
+    /// Whether a task is dispatched and no other one is: no access of it conflicts with any then. It costs one look.
+    pub fn is_alone(&self, task: TaskId) -> bool
+        requires live { IsSome (task_at self.now.view task.0) }
+        ensures { IsTrue result → IfSome (task_at self.now.view task.0)
+            (λ t. (line : ℕ) (write : Bool) (k : ℕ) → Conflicts self.now.view t line write k → ⊥) }
+    {
+        self.index.closed() == 1 && self.task(task).key.tb.is_some()
     }
 
     /// Whether an access of the task to the line, a store if `write`, conflicts with the other task: false where

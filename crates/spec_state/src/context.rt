@@ -2,7 +2,8 @@
 
 ghost use Rattle.std.specs.Prelude.{◌≡◌, ◌≤◌, ◌<◌, length, IsSome, IfSome};
 ghost use Rattle.task_desc.specs.declared.calls.TheConstants.{MAX_CHILDREN, MAX_DEPTH};
-ghost use Rattle.spec_state.specs.View.{task_at};
+ghost use Rattle.spec_state.specs.Settings.{IsValid};
+ghost use Rattle.spec_state.specs.View.{task_at, loads};
 ghost use Rattle.spec_state.specs.Tasks.{context_of, depth_of, kind_at, outer_kind, floor_in};
 ghost use Rattle.spec_state.specs.Stored.{IsStored};
 
@@ -85,6 +86,22 @@ impl<N: Naming> State<N> {
     /// Law: what the type of a state keeps of its view.
     pub fn is_stored(&self)
         ensures { IsStored N.image.data_size self.now.view }
+    {
+        let _ = &self.settings;
+    }
+
+    /// Law: the settings are valid, with the task budget and the commit limit that `N` names.
+    pub fn has_limits(&self)
+        ensures valid { IsValid self.now.view.settings }
+        ensures budget { self.now.view.settings.budget ≡ N.budget }
+        ensures commits { self.now.view.settings.commits ≡ N.commits }
+    {
+        let _ = &self.settings;
+    }
+
+    /// Law: there are as many loads as tiles.
+    pub fn has_loads(&self)
+        ensures { length (loads self.now.view) ≡ self.now.view.settings.tiles }
     {
         let _ = &self.settings;
     }

@@ -8,7 +8,7 @@ use crate::task::{Creator, Spawns, Status, Task};
 use fractal_vt::{Key, Vt};
 use kept_slab::Blank;
 use line_table::{Filter, Signature};
-use rv_core::Core;
+use rv_core::NotedCore;
 use std::alloc::Global;
 use std::marker::Model;
 use undo_log::Log;
@@ -77,7 +77,8 @@ impl Fresh {
         task.creator = self.creator;
         task.tile = self.tile;
         task.status = Status::Idle;
-        task.core = Core::start(self.version, self.entry, self.ts, self.args);
+        task.core
+            .put_start(self.version, self.entry, self.ts, self.args);
         task.log.clear();
         task.lines.clear();
         task.spawns.clear();
@@ -97,7 +98,7 @@ impl Blank for Task {
             creator: Creator::Committed { turn: 0, index: 0 },
             tile: 0,
             status: Status::Idle,
-            core: Core::start(1, 0, 0, [0; 3]),
+            core: NotedCore::start(1, 0, 0, [0; 3]),
             log: Log::new(alloc),
             lines: Signature::new(),
             spawns: Spawns::new(alloc),

@@ -10,7 +10,7 @@ ghost use Rattle.spec_state.specs.Tasks.{idle_again};
 use crate::state::State;
 use crate::task::{Status, Task, TaskId};
 use line_table::Filter;
-use rv_core::{Core, Naming};
+use rv_core::Naming;
 use tile_queues::{CommitQueue, TaskQueue};
 
 /// Takes an id that is there out of a task queue.
@@ -54,7 +54,8 @@ fn reset(task: &mut Task, version: u16)
 {
     task.key.tb = None;
     task.status = Status::Idle;
-    task.core = Core::start(version, task.entry, task.key.ts, task.args);
+    task.core
+        .put_start(version, task.entry, task.key.ts, task.args);
     task.log.clear();
     task.lines.clear();
     task.spawns.clear();

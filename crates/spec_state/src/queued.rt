@@ -1,9 +1,9 @@
 //! The idle tasks of a tile, and room in its task queue. No call takes memory.
 
-ghost use Rattle.std.specs.Prelude.{◌≡◌, ◌<◌, ◌+◌, ◌↔◌, ℕ, length};
+ghost use Rattle.std.specs.Prelude.{◌≡◌, ◌<◌, ◌≤◌, ◌+◌, ◌↔◌, ℕ, length};
 ghost use Rattle.std.specs.Prelude.{Contains, IsTrue, Some, IsSome, IsNone, IfSome, option_map};
 ghost use Rattle.spec_state.specs.declared.task.Task.{Task};
-ghost use Rattle.spec_state.specs.View.{task_at};
+ghost use Rattle.spec_state.specs.View.{task_at, queue_at};
 ghost use Rattle.spec_state.specs.Queries.{IsIdle, IsLeastIdle, IsIdleFirm};
 ghost use Rattle.spec_state.specs.Room.{HasFreeEntry};
 ghost use Rattle.spec_state.specs.Picks.{IsIdlePick, IsIdleFirmBy};
@@ -90,6 +90,14 @@ impl<N: Naming> State<N> {
             }
         }
         false
+    }
+
+    /// Law: the task queue of a tile is no longer than it may be.
+    pub fn is_short(&self, tile: u32)
+        requires { tile < self.now.view.settings.tiles }
+        ensures { length (queue_at self.now.view tile) ≤ self.now.view.settings.task_queue }
+    {
+        let _ = self.queues[tile as usize].ids();
     }
 
     /// Whether the task queue of a tile has a free entry.

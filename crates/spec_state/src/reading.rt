@@ -11,8 +11,9 @@ use crate::settings::Settings;
 use crate::state::State;
 use crate::task::{Status, Task, TaskId};
 use fractal_vt::{Key, Vt};
-use rv_core::{Core, Naming};
+use rv_core::{Core, Decoded, Naming};
 use serial_machine::Entry;
+use std::alloc::Global;
 use tile_queues::TaskQueue;
 
 impl<N: Naming> State<N> {
@@ -35,6 +36,23 @@ impl<N: Naming> State<N> {
         ensures { result.now ≡ self.now.view.output }
     {
         self.output.as_slice()
+    }
+
+    /// How many tasks have committed.
+    pub fn committed(&self) -> u32
+        ensures { result ≡ length self.now.view.history }
+    {
+        self.history.count()
+    }
+
+    /// The text of the image, decoded.
+    pub fn decoded(&self) -> &Decoded<N> {
+        &self.decoded
+    }
+
+    /// What new tasks take their memory from.
+    pub fn alloc(&self) -> Global {
+        self.alloc
     }
 
     /// The levels of the key of the task that committed last; none before the first commit.
@@ -108,7 +126,9 @@ impl<N: Naming> State<N> {
         let found = self.task(task);
         match found.status {
             Status::Idle => None,
-            Status::Running { .. } | Status::Trapped { .. } | Status::Finished => Some(&found.core),
+            Status::Running { .. } | Status::Trapped { .. } | Status::Finished => {
+                Some(found.core.core())
+            }
         }
     }
 

@@ -2,7 +2,7 @@ use crate::emitted::Emitted;
 use fractal_vt::Key;
 use guest_image::Kind;
 use line_table::Signature;
-use rv_core::Core;
+use rv_core::NotedCore;
 use serial_machine::Items;
 use task_desc::Spawn;
 use undo_log::Log;
@@ -91,7 +91,7 @@ pub struct Task {
     /// How far it has come.
     pub status: Status,
     /// Its core: that of its start while it is idle, and the kept one afterwards.
-    pub core: Core,
+    pub core: NotedCore,
     /// Its loads and stores since its dispatch, with the values that stood there before.
     pub log: Log,
     /// The lines of its log.

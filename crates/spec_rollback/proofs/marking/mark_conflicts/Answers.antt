@@ -5,7 +5,13 @@ use Rattle.spec_state.specs.View.{core_ids}
 use Rattle.spec_state.specs.StateValue.{StateValue}
 use Rattle.spec_rollback.proofs.Conflicting.{conflicts_in}
 use Rattle.spec_rollback.proofs.Marked.{put_back}
+use Rattle.spec_rollback.proofs.Unmarked.{none_found}
 use Rattle.spec_rollback.proofs.marking.mark_conflicts.Goals as goal
+
+pub returns-then-is_alone-clause-found : goal.returns-then-is_alone-clause-found
+returns-then-is_alone-clause-found g c =
+    none_found c.args.state.now.view _ c.args.line c.args.write c.args.state.now.scratch.marks
+    (c.is_alone.ensures c.if-is_alone.true)
 
 pub returns-clause-found : goal.returns-clause-found
 returns-clause-found g c =
