@@ -26,7 +26,7 @@ use Rattle.spec_state.specs.Stored.{IsWellFormed}
 use Rattle.spec_state.specs.Opening.{Adds}
 use Rattle.spec_state.specs.Changes.{Keeps, Enqueues, passed}
 use Rattle.spec_access.specs.Asking.{Asks}
-use Rattle.spec_access.proofs.Asked.{asked_allowed}
+use Rattle.spec_access.proofs.Asking.{asked_allowed}
 
 -- a child of the subdomain is allowed only where one was made
 sub_made : (ctx : Ctx) (ts to : ℕ) (sub : Option Kind) → allowed_sub ctx ts sub ≡ Ok to → IsSome sub

@@ -1,5 +1,6 @@
 pub mod Kept
-pub mod Asked
+pub mod Asking
 pub mod Accessed
 pub mod Enqueued
 pub mod Finished
+pub mod Found

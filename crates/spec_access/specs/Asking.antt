@@ -1,7 +1,11 @@
 -- A task that takes a leg, and what it asks for.
-use Rattle.std.specs.Prelude.{◌≡◌, ◌<◌, ℕ, length}
+use Rattle.std.specs.Prelude.{◌≡◌, ◌⊎◌, ◌<◌, ℕ, length}
+use Rattle.guest_image.specs.declared.image.Kind.{Kind}
 use Rattle.rv_core.specs.LegValue.{LegValue}
+use Rattle.rv_table.specs.declared.instr.LoadWidth.{LoadWidth}
+use Rattle.task_desc.specs.declared.desc.Spawn.{Spawn}
 use Rattle.task_step.specs.declared.request.Request.{Request}
+use Rattle.task_step.specs.declared.request.Request.TheVariants.{Continue, Load, Store, Enqueue, MakeSub, Emit, Trap}
 use Rattle.spec_state.specs.declared.task.Task.{Task}
 use Rattle.spec_state.specs.View.{View, finished_at}
 use Rattle.spec_state.specs.Queries.{IsOnCore}
@@ -20,3 +24,27 @@ abbrev pub HasCommitEntry : View → ℕ → Type 0
 HasCommitEntry view id =
     (tile core : ℕ) × (task : Task)
     × IsOnCore view tile core id task × (length (finished_at view tile) < view.settings.commit_queue)
+
+-- at the leg's end the task asks for a load
+abbrev pub AsksToLoad : View → LegValue → ℕ → Type 0
+AsksToLoad view leg id = (width : LoadWidth) × (rd offset : ℕ) × Asks view leg id (Load width rd offset)
+
+-- for a store
+abbrev pub AsksToStore : View → LegValue → ℕ → Type 0
+AsksToStore view leg id = (offset bytes value : ℕ) × Asks view leg id (Store offset bytes value)
+
+-- for a child
+abbrev pub AsksForChild : View → LegValue → ℕ → Type 0
+AsksForChild view leg id = (child : Spawn) × Asks view leg id (Enqueue child)
+
+-- for its subdomain
+abbrev pub AsksForSubdomain : View → LegValue → ℕ → Type 0
+AsksForSubdomain view leg id = (kind : Kind) × Asks view leg id (MakeSub kind)
+
+-- to emit a byte
+abbrev pub AsksToEmit : View → LegValue → ℕ → Type 0
+AsksToEmit view leg id = (byte : ℕ) × Asks view leg id (Emit byte)
+
+-- for nothing: it did its quantum, or came to a trap
+abbrev pub AsksForNothing : View → LegValue → ℕ → Type 0
+AsksForNothing view leg id = Asks view leg id Continue ⊎ ((cause : ℕ) × Asks view leg id (Trap cause))

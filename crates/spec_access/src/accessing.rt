@@ -12,7 +12,7 @@ ghost use Rattle.spec_state.specs.Changes.{TakesLeg, Loads, Stores};
 ghost use Rattle.spec_access.specs.Asking.{Asks};
 
 use crate::calling::put_behind;
-use rv_core::{Leg, Naming, bytes_of_load, put_after_load};
+use rv_core::{Leg, Naming, bytes_of_load};
 use rv_table::{LoadWidth, Reg};
 use spec_state::{State, TaskId};
 use std::alloc::AllocError;
@@ -50,7 +50,7 @@ fn load_reserved<N: Naming>(
         → Loads id.0 task leg.now width rd offset state.old.view state.new.view }
     ensures room { state.new.room ≡ record state.old.room { log = state.new.room.log } }
 {
-    let to = leg.to();
+    let _to = leg.to();
     let line = offset / state.settings.line;
     let task = &mut state.tasks[id.0];
     let raw = load_with(
@@ -61,13 +61,13 @@ fn load_reserved<N: Naming>(
         bytes_of_load(width),
     );
     task.lines.mark(line, false);
-    put_after_load(&mut task.core, to, width, rd, raw);
+    leg.put_after_load(&mut task.core, width, rd, raw);
 }
 
 /// A task loads from the data: the register `rd` has what the memory has from `offset` on, counted
 /// from the start of the data, as many bytes as the width says, and the access joins its log and
 /// its lines. `AllocError` where memory runs out; nothing has changed then.
-pub fn read<N: Naming>(
+pub fn load_at<N: Naming>(
     state: &mut State<N>,
     id: TaskId,
     leg: &Leg<N>,
@@ -126,7 +126,7 @@ fn store_reserved<N: Naming>(
 /// A task stores to the data: the low bytes of the value, 1, 2 or 4 of them, are written from
 /// `offset` on, counted from the start of the data, and the access joins its log and its lines.
 /// `AllocError` where memory runs out; nothing has changed then.
-pub fn write<N: Naming>(
+pub fn store_at<N: Naming>(
     state: &mut State<N>,
     id: TaskId,
     leg: &Leg<N>,

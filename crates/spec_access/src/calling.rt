@@ -10,7 +10,7 @@ ghost use Rattle.spec_state.specs.Changes.{TakesLeg, GoesOn, KeepsTrap, MakesSub
 ghost use Rattle.spec_access.specs.Asking.{Asks};
 
 use guest_image::Kind;
-use rv_core::{Core, Leg, Naming, put_after_other};
+use rv_core::{Leg, Naming, NotedCore};
 use spec_state::{State, Status, TaskId};
 
 /// The core of its tile on which a task with this status runs.
@@ -27,24 +27,25 @@ pub(crate) fn held_core(status: Status) -> u32
 
 /// The core at the instruction behind the leg's end.
 #[inline]
-pub(crate) fn put_behind<N: Naming>(core: &mut Core, budget: u32, leg: &Leg<N>)
+pub(crate) fn put_behind<N: Naming>(core: &mut NotedCore, budget: u32, leg: &Leg<N>)
     requires budget { budget ≡ N.budget }
     requires room { budget < 2 ^ 32 - 1 }
     ensures { core.new ≡ after_other_of leg.now.to }
 {
-    put_after_other(core, leg.to());
+    let _to = leg.to();
+    leg.put_after_other(core);
 }
 
 /// A task that did its quantum goes on from the end of its leg.
 #[inline]
-pub fn keep<N: Naming>(state: &mut State<N>, id: TaskId, leg: &Leg<N>)
+pub fn end_quantum<N: Naming>(state: &mut State<N>, id: TaskId, leg: &Leg<N>)
     requires asks { Asks state.old.view leg.now id.0 Continue }
     ensures goes_on { (tile core : ℕ) (task : Task)
         → TakesLeg state.old.view tile core leg.now id.0 task
         → GoesOn id.0 task leg.now state.old.view state.new.view }
     ensures room { state.new.room ≡ state.old.room }
 {
-    state.tasks[id.0].core = *leg.to();
+    leg.put_end(&mut state.tasks[id.0].core);
 }
 
 /// A task that came to a trap, by an instruction or by a call that its rules refuse, keeps the
@@ -58,12 +59,12 @@ pub fn call_trap<N: Naming>(state: &mut State<N>, id: TaskId, leg: &Leg<N>, caus
 {
     let task = &mut state.tasks[id.0];
     let core = held_core(task.status);
-    task.core = *leg.to();
+    leg.put_end(&mut task.core);
     task.status = Status::Trapped { core, cause };
 }
 
 /// A task makes its subdomain, of this kind.
-pub fn make_sub<N: Naming>(state: &mut State<N>, id: TaskId, leg: &Leg<N>, kind: Kind)
+pub fn open_sub<N: Naming>(state: &mut State<N>, id: TaskId, leg: &Leg<N>, kind: Kind)
     requires asks { Asks state.old.view leg.now id.0 (MakeSub kind) }
     ensures makes { (tile core : ℕ) (task : Task)
         → TakesLeg state.old.view tile core leg.now id.0 task
@@ -77,7 +78,7 @@ pub fn make_sub<N: Naming>(state: &mut State<N>, id: TaskId, leg: &Leg<N>, kind:
 }
 
 /// A task emits a byte.
-pub fn emit<N: Naming>(state: &mut State<N>, id: TaskId, leg: &Leg<N>, byte: u8)
+pub fn put_byte<N: Naming>(state: &mut State<N>, id: TaskId, leg: &Leg<N>, byte: u8)
     requires asks { Asks state.old.view leg.now id.0 (Emit byte) }
     ensures emits { (tile core : ℕ) (task : Task)
         → TakesLeg state.old.view tile core leg.now id.0 task

@@ -5,16 +5,23 @@
 //! a free entry. A call that lengthens a list takes the room for it before its first change, and
 //! needs no memory where the state has that room; no other call takes any. None copies the data: an
 //! access costs one read or write of it, and a child one entry of the index.
-//! It stands on the state; `book_step` calls it.
+//! `read`, `write`, `spawn`, `make_sub`, `emit` and `keep` find out by `asked` what the task asks for; what stands
+//! behind them is told, by a caller that knows.
+//! It stands on the state; `book_step` calls it. The dispatch, which begins a task, is handed on from `spec_dispatch`.
 #![tactic(auto)]
 
 mod accessing;
 mod calling;
+mod calls;
 mod child;
 mod finishing;
+mod requests;
 mod spawning;
 
-pub use accessing::{read, write};
-pub use calling::{call_trap, emit, keep, make_sub};
+pub use accessing::{load_at, store_at};
+pub use calling::{call_trap, end_quantum, open_sub, put_byte};
+pub use calls::{emit, keep, make_sub, read, spawn, write};
 pub use finishing::finish;
-pub use spawning::spawn;
+pub use requests::asked;
+pub use spawning::enqueue_child;
+pub use spec_dispatch::dispatch;

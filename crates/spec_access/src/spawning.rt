@@ -69,7 +69,7 @@ fn spawn_reserved<N: Naming>(
 
 /// A task enqueues a child: an idle task, which stands last in the task queue of this tile, where
 /// an entry is free. `AllocError` where memory runs out; nothing has changed then.
-pub fn spawn<N: Naming>(
+pub fn enqueue_child<N: Naming>(
     state: &mut State<N>,
     id: TaskId,
     leg: &Leg<N>,

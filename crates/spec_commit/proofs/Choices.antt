@@ -1,8 +1,8 @@
--- The latest idle firm tasks of a queue, as one place of it after another is looked at.
-use Rattle.std.proofs.Common.{◌≡◌, ◌⊎◌, ◌<◌, ◌≤◌, ◌+◌, ◌-◌, ℕ, List, length, take, drop, Option, Some, sym, ap, subst, ◌∙◌, inl, inr, arith, slice_get, slice_index_or}
+-- The latest idle firm tasks of a queue, as one place of it after another is looked at, from the last one on.
+use Rattle.std.proofs.Common.{◌≡◌, ◌⊎◌, ◌<◌, ◌≤◌, ◌+◌, ℕ, List, length, take, drop, Option, Some, sym, ap, subst, ◌∙◌, inl, inr, arith, slice_get, slice_index_or}
 use Rattle.std.specs.Prelude.{Contains, IsSome, is_some}
 use Rattle.std.proofs.lemmas.Bool.{cases_eq}
-use Rattle.std.proofs.lemmas.Option.{slice_get-get_or}
+use Rattle.std.proofs.lemmas.Option.{slice_get-get_or, slice_get_within}
 use Rattle.tile_queues.specs.Queue.{AreDistinct}
 use Rattle.spec_state.specs.declared.task.Status.TheVariants.{Idle}
 use Rattle.spec_state.specs.declared.task.Task.{Task}
@@ -30,22 +30,23 @@ pub live_chosen : (view : View) (tile count : ℕ) (ids slice : List ℕ) (k oth
 live_chosen view tile count ids slice k other was same at =
     ap is_some (was.each other (held_at ids k other (subst (λ xs. slice_get xs k ≡ Some other) same at))).1.1.this.there
 
-module _ (view : View) (tile : ℕ) (distinct : AreDistinct (queue_at view tile)) (heir : Option ℕ) (is_heir : IsHeir view heir) (i id : ℕ) (item : slice_get (queue_at view tile) i ≡ Some id)
-    (task : Task) (there : task_at view id ≡ Some task) (chosen : List ℕ) (was : AreLatest (Precedes view tile) (MayMove view tile i) most_moved chosen) where
+module _ (view : View) (tile : ℕ) (distinct : AreDistinct (queue_at view tile)) (heir : Option ℕ) (is_heir : IsHeir view heir) (seen i id : ℕ)
+    (at_place : i + seen + 1 ≡ length (queue_at view tile)) (item : slice_get (queue_at view tile) i ≡ Some id)
+    (task : Task) (there : task_at view id ≡ Some task) (chosen : List ℕ) (was : AreLatest (Precedes view tile) (MayMove view tile seen) most_moved chosen) where
   abbrev Before : ℕ → ℕ → Type 0
   Before = Precedes view tile
 
-  grows : (k : ℕ) → MayMove view tile i k → MayMove view tile (i + 1) k
+  grows : (k : ℕ) → MayMove view tile seen k → MayMove view tile (seen + 1) k
   grows k may = ((may.0.0, omega (arith, may.0.1), may.0.2), may.1)
 
-  which : (k : ℕ) → MayMove view tile (i + 1) k → MayMove view tile i k ⊎ (id ≡ k)
+  which : (k : ℕ) → MayMove view tile (seen + 1) k → MayMove view tile seen k ⊎ (id ≡ k)
   which k may = elim (cases_eq may.0.0 i) [
     | inl same ↦ inr (let both : Some id ≡ Some k = sym item ∙ ap (slice_get (queue_at view tile)) (sym same) ∙ may.0.2 in cc)
-    | inr other ↦ inl ((may.0.0, omega (arith, may.0.1, other), may.0.2), may.1)
+    | inr other ↦ inl ((may.0.0, omega (arith, may.0.1, at_place, other), may.0.2), may.1)
   ]
 
   -- where the task may not move they stay
-  pub passed_over : (task.status ≡ Idle × IsFirmBy heir task.creator → ⊥) → AreLatest Before (MayMove view tile (i + 1)) most_moved chosen
+  pub passed_over : (task.status ≡ Idle × IsFirmBy heir task.creator → ⊥) → AreLatest Before (MayMove view tile (seen + 1)) most_moved chosen
   passed_over not = record {
     each = λ k has. grows k (was.each k has);
     few = was.few;
@@ -60,24 +61,15 @@ module _ (view : View) (tile : ℕ) (distinct : AreDistinct (queue_at view tile)
           let one : moves.0 ≡ task = cc in
           not (subst (λ (t : Task). (t.status ≡ Idle) × IsFirmBy heir t.creator) one (moves.1.this.idle, by_firm view heir moves.0 is_heir moves.1.firm))
 
-      back : (k : ℕ) → MayMove view tile (i + 1) k → MayMove view tile i k
+      back : (k : ℕ) → MayMove view tile (seen + 1) k → MayMove view tile seen k
       back k may = elim (which k may) [ inl old ↦ old | inr same ↦ absurd (cannot k same may.1) ]
 
-  module _ (moves : task.status ≡ Idle × IsFirmBy heir task.creator) (place : ℕ) (slice : List ℕ) (same : slice ≡ chosen) (upto : place ≤ length slice)
-      (above : (k other : ℕ) → place ≤ k → slice_get slice k ≡ Some other → HasLessKey view id other)
-      (not_above : (k other : ℕ) → k + 1 ≡ place → slice_get slice k ≡ Some other → HasLessKey view id other → ⊥) where
-    within : place ≤ length chosen
-    within = subst (λ xs. place ≤ length xs) same upto
-
-    behind : (k other : ℕ) → place ≤ k → slice_get chosen k ≡ Some other → HasLessKey view id other
-    behind k other more at = above k other more (ap (λ xs. slice_get xs k) same ∙ at)
-
-    last : (k other : ℕ) → k + 1 ≡ place → slice_get chosen k ≡ Some other → HasLessKey view id other → ⊥
-    last k other is at = not_above k other is (ap (λ xs. slice_get xs k) same ∙ at)
-
-    comes : MayMove view tile (i + 1) id
+  module _ (moves : task.status ≡ Idle × IsFirmBy heir task.creator) (place : ℕ) (slice : List ℕ) (same : slice ≡ chosen)
+      (below : (k other : ℕ) → k < place → slice_get slice k ≡ Some other → HasLessKey view other id)
+      (not_below : (other : ℕ) → slice_get slice place ≡ Some other → HasLessKey view other id → ⊥) where
+    comes : MayMove view tile (seen + 1) id
     comes = (
-      (i, omega arith, item),
+      (i, omega (arith, at_place), item),
       (
         task,
         record {
@@ -87,37 +79,39 @@ module _ (view : View) (tile : ℕ) (distinct : AreDistinct (queue_at view tile)
       ),
     )
 
-    along : (p q : ℕ) → MayMove view tile i p → MayMove view tile i q → Before p q → Before q id → Before p id
+    along : (p q : ℕ) → MayMove view tile seen p → MayMove view tile seen q → Before p q → Before q id → Before p id
     along p q first second = precedes_trans view tile distinct p q id second.0.0 second.1.0 (record { queued = second.0.2; there = second.1.1.this.there })
 
-    upper : (y : ℕ) → Contains (drop place chosen) y → Before id y
-    upper y has = (let found = in_drop place chosen y has in less_precedes view tile distinct id y (behind found.0 y found.1 found.2))
-
-    -- the last of those that come before it
-    last_before : (k y : ℕ) → k + 1 ≡ place → slice_get chosen k ≡ Some y → Before y id
-    last_before k y is at =
-        let may = was.each y (held_at chosen k y at) in
-        place_precedes view tile distinct y id may.0.0 i may.0.2 item may.0.1 (last k y is at)
-
     lower : (y : ℕ) → Contains (take place chosen) y → Before y id
-    lower y has = (let found = in_take place chosen y has in go found.0 found.1 found.2)
+    lower y has =
+        let found = in_take place chosen y has in
+        less_precedes view tile distinct y id (below found.0 y found.1 (ap (λ xs. slice_get xs found.0) same ∙ found.2))
+
+    -- the first of those that come behind it
+    first_behind : (y : ℕ) → slice_get chosen place ≡ Some y → Before id y
+    first_behind y at =
+        let may = was.each y (held_at chosen place y at) in
+        place_precedes view tile distinct id y i may.0.0 item may.0.2 (omega (arith, may.0.1, at_place)) (not_below y (ap (λ xs. slice_get xs place) same ∙ at))
+
+    upper : (y : ℕ) → Contains (drop place chosen) y → Before id y
+    upper y has = (let found = in_drop place chosen y has in go found.0 found.1 found.2)
       where
-        go : (k : ℕ) → k < place → slice_get chosen k ≡ Some y → Before y id
-        go k less at = elim (cases_eq (k + 1) place) [
-          | inl is ↦ last_before k y is at
-          | inr other ↦ through (place - 1) (omega (arith, less)) (omega (arith, less, other))
+        go : (k : ℕ) → place ≤ k → slice_get chosen k ≡ Some y → Before id y
+        go k upto at = elim (cases_eq k place) [
+          | inl is ↦ first_behind y (ap (slice_get chosen) (sym is) ∙ at)
+          | inr other ↦
+              let z : ℕ = slice_index_or chosen place 0 in
+              let at_z : slice_get chosen place ≡ Some z = slice_get-get_or chosen place 0 (let within = slice_get_within chosen k y at in omega (arith, within, upto)) in
+              let may = was.each z (held_at chosen place z at_z) in
+              precedes_trans view tile distinct id z y may.0.0 may.1.0 (record { queued = may.0.2; there = may.1.1.this.there })
+              (first_behind z at_z)
+              (pairs_at Before chosen place k z y was.rising (omega (arith, upto, other)) at_z at)
         ]
-          where
-            through : (j : ℕ) → j + 1 ≡ place → k < j → Before y id
-            through j is before =
-                let z : ℕ = slice_index_or chosen j 0 in
-                let at_z : slice_get chosen j ≡ Some z = slice_get-get_or chosen j 0 (omega (arith, within, is)) in
-                along y z (was.each y (held_at chosen k y at)) (was.each z (held_at chosen j z at_z)) (pairs_at Before chosen k j y z was.rising before at at_z) (last_before j z is at_z)
 
     -- and where it may it is put among them
-    pub taken : (after : List ℕ) → after ≡ with_one chosen place id → AreLatest Before (MayMove view tile (i + 1)) most_moved after
-    taken after is = subst (AreLatest Before (MayMove view tile (i + 1)) most_moved) (sym is)
-        (one_more Before (MayMove view tile i) (MayMove view tile (i + 1)) id chosen place was grows comes which lower upper along)
+    pub taken : (after : List ℕ) → after ≡ with_one chosen place id → AreLatest Before (MayMove view tile (seen + 1)) most_moved after
+    taken after is = subst (AreLatest Before (MayMove view tile (seen + 1)) most_moved) (sym is)
+        (one_more Before (MayMove view tile seen) (MayMove view tile (seen + 1)) id chosen place was grows comes which lower upper along)
 
 -- once all places are looked at they are the chosen ones
 pub all_looked_at : (view : View) (tile count : ℕ) (ids chosen : List ℕ) → ids ≡ queue_at view tile → length ids ≤ count → AreLatest (Precedes view tile) (MayMove view tile count) most_moved chosen
@@ -134,4 +128,4 @@ all_looked_at view tile count ids chosen same past is = record {
     may id moves =
         let has = moves.1.this.queued in
         let long : length (queue_at view tile) ≤ count = subst (λ xs. length xs ≤ count) same past in
-        ((has.0, omega (arith, has.1, long), slice_get-get_or (queue_at view tile) has.0 id has.1 ∙ ap Some has.2), moves)
+        ((has.0, omega (arith, long), slice_get-get_or (queue_at view tile) has.0 id has.1 ∙ ap Some has.2), moves)

@@ -7,3 +7,4 @@ pub mod Victims
 pub mod Moving
 pub mod Room
 pub mod Committed
+pub mod Finishing

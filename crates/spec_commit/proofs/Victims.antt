@@ -1,12 +1,12 @@
 -- The latest task of a queue but for one, as one place of it after another is looked at.
-use Rattle.std.proofs.Common.{◌≡◌, ◌≢◌, ◌⊎◌, ◌≤◌, ◌+◌, ℕ, List, length, Option, Some, None, refl, sym, ap, subst, ◌∙◌, inl, inr, arith, slice_get, slice_index_or}
-use Rattle.std.specs.Prelude.{IsSome, IsNone, IfSome, is_some}
+use Rattle.std.proofs.Common.{◌≡◌, ◌≢◌, ◌⊎◌, ◌≤◌, ◌+◌, ℕ, Bool, true, false, List, length, Option, Some, None, refl, sym, ap, subst, ◌∙◌, inl, inr, arith, slice_get, slice_index_or}
+use Rattle.std.specs.Prelude.{◌↔◌, IsSome, IsNone, IfSome, IsTrue, is_some}
 use Rattle.std.proofs.lemmas.Bool.{cases_eq}
 use Rattle.std.proofs.lemmas.Option.{slice_get-get_or}
 use Rattle.tile_queues.specs.Queue.{AreDistinct}
 use Rattle.spec_state.specs.declared.task.Task.{Task}
 use Rattle.spec_state.specs.View.{View, task_at, queue_at}
-use Rattle.spec_state.specs.Least.{Precedes}
+use Rattle.spec_state.specs.Least.{IsFirm, Precedes}
 use Rattle.spec_state.specs.Room.{Asker, Enqueuer, IsVictim}
 use Rattle.spec_state.specs.Stored.{IsStored}
 use Rattle.spec_state.proofs.Proved.{held_at}
@@ -125,3 +125,13 @@ one_is_other view tile asker count ids distinct same long past all =
     let first = all (slice_index_or (queue_at view tile) 0 0) (0, omega (arith, long', past'), slice_get-get_or (queue_at view tile) 0 0 (omega (arith, long'))) in
     let second = all (slice_index_or (queue_at view tile) 1 0) (1, omega (arith, long', past'), slice_get-get_or (queue_at view tile) 1 0 (omega (arith, long'))) in
     distinct 0 1 0 (omega arith) (omega (arith, long')) (let both = sym first ∙ second in cc)
+
+-- whether a task is firm, where that is read
+pub read_firm : (view : View) (id : ℕ) (task : Task) (firm : Bool) → task_at view id ≡ Some task
+    → IfSome (task_at view id) (λ t. IsTrue firm ↔ IsFirm view t) → firm ≡ true → IsFirm view task
+read_firm view id task firm there read is = (subst (λ o. IfSome o (λ t. IsTrue firm ↔ IsFirm view t)) there read).0 is
+
+pub read_loose : (view : View) (id : ℕ) (task : Task) (firm : Bool) → task_at view id ≡ Some task
+    → IfSome (task_at view id) (λ t. IsTrue firm ↔ IsFirm view t) → firm ≡ false → IsFirm view task → ⊥
+read_loose view id task firm there read is holds =
+    absurd (cc (sym ((subst (λ o. IfSome o (λ t. IsTrue firm ↔ IsFirm view t)) there read).1 holds) ∙ is))

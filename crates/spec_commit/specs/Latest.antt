@@ -20,9 +20,14 @@ pub record HasLessKey (view : View) (a b : ℕ) : Type 0 where
 abbrev pub IsAmong : View → ℕ → ℕ → ℕ → Type 0
 IsAmong view tile count id = (place : ℕ) × (place < count) × (slice_get (queue_at view tile) place ≡ Some id)
 
+-- the id stands at one of the last places of the tile's task queue, so many
+abbrev pub IsAmongLast : View → ℕ → ℕ → ℕ → Type 0
+IsAmongLast view tile count id =
+    (place : ℕ) × (length (queue_at view tile) ≤ place + count) × (slice_get (queue_at view tile) place ≡ Some id)
+
 -- it may move besides
 abbrev pub MayMove : View → ℕ → ℕ → ℕ → Type 0
-MayMove view tile count id = IsAmong view tile count id × IsMovable view tile id
+MayMove view tile count id = IsAmongLast view tile count id × IsMovable view tile id
 
 -- of the ids of a kind the latest in an order, the first of them first: all of them, or so many
 pub record AreLatest (comes_before : ℕ → ℕ → Type 0) (kind : ℕ → Type 0) (most : ℕ) (ids : List ℕ) : Type 0 where

@@ -30,20 +30,19 @@ fn is_movable(task: &Task, heir: Option<TaskId>) -> bool
     }
 }
 
-/// How many of the chosen tasks come before one that stands behind them in the queue: those up to the last whose
-/// key isn't greater.
+/// How many of the chosen tasks come before one that stands before them in the queue: those whose key is less, as their
+/// keys rise.
 fn place_for<N: Naming>(state: &State<N>, chosen: &[usize], id: usize) -> usize
     requires live { (k other : ℕ) → slice_get chosen.now k ≡ Some other → IsSome (task_at state.now.view other) }
     requires own { IsSome (task_at state.now.view id) }
     ensures within { result ≤ length chosen.now }
-    ensures behind { (k other : ℕ) → result ≤ k → slice_get chosen.now k ≡ Some other
-        → HasLessKey state.now.view id other }
-    ensures last { (k other : ℕ) → k + 1 ≡ result → slice_get chosen.now k ≡ Some other
-        → ¬ HasLessKey state.now.view id other }
+    ensures before { (k other : ℕ) → k < result → slice_get chosen.now k ≡ Some other
+        → HasLessKey state.now.view other id }
+    ensures first { (other : ℕ) → slice_get chosen.now result ≡ Some other → ¬ HasLessKey state.now.view other id }
 {
-    let mut place = chosen.len();
-    while place > 0 && is_less(state, id, chosen[place - 1]) {
-        place -= 1;
+    let mut place = 0;
+    while place < chosen.len() && is_less(state, chosen[place], id) {
+        place += 1;
     }
     place
 }
@@ -54,24 +53,31 @@ fn put_among(chosen: &mut Chosen, place: usize, id: usize)
     requires few { length chosen.old.items ≤ most_moved }
     ensures { chosen.new.items ≡ with_one chosen.old.items place id }
 {
+    // One that came first of too many would leave again.
+    if place == 0 && chosen.len() == MAX_MOVED {
+        return;
+    }
     chosen.insert(place, id);
     if chosen.len() > MAX_MOVED {
         chosen.remove(0);
     }
 }
 
-/// The latest idle firm tasks of the tile, the least of them first: all, or as many as move at once.
+/// The latest idle firm tasks of the tile, the least of them first: all, or as many as move at once. It looks from the
+/// last task of the queue on: where keys tie the first ones that it sees are the latest, and the rest are passed over.
 pub(crate) fn chosen<N: Naming>(state: &State<N>, tile: u32) -> Chosen
     requires { tile < state.now.view.settings.tiles }
     ensures { AreChosen state.now.view tile result.items }
 {
     state.is_stored();
     let heir = state.heir();
+    let ids = queued(state, tile);
     let mut chosen = Chosen::new();
-    for id in queued(state, tile) {
-        if is_movable(state.task(TaskId(*id)), heir) {
-            let place = place_for(state, chosen.as_slice(), *id);
-            put_among(&mut chosen, place, *id);
+    for seen in 0..ids.len() {
+        let id = ids[ids.len() - 1 - seen];
+        if is_movable(state.task(TaskId(id)), heir) {
+            let place = place_for(state, chosen.as_slice(), id);
+            put_among(&mut chosen, place, id);
         }
     }
     chosen

@@ -173,7 +173,7 @@ fn record_commit<N: Naming>(state: &mut State<N>, id: TaskId) -> Entry
 /// Commits the least task, which is finished and was made by the image or a committed task: its entry joins the
 /// history, its bytes the output, and its levels are the path. `AllocError` where the output has no room for the
 /// bytes and memory runs out; nothing has changed then.
-pub fn commit<N: Naming>(state: &mut State<N>, id: TaskId) -> Result<Entry, AllocError>
+pub fn commit_task<N: Naming>(state: &mut State<N>, id: TaskId) -> Result<Entry, AllocError>
     requires least { (task : Task) × IsLeastTask state.old.view id.0 task × (task.status ≡ Finished)
         × ((turn : ℕ) × (index : ℕ) × (task.creator ≡ Committed turn index)) }
     requires more { length state.old.view.history < state.old.view.settings.commits }

@@ -11,11 +11,13 @@
 mod choosing;
 mod coalescing;
 mod committing;
+mod least;
 mod queue;
 mod splitting;
 mod victim;
 
 pub use coalescing::coalesce;
-pub use committing::commit;
+pub use committing::commit_task;
+pub use least::commit;
 pub use splitting::split;
-pub use victim::victim_of;
+pub use victim::{creator_of, room_victim, victim_of};

@@ -3,12 +3,14 @@
 ghost use Rattle.std.specs.Prelude.{◌≡◌, ◌<◌, ◌⊎◌, ◌↔◌, ℕ, IsSome, IsTrue, IfSome, Some, option_map};
 ghost use Rattle.spec_state.specs.declared.task.Task.{Task};
 ghost use Rattle.spec_state.specs.View.{task_at};
-ghost use Rattle.spec_state.specs.Room.{IsFull, IsVictim, Enqueuer, asker_of};
+ghost use Rattle.spec_state.specs.Groups.{live_creator};
+ghost use Rattle.spec_state.specs.Least.{IsFirm};
+ghost use Rattle.spec_state.specs.Room.{IsFull, IsVictim, IsTakenFor, Enqueuer, asker_of};
 ghost use Rattle.spec_commit.specs.Latest.{HasLessKey};
 
 use crate::queue::{is_less, queued};
 use rv_core::Naming;
-use spec_state::{State, TaskId};
+use spec_state::{Creator, State, TaskId};
 
 /// The later of a task and one that stands at an earlier place, if one is given.
 fn later<N: Naming>(state: &State<N>, earlier: Option<usize>, id: usize) -> usize
@@ -59,4 +61,33 @@ pub fn victim_of<N: Naming>(state: &State<N>, tile: u32, asker: Option<TaskId>) 
         (task : Task) × IsVictim state.now.view tile who result.0 task }
 {
     TaskId(latest_other(state, tile, asker))
+}
+
+/// The creator of a task that isn't firm.
+pub fn creator_of<N: Naming>(state: &State<N>, id: TaskId) -> TaskId
+    requires live { IsSome (task_at state.now.view id.0) }
+    requires loose { IfSome (task_at state.now.view id.0) (λ t. IsFirm state.now.view t → ⊥) }
+    ensures { IfSome (task_at state.now.view id.0) (λ t. live_creator t.creator ≡ Some result.0) }
+{
+    match state.task(id).creator {
+        Creator::Live { task, .. } => task,
+        Creator::Committed { .. } => unreachable!(),
+    }
+}
+
+/// The task that is taken back to make room in a full queue: the victim where it is firm, and else its creator. It
+/// costs what `victim_of` and `heir` do.
+pub fn room_victim<N: Naming>(state: &State<N>, tile: u32, asker: Option<TaskId>) -> TaskId
+    requires tile { tile < state.now.view.settings.tiles }
+    requires full { IsFull state.now.view tile }
+    ensures { let who = asker_of (option_map (λ id. id.0) asker) in
+        (v : ℕ) × (task : Task) × IsVictim state.now.view tile who v task
+        × IsTakenFor state.now.view v task result.0 }
+{
+    let victim = victim_of(state, tile, asker);
+    if state.firm(victim) {
+        victim
+    } else {
+        creator_of(state, victim)
+    }
 }

@@ -1,10 +1,10 @@
 //! The dispatch: the least idle task of a tile goes to its lowest free core with the next dispatch number. Where
 //! all numbers are given, those in use are renumbered first.
 //!
-//! It stands on the state of the machine, whose lists, index and tasks it changes. Which task is dispatched the caller
-//! finds out by the state's own queries, and whether a core is free by `free_core`. `book_move` calls it. A dispatch
-//! costs a look at each core of its tile and one change of the index; a renumbering costs a walk over all tasks. No
-//! call takes memory: the state keeps room for the table of a renumbering.
+//! It stands on the state of the machine, whose lists, index and tasks it changes. `dispatch` finds out which task
+//! goes; `dispatch_task` is told, by a caller that knows. Whether a core is free `free_core` tells. `book_move` calls
+//! it. A dispatch costs a look at each core of its tile and one change of the index; a renumbering costs a walk over
+//! all tasks. No call takes memory: the state keeps room for the table of a renumbering.
 #![tactic(auto)]
 
 mod cores;
@@ -14,4 +14,4 @@ mod renumbering;
 mod table;
 
 pub use cores::free_core;
-pub use dispatching::dispatch;
+pub use dispatching::{dispatch, dispatch_task};

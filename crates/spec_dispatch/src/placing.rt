@@ -5,7 +5,7 @@ ghost use Rattle.spec_state.specs.Changes.{Dispatches};
 ghost use Rattle.spec_state.specs.Queries.{IsLeastIdle, IsLowestFree};
 ghost use Rattle.spec_dispatch.specs.Started.{started};
 
-use rv_core::{Core, Naming};
+use rv_core::Naming;
 use spec_state::{State, Status, Task, TaskId};
 
 /// Starts a task on a core with a dispatch number.
@@ -14,7 +14,8 @@ fn start(task: &mut Task, version: u16, core: u32, number: u64)
 {
     task.key.tb = Some(number);
     task.status = Status::Running { core };
-    task.core = Core::start(version, task.entry, task.key.ts, task.args);
+    task.core
+        .put_start(version, task.entry, task.key.ts, task.args);
 }
 
 /// Puts the least idle task of a tile on the tile's lowest free core with the next dispatch number, which is one

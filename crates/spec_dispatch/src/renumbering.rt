@@ -4,8 +4,9 @@ ghost use Rattle.std.specs.Prelude.{◌≡◌, ◌≤◌, ℕ, All, map, length,
 ghost use Rattle.std.specs.List.Sorted.{IsStrictlyIncreasing};
 ghost use Rattle.spec_state.specs.declared.numbers.TheConstants.{MAX_NUMBERS_IN_USE};
 ghost use Rattle.spec_state.specs.Fits.{entries_in};
-ghost use Rattle.spec_state.specs.Numbers.{IsInUse, IsPathsOrTasks, Renumbers, renumbered_task};
+ghost use Rattle.spec_state.specs.Numbers.{Renumbers, renumbered_task};
 ghost use Rattle.spill_store.specs.Entries.{renumbered_entry, HoldsEntries};
+ghost use Rattle.spec_dispatch.specs.Numbered.{AreNumbersHeld};
 
 use crate::table::fill;
 use fractal_vt::{renumber as renumber_path, renumber_key};
@@ -50,7 +51,7 @@ fn renumber_blocks(blocks: &mut Blocks, table: &[u64])
 /// Replaces each dispatch number in use by its place among them, counted from 0. Each is one of the path or of a
 /// dispatched task. The next number is how many they are, fewer than there are numbers.
 pub(crate) fn renumber<N: Naming>(state: &mut State<N>)
-    requires held { (number : ℕ) → IsInUse state.old.view number → IsPathsOrTasks state.old.view number }
+    requires held { AreNumbersHeld state.old.view }
     ensures renumbers { Renumbers state.old.view state.new.view }
     ensures few { state.new.view.next ≤ MAX_NUMBERS_IN_USE }
     ensures room { state.new.room ≡ state.old.room }

@@ -41,7 +41,6 @@ returns-clause-loads g c tile core task takes had =
     let memory = c.state.inside.memory in
     let offset = c.args.offset in
     let core_is = c.put_after_load.ensures
-    ∙ ap (λ at. after_load_of at width rd c.load_with-raw.result) c.to-to.ensures.value
     ∙ ap (after_load_of c.args.leg.now.to width rd)
     (c.load_with-raw.ensures.value ∙ ap (number_at memory offset) bytes) in
     let log_is = c.load_with-raw.ensures.logged

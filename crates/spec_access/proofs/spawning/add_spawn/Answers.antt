@@ -1,7 +1,7 @@
 use Rattle.std.proofs.Common.{refl, ap}
 use Rattle.spec_state.specs.StateValue.{StateValue}
 use Rattle.spec_state.proofs.Proved.{formed_kept, indexed_set, keeps_some, noted_set, same_place, slots_set, stored_set}
-use Rattle.spec_access.proofs.Asked.{asks_room}
+use Rattle.spec_access.proofs.Asking.{asks_room}
 use Rattle.spec_access.proofs.Enqueued.{one_more}
 use Rattle.spec_access.proofs.spawning.add_spawn.Goals as goal
 

@@ -1,5 +1,4 @@
-use Rattle.std.proofs.Common.{rules, ◌<◌, ◌≤◌, ◌+◌, List, map, length, sym, ap, subst, ◌∙◌, arith, slice_index_or}
-use Rattle.spill_store.specs.Entries.{BlockValue}
+use Rattle.std.proofs.Common.{rules, ◌<◌, ◌≤◌, ◌+◌, length, ap, ◌∙◌, arith, slice_index_or}
 use Rattle.spec_state.specs.StateValue.{StateValue}
 use Rattle.spec_state.proofs.Proved.{spare_before}
 use Rattle.spec_commit.specs.Spilling.{KeepsOtherRoom}

@@ -1,4 +1,4 @@
-use Rattle.std.proofs.Common.{rules, [], ap, sym, subst, ◌∙◌, arith, slice_index_or}
+use Rattle.std.proofs.Common.{rules, [], ap, sym, subst, arith, slice_index_or}
 use Rattle.spec_state.specs.Fits.{entries_in}
 use Rattle.spec_state.specs.StateValue.{StateValue, HasNoLessRoom}
 use Rattle.spill_store.specs.Entries.{TakesLeast}

@@ -1,0 +1,30 @@
+-- A task that takes a leg is the one of its id, and there is room for what it asks for.
+use Rattle.std.proofs.Common.{◌≡◌, ℕ, Some, sym, ap, subst, ◌∙◌}
+use Rattle.std.proofs.lemmas.Option.{same_Some}
+use Rattle.rv_core.specs.LegValue.{LegValue}
+use Rattle.task_step.specs.Conditions.{HasRoom}
+use Rattle.task_step.specs.declared.request.Request.{Request}
+use Rattle.task_step.proofs.Proved.{allowed_by-room, AllowedBy, request_at-allowed}
+use Rattle.spec_state.specs.declared.task.Task.{Task}
+use Rattle.spec_state.specs.View.{View, task_at}
+use Rattle.spec_state.specs.Tasks.{context_of}
+use Rattle.spec_state.specs.Changes.{request_of}
+use Rattle.spec_access.specs.Asking.{Asks}
+
+module _ (view seen : View) (leg : LegValue) (id : ℕ) (request : Request) (task : Task)
+    (asks : Asks view leg id request) (same : seen ≡ view)
+    (there : task_at seen id ≡ Some task) where
+  -- the task of this id is the one that asks
+  pub asker_is : asks.task ≡ task
+  asker_is = same_Some asks.task task (sym asks.takes.runs.on.there ∙ ap (λ v. task_at v id) (sym same) ∙ there)
+
+  pub asked_is : request_of view task leg ≡ request
+  asked_is = ap (λ t. request_of view t leg) (sym asker_is) ∙ asks.asks
+
+  -- its rules allow what it asks for
+  pub asked_allowed : AllowedBy (context_of view.version task) request
+  asked_allowed = subst (AllowedBy (context_of view.version task)) asked_is
+      (request_at-allowed (context_of view.version task) leg.to leg.stop)
+
+  pub asks_room : HasRoom (context_of view.version task) request
+  asks_room = allowed_by-room (context_of view.version task) request asked_allowed

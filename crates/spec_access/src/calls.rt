@@ -1,0 +1,128 @@
+//! The steps of a running task by its leg alone: each call finds out itself what the task asks for at the leg's end.
+
+ghost use Rattle.std.specs.Prelude.{◌≡◌, ◌<◌, ℕ, IsOk, OnOk, OnErr};
+ghost use Rattle.guest_image.specs.declared.image.Kind.{Kind};
+ghost use Rattle.memory_law.specs.Notes.{notes_of};
+ghost use Rattle.rv_table.specs.declared.instr.LoadWidth.{LoadWidth};
+ghost use Rattle.task_desc.specs.declared.desc.Spawn.{Spawn};
+ghost use Rattle.task_step.specs.declared.request.Request.TheVariants.{Continue, Load, Store};
+ghost use Rattle.task_step.specs.declared.request.Request.TheVariants.{Enqueue, MakeSub, Emit, Trap};
+ghost use Rattle.spec_state.specs.declared.task.Task.{Task};
+ghost use Rattle.spec_state.specs.StateValue.{CoversLog, CoversChild};
+ghost use Rattle.spec_state.specs.Filters.{HasNotes};
+ghost use Rattle.spec_state.specs.Room.{HasFreeEntry};
+ghost use Rattle.spec_state.specs.Changes.{TakesLeg, request_of, Loads, Stores, Enqueues};
+ghost use Rattle.spec_state.specs.Changes.{MakesSub, Emits, GoesOn, KeepsTrap};
+ghost use Rattle.spec_access.specs.Asking.{AsksToLoad, AsksToStore, AsksForChild};
+ghost use Rattle.spec_access.specs.Asking.{AsksForSubdomain, AsksToEmit, AsksForNothing};
+
+use crate::accessing::{load_at, store_at};
+use crate::calling::{call_trap, end_quantum, open_sub, put_byte};
+use crate::requests::{asked, byte_of, cause_of, kind_of, load_of, spawn_of, store_of};
+use crate::spawning::enqueue_child;
+use rv_core::{Leg, Naming};
+use spec_state::{State, TaskId};
+use std::alloc::AllocError;
+
+/// Makes the load at which a task's leg stopped: its register has what the memory has there, and the access joins
+/// its log and its lines. `AllocError` where memory runs out; nothing has changed then.
+pub fn read<N: Naming>(state: &mut State<N>, task: TaskId, leg: &Leg<N>) -> Result<(), AllocError>
+    requires asks { AsksToLoad state.old.view leg.now task.0 }
+    ensures loads { OnOk result ((tile core : ℕ) (t : Task) (width : LoadWidth) (rd offset : ℕ)
+        → TakesLeg state.old.view tile core leg.now task.0 t
+        → request_of state.old.view t leg.now ≡ Load width rd offset
+        → HasNotes t.lines (notes_of state.old.view.settings.line t.log)
+        → Loads task.0 t leg.now width rd offset state.old.view state.new.view) }
+    ensures err { OnErr result (state.new ≡ state.old) }
+    ensures covered { CoversLog state.old task.0 → IsOk result }
+    ensures room { state.new.room ≡ record state.old.room { log = state.new.room.log } }
+{
+    let (width, rd, offset) = load_of(asked(state, task, leg));
+    load_at(state, task, leg, width, rd, offset)
+}
+
+/// Makes the store at which a task's leg stopped: its low bytes are written, and the access joins the task's log and
+/// its lines. `AllocError` where memory runs out; nothing has changed then.
+pub fn write<N: Naming>(state: &mut State<N>, task: TaskId, leg: &Leg<N>) -> Result<(), AllocError>
+    requires asks { AsksToStore state.old.view leg.now task.0 }
+    ensures stores { OnOk result ((tile core : ℕ) (t : Task) (offset bytes value : ℕ)
+        → TakesLeg state.old.view tile core leg.now task.0 t
+        → request_of state.old.view t leg.now ≡ Store offset bytes value
+        → HasNotes t.lines (notes_of state.old.view.settings.line t.log)
+        → Stores task.0 t leg.now offset bytes value state.old.view state.new.view) }
+    ensures err { OnErr result (state.new ≡ state.old) }
+    ensures covered { CoversLog state.old task.0 → IsOk result }
+    ensures room { state.new.room ≡ record state.old.room { log = state.new.room.log } }
+{
+    let (offset, bytes, value) = store_of(asked(state, task, leg));
+    store_at(state, task, leg, offset, bytes, value)
+}
+
+/// Enqueues the child that a task asks for at its leg's end: an idle task, which stands last in the task queue of
+/// this tile, where an entry is free. `AllocError` where memory runs out; nothing has changed then.
+pub fn spawn<N: Naming>(
+    state: &mut State<N>,
+    task: TaskId,
+    leg: &Leg<N>,
+    tile: u32,
+) -> Result<(), AllocError>
+    requires asks { AsksForChild state.old.view leg.now task.0 }
+    requires tile { tile < state.old.view.settings.tiles }
+    requires free { HasFreeEntry state.old.view tile }
+    ensures enqueues { OnOk result ((from core : ℕ) (t : Task) (child : Spawn)
+        → TakesLeg state.old.view from core leg.now task.0 t
+        → request_of state.old.view t leg.now ≡ Enqueue child
+        → Enqueues task.0 t leg.now child tile state.old.view state.new.view) }
+    ensures err { OnErr result (state.new ≡ state.old) }
+    ensures covered { CoversChild state.old task.0 → IsOk result }
+    ensures room { state.new.room ≡ record state.old.room { spawns = state.new.room.spawns } }
+{
+    let child = spawn_of(asked(state, task, leg));
+    enqueue_child(state, task, leg, child, tile)
+}
+
+/// Makes the subdomain that a task asks for at its leg's end.
+pub fn make_sub<N: Naming>(state: &mut State<N>, task: TaskId, leg: &Leg<N>)
+    requires asks { AsksForSubdomain state.old.view leg.now task.0 }
+    ensures makes { (tile core : ℕ) (t : Task) (kind : Kind)
+        → TakesLeg state.old.view tile core leg.now task.0 t
+        → request_of state.old.view t leg.now ≡ MakeSub kind
+        → MakesSub task.0 t leg.now kind state.old.view state.new.view }
+    ensures room { state.new.room ≡ state.old.room }
+{
+    let kind = kind_of(asked(state, task, leg));
+    open_sub(state, task, leg, kind);
+}
+
+/// Emits the byte that a task asks to emit at its leg's end.
+pub fn emit<N: Naming>(state: &mut State<N>, task: TaskId, leg: &Leg<N>)
+    requires asks { AsksToEmit state.old.view leg.now task.0 }
+    ensures emits { (tile core : ℕ) (t : Task) (byte : ℕ)
+        → TakesLeg state.old.view tile core leg.now task.0 t
+        → request_of state.old.view t leg.now ≡ Emit byte
+        → Emits task.0 t leg.now byte state.old.view state.new.view }
+    ensures room { state.new.room ≡ state.old.room }
+{
+    let byte = byte_of(asked(state, task, leg));
+    put_byte(state, task, leg, byte);
+}
+
+/// A task that did its quantum goes on from the end of its leg; one that came to a trap keeps its cause, and its core
+/// as it was at the end of the leg.
+pub fn keep<N: Naming>(state: &mut State<N>, task: TaskId, leg: &Leg<N>)
+    requires asks { AsksForNothing state.old.view leg.now task.0 }
+    ensures goes_on { (tile core : ℕ) (t : Task)
+        → TakesLeg state.old.view tile core leg.now task.0 t
+        → request_of state.old.view t leg.now ≡ Continue
+        → GoesOn task.0 t leg.now state.old.view state.new.view }
+    ensures traps { (tile core cause : ℕ) (t : Task)
+        → TakesLeg state.old.view tile core leg.now task.0 t
+        → request_of state.old.view t leg.now ≡ Trap cause
+        → KeepsTrap task.0 t leg.now core cause state.old.view state.new.view }
+    ensures room { state.new.room ≡ state.old.room }
+{
+    match cause_of(asked(state, task, leg)) {
+        None => end_quantum(state, task, leg),
+        Some(cause) => call_trap(state, task, leg, cause),
+    }
+}
