@@ -14,7 +14,7 @@ use crate::recording::record_of;
 use book_event::{Came, Reply};
 use book_room::end_of;
 use rv_core::Naming;
-use spec_commit::commit as enter;
+use spec_commit::commit_task;
 use spec_state::{State, TaskId, Where};
 use trace_tap::Deed;
 
@@ -49,7 +49,7 @@ pub fn make_commit<N: Naming>(state: &mut State<N>, id: TaskId) -> Came
     ensures { CommitComes N state.old.view result state.new.view }
 {
     let tile = state.tile_of(id);
-    match enter(state, id) {
+    match commit_task(state, id) {
         Ok(_) => Came::Made(record_of(state, Deed::Commit, tile, 0)),
         Err(_) => Came::Refused(Reply::Memory),
     }

@@ -16,7 +16,7 @@ use crate::recording::record_of;
 use book_event::{Came, Reply};
 use book_room::{end_of, is_least};
 use rv_core::Naming;
-use spec_dispatch::{dispatch as place_least, free_core};
+use spec_dispatch::{dispatch_task, free_core};
 use spec_rollback::abort;
 use spec_state::{State, TaskId};
 use trace_tap::{Deed, Record};
@@ -70,7 +70,7 @@ pub fn make_dispatch<N: Naming>(state: &mut State<N>, tile: u32, id: TaskId) -> 
     ensures { ComesSo N state.old.view (event.Dispatch tile) (Made result) state.new.view }
 {
     let aborted = clear_core(state, tile);
-    place_least(state, tile, id);
+    dispatch_task(state, tile, id);
     record_of(state, Deed::Dispatch, tile, aborted)
 }
 

@@ -16,6 +16,6 @@ pub(crate) fn record_of<N: Naming>(state: &State<N>, deed: Deed, tile: u32, abor
         tile,
         line: None,
         aborted,
-        commits: state.history.count(),
+        commits: state.committed(),
     }
 }

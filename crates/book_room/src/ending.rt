@@ -45,7 +45,7 @@ fn trap_end<N: Naming>(state: &State<N>, id: TaskId) -> End
         Status::Trapped { cause, .. } => End::Trap {
             name,
             cause,
-            pc: task.core.pc,
+            pc: task.core.core().pc,
         },
         Status::Idle | Status::Running { .. } | Status::Finished => unreachable!(),
     }

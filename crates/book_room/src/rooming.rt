@@ -1,12 +1,9 @@
 //! A free entry in a task queue, for a child or for a spilled task that comes back.
 
-ghost use Rattle.std.specs.Prelude.{◌≡◌, ◌<◌, ◌↔◌, ℕ, IsTrue, IsFalse, IsSome, IfSome, Some, option_map};
+ghost use Rattle.std.specs.Prelude.{◌<◌, ◌↔◌, ℕ, IsTrue, IsFalse, option_map};
 ghost use Rattle.spec_law.specs.Sound.{Sound};
 ghost use Rattle.spec_commit.specs.Spilling.{KeepsOtherRoom};
 ghost use Rattle.spec_state.specs.StateValue.{CoversPushes};
-ghost use Rattle.spec_state.specs.View.{task_at};
-ghost use Rattle.spec_state.specs.Groups.{live_creator};
-ghost use Rattle.spec_state.specs.Least.{IsFirm};
 ghost use Rattle.spec_state.specs.Room.{IsFull, IsMovable, NoneMoves, IsLeastAsker, Stalls, Coalesces, MakesRoom};
 ghost use Rattle.spec_state.specs.Room.{asker_of};
 ghost use Rattle.step_law.specs.Forcing.{RunsIfTask};
@@ -14,9 +11,9 @@ ghost use Rattle.book_room.specs.Entering.{MayEnter};
 
 use crate::leasts::{is_least, is_least_spilled};
 use rv_core::Naming;
-use spec_commit::{coalesce, victim_of};
+use spec_commit::{coalesce, creator_of, victim_of};
 use spec_rollback::abort;
-use spec_state::{Creator, State, TaskId};
+use spec_state::{State, TaskId};
 
 /// Whether who asks for an entry is the least task, or asks for it.
 fn asks_as_least<N: Naming>(state: &State<N>, tile: u32, asker: Option<TaskId>) -> bool
@@ -57,18 +54,6 @@ fn spill<N: Naming>(state: &mut State<N>, tile: u32)
     match coalesce(state, tile) {
         Ok(_) => {}
         Err(_) => unreachable!(),
-    }
-}
-
-/// The creator of a task that isn't firm.
-fn creator_of<N: Naming>(state: &State<N>, id: TaskId) -> TaskId
-    requires live { IsSome (task_at state.now.view id.0) }
-    requires loose { IfSome (task_at state.now.view id.0) (λ t. IsFirm state.now.view t → ⊥) }
-    ensures { IfSome (task_at state.now.view id.0) (λ t. live_creator t.creator ≡ Some result.0) }
-{
-    match state.task(id).creator {
-        Creator::Live { task, .. } => task,
-        Creator::Committed { .. } => unreachable!(),
     }
 }
 

@@ -17,7 +17,7 @@ use crate::told::told;
 use book_event::{Came, Reply};
 use rv_core::{Leg, Naming};
 use rv_table::{LoadWidth, Reg};
-use spec_access::{read, write};
+use spec_access::{load_at, store_at};
 use spec_rollback::abort_conflicts;
 use spec_state::{State, TaskId};
 use trace_tap::Deed;
@@ -65,7 +65,7 @@ fn load_covered<N: Naming>(
         → LoadEvent tile core leg.now id.0 task width rd offset old result state.new.view }
 {
     let aborted = clear(state, id, leg, offset, false);
-    let _ = read(state, id, leg, width, rd, offset);
+    let _ = load_at(state, id, leg, width, rd, offset);
     aborted
 }
 
@@ -110,7 +110,7 @@ fn store_covered<N: Naming>(
         → StoreEvent tile core leg.now id.0 task offset bytes value old result state.new.view }
 {
     let aborted = clear(state, id, leg, offset, true);
-    let _ = write(state, id, leg, offset, bytes, value);
+    let _ = store_at(state, id, leg, offset, bytes, value);
     aborted
 }
 

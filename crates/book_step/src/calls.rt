@@ -11,7 +11,7 @@ use crate::told::told;
 use book_event::Came;
 use guest_image::Kind;
 use rv_core::{Leg, Naming};
-use spec_access::{call_trap, emit, keep, make_sub};
+use spec_access::{call_trap, end_quantum, open_sub, put_byte};
 use spec_state::{State, TaskId};
 use trace_tap::Deed;
 
@@ -21,7 +21,7 @@ pub(crate) fn go_on<N: Naming>(state: &mut State<N>, tile: u32, id: TaskId, leg:
     requires asks { Asks state.old.view leg.now id.0 Continue }
     ensures { QuietlyComes N tile leg.now id.0 state.old.view result state.new.view }
 {
-    keep(state, id, leg);
+    end_quantum(state, id, leg);
     Came::Made(told(state, Deed::Keep, tile, None, 0))
 }
 
@@ -37,7 +37,7 @@ pub(crate) fn make_subdomain<N: Naming>(
     requires asks { Asks state.old.view leg.now id.0 (MakeSub kind) }
     ensures { QuietlyComes N tile leg.now id.0 state.old.view result state.new.view }
 {
-    make_sub(state, id, leg, kind);
+    open_sub(state, id, leg, kind);
     Came::Made(told(state, Deed::Call, tile, None, 0))
 }
 
@@ -53,7 +53,7 @@ pub(crate) fn emit_byte<N: Naming>(
     requires asks { Asks state.old.view leg.now id.0 (Emit byte) }
     ensures { QuietlyComes N tile leg.now id.0 state.old.view result state.new.view }
 {
-    emit(state, id, leg, byte);
+    put_byte(state, id, leg, byte);
     Came::Made(told(state, Deed::Call, tile, None, 0))
 }
 

@@ -20,7 +20,7 @@ use book_event::{Came, Reply};
 use book_room::{make_room, stalls};
 use place_policy::{Placer, serving_pick, serving_placed};
 use rv_core::{Leg, Naming};
-use spec_access::spawn;
+use spec_access::enqueue_child;
 use spec_state::{State, TaskId};
 use task_desc::Spawn;
 use trace_tap::Deed;
@@ -47,7 +47,7 @@ fn place<N: Naming>(state: &mut State<N>, id: TaskId, leg: &Leg<N>, child: Spawn
         → PlacesChild tile id.0 task leg.now child old result state.new.view }
 {
     let aborted = make_room(state, tile, Some(id));
-    let _ = spawn(state, id, leg, child, tile);
+    let _ = enqueue_child(state, id, leg, child, tile);
     aborted
 }
 

@@ -4,7 +4,6 @@ ghost use Rattle.std.specs.Prelude.{◌≡◌, ◌<◌, ◌↔◌, ℕ, IsTrue, 
 ghost use Rattle.spec_state.specs.declared.task.Status.TheVariants.{Running};
 ghost use Rattle.spec_state.specs.declared.task.Task.{Task};
 ghost use Rattle.spec_state.specs.Changes.{TakesLeg};
-ghost use Rattle.spec_access.specs.Asking.{Asks};
 ghost use Rattle.spec_law.specs.Sound.{Sound};
 ghost use Rattle.book_event.specs.Causes.{IsStale};
 ghost use Rattle.book_event.specs.End.{IsOver};
@@ -18,14 +17,15 @@ use book_event::{Came, Reply};
 use book_room::end_of;
 use place_policy::Placer;
 use rv_core::{Leg, Naming};
+use spec_access::asked;
 use spec_state::{State, Status, Task, TaskId};
-use task_step::{Request, request_of};
+use task_step::Request;
 
 /// Whether a task runs on this core of its tile and the leg begins at its kept core.
 fn takes<N: Naming>(task: &Task, core: u32, leg: &Leg<N>) -> bool
     ensures { IsTrue result ↔ ((task.now.status ≡ Running core) × (task.now.core ≡ leg.now.from)) }
 {
-    task.status == Status::Running { core } && task.core == *leg.from()
+    task.status == Status::Running { core } && leg.begins_at(&task.core)
 }
 
 /// The task that takes a leg on a core of a tile; None exactly where none does.
@@ -43,15 +43,6 @@ fn taker<N: Naming>(state: &State<N>, tile: u32, core: u32, leg: &Leg<N>) -> Opt
     } else {
         None
     }
-}
-
-/// What a task asks for at the end of the leg that it takes.
-fn asked<N: Naming>(state: &State<N>, id: TaskId, leg: &Leg<N>) -> Request
-    requires takes { let view = state.now.view in
-        (tile core : ℕ) × (task : Task) × TakesLeg view tile core leg.now id.0 task }
-    ensures { Asks state.now.view leg.now id.0 result }
-{
-    request_of(&state.ctx_of(id), leg.to(), &leg.stop())
 }
 
 /// Makes the step of a task that takes the leg, in a tile, where the run goes on: what the task

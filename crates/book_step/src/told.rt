@@ -22,6 +22,6 @@ pub(crate) fn told<N: Naming>(
         tile,
         line,
         aborted,
-        commits: state.history.count(),
+        commits: state.committed(),
     }
 }

@@ -17,7 +17,7 @@ ghost use Rattle.conflict_book.specs.Next.{ComesNext};
 ghost use Rattle.conflict_book.specs.Seen.{going, view_of};
 
 use crate::book::{Book, SoundState};
-use crate::events::{has_limits, pass_after};
+use crate::events::pass_after;
 use book_event::{Advance, Came, Halt};
 use book_move::{make_commit, make_dispatch, make_split};
 use book_room::end_with;
@@ -37,10 +37,10 @@ fn run_leg_of<N: Naming>(leg: &mut Leg<N>, state: &State<N>, image: &Image, id: 
     ensures { (task : Task) → IsLeastTask state.now.view id.0 task
         → IsLegFrom N.image state.now.view task leg.new }
 {
-    has_limits(state);
+    state.has_limits();
     let settings = state.settings();
     leg.run_again(
-        &state.decoded,
+        state.decoded(),
         image,
         &state.task(id).core,
         settings.quantum,

@@ -139,7 +139,7 @@ impl<N: Naming, P: Placer, T: Tap> Book<N, P, T> {
         ensures err { let old = view_of P.policy T.reading self.old in
             OnErr result (view_of P.policy T.reading self.new ≡ old) }
     {
-        let mut answers = Vec::with_capacity(self.sound.state.alloc, events.len())?;
+        let mut answers = Vec::with_capacity(self.sound.state.alloc(), events.len())?;
         for event in &events {
             push_answer(&mut answers, self.apply_kept(event));
         }

@@ -3,7 +3,6 @@
 ghost use Rattle.std.specs.Prelude.{◌≡◌, ◌<◌, ℕ, List, length, map};
 ghost use Rattle.trace_tap.specs.Reading.{Reading};
 ghost use Rattle.spec_law.specs.Sound.{Sound};
-ghost use Rattle.spec_state.specs.Settings.{IsValid};
 ghost use Rattle.book_event.specs.declared.event.Event.TheVariants as event;
 ghost use Rattle.book_event.specs.Book.{placers_after_commit};
 ghost use Rattle.book_event.specs.Comes.{Comes};
@@ -33,15 +32,6 @@ fn pass_on<P: Placer>(placers: &mut Vec<P>, phase: u32, commits: u32)
     }
 }
 
-/// Law: the settings are valid, with the task budget and the commit limit that `N` names.
-pub(crate) fn has_limits<N: Naming>(state: &State<N>)
-    ensures valid { IsValid state.now.view.settings }
-    ensures budget { state.now.view.settings.budget ≡ N.budget }
-    ensures commits { state.now.view.settings.commits ≡ N.commits }
-{
-    let _ = &state.settings;
-}
-
 /// The same after a commit that was made; after one that was refused the placers stay.
 pub(crate) fn pass_after<N: Naming, P: Placer>(state: &State<N>, placers: &mut Vec<P>, came: &Came)
     ensures { let view = state.now.view in
@@ -49,9 +39,9 @@ pub(crate) fn pass_after<N: Naming, P: Placer>(state: &State<N>, placers: &mut V
         map P.policy placers.new.items
         ≡ placers_after view.settings.phase (length view.history) came.now before }
 {
-    has_limits(state);
+    state.has_limits();
     if let Came::Made(_) = came {
-        pass_on(placers, state.settings().phase, state.history.count());
+        pass_on(placers, state.settings().phase, state.committed());
     }
 }
 
@@ -73,7 +63,7 @@ fn is_given<N: Naming>(state: &State<N>, event: Legless)
     requires { IsInRange {N = N} state.now.view.settings (event_of event) }
     ensures { IsGiven {N = N} N.image state.now.view.settings (event_of event) }
 {
-    has_limits(state);
+    state.has_limits();
     match event {
         Legless::Dispatch { .. }
         | Legless::Abort { .. }
@@ -89,7 +79,7 @@ fn leg_is_given<N: Naming>(state: &State<N>, tile: u32, core: u32, leg: &Leg<N>)
     requires core { core < state.now.view.settings.cores }
     ensures { IsGiven {N = N} N.image state.now.view.settings (event.Step tile core leg.now) }
 {
-    has_limits(state);
+    state.has_limits();
     let _ = leg.from();
 }
 

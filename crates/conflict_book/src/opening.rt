@@ -13,7 +13,7 @@ ghost use Rattle.spec_state.specs.Opening.{IsOfImage};
 ghost use Rattle.spec_state.specs.Room.{HasFreeEntry, IsFull, Coalesces};
 ghost use Rattle.spec_state.specs.Settings.{IsValid};
 ghost use Rattle.spec_state.specs.Tasks.{root_descriptor};
-ghost use Rattle.spec_state.specs.View.{loads, queue_at, task_at};
+ghost use Rattle.spec_state.specs.View.{loads, task_at};
 ghost use Rattle.book_event.specs.Opening.{image_descriptor, root_kinds, opened};
 ghost use Rattle.book_event.specs.Opening.{Places, PlacesAll, IsOpening};
 ghost use Rattle.conflict_book.specs.Fresh.{AreFresh};
@@ -73,15 +73,8 @@ fn has_loads<N: Naming>(state: &State<N>)
     ensures tiles { IsTileCount (length (loads state.now.view)) }
     ensures each { length (loads state.now.view) ≡ state.now.view.settings.tiles }
 {
-    let _ = &state.settings;
-}
-
-/// Law: the task queue of a tile is no longer than it may be.
-fn is_short<N: Naming>(state: &State<N>, tile: u32)
-    requires { tile < state.now.view.settings.tiles }
-    ensures { length (queue_at state.now.view tile) ≤ state.now.view.settings.task_queue }
-{
-    let _ = state.queues[tile as usize].ids();
+    state.has_limits();
+    state.has_loads();
 }
 
 /// The tile that the serving placer picks.
@@ -109,7 +102,7 @@ fn free_entry<N: Naming>(state: &mut State<N>, tile: u32) -> Result<(), AllocErr
     }
     state.is_stored();
     has_loads(state);
-    is_short(state, tile);
+    state.is_short(tile);
     coalesce(state, tile)?;
     Ok(())
 }
@@ -207,7 +200,7 @@ fn sound_opening<N: Naming, P: Placer>(
         → IsOpening N.image settings before taps (going sound after taps)) }
 {
     let state = opening(alloc, image, settings, placers.as_mut_slice())?;
-    let leg = first_leg(&state.decoded, image, settings.budget);
+    let leg = first_leg(state.decoded(), image, settings.budget);
     Ok(SoundState {
         state,
         steps: 0,

@@ -13,11 +13,10 @@ ghost use Rattle.conflict_book.specs.Seen.{view_of};
 ghost use Rattle.conflict_book.specs.Ready.{HasRunning, IsReady};
 
 use crate::book::Book;
-use crate::events::has_limits;
 use book_room::end_of;
 use place_policy::Placer;
 use progress_cell::Reading;
-use rv_core::{Core, Decoded, Naming};
+use rv_core::{Core, Decoded, Naming, NotedCore};
 use serial_machine::{End, Entry};
 use spec_dispatch::free_core;
 use spec_state::{Loads, Settings, State, Status, TaskId};
@@ -30,7 +29,8 @@ fn limited_settings<N: Naming>(state: &State<N>) -> &Settings
     ensures valid { IsValid result.now }
     ensures budget { result.now.budget ≡ N.budget }
 {
-    &state.settings
+    state.has_limits();
+    state.settings()
 }
 
 /// How many tasks of a sound state are committed, and how many bytes these emitted.
@@ -46,7 +46,7 @@ fn counts<N: Naming>(state: &State<N>) -> Reading
 }
 
 /// The core of a running task that a core of a tile holds; None exactly where no running task is there.
-fn running_core<N: Naming>(state: &State<N>, tile: u32, core: u32) -> Option<&Core>
+fn running_core<N: Naming>(state: &State<N>, tile: u32, core: u32) -> Option<&NotedCore>
     requires tile { tile < state.now.view.settings.tiles }
     requires core { core < state.now.view.settings.cores }
     requires sound { Sound N.image state.now.view }
@@ -74,17 +74,17 @@ impl<N: Naming, P: Placer, T: Tap> Book<N, P, T> {
         ensures commits { (view_of P.policy T.reading self.now).view.settings.commits ≡ N.commits }
     {
         self.sound.is_sound();
-        has_limits(self.sound.state());
+        self.sound.state().has_limits();
     }
 
     /// What its parts take their memory from.
     pub fn alloc(&self) -> Global {
-        self.sound.state().alloc
+        self.sound.state().alloc()
     }
 
     /// The text of the image, decoded.
     pub fn decoded(&self) -> &Decoded<N> {
-        &self.sound.state().decoded
+        self.sound.state().decoded()
     }
 
     /// The settings with which it began: they are valid, with the task budget that `N` names.
@@ -144,6 +144,21 @@ impl<N: Naming, P: Placer, T: Tap> Book<N, P, T> {
         ensures none { let view = (view_of P.policy T.reading self.now).view in
             IsNone result ↔ ((id : ℕ) (task : Task) → IsRunning view tile core id task → ⊥) }
     {
+        match self.core_in_place(tile, core) {
+            Some(found) => Some(found.core()),
+            None => None,
+        }
+    }
+
+    /// The same core as [`core_at`](Book::core_at) gives, in its place.
+    pub fn core_in_place(&self, tile: u32, core: u32) -> Option<&NotedCore>
+        ensures within { let view = (view_of P.policy T.reading self.now).view in
+            IfSome result (λ c. c.now.used ≤ view.settings.budget) }
+        ensures some { let view = (view_of P.policy T.reading self.now).view in
+            IfSome result (λ c. HasRunning view tile core c.now) }
+        ensures none { let view = (view_of P.policy T.reading self.now).view in
+            IsNone result ↔ ((id : ℕ) (task : Task) → IsRunning view tile core id task → ⊥) }
+    {
         self.sound.is_sound();
         let settings = self.settings();
         if tile >= settings.tiles || core >= settings.cores {
@@ -170,20 +185,20 @@ impl<N: Naming, P: Placer, T: Tap> Book<N, P, T> {
     }
 
     /// How many numbers the list of a tap has; None exactly past the last tap.
-    pub fn tap_len(&self, tap: u32) -> Option<u32>
+    pub fn tap_len(&self, tap: usize) -> Option<u32>
         ensures { let book = view_of P.policy T.reading self.now in
             result ≡ option_map (λ reading. length reading.list) (slice_get book.taps tap) }
     {
-        let found = self.taps.get(tap as usize)?;
+        let found = self.taps.get(tap)?;
         Some(found.len())
     }
 
     /// The number at a place of the list of a tap; None exactly past its end, or past the last tap.
-    pub fn tap_at(&self, tap: u32, place: u32) -> Option<u64>
+    pub fn tap_at(&self, tap: usize, place: u32) -> Option<u64>
         ensures { let book = view_of P.policy T.reading self.now in
             result ≡ option_and_then (λ reading. slice_get reading.list place) (slice_get book.taps tap) }
     {
-        let found = self.taps.get(tap as usize)?;
+        let found = self.taps.get(tap)?;
         found.at(place)
     }
 }

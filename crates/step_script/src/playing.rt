@@ -120,7 +120,7 @@ fn run_at<N: Naming, P: Placer, T: Tap>(
         result ≡ false → NoneRuns book.view tile core }
 {
     let (quantum, budget) = (book.settings().quantum, book.settings().budget);
-    match book.core_at(tile, core) {
+    match book.core_in_place(tile, core) {
         Some(from) => {
             leg.run_again(book.decoded(), image, from, quantum, budget);
             true

@@ -3,8 +3,8 @@ use Rattle.spec_state.specs.StateValue.{Spare}
 use Rattle.book_step.proofs.Accessing.{of_ok, asks_on, same_task, log_still}
 use Rattle.book_step.proofs.accesses.load_covered.Goals as goal
 
-pub read-requires : goal.read-requires
-read-requires g c = record {
+pub load_at-requires : goal.load_at-requires
+load_at-requires g c = record {
   asks = asks_on g.N.Naming.image _ _ _ _ c.clear-aborted.ensures.stays _
       c.requires.asks;
 }
@@ -14,11 +14,11 @@ returns g c tile core task takes =
     let still = c.clear-aborted.ensures.stays tile core task takes in
     let same = same_task g.N.Naming.image _ _ _ _ c.clear-aborted.ensures.stays _ c.requires.asks in
     let room = ap (λ (s : Spare). s.log) c.clear-aborted.ensures.room in
-    let ok = c.read.ensures.covered (log_still c.args.state.now c.clear-aborted.new.state c.args.id.0 same room
+    let ok = c.load_at.ensures.covered (log_still c.args.state.now c.clear-aborted.new.state c.args.id.0 same room
     c.requires.covered) in
     record {
       mid = c.clear-aborted.new.state.view;
       forced = c.clear-aborted.ensures.conflicts tile core task takes;
-      change = of_ok _ _ c.read.ensures.loads ok tile core task still.takes (still.now.memory.noted c.args.id.0
+      change = of_ok _ _ c.load_at.ensures.loads ok tile core task still.takes (still.now.memory.noted c.args.id.0
           task still.there);
     }

@@ -5,22 +5,22 @@ use Rattle.book_step.proofs.Placing.{stays_asking, free_entry, still_inside}
 use Rattle.book_step.proofs.enqueues.place.Goals as goal
 use Rattle.std.proofs.Common.{◌∙◌, sym, ap}
 
-pub spawn-requires-clause-asks : goal.spawn-requires-clause-asks
-spawn-requires-clause-asks g c =
+pub enqueue_child-requires-clause-asks : goal.enqueue_child-requires-clause-asks
+enqueue_child-requires-clause-asks g c =
     let asks = c.requires.asks in
     asks_still g.N.Naming.image _ _ asks.tile asks.core _ _ asks.task _ asks asks.takes
     (stays_asking g.N.Naming.image _ asks.tile asks.core _ c.args.tile _ asks.task _ _ c.requires.sound
     asks.takes c.make_room-aborted.ensures.makes)
 
-pub spawn-requires-clause-tile : goal.spawn-requires-clause-tile
-spawn-requires-clause-tile g c =
+pub enqueue_child-requires-clause-tile : goal.enqueue_child-requires-clause-tile
+enqueue_child-requires-clause-tile g c =
     let asks = c.requires.asks in
     still_inside g.N.Naming.image _ asks.tile asks.core _ c.args.tile _ asks.task _ _ c.requires.sound
     asks.takes c.make_room-aborted.ensures.makes
     c.requires.tile
 
-pub spawn-requires-clause-free : goal.spawn-requires-clause-free
-spawn-requires-clause-free g c =
+pub enqueue_child-requires-clause-free : goal.enqueue_child-requires-clause-free
+enqueue_child-requires-clause-free g c =
     let asks = c.requires.asks in
     free_entry g.N.Naming.image _ asks.tile asks.core _ c.args.tile _ asks.task _ _ c.requires.sound asks.takes
     c.make_room-aborted.ensures.makes
@@ -36,5 +36,6 @@ returns g c from core task takes =
     record {
       mid = c.make_room-aborted.new.state.view;
       forced = c.make_room-aborted.ensures.makes;
-      change = of_ok _ _ c.spawn.ensures.enqueues (c.spawn.ensures.covered covers) from core task still.takes;
+      change = of_ok _ _ c.enqueue_child.ensures.enqueues (c.enqueue_child.ensures.covered covers)
+          from core task still.takes;
     }
