@@ -30,7 +30,7 @@ all_read bytes found old new limit is h = go new.left old.left is h.taken h.ende
   go (Some ys) before at taken ended = let k : bytes ≡ found ++ ys = subst (λ l. Consumes l (Some ys) found) at taken in sym (k ∙ ap (λ z. found ++ z) ended ∙ append-nil found)
   go None before at taken ended = absurd (subst (λ l. Consumes l None found) at taken)
 
-past_all : (bytes : List ℕ) (old new : SourceState) (limit : ℕ) → old.left ≡ Some bytes → ReadsPast old new limit → limit < length bytes
+pub past_all : (bytes : List ℕ) (old new : SourceState) (limit : ℕ) → old.left ≡ Some bytes → ReadsPast old new limit → limit < length bytes
 past_all bytes old new limit is h = go new.left (subst (λ l. Consumes l new.left h.found) is h.taken) where
   go : (after : Option (List ℕ)) → Consumes (Some bytes) after h.found → limit < length bytes
   go (Some ys) taken = let k : length bytes ≡ length (h.found ++ ys) = ap length taken in omega (arith, length-append h.found ys, h.past)
@@ -43,20 +43,20 @@ told_bytes input bytes request (inl is) asked reads = is
 told_bytes input bytes request (inr none) asked reads = absurd (none request asked reads)
 
 -- the words ask for this, which reads the source, and these are all the bytes that there are
-record IsAll (words : List (List ℕ)) (bytes found : List ℕ) (request : Request) : Type 0 where
-  asked : request_of words ≡ Some request
-  reads : Reads request.command
-  same : found ≡ bytes
-  within : length bytes ≤ input_limit
+pub record IsAll (words : List (List ℕ)) (bytes found : List ℕ) (request : Request) : Type 0 where
+  pub asked : request_of words ≡ Some request
+  pub reads : Reads request.command
+  pub same : found ≡ bytes
+  pub within : length bytes ≤ input_limit
 
-asks_all : (input : Input) (bytes found : List ℕ) (request : Request) → IsKnown input bytes → ReadsInput input request found → IsAll input.words bytes found request
+pub asks_all : (input : Input) (bytes found : List ℕ) (request : Request) → IsKnown input bytes → ReadsInput input request found → IsAll input.words bytes found request
 asks_all input bytes found request known h =
     let is = told_bytes input bytes request known h.asked h.reads in
     let same = all_read bytes found input.source_before input.source_after input_limit is h.read in
     record { asked = h.asked; reads = h.reads; same = same; within = subst (λ b. length b ≤ input_limit) same h.read.within }
 
 -- the image that was read stands at the front of all the bytes that there are
-begins : (input : Input) (bytes : List ℕ) (request : Request) (image : ImageValue) (rest : List ℕ) → IsKnown input bytes
+pub begins : (input : Input) (bytes : List ℕ) (request : Request) (image : ImageValue) (rest : List ℕ) → IsKnown input bytes
     → ReadsImage input request image rest → BeginsWithImage input.words bytes request image rest
 begins input bytes request image rest known given =
     let all = asks_all input bytes given.bytes request known given.read in

@@ -2,3 +2,6 @@ pub mod Answering
 pub mod Completing
 pub mod Counting
 pub mod Found
+pub mod Twice
+pub mod Kept
+pub mod Once

@@ -10,6 +10,7 @@ use Rattle.serial_machine.specs.State.{State}
 use Rattle.serial_machine.specs.WholeRun.{IsRunOf}
 use Rattle.serial_machine.specs.declared.whole_run.SerialRun.{SerialRun}
 use Rattle.spec_state.specs.declared.settings.Settings.{Settings}
+use Rattle.conflict_book.specs.declared.freezing.Frozen.{Frozen}
 use Rattle.report_text.specs.declared.report.Report.{Report}
 use Rattle.report_text.specs.Grammar.{report_of}
 use Rattle.report_text.specs.Check.{IsReportOf}
@@ -65,6 +66,16 @@ Saves image memory pendings (saving.Bytes bytes) =
     × (bytes.items ≡ image_bytes (saved_image image memory pendings))
 Saves image memory pendings (saving.Nested depth) = CannotSave pendings (save_faults.Nested depth)
 Saves image memory pendings (saving.TooMany count) = CannotSave pendings (save_faults.TooMany count)
+
+-- what is found of a run that met its commit limit and was frozen: that run, and this was made of what pends; or,
+-- where memory ran out for that, that run without its end
+abbrev pub IsKeptSo : ImageValue → Frozen → Option ℕ → Finding → Type 0
+IsKeptSo image frozen steps (finding.Ran image' ran told) =
+    (image' ≡ image) × (ran ≡ record { closed = frozen.closed; end = None }) × (told ≡ steps)
+IsKeptSo image frozen steps (finding.Stopped ran told made) =
+    (ran ≡ record { closed = frozen.closed; end = Some ends.Limit }) × (told ≡ steps)
+    × Saves image frozen.closed.memory frozen.pending made
+IsKeptSo image frozen steps other = ⊥
 
 -- the image was run to the commit limit, and this was made of what pends
 pub record IsStoppedSo (image : ImageValue) (settings : Settings) (placers : List Policy) (taps : List Reading)

@@ -2,7 +2,7 @@
 use Rattle.std.specs.Prelude.{◌≡◌, ℕ, List, drop, Some, None, Ok, Err}
 use Rattle.sim_io.specs.Causes.{Rose}
 use Rattle.sim_io.specs.Parts.{ReadsAll, ReadsPast, ReadsSome}
-use Rattle.guest_image.specs.ImageValue.{ImageValue}
+use Rattle.guest_image.specs.ImageValue.{ImageValue, IsImage}
 use Rattle.guest_image.specs.Reading.{image_of}
 use Rattle.guest_image.specs.declared.fault.ImageFault.{ImageFault}
 use Rattle.load_gen.specs.declared.making.Load.{Load}
@@ -10,7 +10,7 @@ use Rattle.load_gen.specs.Generated.{generated}
 use Rattle.command_line.specs.declared.request.Command.{Command}
 use Rattle.command_line.specs.declared.request.Command.TheVariants as commands
 use Rattle.command_line.specs.declared.request.Request.{Request}
-use Rattle.command_line.specs.Requests.{request_of}
+use Rattle.command_line.specs.Requests.{request_of, IsLimited}
 use Rattle.fractal_sim.specs.Call.{Input}
 
 -- the greatest number of bytes that are read
@@ -37,13 +37,16 @@ pub record ReadsInput (input : Input) (request : Request) (bytes : List ℕ) : T
   pub reads : Reads request.command
   pub read : ReadsAll input.source_before input.source_after input_limit bytes
 
--- the bytes that were read begin with this image, and these stand behind it
+-- the bytes that were read begin with this image, and these stand behind it; the image and what is asked for are
+-- within their limits
 pub record ReadsImage (input : Input) (request : Request) (image : ImageValue) (rest : List ℕ) : Type 0 where
   pub bytes : List ℕ
   pub size : ℕ
   pub read : ReadsInput input request bytes
   pub image_is : image_of bytes ≡ Ok (image, size)
   pub rest_is : rest ≡ drop size bytes
+  pub fits : IsImage image
+  pub limits : IsLimited request
 
 -- the words ask for a generated image, which is this one, and the source was left alone
 pub record Generates (input : Input) (request : Request) (load : Load) (seed size : ℕ) (image : ImageValue)

@@ -7,3 +7,4 @@ pub mod Answers
 pub mod Complete
 pub mod Finding
 pub mod Deciding
+pub mod Twice

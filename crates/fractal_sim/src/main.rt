@@ -10,6 +10,7 @@
 mod checking;
 mod deciding;
 mod finding;
+mod laws;
 mod lines;
 mod outcome;
 mod playing;

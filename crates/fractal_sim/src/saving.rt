@@ -5,7 +5,7 @@ ghost use Rattle.guest_image.specs.ImageValue.{IsImage};
 ghost use Rattle.conflict_book.specs.Frozen.{IsFrozenOf};
 ghost use Rattle.spec_state.specs.Settings.{IsValid};
 ghost use Rattle.machine_run.specs.Stopping.{IsStoppedWith};
-ghost use Rattle.fractal_sim.specs.Deciding.{IsSavedSo, Saves};
+ghost use Rattle.fractal_sim.specs.Deciding.{IsKeptSo, IsSavedSo, Saves};
 ghost use Rattle.fractal_sim.specs.Finding.{IsWritable};
 
 use crate::finding::{Finding, Saving};
@@ -52,14 +52,24 @@ pub(crate) fn save_image<R: Threads + Wait + Sync, G: Gate + Sync, P: Placer + S
                         closed: ran.closed,
                         pending,
                     };
-                    match save(alloc, &image, &frozen) {
-                        Some(made) => Finding::Stopped(at_limit(frozen), steps, made),
-                        None => Finding::Ran(image, without_end(frozen), steps),
-                    }
+                    keep_frozen(alloc, image, frozen, steps)
                 }
             }
         }
         Err(_) => Finding::Memory,
+    }
+}
+
+/// What is found of a run that met its commit limit and is to go on. The run is kept whatever comes of the image that
+/// goes on, also where memory runs out for it; then no end is told.
+fn keep_frozen(alloc: Global, image: Image, frozen: Frozen, steps: Option<u64>) -> Finding
+    requires run { (budget : ℕ) × IsFrozenOf image budget frozen }
+    requires some { 0 < length frozen.pending }
+    ensures { IsKeptSo image frozen steps result }
+{
+    match save(alloc, &image, &frozen) {
+        Some(made) => Finding::Stopped(at_limit(frozen), steps, made),
+        None => Finding::Ran(image, without_end(frozen), steps),
     }
 }
 

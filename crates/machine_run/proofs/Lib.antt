@@ -4,3 +4,4 @@ pub mod Leaving
 pub mod Least
 pub mod Scripts
 pub mod Readings
+pub mod One

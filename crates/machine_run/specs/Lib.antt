@@ -2,3 +2,4 @@ pub mod Leaving
 pub mod Least
 pub mod Played
 pub mod Stopping
+pub mod One

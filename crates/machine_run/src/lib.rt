@@ -3,11 +3,13 @@
 //! is an opening and a close.
 #![tactic(auto)]
 
+mod laws;
 mod left;
 mod lists;
 mod playing;
 mod running;
 
+pub use laws::{played_run_is_one, traced_run_is_one};
 pub use left::{Ran, Stopped};
 pub use playing::{Played, Traced, play_script, trace_script};
 pub use running::{run, run_to_save};

@@ -14,7 +14,7 @@ use trace_tap::Tap;
 fn list_of<N: Naming, P: Placer, T: Tap>(
     alloc: Global,
     book: &Book<N, P, T>,
-    tap: u32,
+    tap: usize,
 ) -> Result<Option<Vec<u64>>, AllocError>
     ensures { let lists = tap_lists (view_of P.policy T.reading book.now) in
         IfOk result (λ found. option_map (λ list. list.items) found ≡ slice_get lists tap) }
@@ -32,7 +32,7 @@ fn list_of<N: Naming, P: Placer, T: Tap>(
     Ok(Some(list))
 }
 
-/// The lists of all taps. `AllocError` where memory runs out for them, as for those of 2^32 - 1 taps.
+/// The lists of all taps. `AllocError` where memory runs out for them, as for those of 2^64 - 1 taps.
 pub(crate) fn lists_of<N: Naming, P: Placer, T: Tap>(
     alloc: Global,
     book: &Book<N, P, T>,
@@ -41,7 +41,7 @@ pub(crate) fn lists_of<N: Naming, P: Placer, T: Tap>(
         IfOk result (λ told. map (λ list. list.items) told.items ≡ lists) }
 {
     let mut told = Vec::new(alloc);
-    for tap in 0..u32::MAX {
+    for tap in 0..usize::MAX {
         let Some(list) = list_of(alloc, book, tap)? else {
             return Ok(told);
         };

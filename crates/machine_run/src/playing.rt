@@ -1,10 +1,14 @@
 //! A script is played from the opening on.
 
-ghost use Rattle.std.specs.Prelude.{◌≡◌, All, length, map, IfOk, IfSome, IsSomeAnd, None, OnErr};
+ghost use Rattle.std.specs.Prelude.{◌≡◌, All, List, length, map, IfOk, IfSome, IsSomeAnd, None, OnErr};
 ghost use Rattle.guest_image.specs.ImageValue.{IsImage};
+ghost use Rattle.place_policy.specs.Policy.{Policy};
+ghost use Rattle.trace_tap.specs.Reading.{Reading};
 ghost use Rattle.serial_machine.specs.WholeRun.{IsRunOf};
+ghost use Rattle.spec_state.specs.declared.settings.Settings.{Settings};
 ghost use Rattle.spec_state.specs.Settings.{IsValid};
 ghost use Rattle.book_event.specs.Closing.{Closes};
+ghost use Rattle.book_event.specs.Opening.{IsOpening};
 ghost use Rattle.conflict_book.specs.Seen.{view_of};
 ghost use Rattle.step_script.specs.Playing.{PlaysSome};
 ghost use Rattle.step_script.specs.Ranges.{IsWithin};
@@ -72,16 +76,44 @@ pub fn play_script<N: Naming, P: Placer, T: Tap>(
         IsRunOf image.now settings.commits settings.budget (run_of p.ran.closed p.ran.end)) }
     ensures writable { IfOk result (λ p. length p.ran.closed.memory ≡ image.now.data_size) }
 {
-    let mut book = Book::<N, P, T>::begin(alloc, image, settings, placers, taps)?;
+    let book = Book::<N, P, T>::begin(alloc, image, settings, placers, taps)?;
+    Ok(play_begun(alloc, image, book, script))
+}
+
+/// Plays a script on a book that was begun, and closes it. The run is kept, also where memory runs out on the way.
+fn play_begun<N: Naming, P: Placer, T: Tap>(
+    alloc: Global,
+    image: &Image,
+    book: Book<N, P, T>,
+    script: &[Act],
+) -> Played
+    requires fits { IsImage N.image }
+    requires image { image.now ≡ N.image }
+    requires within { let settings = (view_of P.policy T.reading book).view.settings in
+        All (IsWithin settings.tiles settings.cores) script.now }
+    ensures played { let opening = view_of P.policy T.reading book in
+        (settings : Settings) (placers : List Policy) (taps : List Reading)
+        → IsOpening N.image settings placers taps opening
+        → IfSome result.ran.end (λ end. IsPlayedRun N N.image settings script.now placers taps
+        result.said.items result.ran.closed.steps end (run_of result.ran.closed result.ran.end)) }
+    ensures part { let opening = view_of P.policy T.reading book in
+        (settings : Settings) (placers : List Policy) (taps : List Reading)
+        → IsOpening N.image settings placers taps opening
+        → result.ran.end ≡ None → IsPlayedInPart N N.image settings script.now placers taps
+        result.ran.closed.steps (run_of result.ran.closed result.ran.end) }
+    ensures run { IsRunOf N.image N.commits N.budget (run_of result.ran.closed result.ran.end) }
+    ensures writable { length result.ran.closed.memory ≡ N.image.data_size }
+{
+    let mut book = book;
     match play(alloc, image, &mut book, script) {
-        Ok(said) => Ok(Played {
+        Ok(said) => Played {
             ran: leave_standing(book),
             said,
-        }),
-        Err(AllocError) => Ok(Played {
+        },
+        Err(AllocError) => Played {
             ran: leave(book, None),
             said: Vec::new(alloc),
-        }),
+        },
     }
 }
 
@@ -112,16 +144,46 @@ pub fn trace_script<N: Naming, P: Placer, T: Tap>(
         IsRunOf image.now settings.commits settings.budget (run_of t.ran.closed t.ran.end)) }
     ensures writable { IfOk result (λ t. length t.ran.closed.memory ≡ image.now.data_size) }
 {
-    let mut book = Book::<N, P, T>::begin(alloc, image, settings, placers, taps)?;
+    let book = Book::<N, P, T>::begin(alloc, image, settings, placers, taps)?;
+    Ok(trace_begun(alloc, image, book, script))
+}
+
+/// Plays a script on a book that was begun, tells what its taps saw, and closes it. The run is kept, also where memory
+/// runs out on the way, or for what the taps saw.
+fn trace_begun<N: Naming, P: Placer, T: Tap>(
+    alloc: Global,
+    image: &Image,
+    book: Book<N, P, T>,
+    script: &[Act],
+) -> Traced
+    requires fits { IsImage N.image }
+    requires image { image.now ≡ N.image }
+    requires within { let settings = (view_of P.policy T.reading book).view.settings in
+        All (IsWithin settings.tiles settings.cores) script.now }
+    ensures traced { let opening = view_of P.policy T.reading book in
+        (settings : Settings) (placers : List Policy) (taps : List Reading)
+        → IsOpening N.image settings placers taps opening
+        → IfSome result.ran.end (λ end. IsTracedRun N N.image settings script.now placers taps
+        (map (λ list. list.items) result.lists.items) result.ran.closed.steps end
+        (run_of result.ran.closed result.ran.end)) }
+    ensures part { let opening = view_of P.policy T.reading book in
+        (settings : Settings) (placers : List Policy) (taps : List Reading)
+        → IsOpening N.image settings placers taps opening
+        → result.ran.end ≡ None → IsPlayedInPart N N.image settings script.now placers taps
+        result.ran.closed.steps (run_of result.ran.closed result.ran.end) }
+    ensures run { IsRunOf N.image N.commits N.budget (run_of result.ran.closed result.ran.end) }
+    ensures writable { length result.ran.closed.memory ≡ N.image.data_size }
+{
+    let mut book = book;
     match play_and_tell(alloc, image, &mut book, script) {
-        Ok(lists) => Ok(Traced {
+        Ok(lists) => Traced {
             ran: leave_standing(book),
             lists,
-        }),
-        Err(AllocError) => Ok(Traced {
+        },
+        Err(AllocError) => Traced {
             ran: leave(book, None),
             lists: Vec::new(alloc),
-        }),
+        },
     }
 }
 

@@ -19,3 +19,5 @@ pub mod Nexts
 pub mod Closes
 pub mod Scripts
 pub mod Opened
+pub mod Stops
+pub mod Proved

@@ -63,7 +63,7 @@ leg_is_run image budget quantum leg is low = record {
 
 -- ---- legs that are held are runs
 
-abbrev AreRuns : ImageValue → Settings → List HeldLeg → Type 0
+abbrev pub AreRuns : ImageValue → Settings → List HeldLeg → Type 0
 AreRuns image settings held = AllByRecursion (λ (h : HeldLeg). IsRun image settings.budget h.leg) held
 
 module _ (image : ImageValue) (settings : Settings) (tile core : ℕ) where
@@ -88,13 +88,13 @@ module _ (image : ImageValue) (settings : Settings) (tile core : ℕ) where
   ended_runs (g ∷ held) h runs run = (runs.0, ended_runs held h runs.1 run)
 
 -- two plays that go alike so far
-record GoAlike (image : ImageValue) (settings : Settings) (p q : Played) : Type 0 where
-  books : AreSameBooks p.book q.book
-  held : q.held ≡ p.held
-  sound : Sound image p.book.view
-  sound' : Sound image q.book.view
-  settings_are : p.book.view.settings ≡ settings
-  runs : AreRuns image settings p.held
+pub record GoAlike (image : ImageValue) (settings : Settings) (p q : Played) : Type 0 where
+  pub books : AreSameBooks p.book q.book
+  pub held : q.held ≡ p.held
+  pub sound : Sound image p.book.view
+  pub sound' : Sound image q.book.view
+  pub settings_are : p.book.view.settings ≡ settings
+  pub runs : AreRuns image settings p.held
 
 record SaysOne (image : ImageValue) (settings : Settings) (said said' : Said) (p q : Played) : Type 0 where
   same : said' ≡ said
@@ -259,7 +259,7 @@ module _ (N : Type 0) (image : ImageValue) (settings : Settings) (p q p' q' : Pl
   does_one (acts.Split tile) inside one two = makes_says (event.Split tile) inside one two
   does_one acts.Advance inside one two = advances_one one.answer two.answer one.says two.says one.answers two.answers one.held two.held
 
-all_one : (N : Type 0) (image : ImageValue) (settings : Settings) (script : List Act) (p q p' q' : Played) (said said' : List Said) → GoAlike image settings p q
+pub all_one : (N : Type 0) (image : ImageValue) (settings : Settings) (script : List Act) (p q p' q' : Played) (said said' : List Said) → GoAlike image settings p q
     → AllByRecursion (IsWithin settings.tiles settings.cores) script → DoesAll N image script p said p' → DoesAll N image script q said' q' → (said' ≡ said) × GoAlike image settings p' q'
 all_one N image settings [] p q p' q' [] [] go inside one two = (refl, subst (λ x. GoAlike image settings x q') one (subst (λ y. GoAlike image settings p y) two go))
 all_one N image settings (act ∷ acts) p q p' q' (s ∷ said) (s' ∷ said') go inside one two =

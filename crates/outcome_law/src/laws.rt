@@ -2,6 +2,7 @@
 
 ghost use Rattle.outcome_law.specs.Laws.{CloseIsOne, EndIsAlike, HistoryIsOne, LeastRunIsOne, OutcomeIsOne};
 ghost use Rattle.outcome_law.specs.Laws.{OpeningIsOne, PlayIsOne, ScriptIsOne};
+ghost use Rattle.outcome_law.specs.Stops.{FrontIsOne, StopIsOne, StopsAreOne};
 
 use rv_core::Naming;
 
@@ -43,4 +44,19 @@ pub fn opening_is_one()
 /// A script that is played to its end from the opening on says and leaves the same each time.
 pub fn script_is_one<N: Naming>()
     ensures { ScriptIsOne N }
+{}
+
+/// A play of some acts, and one of the same acts and others behind them, agree up to there.
+pub fn front_is_one<N: Naming>()
+    ensures { FrontIsOne N }
+{}
+
+/// A play that memory stopped agrees up to there with one of the same script that came to its end.
+pub fn stop_is_one<N: Naming>()
+    ensures { StopIsOne N }
+{}
+
+/// Two plays of one script that memory stopped agree as far as both got.
+pub fn stops_are_one<N: Naming>()
+    ensures { StopsAreOne N }
 {}

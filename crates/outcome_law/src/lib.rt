@@ -1,13 +1,14 @@
 //! Laws: what an event does is one thing, whatever ids are picked for new tasks. Two books that are the same but for
 //! the ids of their tasks (`AreSameBooks`) stay so after one event, after a list of events, after events for the least
-//! tasks and after a script that is played to its end; and what they leave when they are closed is the same. Each law
-//! is the contract of a function that does nothing. They stand on the laws of events (`book_law`) and on what the acts
-//! of a script do (`step_script`); no code that runs stands on them.
+//! tasks and after a script that is played to its end; and what they leave when they are closed is the same. Where
+//! memory stops one of two plays of a script, the other one went the same way up to there. Each law is the contract of
+//! a function that does nothing. They stand on the laws of events (`book_law`) and on what the acts of a script do
+//! (`step_script`); no code that runs stands on them.
 #![tactic(auto)]
 
 mod laws;
 
 pub use laws::{
-    close_is_one, end_is_alike, history_is_one, least_run_is_one, opening_is_one, outcome_is_one,
-    play_is_one, script_is_one,
+    close_is_one, end_is_alike, front_is_one, history_is_one, least_run_is_one, opening_is_one,
+    outcome_is_one, play_is_one, script_is_one, stop_is_one, stops_are_one,
 };

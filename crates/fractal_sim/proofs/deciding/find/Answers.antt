@@ -1,6 +1,7 @@
 use Rattle.std.proofs.Common.{◌≡◌, ◌≤◌, drop, length, map, Ok, Some, rules}
+use Rattle.guest_image.specs.ImageValue.{IsImage}
 use Rattle.guest_image.specs.Reading.{image_of}
-use Rattle.command_line.specs.Requests.{request_of}
+use Rattle.command_line.specs.Requests.{request_of, IsLimited}
 use Rattle.sim_io.specs.Parts.{ReadsAll}
 use Rattle.fractal_sim.specs.Call.{input_of}
 use Rattle.fractal_sim.specs.Given.{Reads, ReadsImage, input_limit}
@@ -25,6 +26,8 @@ returns g c =
     let bytes = c.in-Ok-read_all.bytes.items in
     let all : ReadsAll input.source_before input.source_after input_limit bytes = search rules in
     let read : image_of bytes ≡ Ok (image, c.in-Ok-read_image.read.1) = search rules in
+    let fits : IsImage image = search rules in
+    let limits : IsLimited request = search rules in
     let rest : c.split_at.result.1.now ≡ drop c.in-Ok-read_image.read.1 bytes = search rules in
     let given : ReadsImage input request image c.split_at.result.1.now = record {
       bytes = bytes;
@@ -32,6 +35,8 @@ returns g c =
       read = record { asked = asked; reads = reads; read = all };
       image_is = read;
       rest_is = rest;
+      fits = fits;
+      limits = limits;
     } in
     record {
       found = found_given input request image c.split_at.result.1.now c.act.result given c.act.ensures.found;

@@ -1,0 +1,55 @@
+-- Two calls that were given the same.
+use Rattle.std.specs.Prelude.{◌≡◌, ◌≢◌, ℕ, List, Some}
+use Rattle.sim_io.specs.Parts.{Takes}
+use Rattle.command_line.specs.declared.request.Request.{Request}
+use Rattle.command_line.specs.Requests.{request_of}
+use Rattle.fractal_sim.specs.declared.outcome.Outcome.{Outcome}
+use Rattle.fractal_sim.specs.Answers.{TellsOutcome}
+use Rattle.fractal_sim.specs.Call.{Call}
+use Rattle.fractal_sim.specs.Runs.{PlaysScript}
+
+-- the other call has the same words, placers and taps, and sources of the same bytes, which both tell
+pub record AreGivenSame (call other : Call) : Type 0 where
+  pub words : other.input.words ≡ call.input.words
+  pub placers : other.input.placers ≡ call.input.placers
+  pub taps : other.input.taps ≡ call.input.taps
+  pub bytes : List ℕ
+  pub has : call.input.source_before.left ≡ Some bytes
+  pub other_has : other.input.source_before.left ≡ Some bytes
+
+-- memory was there (not 5), and neither the source (6) nor the sink (7) failed
+pub record EndsWell (o : Outcome) : Type 0 where
+  pub memory : o.status ≢ 5
+  pub source : o.status ≢ 6
+  pub sink : o.status ≢ 7
+
+-- both outcomes are one, and each sink took one text and no other byte
+pub record AnswerSame (call other : Call) (o other_o : Outcome) : Type 0 where
+  pub outcome : other_o ≡ o
+  pub text : List ℕ
+  pub took : Takes call.sink_before call.sink_after text
+  pub other_took : Takes other.sink_before other.sink_after text
+
+-- the words ask for a script to be played, for what is said of it or for what the taps see
+pub record AskForScript (words : List (List ℕ)) : Type 0 where
+  pub request : Request
+  pub asked : request_of words ≡ Some request
+  pub plays : PlaysScript request.command
+
+-- whatever the program tells of two calls that play a script and are given the same, where both end well they answer
+-- the same
+abbrev pub ScriptCallsAreOne : Type 0
+ScriptCallsAreOne = (call other : Call) (o other_o : Outcome) → AskForScript call.input.words → AreGivenSame call other
+    → TellsOutcome call o → TellsOutcome other other_o → EndsWell o → EndsWell other_o
+    → AnswerSame call other o other_o
+
+-- a call that plays a script and ends well, of which the program tells this, and which was given the same as itself
+pub record EndsWellOnce (call : Call) (o : Outcome) : Type 0 where
+  pub asks : AskForScript call.input.words
+  pub same : AreGivenSame call call
+  pub tells : TellsOutcome call o
+  pub well : EndsWell o
+
+-- there are calls that meet all premises of the law
+abbrev pub ScriptCallsEndWell : Type 0
+ScriptCallsEndWell = (call : Call) × (o : Outcome) × EndsWellOnce call o

@@ -1,0 +1,14 @@
+//! Laws of the program: it answers the same each time. Each is the contract of a function that does nothing.
+
+ghost use Rattle.fractal_sim.specs.Twice.{ScriptCallsAreOne, ScriptCallsEndWell};
+
+/// Whatever the program tells of two calls that play a script and are given the same words, bytes, placers and taps:
+/// where memory was there, and neither the source nor the sink failed, both outcomes and both texts are one.
+pub fn script_calls_are_one()
+    ensures { ScriptCallsAreOne }
+{}
+
+/// There are calls that meet all that is asked for there: without any input `steps` ends well, as no image is there.
+pub fn script_calls_end_well()
+    ensures { ScriptCallsEndWell }
+{}
