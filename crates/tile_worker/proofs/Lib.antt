@@ -4,3 +4,4 @@ mod Tiles
 mod Growing
 mod Holding
 mod Told
+mod Begins

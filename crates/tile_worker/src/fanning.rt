@@ -3,11 +3,12 @@
 ghost use Rattle.std.specs.Prelude.{◌≡◌, ◌≤◌, ◌<◌, ◌+◌, ◌-◌, length, sum};
 ghost use Rattle.std.specs.Thread.{IsSync};
 
+use crate::errand::Errand;
 use crate::gate::Gate;
-use crate::hold::Handed;
 use crate::locks::BookLock;
 use crate::shares::Shares;
 use crate::tally::Part;
+use crate::waiting::Bell;
 use crate::working::drive;
 use guest_image::Image;
 use rv_core::{Decoded, Naming};
@@ -63,7 +64,7 @@ impl<L: Ledger> Gathered<L> {
 pub(crate) fn fan<
     N: Naming + Send + Sync,
     L: Ledger + Send + Sync,
-    K: BookLock<N, Part<L>, Handed<N>> + Sync,
+    K: BookLock<N, Part<L>, Errand<N>> + Sync,
     G: Gate + Sync,
     R: Threads + Wait + Sync,
 >(
@@ -71,6 +72,7 @@ pub(crate) fn fan<
     image: &Image,
     decoded: &Option<Decoded<N>>,
     lock: &K,
+    bell: &Bell,
     share: Share<L>,
     first: u32,
     count: u32,
@@ -86,7 +88,7 @@ pub(crate) fn fan<
     if count == 1 {
         let part = Part::new(share);
         return Gathered::one(drive::<N, L, K, G, R>(
-            rt, image, decoded, lock, part, first, workers, gate,
+            rt, image, decoded, lock, bell, part, first, workers, gate,
         ));
     }
     let half = count / 2;
@@ -98,7 +100,11 @@ pub(crate) fn fan<
             requires { IsSync R.row × IsSync G.row × IsSync K.row × (image.now ≡ N.image)
                 × (theirs.parts ≡ half) × (theirs.amount ≡ 0) × (0 < half) × (first + half ≤ workers) × (workers ≤ 16) }
             ensures { length result.shares ≡ half }
-        { fan::<N, L, K, G, R>(rt, image, decoded, lock, theirs, first, half, workers, gate) },
+        {
+            fan::<N, L, K, G, R>(
+                rt, image, decoded, lock, bell, theirs, first, half, workers, gate,
+            )
+        },
         move || -> Gathered<L>
             requires { IsSync R.row × IsSync G.row × IsSync K.row × (image.now ≡ N.image) × (mine.parts ≡ count - half)
                 × (mine.amount ≡ 0) × (0 < count - half) × (half ≤ count) × (first + count ≤ workers) × (workers ≤ 16) }
@@ -109,6 +115,7 @@ pub(crate) fn fan<
                 image,
                 decoded,
                 lock,
+                bell,
                 mine,
                 first + half,
                 count - half,

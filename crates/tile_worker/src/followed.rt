@@ -7,14 +7,17 @@ ghost use Rattle.progress_cell.specs.declared.reading.Reading.{Reading};
 ghost use Rattle.spec_state.specs.Settings.{IsValid};
 ghost use Rattle.conflict_book.specs.Counts.{counts_of};
 ghost use Rattle.conflict_book.specs.Seen.{view_of};
-ghost use Rattle.tile_worker.specs.Founds.{IsDoneAt, IsWithin};
+ghost use Rattle.tile_worker.specs.Founds.{IsDoneAt};
 ghost use Rattle.tile_worker.specs.Holds.{HoldsOnce};
 ghost use Rattle.tile_worker.specs.Readings.{AreReadings};
 
-use crate::hold::{Found, Handed};
+use crate::begun::Begun;
+use crate::errand::Errand;
+use crate::hold::Found;
 use crate::locks::BookLock;
 use crate::round::Round;
 use crate::tally::{Part, Tallied};
+use crate::waiting::{Bell, take};
 use conflict_book::Book;
 use guest_image::Image;
 use place_policy::Placer;
@@ -22,12 +25,11 @@ use progress_cell::{Board, Writer};
 use rv_core::Naming;
 use spec_state::Settings;
 use std::marker::Brand;
-use std::sync::ledger::Ledger;
 use std::sync::{Mutex, Wait};
 use trace_tap::Tap;
 
 /// A ledger of events that also names the board on which a run is told, and what was told before the run.
-pub(crate) trait Followable: Ledger {
+pub(crate) trait Followable: Begun {
     ghost board: { TableId };
 
     ghost before: { List Reading };
@@ -45,6 +47,8 @@ impl Followable for Brand {
 pub(crate) struct Followed<N: Naming, L: Followable, P: Placer, T: Tap> {
     pub(crate) tallied: Tallied<N, L, P, T>,
     pub(crate) writer: Writer,
+    ghost entries: { take (length L.history) tallied.book.sound.view.history ≡ L.history },
+    ghost bytes: { take (length L.output) tallied.book.sound.view.output ≡ L.output },
     ghost belongs: { writer.board ≡ L.board },
     ghost goes_on: { take (length L.before) writer.told ≡ L.before },
     ghost readings: { AreReadings N.image N.budget tallied.book.sound.view.history writer.told },
@@ -92,18 +96,17 @@ impl<N: Naming, L: Followable, P: Placer, T: Tap> Followed<N, L, P, T> {
         image: &Image,
         part: &mut Part<L>,
         round: &mut Round,
-        handed: Option<Handed<N>>,
+        errand: &mut Errand<N>,
     ) -> Found
         requires board { board.now ≡ L.board }
         requires image { image.now ≡ N.image }
         ensures amount { part.old.amount ≤ part.new.amount }
-        ensures found { IsWithin N.budget result }
         ensures once { let old = view_of P.policy T.reading self.old.tallied.book in
             HoldsOnce N old (view_of P.policy T.reading self.new.tallied.book) }
         ensures done { IsDoneAt (view_of P.policy T.reading self.new.tallied.book) result }
     {
         let Followed { tallied, writer } = self;
-        let found = tallied.hold(image, part, round, handed);
+        let found = tallied.hold(image, part, round, errand);
         if !is_told(&tallied.book, writer) {
             tell(rt, board, writer, &tallied.book);
         }
@@ -119,9 +122,11 @@ pub(crate) struct FollowedLock<'a, N: Naming, L: Followable, P: Placer, T: Tap> 
     ghost named: { board.now ≡ L.board },
 }
 
-impl<'a, N: Naming, L: Followable, P: Placer, T: Tap> BookLock<N, Part<L>, Handed<N>>
+impl<'a, N: Naming, L: Followable, P: Placer, T: Tap> BookLock<N, Part<L>, Errand<N>>
     for FollowedLock<'a, N, L, P, T> {
     ghost amount = { λ part. part.amount };
+
+    ghost has_left = { λ _. Unit {0} };
 
     fn settings<R: Wait>(&self, rt: &R) -> Settings
         ensures valid { IsValid result }
@@ -136,14 +141,14 @@ impl<'a, N: Naming, L: Followable, P: Placer, T: Tap> BookLock<N, Part<L>, Hande
         image: &Image,
         part: &mut Part<L>,
         round: &mut Round,
-        handed: Option<Handed<N>>,
+        errand: &mut Errand<N>,
+        bell: &Bell,
     ) -> Found
         requires image { image.now ≡ N.image }
         ensures amount { part.old.amount ≤ part.new.amount }
-        ensures found { IsWithin N.budget result }
+        ensures left { result ≡ Found.Done → Unit {0} }
     {
-        self.lock
-            .lock(rt)
-            .hold(rt, self.board, image, part, round, handed)
+        let mut held = take(rt, self.lock, bell, round);
+        held.hold(rt, self.board, image, part, round, errand)
     }
 }

@@ -1,38 +1,24 @@
 //! What a worker does with the book in one hold of the lock: at most one event, and a look for the core of its next
 //! leg.
 
-ghost use Rattle.std.specs.Prelude.{◌≡◌, ◌<◌, ◌≤◌, ℕ, IfSome};
-ghost use Rattle.book_event.specs.Book.{BookView};
+ghost use Rattle.std.specs.Prelude.{◌≡◌, ◌<◌};
 ghost use Rattle.conflict_book.specs.Seen.{view_of};
 ghost use Rattle.tile_worker.specs.Counts.{CountsSo};
-ghost use Rattle.tile_worker.specs.Founds.{IsDoneAt, IsWithin};
+ghost use Rattle.tile_worker.specs.Founds.{IsDoneAt};
 ghost use Rattle.tile_worker.specs.Holds.{HoldsOnce};
 
+use crate::errand::Errand;
 use crate::round::{Place, Round};
 use conflict_book::{Advance, Book, Legless, Reply};
 use guest_image::Image;
 use place_policy::Placer;
-use rv_core::{Core, Leg, Naming};
+use rv_core::{Leg, Naming};
 use trace_tap::Tap;
-
-/// A leg that was computed, and the core from which it was.
-#[derive(Drop)]
-pub(crate) struct Handed<N: Naming> {
-    pub(crate) place: Place,
-    pub(crate) leg: Leg<N>,
-}
-
-/// A copy of a running core.
-#[derive(Clone, Copy)]
-pub(crate) struct Running {
-    pub(crate) place: Place,
-    pub(crate) from: Core,
-}
 
 /// What a worker has found in a hold.
 pub(crate) enum Found {
-    /// The core of its next leg.
-    Core(Running),
+    /// The core of its next leg, which it carries.
+    Core,
     /// None of its cores has a leg to be computed.
     Nothing,
     /// It has nothing more to do: the run is over, memory runs out, or as many events were made as may be.
@@ -116,18 +102,18 @@ fn try_advance<N: Naming, P: Placer, T: Tap>(book: &mut Book<N, P, T>, image: &I
 fn hand_in<N: Naming, P: Placer, T: Tap>(
     book: &mut Book<N, P, T>,
     round: &mut Round,
-    handed: Handed<N>,
+    place: Place,
+    leg: &Leg<N>,
 ) -> Tried
     ensures { let old = view_of P.policy T.reading book.old in
         CountsSo N old result (view_of P.policy T.reading book.new) }
 {
-    let place = handed.place;
     let settings = book.settings();
     // No type tells that the settings are still those of the hold in which the core was found.
     if place.tile >= settings.tiles || place.core >= settings.cores {
         return Tried::Missed;
     }
-    let tried = try_leg(book, place, &handed.leg);
+    let tried = try_leg(book, place, leg);
     if let Tried::Waits = tried {
         round.rest_core(place, book.steps());
         round.rest_tile(place.tile, book.steps());
@@ -162,53 +148,47 @@ fn dispatch_own<N: Naming, P: Placer, T: Tap>(book: &mut Book<N, P, T>, round: &
     Tried::Missed
 }
 
-/// The next of the worker's own cores on which a task runs, and which isn't let be.
-fn next_running<N: Naming, P: Placer, T: Tap>(
+/// Goes for the next of the worker's own cores on which a task runs, and which isn't let be.
+fn go_on<N: Naming, P: Placer, T: Tap>(
     book: &Book<N, P, T>,
     round: &mut Round,
-) -> Option<Running>
-    ensures { IfSome result (λ running. running.from.used ≤ N.budget) }
+    errand: &mut Errand<N>,
+) -> Found
+    ensures { IsDoneAt (view_of P.policy T.reading book.now) result }
 {
     let settings = book.settings();
     let steps = book.steps();
     for _ in 0..round.own_tiles(settings.tiles) * settings.cores {
-        let place = round.next_core(settings.tiles, settings.cores)?;
+        let Some(place) = round.next_core(settings.tiles, settings.cores) else {
+            break;
+        };
         if round.tries_core(place, steps) {
-            if let Some(core) = book.core_at(place.tile, place.core) {
-                return Some(Running { place, from: *core });
+            if let Some(core) = book.core_in_place(place.tile, place.core) {
+                errand.go_for(place, core);
+                return Found::Core;
             }
         }
     }
-    None
+    errand.go_for_none();
+    Found::Nothing
 }
 
 /// Hands in the leg, if there is one, or else dispatches.
 fn serve_own<N: Naming, P: Placer, T: Tap>(
     book: &mut Book<N, P, T>,
     round: &mut Round,
-    handed: Option<Handed<N>>,
+    errand: &Errand<N>,
 ) -> Tried
     ensures { let old = view_of P.policy T.reading book.old in
         CountsSo N old result (view_of P.policy T.reading book.new) }
 {
-    match handed {
+    match errand.place {
         None => dispatch_own(book, round),
-        Some(leg) => match hand_in(book, round, leg) {
+        Some(place) => match hand_in(book, round, place, &errand.leg) {
             Tried::Made => Tried::Made,
             Tried::Over => Tried::Over,
             Tried::Waits | Tried::Missed => dispatch_own(book, round),
         },
-    }
-}
-
-/// Tells the core that was found.
-fn found_of(running: Option<Running>) -> Found
-    ensures found { (budget : ℕ) → IfSome running (λ r. r.from.used ≤ budget) → IsWithin budget result }
-    ensures done { (book : BookView) → IsDoneAt book result }
-{
-    match running {
-        Some(running) => Found::Core(running),
-        None => Found::Nothing,
     }
 }
 
@@ -218,16 +198,16 @@ fn advance_least<N: Naming, P: Placer, T: Tap>(
     book: &mut Book<N, P, T>,
     image: &Image,
     round: &mut Round,
+    errand: &mut Errand<N>,
 ) -> Found
     requires image { image.now ≡ N.image }
     ensures once { let old = view_of P.policy T.reading book.old in
         HoldsOnce N old (view_of P.policy T.reading book.new) }
-    ensures found { IsWithin N.budget result }
     ensures done { IsDoneAt (view_of P.policy T.reading book.new) result }
 {
     match try_advance(book, image) {
         Tried::Over => Found::Done,
-        Tried::Made | Tried::Waits | Tried::Missed => found_of(next_running(book, round)),
+        Tried::Made | Tried::Waits | Tried::Missed => go_on(book, round, errand),
     }
 }
 
@@ -238,20 +218,19 @@ pub(crate) fn serve<N: Naming, P: Placer, T: Tap>(
     book: &mut Book<N, P, T>,
     image: &Image,
     round: &mut Round,
-    handed: Option<Handed<N>>,
+    errand: &mut Errand<N>,
 ) -> Found
     requires image { image.now ≡ N.image }
     ensures once { let old = view_of P.policy T.reading book.old in
         HoldsOnce N old (view_of P.policy T.reading book.new) }
-    ensures found { IsWithin N.budget result }
     ensures done { IsDoneAt (view_of P.policy T.reading book.new) result }
 {
-    match serve_own(book, round, handed) {
+    match serve_own(book, round, errand) {
         Tried::Over => Found::Done,
-        Tried::Made => found_of(next_running(book, round)),
-        Tried::Waits | Tried::Missed => match next_running(book, round) {
-            Some(running) => Found::Core(running),
-            None => advance_least(book, image, round),
+        Tried::Made => go_on(book, round, errand),
+        Tried::Waits | Tried::Missed => match go_on(book, round, errand) {
+            Found::Core => Found::Core,
+            Found::Nothing | Found::Done => advance_least(book, image, round, errand),
         },
     }
 }

@@ -14,6 +14,8 @@
 //! it costs to tell a reading. Where no thread can be started, the caller does the same work.
 #![tactic(auto)]
 
+mod begun;
+mod errand;
 mod fanning;
 mod followed;
 mod gate;
@@ -24,6 +26,7 @@ mod round;
 mod running;
 mod shares;
 mod tally;
+mod waiting;
 mod watching;
 mod working;
 

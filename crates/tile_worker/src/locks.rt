@@ -2,11 +2,12 @@
 
 ghost use Rattle.std.specs.Prelude.{◌≡◌, ◌≤◌, ℕ};
 ghost use Rattle.spec_state.specs.Settings.{IsValid};
-ghost use Rattle.tile_worker.specs.Founds.{IsWithin};
 
-use crate::hold::{Found, Handed};
+use crate::errand::Errand;
+use crate::hold::Found;
 use crate::round::Round;
 use crate::tally::{Part, Tallied};
+use crate::waiting::{Bell, take};
 use guest_image::Image;
 use place_policy::Placer;
 use rv_core::Naming;
@@ -15,10 +16,12 @@ use std::sync::ledger::Ledger;
 use std::sync::{Mutex, Wait};
 use trace_tap::Tap;
 
-/// A lock in which a book stands: what a worker does with it. `W` is the worker's part of the events, and `H` a leg
-/// that it hands in: parameters of their own, since methods of a trait can't name a type over `N` or a ledger.
+/// A lock in which a book stands: what a worker does with it. `W` is the worker's part of the events, and `H` what it
+/// carries from hold to hold: parameters of their own, since methods of a trait can't name a type over `N` or a ledger.
 pub(crate) trait BookLock<N: Naming, W, H> {
     ghost amount: { W → ℕ };
+
+    ghost has_left: { W → Type 0 };
 
     /// The settings of the book.
     fn settings<R: Wait>(&self, rt: &R) -> Settings
@@ -32,16 +35,19 @@ pub(crate) trait BookLock<N: Naming, W, H> {
         image: &Image,
         part: &mut W,
         round: &mut Round,
-        handed: Option<H>,
+        errand: &mut H,
+        bell: &Bell,
     ) -> Found
         requires image { image.now ≡ N.image }
         ensures amount { amount part.old ≤ amount part.new }
-        ensures found { IsWithin N.budget result };
+        ensures left { result ≡ Found.Done → has_left part.new };
 }
 
-impl<N: Naming, L: Ledger, P: Placer, T: Tap> BookLock<N, Part<L>, Handed<N>>
+impl<N: Naming, L: Ledger, P: Placer, T: Tap> BookLock<N, Part<L>, Errand<N>>
     for Mutex<Tallied<N, L, P, T>> {
     ghost amount = { λ part. part.amount };
+
+    ghost has_left = { λ _. Unit {0} };
 
     fn settings<R: Wait>(&self, rt: &R) -> Settings
         ensures valid { IsValid result }
@@ -56,12 +62,13 @@ impl<N: Naming, L: Ledger, P: Placer, T: Tap> BookLock<N, Part<L>, Handed<N>>
         image: &Image,
         part: &mut Part<L>,
         round: &mut Round,
-        handed: Option<Handed<N>>,
+        errand: &mut Errand<N>,
+        bell: &Bell,
     ) -> Found
         requires image { image.now ≡ N.image }
         ensures amount { part.old.amount ≤ part.new.amount }
-        ensures found { IsWithin N.budget result }
+        ensures left { result ≡ Found.Done → Unit {0} }
     {
-        self.lock(rt).hold(image, part, round, handed)
+        take(rt, self, bell, round).hold(image, part, round, errand)
     }
 }

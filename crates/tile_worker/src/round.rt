@@ -4,10 +4,16 @@ ghost use Rattle.std.specs.Prelude.{◌≡◌, ◌↔◌, ◌<◌, ◌≤◌, �
 ghost use Rattle.std.specs.Prelude.{slice_index_or, slice_set};
 ghost use Rattle.tile_worker.specs.Rounds.{index_of, rested};
 
+use crate::waiting::{Bell, Pace};
+use std::sync::Wait;
+
 /// How many events are made before a core that stalled, with its tile, or a tile that had nothing to dispatch, is
 /// tried again. In so many events for the least tasks all that a commit queue may hold can commit, so that what
 /// stalled doesn't stall again at once, and the core that the least task took isn't filled again before it commits.
 const PATIENCE: u64 = 512;
+
+/// So many events of others between two holds of a worker that finds nothing are many.
+const MANY: u64 = 8;
 
 /// A core of a tile.
 #[derive(Clone, Copy)]
@@ -18,8 +24,8 @@ pub(crate) struct Place {
     pub(crate) core: u32,
 }
 
-/// Which tiles are a worker's own, on which core it looked last, and up to which count of events it lets be what
-/// refused it.
+/// Which tiles are a worker's own, on which core it looked last, up to which count of events it lets be what refused
+/// it, and how it waits.
 #[derive(Drop)]
 pub(crate) struct Round {
     worker: u32,
@@ -27,6 +33,9 @@ pub(crate) struct Round {
     last: Place,
     tiles: [u64; 16],
     cores: [u64; 64],
+    pace: Pace,
+    seen: u64,
+    is_behind: bool,
     ghost is_worker: { worker < workers },
     ghost few: { workers ≤ 16 },
     ghost is_own: { last.tile % workers ≡ worker },
@@ -59,6 +68,35 @@ impl Round {
             },
             tiles: [0; 16],
             cores: [0; 64],
+            pace: Pace::new(),
+            seen: 0,
+            is_behind: false,
+        }
+    }
+
+    /// Takes note of the counts of events at the begin and at the end of a hold. Where others made many events since
+    /// the hold before, this worker is behind them.
+    pub(crate) fn note_steps(&mut self, before: u64, after: u64)
+        ensures { self.new ≡ record self.old { seen = after; is_behind = self.new.is_behind } }
+    {
+        self.is_behind = before - self.seen.min(before) >= MANY;
+        self.seen = after;
+    }
+
+    /// Takes note of a leg of so many instructions that is handed in next.
+    pub(crate) fn note_leg(&mut self, steps: u32) {
+        self.pace.note_leg(steps);
+    }
+
+    /// Waits after a miss of the lock.
+    pub(crate) fn wait<R: Wait>(&mut self, rt: &R, bell: &Bell) {
+        self.pace.wait(rt, bell);
+    }
+
+    /// Lets others go on for a while, where they are ahead.
+    pub(crate) fn let_others<R: Wait>(&mut self, rt: &R, bell: &Bell) {
+        if self.is_behind {
+            self.pace.rest(rt, bell);
         }
     }
 

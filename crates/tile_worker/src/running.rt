@@ -5,10 +5,12 @@ ghost use Rattle.conflict_book.specs.Seen.{view_of};
 ghost use Rattle.tile_worker.specs.Grows.{Grows};
 ghost use Rattle.tile_worker.specs.Halts.{HaltsAt};
 
+use crate::begun::{Begun, Continued};
 use crate::fanning::{Gathered, fan};
 use crate::gate::Gate;
 use crate::shares::Shares;
 use crate::tally::Tallied;
+use crate::waiting::Bell;
 use conflict_book::{Book, Halt};
 use guest_image::Image;
 use place_policy::Placer;
@@ -16,7 +18,7 @@ use rv_core::{Decoded, Naming};
 use std::marker::Brand;
 use std::sync::ledger::{Blank, Ledger, Share};
 use std::sync::{Mutex, Wait, ledger};
-use std::thread::Threads;
+use std::thread::{Threads, available_parallelism};
 use trace_tap::Tap;
 
 /// A book that workers ran, how many events each of them made, and why they stopped.
@@ -78,10 +80,18 @@ pub(crate) fn settle<N: Naming, L: Ledger, P: Placer, T: Tap>(
     Worked { book, shares }
 }
 
+/// Whether there are more workers than processors, as far as the system tells.
+pub(crate) fn is_crowded<R: Threads>(rt: &R, workers: u32) -> bool {
+    match available_parallelism(rt) {
+        Ok(processors) => processors.get() < workers as usize,
+        Err(_) => false,
+    }
+}
+
 /// Runs the workers on a book, with a ledger that has a part for each of them and one for the events before.
 fn work_all<
     N: Naming + Send + Sync,
-    L: Ledger + Send + Sync,
+    L: Begun + Send + Sync,
     P: Placer + Send,
     T: Tap + Send,
     G: Gate + Sync,
@@ -100,18 +110,24 @@ fn work_all<
     requires image { image.now ≡ N.image }
     requires workers { (1 ≤ workers) × (workers ≤ 16) }
     requires steps { (view_of P.policy T.reading book).steps ≤ 2 ^ 63 }
+    requires history { (view_of P.policy T.reading book).view.history ≡ L.history }
+    requires output { (view_of P.policy T.reading book).view.output ≡ L.output }
     ensures workers { length result.shares ≡ workers }
     ensures shares { let before = (view_of P.policy T.reading book).steps in
         sum result.shares + before ≡ (view_of P.policy T.reading result.book).steps }
+    ensures grows { Grows (view_of P.policy T.reading book).view (view_of P.policy T.reading result.book).view }
 {
     let (total, mine, theirs) = open_ledger(blank, workers, book.steps());
     // Where memory doesn't reach for a second decoded text, the workers run on the text itself.
     let decoded = Decoded::new(book.alloc(), image).ok();
-    let lock = Mutex::new(Tallied::new(book, total));
+    let tallied = Tallied::new(book, total);
+    let lock = Mutex::new(Continued { tallied });
+    let bell = Bell::new(is_crowded(rt, workers));
     let gathered = fan::<N, L, _, G, R>(
-        rt, image, &decoded, &lock, theirs, 0, workers, workers, gate,
+        rt, image, &decoded, &lock, &bell, theirs, 0, workers, workers, gate,
     );
-    settle(lock.into_inner(), mine, gathered)
+    let Continued { tallied } = lock.into_inner();
+    settle(tallied, mine, gathered)
 }
 
 /// Why a book stands where it does: its end, or that memory ran out.
@@ -170,6 +186,7 @@ pub(crate) fn run_rest<N: Naming, P: Placer, T: Tap>(
 }
 
 /// Runs a book by 1 to 16 workers up to the end of the run, or as far as memory goes.
+#[tactic(auto, using(crate::proofs::Growing::grows_trans))]
 pub fn run_tiles<
     N: Naming + Send + Sync,
     P: Placer + Send,
@@ -184,6 +201,7 @@ pub fn run_tiles<
     ensures workers { length result.shares ≡ workers }
     ensures shares { let before = (view_of P.policy T.reading book).steps in
         sum result.shares + before ≡ (view_of P.policy T.reading result.book).steps }
+    ensures grows { Grows (view_of P.policy T.reading book).view (view_of P.policy T.reading result.book).view }
 {
     let blank = Blank::new(u64::from(workers) + 1);
     let worked = work_all::<N, Brand, P, T, G, R>(rt, blank, image, book, workers, gate);

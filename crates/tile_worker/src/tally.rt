@@ -1,12 +1,14 @@
 //! A book under a lock, with a ledger of the events that each worker made.
 
-ghost use Rattle.std.specs.Prelude.{◌≡◌, ◌≤◌, ◌+◌, ◌^◌};
+ghost use Rattle.std.specs.Prelude.{◌≡◌, ◌≤◌, ◌+◌, ◌^◌, ℕ, List, length, take};
+ghost use Rattle.run_journal.specs.declared.journal.Entry.{Entry};
 ghost use Rattle.spec_state.specs.Settings.{IsValid};
 ghost use Rattle.conflict_book.specs.Seen.{view_of};
-ghost use Rattle.tile_worker.specs.Founds.{IsDoneAt, IsWithin};
+ghost use Rattle.tile_worker.specs.Founds.{IsDoneAt};
 ghost use Rattle.tile_worker.specs.Holds.{HoldsOnce};
 
-use crate::hold::{Found, Handed, serve};
+use crate::errand::Errand;
+use crate::hold::{Found, serve};
 use crate::round::Round;
 use conflict_book::Book;
 use guest_image::Image;
@@ -83,22 +85,29 @@ impl<N: Naming, L: Ledger, P: Placer, T: Tap> Tallied<N, L, P, T> {
 
     /// One hold of a worker: makes at most one event of the book, and counts it to the worker's part. The book is
     /// stopped only where memory may run out.
-    #[tactic(auto, using(crate::proofs::Holding::rests, crate::proofs::Holding::holds_later))]
+    #[tactic(auto, using(crate::proofs::Holding::rests, crate::proofs::Holding::holds_later, crate::proofs::Begins::entries_held, crate::proofs::Begins::bytes_held))]
     pub(crate) fn hold(
         &mut self,
         image: &Image,
         part: &mut Part<L>,
         round: &mut Round,
-        handed: Option<Handed<N>>,
+        errand: &mut Errand<N>,
     ) -> Found
         requires image { image.now ≡ N.image }
         ensures amount { part.old.amount ≤ part.new.amount }
         ensures booked { let old = view_of P.policy T.reading self.old.book in
             part.new.amount + old.steps ≡ part.old.amount + (view_of P.policy T.reading self.new.book).steps }
-        ensures found { IsWithin N.budget result }
         ensures once { let old = view_of P.policy T.reading self.old.book in
             HoldsOnce N old (view_of P.policy T.reading self.new.book) }
         ensures done { IsDoneAt (view_of P.policy T.reading self.new.book) result }
+        ensures entries { let old = view_of P.policy T.reading self.old.book in
+            let new = view_of P.policy T.reading self.new.book in
+            (before : List Entry) → take (length before) old.view.history ≡ before
+            → take (length before) new.view.history ≡ before }
+        ensures bytes { let old = view_of P.policy T.reading self.old.book in
+            let new = view_of P.policy T.reading self.new.book in
+            (before : List ℕ) → take (length before) old.view.output ≡ before
+            → take (length before) new.view.output ≡ before }
     {
         let Tallied { book, total } = self;
         let Part { amount, share } = part;
@@ -107,10 +116,11 @@ impl<N: Naming, L: Ledger, P: Placer, T: Tap> Tallied<N, L, P, T> {
         if before >= MOST_STEPS {
             return Found::Done;
         }
-        let found = serve(book, image, round, handed);
+        let found = serve(book, image, round, errand);
         let rise = book.steps() - before;
         total.add(share, rise);
         *amount += rise;
+        round.note_steps(before, book.steps());
         found
     }
 }

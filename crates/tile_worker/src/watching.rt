@@ -4,14 +4,16 @@ ghost use Rattle.std.specs.Prelude.{◌≡◌, ◌≤◌, ◌+◌, ◌^◌, leng
 ghost use Rattle.progress_cell.specs.Readings.{last_of};
 ghost use Rattle.conflict_book.specs.Counts.{counts_of};
 ghost use Rattle.conflict_book.specs.Seen.{view_of};
+ghost use Rattle.tile_worker.specs.Grows.{Grows};
 ghost use Rattle.tile_worker.specs.Halts.{HaltsAt};
 ghost use Rattle.tile_worker.specs.Readings.{AreReadings};
 
 use crate::fanning::fan;
 use crate::followed::{Followable, Followed, FollowedLock, tell};
 use crate::gate::Gate;
-use crate::running::{Drained, Worked, open_ledger, run_rest, settle};
+use crate::running::{Drained, Worked, is_crowded, open_ledger, run_rest, settle};
 use crate::tally::Tallied;
+use crate::waiting::Bell;
 use conflict_book::Book;
 use guest_image::Image;
 use place_policy::Placer;
@@ -57,6 +59,8 @@ fn watch_all<
     requires image { image.now ≡ N.image }
     requires workers { (1 ≤ workers) × (workers ≤ 16) }
     requires steps { (view_of P.policy T.reading book).steps ≤ 2 ^ 63 }
+    requires history { (view_of P.policy T.reading book).view.history ≡ L.history }
+    requires output { (view_of P.policy T.reading book).view.output ≡ L.output }
     requires board { board.now ≡ L.board }
     requires before { writer.told ≡ L.before }
     requires belongs { writer.board ≡ board.now }
@@ -65,6 +69,7 @@ fn watch_all<
     ensures workers { length result.0.shares ≡ workers }
     ensures shares { let before = (view_of P.policy T.reading book).steps in
         sum result.0.shares + before ≡ (view_of P.policy T.reading result.0.book).steps }
+    ensures grows { Grows (view_of P.policy T.reading book).view (view_of P.policy T.reading result.0.book).view }
     ensures belongs { result.1.board ≡ board.now }
     ensures goes_on { take (length writer.told) result.1.told ≡ writer.told }
     ensures readings { let view = (view_of P.policy T.reading result.0.book).view in
@@ -76,11 +81,13 @@ fn watch_all<
     let decoded = Decoded::new(book.alloc(), image).ok();
     let tallied = Tallied::new(book, total);
     let lock = Mutex::new(Followed { tallied, writer });
+    let bell = Bell::new(is_crowded(rt, workers));
     let gathered = fan::<N, L, _, G, R>(
         rt,
         image,
         &decoded,
         &FollowedLock { lock: &lock, board },
+        &bell,
         theirs,
         0,
         workers,
@@ -97,6 +104,7 @@ fn watch_all<
 ///
 /// What the writer has told before has to be readings of the book's history, the last one its counts, as with a new
 /// board's writer and a new book.
+#[tactic(auto, using(crate::proofs::Growing::grows_trans))]
 pub fn run_watched<
     N: Naming + Send + Sync,
     P: Placer + Send,
@@ -122,6 +130,7 @@ pub fn run_watched<
     ensures workers { length result.drained.shares ≡ workers }
     ensures shares { let before = (view_of P.policy T.reading book).steps in
         sum result.drained.shares + before ≡ (view_of P.policy T.reading result.drained.book).steps }
+    ensures grows { Grows (view_of P.policy T.reading book).view (view_of P.policy T.reading result.drained.book).view }
     ensures belongs { result.writer.board ≡ board.now }
     ensures goes_on { take (length writer.told) result.writer.told ≡ writer.told }
     ensures readings { let view = (view_of P.policy T.reading result.drained.book).view in

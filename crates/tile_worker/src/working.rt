@@ -1,50 +1,27 @@
 //! One worker.
 
 ghost use Rattle.std.specs.Prelude.{◌≡◌, ◌<◌, ◌≤◌};
-ghost use Rattle.spec_state.specs.Settings.{IsValid};
 
+use crate::errand::Errand;
 use crate::gate::Gate;
-use crate::hold::{Found, Handed, Running};
+use crate::hold::Found;
 use crate::locks::BookLock;
 use crate::round::Round;
 use crate::tally::{Part, Tallied};
+use crate::waiting::Bell;
 use guest_image::Image;
 use place_policy::Placer;
-use rv_core::{Decoded, Naming, run_leg, run_leg_decoded};
-use spec_state::Settings;
+use rv_core::{Decoded, Naming};
 use std::sync::ledger::Ledger;
 use std::sync::{Mutex, Wait};
 use trace_tap::Tap;
-
-/// Computes the leg of a core that was found, on the decoded text where there is one.
-fn compute<N: Naming>(
-    image: &Image,
-    decoded: &Option<Decoded<N>>,
-    settings: &Settings,
-    running: &Running,
-) -> Handed<N>
-    requires image { image.now ≡ N.image }
-    requires valid { IsValid settings.now }
-    requires budget { settings.now.budget ≡ N.budget }
-    requires within { running.now.from.used ≤ N.budget }
-{
-    let (quantum, budget) = (settings.quantum, settings.budget);
-    let leg = match decoded {
-        Some(text) => run_leg_decoded(text, image, &running.from, quantum, budget),
-        None => run_leg(image, &running.from, quantum, budget),
-    };
-    Handed {
-        place: running.place,
-        leg,
-    }
-}
 
 /// Drives the tiles of a worker, as `work` says, over any lock in which a book stands. Its legs run on the decoded text
 /// where there is one.
 pub(crate) fn drive<
     N: Naming,
     L: Ledger,
-    K: BookLock<N, Part<L>, Handed<N>>,
+    K: BookLock<N, Part<L>, Errand<N>>,
     G: Gate + Sync,
     R: Wait,
 >(
@@ -52,6 +29,7 @@ pub(crate) fn drive<
     image: &Image,
     decoded: &Option<Decoded<N>>,
     lock: &K,
+    bell: &Bell,
     part: Part<L>,
     worker: u32,
     workers: u32,
@@ -59,28 +37,31 @@ pub(crate) fn drive<
 ) -> Part<L>
     requires image { image.now ≡ N.image }
     requires workers { (worker < workers) × (workers ≤ 16) }
-    ensures { K.amount part ≤ K.amount result }
+    ensures amount { K.amount part ≤ K.amount result }
+    ensures left { K.has_left result }
 {
     let mut part = part;
     let settings = lock.settings(rt);
     let mut round = Round::new(worker, workers);
+    let mut errand = Errand::new(image, settings.budget);
     let mut legs = 0u64;
-    let mut handed = None;
     for _ in rt.forever() {
         // The lock is free again once the hold returns, so that the leg is computed outside it.
-        let found = lock.hold(rt, image, &mut part, &mut round, handed);
-        handed = match found {
-            Found::Done => break,
-            Found::Nothing => None,
-            Found::Core(running) => {
-                let leg = compute(image, decoded, &settings, &running);
+        match lock.hold(rt, image, &mut part, &mut round, &mut errand, bell) {
+            Found::Done => {
+                bell.ring();
+                return part;
+            }
+            Found::Nothing => round.let_others(rt, bell),
+            Found::Core => {
+                errand.compute(image, decoded, &settings);
+                round.note_leg(errand.leg.steps());
                 legs = legs.saturating_add(1);
                 gate.pass(worker, legs);
-                Some(leg)
             }
-        };
+        }
     }
-    part
+    unreachable!()
 }
 
 /// Drives the tiles `t` with `t % workers == worker`, one event in each hold of the lock, until the run is over,
@@ -107,5 +88,8 @@ pub fn work<N: Naming, L: Ledger, P: Placer, T: Tap, G: Gate + Sync, R: Wait>(
     ensures { part.amount ≤ result.amount }
 {
     let decoded = None;
-    drive::<N, L, _, G, R>(rt, image, &decoded, lock, part, worker, workers, gate)
+    let bell = Bell::new(false);
+    drive::<N, L, _, G, R>(
+        rt, image, &decoded, lock, &bell, part, worker, workers, gate,
+    )
 }

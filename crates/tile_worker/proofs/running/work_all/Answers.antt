@@ -1,0 +1,20 @@
+use Rattle.std.proofs.Common.{◌∙◌, ap}
+use Rattle.book_event.specs.Book.{BookView}
+use Rattle.conflict_book.specs.Seen.{view_of}
+use Rattle.tile_worker.proofs.Begins.{begins_with_all, goes_on_from}
+use Rattle.tile_worker.proofs.running.work_all.Goals as goal
+
+pub invariant_of-new : goal.invariant_of-new
+invariant_of-new g c =
+    let same = c.new-tallied.ensures.book in
+    record {
+      entries = begins_with_all g.L.Begun.history _ (ap (λ (b : BookView). b.view.history) same ∙ c.requires.history);
+      bytes = begins_with_all g.L.Begun.output _ (ap (λ (b : BookView). b.view.output) same ∙ c.requires.output);
+    }
+
+pub returns-clause-grows : goal.returns-clause-grows
+returns-clause-grows g c =
+    goes_on_from (view_of g.P.Placer.policy g.T.Tap.reading c.args.book)
+    (view_of g.P.Placer.policy g.T.Tap.reading c.into_inner-tallied.result.tallied.book)
+    (view_of g.P.Placer.policy g.T.Tap.reading c.settle.result.book) g.L.Begun.history g.L.Begun.output c.requires.history c.requires.output
+    c.into_inner-tallied.result.entries c.into_inner-tallied.result.bytes c.settle.ensures.book
