@@ -33,6 +33,7 @@ fn least_name<N: Naming>(state: &State<N>, id: TaskId) -> Name
 }
 
 /// The end of a run whose least task is trapped, where fewer have committed than may.
+#[inline(never)]
 fn trap_end<N: Naming>(state: &State<N>, id: TaskId) -> End
     requires sound { Sound N.image state.now.view }
     requires few { length state.now.view.history ≢ state.now.view.settings.commits }
@@ -63,6 +64,7 @@ fn trapped_in(least: Where) -> Option<TaskId>
 }
 
 /// How the run ended, by its least task as `least` tells it; None where it goes on.
+#[inline(always)]
 pub fn end_with<N: Naming>(state: &State<N>, least: Option<Where>) -> Option<End>
     requires sound { Sound N.image state.now.view }
     requires some { IfSome least (IsLeast state.now.view) }

@@ -8,7 +8,7 @@ use task_desc::Name;
 pub struct Entry {
     /// The task's name.
     pub name: Name,
-    /// The depth of its domain: 1 for the root domain, at most 8.
+    /// The depth of its domain: 1 for the root domain, at most 16.
     pub depth: u8,
     /// The timestamp at which it ran: 0 in an unordered domain.
     pub ts: u32,

@@ -63,7 +63,6 @@ impl<N: Naming> Decoded<N> {
 
     /// Does the operations that stand at a core and touch registers and stack alone, at most so many: how many they
     /// were.
-    #[inline(always)]
     fn run_ops(&self, version: u16, core: &mut Core, limit: u32) -> u32
         requires version { version ≡ N.image.version }
         requires used { core.old.used + limit < 2 ^ 32 }
@@ -90,7 +89,6 @@ impl<N: Naming> Decoded<N> {
     }
 
     /// What a run stops at here, where that is a call or an access to the data that doesn't trap.
-    #[inline(always)]
     fn stop_at(&self, data_size: u32, core: &Core) -> Option<Stop>
         ensures { IfSome result (λ found. (budget : ℕ) → core.now.used < budget
             → next_at N.image data_size budget core.now ≡ Stops found) }
@@ -104,7 +102,6 @@ impl<N: Naming> Decoded<N> {
 }
 
 /// What the operation at an index stops at.
-#[inline(always)]
 fn stop_among(ops: &[Op], index: u32, data_size: u32, regs: &Regs) -> Option<Stop>
     ensures { result ≡ found_stop data_size (slice_get ops.now index) regs.now }
 {
@@ -124,7 +121,6 @@ fn op_at(text: &[u32], index: usize) -> Op
 }
 
 /// The most that a run of this quantum may do.
-#[inline(always)]
 fn limit_of(quantum: u32, budget: u32, used: u32) -> u32
     requires { used ≤ budget }
     ensures quantum { result ≤ quantum }
@@ -140,7 +136,6 @@ fn limit_of(quantum: u32, budget: u32, used: u32) -> u32
 
 /// Does operations that touch registers and stack alone, from a word of the text on, at most `limit` of them: the
 /// word that stands next, and how many they were.
-#[inline(never)]
 fn do_ops(
     ops: &[Op],
     version: u16,
@@ -167,7 +162,6 @@ fn do_ops(
 }
 
 /// Does an operation that touches registers and stack alone: which word stands next, or None and no change.
-#[inline(always)]
 fn act_whole(
     op: &Op,
     version: u16,
@@ -186,7 +180,6 @@ fn act_whole(
 }
 
 /// Executes the plain instruction that stands at a core, or tells what stands there.
-#[inline(never)]
 fn step_here<N: Naming>(
     decoded: &Decoded<N>,
     image: &Image,
@@ -215,7 +208,6 @@ fn step_here<N: Naming>(
 }
 
 /// Runs plain instructions, at least one and at most `room`, or up to what stops the run: how many they were.
-#[inline(always)]
 #[tactic(auto, using(crate::proofs::Runs::step_facts))]
 fn turn<N: Naming>(
     decoded: &Decoded<N>,

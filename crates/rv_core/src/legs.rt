@@ -13,7 +13,6 @@ use rv_table::{Effect, LoadWidth, Reg, StoreWidth, decode_at, effect, loaded};
 use undo_log::{number_in, write_in};
 
 /// How many bytes a load of this width reads: 1, 2 or 4.
-#[inline(always)]
 pub fn bytes_of_load(width: LoadWidth) -> u8
     ensures { result ≡ load_bytes width }
 {
@@ -25,7 +24,6 @@ pub fn bytes_of_load(width: LoadWidth) -> u8
 }
 
 /// How many bytes a store of this width writes: 1, 2 or 4.
-#[inline(always)]
 pub fn bytes_of_store(width: StoreWidth) -> u8
     ensures { result ≡ store_bytes width }
 {
@@ -37,7 +35,6 @@ pub fn bytes_of_store(width: StoreWidth) -> u8
 }
 
 /// Whether an access lies wholly in the range of `size` bytes from `start` on.
-#[inline(always)]
 pub(crate) fn is_in(start: u32, size: u32, addr: u32, len: u32) -> bool
     ensures { result ≡ is_within start size addr len }
 {
@@ -45,7 +42,6 @@ pub(crate) fn is_in(start: u32, size: u32, addr: u32, len: u32) -> bool
 }
 
 /// Counts one instruction, which goes to a pc.
-#[inline(always)]
 fn pass_to(head: &mut Head, pc: u32)
     requires { head.old.used + 1 < 2 ^ 32 }
     ensures { head.new ≡ record head.old { pc = pc; used = head.old.used + 1 } }
@@ -55,7 +51,6 @@ fn pass_to(head: &mut Head, pc: u32)
 }
 
 /// Executes one instruction, which goes to a pc and writes a register.
-#[inline(always)]
 fn go(head: &mut Head, pc: u32, rd: Reg, value: u32)
     requires { head.old.used + 1 < 2 ^ 32 }
     ensures { head.new ≡ record { pc = pc; regs = set_word head.old.regs rd value; used = head.old.used + 1 } }
@@ -65,7 +60,6 @@ fn go(head: &mut Head, pc: u32, rd: Reg, value: u32)
 }
 
 /// Whether an access lies wholly in the stack: in version 1 none does.
-#[inline(always)]
 pub(crate) fn is_in_stack(version: u16, addr: u32, len: u32) -> bool
     ensures { result ≡ is_in_stack version addr len }
 {
@@ -73,7 +67,6 @@ pub(crate) fn is_in_stack(version: u16, addr: u32, len: u32) -> bool
 }
 
 /// The number at an aligned address of the text or the stack; None where it does not lie wholly in one of them.
-#[inline(always)]
 fn plain_load(image: &Image, stack: &[u8; 1024], addr: u32, len: u8) -> Option<u32>
     requires width { (len ≡ 1) ⊎ (len ≡ 2) ⊎ (len ≡ 4) }
     requires aligned { addr % len ≡ 0 }
@@ -92,7 +85,6 @@ fn plain_load(image: &Image, stack: &[u8; 1024], addr: u32, len: u8) -> Option<u
 }
 
 /// A trap at the core's instruction.
-#[inline(always)]
 fn trap(head: &Head, cause: u8) -> Option<Stop>
     ensures { result ≡ Some (Stop.Trap cause head.now.pc) }
 {
@@ -100,7 +92,6 @@ fn trap(head: &Head, cause: u8) -> Option<Stop>
 }
 
 /// An aligned load: from the text or the stack it is a plain instruction.
-#[inline(always)]
 fn load(
     image: &Image,
     data_size: u32,
@@ -135,7 +126,6 @@ fn load(
 }
 
 /// An aligned store: to the stack it is a plain instruction.
-#[inline(always)]
 fn store(
     image: &Image,
     data_size: u32,
@@ -166,7 +156,6 @@ fn store(
 }
 
 /// Executes what an instruction does if that is plain, or tells what it is.
-#[inline(always)]
 fn obey(
     image: &Image,
     data_size: u32,
@@ -206,7 +195,6 @@ fn obey(
 
 /// Executes the plain instruction that stands at a core, or tells what stands there and leaves the core as it is.
 /// Inlined with `decode` and `effect`, so that no instruction or effect is built in memory.
-#[inline(always)]
 #[tactic(auto, unfolding(crate::specs::Legs::next_at))]
 pub(crate) fn step<const CALLER: usize>(
     image: &Image,
@@ -233,7 +221,6 @@ pub(crate) fn step<const CALLER: usize>(
 }
 
 /// Runs plain instructions from a core on, whose stack stands beside it.
-#[inline(always)]
 #[tactic(auto, using(crate::proofs::Runs::step_facts))]
 fn run_head(
     image: &Image,

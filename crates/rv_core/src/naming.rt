@@ -117,7 +117,6 @@ impl<N: Naming> Leg<N> {
     }
 
     /// Whether it begins at a core.
-    #[inline(always)]
     pub fn begins_at(&self, core: &NotedCore) -> bool
         ensures { IsTrue result ↔ (core.now ≡ self.now.from) }
     {
@@ -125,7 +124,6 @@ impl<N: Naming> Leg<N> {
     }
 
     /// Puts the core at which it ends in the place of another.
-    #[inline(always)]
     pub fn put_end(&self, core: &mut NotedCore)
         ensures { core.new ≡ self.now.to }
     {
@@ -134,7 +132,6 @@ impl<N: Naming> Leg<N> {
 
     /// Puts the core after the load at which it ends in the place of another, as
     /// [`after_load`](crate::after_load) tells it.
-    #[inline(always)]
     pub fn put_after_load(&self, core: &mut NotedCore, width: LoadWidth, rd: Reg, raw: u32)
         requires { self.now.to.used < 2 ^ 32 - 1 }
         ensures { core.new ≡ after_load_of self.now.to width rd raw }
@@ -144,7 +141,6 @@ impl<N: Naming> Leg<N> {
 
     /// Puts the core after the instruction at which it ends, which writes no register, in the place of another, as
     /// [`after_other`](crate::after_other) tells it.
-    #[inline(always)]
     pub fn put_after_other(&self, core: &mut NotedCore)
         requires { self.now.to.used < 2 ^ 32 - 1 }
         ensures { core.new ≡ after_other_of self.now.to }
@@ -154,7 +150,6 @@ impl<N: Naming> Leg<N> {
 }
 
 /// Runs plain instructions as [`run_plain`](crate::run_plain) does, and keeps in the type of the answer what was run.
-#[inline(always)]
 pub fn run_leg<N: Naming>(image: &Image, from: &Core, quantum: u32, budget: u32) -> Leg<N>
     requires image { image.now ≡ N.image }
     requires budget { budget ≡ N.budget }
@@ -179,7 +174,6 @@ pub fn run_leg<N: Naming>(image: &Image, from: &Core, quantum: u32, budget: u32)
 }
 
 /// Runs plain instructions on the decoded text as [`run_leg`] does on the image's.
-#[inline(always)]
 pub fn run_leg_decoded<N: Naming>(
     decoded: &Decoded<N>,
     image: &Image,

@@ -35,7 +35,6 @@ impl Model for NotedCore {
 }
 
 /// Whether a stack that was empty is empty after a run of the image's instructions.
-#[inline(always)]
 fn stays_empty(was_empty: bool, image: &Image) -> bool
     ensures { IsTrue result → (was_empty ≡ true) × (image.now.version ≡ 1) }
 {
@@ -74,7 +73,6 @@ impl NotedCore {
     }
 
     /// The core.
-    #[inline(always)]
     pub fn core(&self) -> &Core
         ensures { result.now ≡ self.now }
     {
@@ -82,7 +80,6 @@ impl NotedCore {
     }
 
     /// Writes another stack over this one, where one of them isn't empty.
-    #[inline(never)]
     fn put_stack(&mut self, from: &NotedCore)
         ensures { self.new ≡ record self.old { stack = from.now.stack } }
     {
@@ -91,7 +88,6 @@ impl NotedCore {
     }
 
     /// Empties the stack.
-    #[inline(never)]
     fn clear_stack(&mut self)
         ensures { self.new ≡ record self.old { stack = empty_stack } }
     {
@@ -100,7 +96,6 @@ impl NotedCore {
     }
 
     /// Puts a core in this place.
-    #[inline(always)]
     pub fn put(&mut self, from: &NotedCore)
         ensures { self.new ≡ from.now }
     {
@@ -113,7 +108,6 @@ impl NotedCore {
     }
 
     /// Puts the core of a task that starts in this place, as [`Core::start`] gives it.
-    #[inline(always)]
     pub fn put_start(&mut self, version: u16, entry: u32, ts: u32, args: [u32; 3])
         ensures { self.new ≡ start_of version entry ts args }
     {
@@ -126,7 +120,6 @@ impl NotedCore {
     }
 
     /// Puts the core after a load in this place, as [`after_load`](crate::after_load) tells it.
-    #[inline(always)]
     pub(crate) fn put_after_load(&mut self, from: &NotedCore, width: LoadWidth, rd: Reg, raw: u32)
         requires { from.now.used < 2 ^ 32 - 1 }
         ensures { self.new ≡ after_load_of from.now width rd raw }
@@ -139,7 +132,6 @@ impl NotedCore {
 
     /// Puts the core after an instruction that writes no register in this place, as
     /// [`after_other`](crate::after_other) tells it.
-    #[inline(always)]
     pub(crate) fn put_after_other(&mut self, from: &NotedCore)
         requires { from.now.used < 2 ^ 32 - 1 }
         ensures { self.new ≡ after_other_of from.now }
@@ -150,7 +142,6 @@ impl NotedCore {
     }
 
     /// Whether it is the same core. No stack is looked at where both are empty.
-    #[inline(always)]
     pub(crate) fn is(&self, other: &NotedCore) -> bool
         ensures { IsTrue result ↔ (self.now ≡ other.now) }
     {

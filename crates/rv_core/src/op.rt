@@ -322,7 +322,6 @@ pub(crate) fn op_of(word: u32, pc: u32) -> Op
 }
 
 /// The address of a word of the text.
-#[inline(always)]
 pub(crate) fn address_of(index: u32) -> u32
     ensures { result ≡ address index }
 {
@@ -330,7 +329,6 @@ pub(crate) fn address_of(index: u32) -> u32
 }
 
 /// The address behind a word of the text.
-#[inline(always)]
 fn address_behind(index: u32) -> u32
     ensures { result ≡ plus (address index) 4 }
 {
@@ -338,7 +336,6 @@ fn address_behind(index: u32) -> u32
 }
 
 /// On to the next word, with a register written.
-#[inline(always)]
 fn go_on(index: u32, regs: &mut Regs, rd: Reg, value: u32) -> Option<u32>
     ensures { went result regs.new ≡ Some (put (place index regs.old) rd value) }
 {
@@ -347,7 +344,6 @@ fn go_on(index: u32, regs: &mut Regs, rd: Reg, value: u32) -> Option<u32>
 }
 
 /// An operation with an immediate.
-#[inline(always)]
 fn by_imm(op: RegOp, index: u32, regs: &mut Regs, rd: Reg, rs1: Reg, imm: u32) -> Option<u32>
     ensures { went result regs.new ≡ shape_next (Shape.Imm op rd rs1 imm) (place index regs.old) }
 {
@@ -356,7 +352,6 @@ fn by_imm(op: RegOp, index: u32, regs: &mut Regs, rd: Reg, rs1: Reg, imm: u32) -
 }
 
 /// An operation on two registers.
-#[inline(always)]
 fn by_two(op: RegOp, index: u32, regs: &mut Regs, rd: Reg, rs1: Reg, rs2: Reg) -> Option<u32>
     ensures { went result regs.new ≡ shape_next (Shape.Two op rd rs1 rs2) (place index regs.old) }
 {
@@ -365,7 +360,6 @@ fn by_two(op: RegOp, index: u32, regs: &mut Regs, rd: Reg, rs1: Reg, rs2: Reg) -
 }
 
 /// A branch.
-#[inline(always)]
 fn by_cond(cond: Cond, index: u32, regs: &Regs, rs1: Reg, rs2: Reg, words: u32) -> Option<u32>
     ensures { went result regs.now ≡ shape_next (Shape.Branch cond rs1 rs2 words) (place index regs.now) }
 {
@@ -378,7 +372,6 @@ fn by_cond(cond: Cond, index: u32, regs: &Regs, rs1: Reg, rs2: Reg, words: u32) 
 }
 
 /// JAL
-#[inline(always)]
 fn jump(index: u32, regs: &mut Regs, rd: Reg, words: u32) -> Option<u32>
     ensures { went result regs.new ≡ shape_next (Shape.Jump rd words) (place index regs.old) }
 {
@@ -387,7 +380,6 @@ fn jump(index: u32, regs: &mut Regs, rd: Reg, words: u32) -> Option<u32>
 }
 
 /// JALR, to an aligned target.
-#[inline(always)]
 fn jump_by(index: u32, regs: &mut Regs, rd: Reg, rs1: Reg, imm: u32) -> Option<u32>
     ensures next { went result regs.new ≡ shape_next (Shape.JumpTo rd rs1 imm) (place index regs.old) }
     ensures stays { result ≡ None → regs.new ≡ regs.old }
@@ -402,7 +394,6 @@ fn jump_by(index: u32, regs: &mut Regs, rd: Reg, rs1: Reg, imm: u32) -> Option<u
 }
 
 /// Does an operation that touches registers alone: which word stands next, or None and no change.
-#[inline(always)]
 pub(crate) fn act(op: &Op, index: u32, regs: &mut Regs) -> Option<u32>
     ensures next { went result regs.new ≡ shape_next (shape op.now) (place index regs.old) }
     ensures stays { result ≡ None → regs.new ≡ regs.old }
@@ -442,7 +433,6 @@ pub(crate) fn act(op: &Op, index: u32, regs: &mut Regs) -> Option<u32>
 }
 
 /// Whether an access is aligned and lies in the stack.
-#[inline(always)]
 fn is_stack_access(version: u16, addr: u32, len: u32) -> bool
     requires { 0 < len }
     ensures { result ≡ is_stack_access version addr len }
@@ -451,7 +441,6 @@ fn is_stack_access(version: u16, addr: u32, len: u32) -> bool
 }
 
 /// An aligned load from the stack: which word stands next, or None and no change.
-#[inline(always)]
 fn load_stack(
     version: u16,
     width: LoadWidth,
@@ -475,7 +464,6 @@ fn load_stack(
 }
 
 /// An aligned store to the stack: which word stands next, or None and no change.
-#[inline(always)]
 fn store_stack(
     version: u16,
     width: StoreWidth,
@@ -499,7 +487,6 @@ fn store_stack(
 }
 
 /// Does an access of the stack: which word stands next, or None and no change.
-#[inline(always)]
 pub(crate) fn act_on_stack(
     op: &Op,
     version: u16,
@@ -536,7 +523,6 @@ pub(crate) fn act_on_stack(
 }
 
 /// What an access stops at, where it is aligned and in the data below the stack.
-#[inline(always)]
 fn stop_in(data_size: u32, addr: u32, len: u32, stop: Stop) -> Option<Stop>
     requires { 0 < len }
     ensures { result ≡ access data_size addr len stop }
@@ -549,7 +535,6 @@ fn stop_in(data_size: u32, addr: u32, len: u32, stop: Stop) -> Option<Stop>
 }
 
 /// What an operation stops at, where it is a call or an access to the data that doesn't trap.
-#[inline(always)]
 pub(crate) fn stop_of(op: &Op, data_size: u32, regs: &Regs) -> Option<Stop>
     ensures { result ≡ shape_stop data_size (shape op.now) regs.now }
 {

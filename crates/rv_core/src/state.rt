@@ -48,7 +48,6 @@ impl Core {
 }
 
 /// The registers of a task that starts.
-#[inline(always)]
 pub(crate) fn start_regs(version: u16, ts: u32, args: [u32; 3]) -> Regs
     ensures { result ≡ (start_of version 0 ts args).regs }
 {
@@ -107,7 +106,6 @@ pub struct Plain {
 }
 
 /// The stack of a task that starts.
-#[inline(always)]
 #[tactic(auto, unfolding(crate::specs::Memory::empty_stack))]
 pub(crate) fn no_bytes() -> [u8; 1024]
     ensures { result ≡ empty_stack }
@@ -116,7 +114,6 @@ pub(crate) fn no_bytes() -> [u8; 1024]
 }
 
 /// What `x2` is at the start of a task.
-#[inline(always)]
 fn top_of_stack(version: u16) -> u32
     ensures { result ≡ stack_top version }
 {
@@ -127,7 +124,6 @@ fn top_of_stack(version: u16) -> u32
     }
 }
 
-#[inline(always)]
 fn register(number: u8) -> Reg
     requires { number < 32 }
     ensures { result ≡ number }

@@ -8,7 +8,6 @@ use crate::instr::{Cond, Effect, ImmOp, Instr, LoadWidth, RegOp, StoreWidth};
 use crate::reg::{Reg, Regs};
 
 /// Whether a branch is taken.
-#[inline(always)]
 pub fn is_met(cond: Cond, x: u32, y: u32) -> bool
     ensures { result ≡ holds cond x y }
 {
@@ -23,7 +22,6 @@ pub fn is_met(cond: Cond, x: u32, y: u32) -> bool
 }
 
 /// A shift to the right that fills in copies of the sign.
-#[inline(always)]
 fn shift_copying_sign(x: u32, by: u32) -> u32
     requires { by < 32 }
     ensures { result ≡ shift_signed x by }
@@ -32,7 +30,6 @@ fn shift_copying_sign(x: u32, by: u32) -> u32
 }
 
 /// What an operation computes.
-#[inline(always)]
 pub fn compute(op: RegOp, x: u32, y: u32) -> u32
     ensures { result ≡ value_of op x y }
 {
@@ -51,7 +48,6 @@ pub fn compute(op: RegOp, x: u32, y: u32) -> u32
 }
 
 /// The operation on two registers that an operation with an immediate does.
-#[inline(always)]
 fn register_form(op: ImmOp) -> RegOp
     ensures { result ≡ with_register op }
 {
@@ -69,7 +65,6 @@ fn register_form(op: ImmOp) -> RegOp
 }
 
 /// The register that an instruction names where it writes none.
-#[inline(always)]
 fn no_register() -> Reg
     ensures { result ≡ 0 }
 {
@@ -80,7 +75,6 @@ fn no_register() -> Reg
 }
 
 /// The sum of a word and an immediate, which wraps.
-#[inline(always)]
 fn offset(base: u32, imm: i32) -> u32
     ensures { result ≡ plus base (word imm) }
 {
@@ -88,7 +82,6 @@ fn offset(base: u32, imm: i32) -> u32
 }
 
 /// On to the next instruction, with a register written.
-#[inline(always)]
 fn go_on(pc: u32, rd: Reg, value: u32) -> Effect
     ensures { result ≡ Effect.Plain (plus pc 4) rd value }
 {
@@ -100,7 +93,6 @@ fn go_on(pc: u32, rd: Reg, value: u32) -> Effect
 }
 
 /// To a target, with a register written.
-#[inline(always)]
 fn jump_to(rd: Reg, value: u32, target: u32) -> Effect
     ensures { result ≡ jump rd value target }
 {
@@ -116,7 +108,6 @@ fn jump_to(rd: Reg, value: u32, target: u32) -> Effect
 }
 
 /// To a target if the branch is taken.
-#[inline(always)]
 fn branch(pc: u32, is_taken: bool, imm: i32) -> Effect
     ensures { result ≡ (if is_taken then jump 0 0 (plus pc (word imm)) else Effect.Plain (plus pc 4) 0 0) }
 {
@@ -128,7 +119,6 @@ fn branch(pc: u32, is_taken: bool, imm: i32) -> Effect
 }
 
 /// A load from an offset of a base address.
-#[inline(always)]
 fn load(width: LoadWidth, rd: Reg, base: u32, imm: i32) -> Effect
     ensures { result ≡ Effect.Load width rd (plus base (word imm)) }
 {
@@ -140,7 +130,6 @@ fn load(width: LoadWidth, rd: Reg, base: u32, imm: i32) -> Effect
 }
 
 /// A store at an offset of a base address.
-#[inline(always)]
 fn store(width: StoreWidth, base: u32, imm: i32, value: u32) -> Effect
     ensures { result ≡ Effect.Store width (plus base (word imm)) value }
 {
@@ -152,7 +141,6 @@ fn store(width: StoreWidth, base: u32, imm: i32, value: u32) -> Effect
 }
 
 /// What an instruction does at a pc with these registers.
-#[inline(always)]
 pub fn effect(pc: u32, regs: &Regs, instr: &Instr) -> Effect
     ensures { result ≡ acts_on pc regs.now instr.now }
 {
@@ -193,7 +181,6 @@ pub fn effect(pc: u32, regs: &Regs, instr: &Instr) -> Effect
 }
 
 /// The low byte, sign-extended.
-#[inline(always)]
 fn sign_extended_byte(raw: u32) -> u32
     ensures { result ≡ loaded_value LoadWidth.B raw }
 {
@@ -201,7 +188,6 @@ fn sign_extended_byte(raw: u32) -> u32
 }
 
 /// The low two bytes, sign-extended.
-#[inline(always)]
 fn sign_extended_half(raw: u32) -> u32
     ensures { result ≡ loaded_value LoadWidth.H raw }
 {
@@ -210,7 +196,6 @@ fn sign_extended_half(raw: u32) -> u32
 
 /// What a load writes to its register, where the bytes that it read are the low ones of `raw`, the first the lowest.
 /// The other bytes of `raw` play no part.
-#[inline]
 pub fn loaded(width: LoadWidth, raw: u32) -> u32
     ensures { result ≡ loaded_value width raw }
 {

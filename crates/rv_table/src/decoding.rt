@@ -8,7 +8,6 @@ use crate::instr::{Cond, ImmOp, Instr, LoadWidth, RegOp, StoreWidth};
 use crate::reg::Reg;
 
 /// The register of a number.
-#[inline(always)]
 fn register(number: u32) -> Reg
     requires { number < 32 }
     ensures { result ≡ number }
@@ -20,7 +19,6 @@ fn register(number: u32) -> Reg
 }
 
 /// The field rd.
-#[inline(always)]
 fn rd(word: u32) -> Reg
     ensures { result ≡ field.rd word }
 {
@@ -28,7 +26,6 @@ fn rd(word: u32) -> Reg
 }
 
 /// The field rs1.
-#[inline(always)]
 fn rs1(word: u32) -> Reg
     ensures { result ≡ field.rs1 word }
 {
@@ -36,7 +33,6 @@ fn rs1(word: u32) -> Reg
 }
 
 /// The field rs2.
-#[inline(always)]
 fn rs2(word: u32) -> Reg
     ensures { result ≡ field.rs2 word }
 {
@@ -44,7 +40,6 @@ fn rs2(word: u32) -> Reg
 }
 
 /// The field funct3.
-#[inline(always)]
 fn funct3(word: u32) -> u32
     ensures { result ≡ field.funct3 word }
 {
@@ -52,7 +47,6 @@ fn funct3(word: u32) -> u32
 }
 
 /// The field funct7.
-#[inline(always)]
 fn funct7(word: u32) -> u32
     ensures { result ≡ field.funct7 word }
 {
@@ -60,7 +54,6 @@ fn funct7(word: u32) -> u32
 }
 
 /// The I-immediate. The shift copies the sign.
-#[inline(always)]
 fn i_immediate(word: u32) -> i32
     ensures { result ≡ field.i_immediate word }
 {
@@ -68,7 +61,6 @@ fn i_immediate(word: u32) -> i32
 }
 
 /// The field shamt.
-#[inline(always)]
 fn shamt(word: u32) -> i32
     ensures { result ≡ pos (field.shamt word) }
 {
@@ -76,7 +68,6 @@ fn shamt(word: u32) -> i32
 }
 
 /// The S-immediate.
-#[inline(always)]
 fn s_immediate(word: u32) -> i32
     ensures { result ≡ field.s_immediate word }
 {
@@ -84,7 +75,6 @@ fn s_immediate(word: u32) -> i32
 }
 
 /// The B-immediate.
-#[inline(always)]
 fn b_immediate(word: u32) -> i32
     ensures { result ≡ field.b_immediate word }
 {
@@ -93,7 +83,6 @@ fn b_immediate(word: u32) -> i32
 }
 
 /// The J-immediate.
-#[inline(always)]
 fn j_immediate(word: u32) -> i32
     ensures { result ≡ field.j_immediate word }
 {
@@ -102,14 +91,12 @@ fn j_immediate(word: u32) -> i32
 }
 
 /// The U-immediate.
-#[inline(always)]
 fn u_immediate(word: u32) -> u32
     ensures { result ≡ field.u_immediate word }
 {
     (word >> 12) << 12
 }
 
-#[inline(always)]
 fn jalr_of(word: u32) -> Instr
     ensures { result ≡ Instr.Jalr (field.rd word) (field.rs1 word) (field.i_immediate word) }
 {
@@ -120,7 +107,6 @@ fn jalr_of(word: u32) -> Instr
     }
 }
 
-#[inline(always)]
 fn branch_of(cond: Cond, word: u32) -> Instr
     ensures { result ≡ Instr.Branch cond (field.rs1 word) (field.rs2 word) (field.b_immediate word) }
 {
@@ -132,7 +118,6 @@ fn branch_of(cond: Cond, word: u32) -> Instr
     }
 }
 
-#[inline(always)]
 fn load_of(width: LoadWidth, word: u32) -> Instr
     ensures { result ≡ Instr.Load width (field.rd word) (field.rs1 word) (field.i_immediate word) }
 {
@@ -144,7 +129,6 @@ fn load_of(width: LoadWidth, word: u32) -> Instr
     }
 }
 
-#[inline(always)]
 fn store_of(width: StoreWidth, word: u32) -> Instr
     ensures { result ≡ Instr.Store width (field.rs1 word) (field.rs2 word) (field.s_immediate word) }
 {
@@ -156,7 +140,6 @@ fn store_of(width: StoreWidth, word: u32) -> Instr
     }
 }
 
-#[inline(always)]
 fn op_imm_of(op: ImmOp, word: u32) -> Instr
     ensures { result ≡ Instr.OpImm op (field.rd word) (field.rs1 word) (field.i_immediate word) }
 {
@@ -168,7 +151,6 @@ fn op_imm_of(op: ImmOp, word: u32) -> Instr
     }
 }
 
-#[inline(always)]
 fn shift_of(op: ImmOp, word: u32) -> Instr
     ensures { result ≡ Instr.OpImm op (field.rd word) (field.rs1 word) (pos (field.shamt word)) }
 {
@@ -180,7 +162,6 @@ fn shift_of(op: ImmOp, word: u32) -> Instr
     }
 }
 
-#[inline(always)]
 fn op_of(op: RegOp, word: u32) -> Instr
     ensures { result ≡ Instr.Op op (field.rd word) (field.rs1 word) (field.rs2 word) }
 {
@@ -192,7 +173,6 @@ fn op_of(op: RegOp, word: u32) -> Instr
     }
 }
 
-#[inline(always)]
 fn decode_jalr(word: u32) -> Option<Instr>
     requires { field.opcode word ≡ 0b1100111 }
     ensures { result ≡ decoded word }
@@ -203,7 +183,6 @@ fn decode_jalr(word: u32) -> Option<Instr>
     }
 }
 
-#[inline(always)]
 fn decode_branch(word: u32) -> Option<Instr>
     requires { field.opcode word ≡ 0b1100011 }
     ensures { result ≡ decoded word }
@@ -219,7 +198,6 @@ fn decode_branch(word: u32) -> Option<Instr>
     }
 }
 
-#[inline(always)]
 fn decode_load(word: u32) -> Option<Instr>
     requires { field.opcode word ≡ 0b0000011 }
     ensures { result ≡ decoded word }
@@ -234,7 +212,6 @@ fn decode_load(word: u32) -> Option<Instr>
     }
 }
 
-#[inline(always)]
 fn decode_store(word: u32) -> Option<Instr>
     requires { field.opcode word ≡ 0b0100011 }
     ensures { result ≡ decoded word }
@@ -247,7 +224,6 @@ fn decode_store(word: u32) -> Option<Instr>
     }
 }
 
-#[inline(always)]
 fn decode_op_imm(word: u32) -> Option<Instr>
     requires { field.opcode word ≡ 0b0010011 }
     ensures { result ≡ decoded word }
@@ -266,7 +242,6 @@ fn decode_op_imm(word: u32) -> Option<Instr>
     }
 }
 
-#[inline(always)]
 fn decode_op(word: u32) -> Option<Instr>
     requires { field.opcode word ≡ 0b0110011 }
     ensures { result ≡ decoded word }
@@ -286,7 +261,6 @@ fn decode_op(word: u32) -> Option<Instr>
     }
 }
 
-#[inline(always)]
 fn decode_fence(word: u32) -> Option<Instr>
     requires { field.opcode word ≡ 0b0001111 }
     ensures { result ≡ decoded word }
@@ -297,7 +271,6 @@ fn decode_fence(word: u32) -> Option<Instr>
     }
 }
 
-#[inline(always)]
 fn decode_system(word: u32) -> Option<Instr>
     requires { field.opcode word ≡ 0b1110011 }
     ensures { result ≡ decoded word }
@@ -310,7 +283,6 @@ fn decode_system(word: u32) -> Option<Instr>
 }
 
 /// The instruction that a word stands for: none exactly where it is none of the 40 of RV32I 2.1.
-#[inline]
 pub fn decode(word: u32) -> Option<Instr>
     ensures { result ≡ decoded word }
 {
@@ -319,7 +291,6 @@ pub fn decode(word: u32) -> Option<Instr>
 
 /// The same as `decode`, of which each `CALLER` gets machine code of its own: LLVM joins a function of this size to
 /// the code around a call only where there is no other call of it.
-#[inline]
 pub fn decode_at<const CALLER: usize>(word: u32) -> Option<Instr>
     ensures { result ≡ decoded word }
 {

@@ -23,7 +23,6 @@ impl Model for Reg {
 
 impl Reg {
     /// The register of a number: none exactly above 31.
-    #[inline(always)]
     pub fn new(number: u8) -> Option<Reg>
         ensures { SomeIff result (number < 32) number }
     {
@@ -35,7 +34,6 @@ impl Reg {
     }
 
     /// Its number, 0 to 31.
-    #[inline(always)]
     pub fn number(&self) -> u8
         ensures value { result ≡ self.now }
         ensures small { result < 32 }
@@ -69,7 +67,6 @@ impl Regs {
     }
 
     /// The word in a register: 0 for `x0`.
-    #[inline(always)]
     pub fn get(&self, reg: Reg) -> u32
         ensures value { result ≡ slice_index self.now reg }
         ensures zero { reg ≡ 0 → result ≡ 0 }
@@ -79,7 +76,6 @@ impl Regs {
     }
 
     /// Writes a word to a register. A write to `x0` is dropped.
-    #[inline(always)]
     pub fn set(&mut self, reg: Reg, value: u32)
         ensures { self.new ≡ set_word self.old reg value }
     {

@@ -22,7 +22,7 @@ use task_desc::{Desc, Name};
 pub struct Pending {
     /// The task's name.
     pub name: Name,
-    /// The depth of its domain: 1 for the root domain, at most 8.
+    /// The depth of its domain: 1 for the root domain, at most 16.
     pub depth: u8,
     /// Where it starts.
     pub entry: u32,
