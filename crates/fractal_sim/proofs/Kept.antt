@@ -1,25 +1,43 @@
 -- A run that was made is kept, whatever comes of what follows it.
-use Rattle.std.proofs.Common.{◌≡◌, refl, sym, ap, subst, ℕ, List, length, Some, None}
-use Rattle.std.specs.Prelude.{IfSome}
+use Rattle.std.proofs.Common.{◌≡◌, ◌≢◌, refl, sym, ap, subst, ℕ, true, false, List, length, Result, Ok, Err, Some}
+use Rattle.std.proofs.Common.{None}
+use Rattle.std.specs.Prelude.{IfOk, IfSome, IsSome, MatchOption, MatchResult}
+use Rattle.std.specs.declared.alloc.AllocError.{AllocError}
 use Rattle.std.specs.declared.option.Option.{Option}
 use Rattle.std.specs.declared.marker.Brand.{Brand}
 use Rattle.guest_image.specs.ImageValue.{ImageValue}
 use Rattle.place_policy.specs.Policy.{Policy}
 use Rattle.trace_tap.specs.Reading.{Reading}
 use Rattle.run_journal.specs.declared.end.End.TheVariants as ends
+use Rattle.run_journal.specs.declared.end.End.{End}
 use Rattle.serial_machine.specs.WholeRun.{IsRunOf}
 use Rattle.spec_state.specs.declared.settings.Settings.{Settings}
+use Rattle.spec_state.specs.declared.pending.Pending.{Pending}
 use Rattle.spec_state.specs.Pendings.{Leaves}
 use Rattle.conflict_book.specs.declared.freezing.Frozen.{Frozen}
 use Rattle.machine_run.specs.Least.{IsLeastRun, run_of}
+use Rattle.machine_run.specs.Played.{IsPlayedInPart, IsPlayedRun, IsTracedRun}
+use Rattle.machine_run.specs.Stopping.{IsStoppedWith}
 use Rattle.machine_run.specs.declared.left.Ran.{Ran}
+use Rattle.machine_run.specs.declared.left.Stopped.{Stopped}
+use Rattle.machine_run.specs.declared.playing.Played.{Played}
+use Rattle.machine_run.specs.declared.playing.Traced.{Traced}
+use Rattle.step_script.specs.declared.act.Act.{Act}
 use Rattle.command_line.specs.declared.request.Command.TheVariants as commands
+use Rattle.command_line.specs.declared.request.Request.{Request}
+use Rattle.load_gen.specs.Generated.{generated}
 use Rattle.fractal_sim.specs.declared.finding.Finding.{Finding}
 use Rattle.fractal_sim.specs.declared.finding.Finding.TheVariants as finding
+use Rattle.fractal_sim.specs.declared.finding.Loading.{Loading}
 use Rattle.fractal_sim.specs.declared.finding.Saving.{Saving}
-use Rattle.fractal_sim.specs.Deciding.{told_steps, IsKeptSo, IsRunSo, IsSavedSo, IsStoppedSo, Saves}
-use Rattle.fractal_sim.specs.Finding.{IsWritable}
-use Rattle.fractal_sim.specs.Runs.{IsReported}
+use Rattle.fractal_sim.specs.Deciding.{whole, lists_of, told_steps, run_finding, load_finding, play_finding}
+use Rattle.fractal_sim.specs.Deciding.{trace_finding, IsFoundBehind, IsKeptSo, IsKeptStopped, IsLoadedSo, IsRunSo}
+use Rattle.fractal_sim.specs.Deciding.{IsSavedSo, IsStoppedSo, Saves}
+use Rattle.fractal_sim.specs.Finding.{HasWindow, IsWritable}
+use Rattle.fractal_sim.specs.Runs.{IsReported, IsScript}
+use Rattle.fractal_sim.proofs.Found.{ran_behind}
+
+-- ---- a run that is to go on
 
 module _ (image : ImageValue) (settings : Settings) (placers : List Policy) (taps : List Reading) (frozen : Frozen)
     (steps : Option ℕ) (steps_is : steps ≡ told_steps settings.workers frozen.closed.steps)
@@ -109,3 +127,172 @@ kept_is_writable image frozen steps (finding.Accepted closed) sized kept = tt
 kept_is_writable image frozen steps (finding.Loaded load image' ran told) sized kept = absurd kept
 kept_is_writable image frozen steps (finding.Played image' played) sized kept = absurd kept
 kept_is_writable image frozen steps (finding.Traced traced) sized kept = tt
+
+-- what is kept of a frozen run is kept of the stopped one that it is of
+pub kept_frozen : (image : ImageValue) (workers : ℕ) (stopped : Stopped) (pendings : List Pending) (steps : Option ℕ)
+    (found : Finding) → stopped.pending ≡ Some pendings → steps ≡ told_steps workers stopped.ran.closed.steps
+    → IsKeptSo image (record { closed = stopped.ran.closed; pending = pendings }) steps found
+    → IsKeptStopped image workers stopped found
+kept_frozen image workers stopped pendings steps found is told kept =
+    let due = told_steps workers stopped.ran.closed.steps in
+    subst (λ (pending : Option (List Pending)). MatchOption pending (found ≡ finding.Ran image stopped.ran due)
+    (λ some. IsKeptSo image (record { closed = stopped.ran.closed; pending = some }) due found)) (sym is)
+    (subst (λ s. IsKeptSo image (record { closed = stopped.ran.closed; pending = pendings }) s found) told kept)
+
+-- a run to another end than the limit is told by its report
+reported : (told : Option End) → told ≢ Some ends.Unfinished → (told ≡ Some ends.Limit → ⊥)
+    → IfSome told (IsReported commands.Save)
+reported None over limit = tt
+reported (Some end) over limit = (λ open_yet. over (ap Some open_yet), λ full. limit (ap Some full))
+
+module _ (image : ImageValue) (settings : Settings) (placers : List Policy) (taps : List Reading) where
+  -- what is kept of a run that was made and was to go on is found where the words ask for such a run
+  stopped_is_saved : (ran : Ran) (pending : Option (List Pending)) (found : Finding)
+      → (settings.workers ≡ 0 → IsLeastRun Brand image settings placers taps ran.closed.steps (whole ran))
+      → IsRunOf image settings.commits settings.budget (whole ran) → ran.end ≢ Some ends.Unfinished
+      → IfSome pending (IsStoppedWith image settings.budget ran) → (ran.end ≡ Some ends.Limit → IsSome pending)
+      → IsKeptStopped image settings.workers (record { ran = ran; pending = pending }) found
+      → IsSavedSo image settings placers taps found
+  stopped_is_saved ran None found least run over stopped limit kept =
+      subst (IsSavedSo image settings placers taps) (sym kept) (
+        refl,
+        record { least = least; run = run; steps_is = refl; over = over },
+        reported ran.end over (λ full. let no : false ≡ true = limit full in absurd (cc (no))),
+      )
+  stopped_is_saved ran (Some pendings) found least run over stopped limit kept =
+      kept_is_saved image settings placers taps (record { closed = ran.closed; pending = pendings })
+      (told_steps settings.workers ran.closed.steps) refl
+      (λ none. subst (λ e. IsLeastRun Brand image settings placers taps ran.closed.steps (run_of ran.closed e))
+      stopped.end_is (least none))
+      (subst (λ e. IsRunOf image settings.commits settings.budget (run_of ran.closed e)) stopped.end_is run)
+      stopped.left found kept
+
+  -- and so is what is found of the machine's answer
+  pub made_is_saved : (made : Result Stopped AllocError) (found : Finding)
+      → (settings.workers ≡ 0 → IfOk made (λ stopped.
+      IsLeastRun Brand image settings placers taps stopped.ran.closed.steps (whole stopped.ran)))
+      → IfOk made (λ stopped. IsRunOf image settings.commits settings.budget (whole stopped.ran))
+      → IfOk made (λ stopped. stopped.ran.end ≢ Some ends.Unfinished)
+      → IfOk made (λ stopped. IfSome stopped.pending (IsStoppedWith image settings.budget stopped.ran))
+      → IfOk made (λ stopped. stopped.ran.end ≡ Some ends.Limit → IsSome stopped.pending)
+      → MatchResult made (λ stopped. IsKeptStopped image settings.workers stopped found)
+      (λ error. found ≡ finding.Memory)
+      → IsSavedSo image settings placers taps found
+  made_is_saved (Ok stopped) found least run over pending limit kept =
+      stopped_is_saved stopped.ran stopped.pending found least run over pending limit kept
+  made_is_saved (Err error) found least run over pending limit kept =
+      subst (IsSavedSo image settings placers taps) (sym kept) tt
+
+stopped_is_writable : (image : ImageValue) (workers : ℕ) (ran : Ran) (pending : Option (List Pending))
+    (found : Finding) → length ran.closed.memory ≡ image.data_size
+    → IsKeptStopped image workers (record { ran = ran; pending = pending }) found → IsWritable found
+stopped_is_writable image workers ran None found sized kept = subst IsWritable (sym kept) sized
+stopped_is_writable image workers ran (Some pendings) found sized kept =
+    kept_is_writable image (record { closed = ran.closed; pending = pendings }) (told_steps workers ran.closed.steps)
+    found sized kept
+
+-- and it can be written
+pub made_is_writable : (image : ImageValue) (workers : ℕ) (made : Result Stopped AllocError) (found : Finding)
+    → IfOk made (λ stopped. length stopped.ran.closed.memory ≡ image.data_size)
+    → MatchResult made (λ stopped. IsKeptStopped image workers stopped found) (λ error. found ≡ finding.Memory)
+    → IsWritable found
+made_is_writable image workers (Ok stopped) found sized kept =
+    stopped_is_writable image workers stopped.ran stopped.pending found sized kept
+made_is_writable image workers (Err error) found sized kept = subst IsWritable (sym kept) tt
+
+-- ---- a run to its end
+
+module _ (image : ImageValue) (settings : Settings) (placers : List Policy) (taps : List Reading) where
+  -- a run of the machine, with the count of its events
+  pub made_so : (made : Result Ran AllocError)
+      → (settings.workers ≡ 0 → IfOk made (λ ran.
+      IsLeastRun Brand image settings placers taps ran.closed.steps (whole ran)))
+      → IfOk made (λ ran. IsRunOf image settings.commits settings.budget (whole ran))
+      → IfOk made (λ ran. ran.end ≢ Some ends.Unfinished)
+      → IfOk made (λ ran. IsRunSo image settings placers taps ran (told_steps settings.workers ran.closed.steps))
+  made_so (Ok ran) least run over = record { least = least; run = run; steps_is = refl; over = over }
+  made_so (Err error) least run over = tt
+
+-- what is found of the machine's answer is found behind the image that was read
+pub run_found_behind : (request : Request) (image : ImageValue) (rest : List ℕ) (placers : List Policy)
+    (taps : List Reading) (made : Result Ran AllocError) (found : Finding)
+    → found ≡ run_finding image request.settings.workers made → request.command ≡ commands.Run
+    → IfOk made (λ ran. IsRunSo image request.settings placers taps ran
+    (told_steps request.settings.workers ran.closed.steps))
+    → IsFoundBehind request image rest placers taps found
+run_found_behind request image rest placers taps (Ok ran) found kept is so =
+    subst (IsFoundBehind request image rest placers taps) (sym kept)
+    (ran_behind request image rest placers taps ran (told_steps request.settings.workers ran.closed.steps) is so)
+run_found_behind request image rest placers taps (Err error) found kept is so =
+    subst (IsFoundBehind request image rest placers taps) (sym kept) tt
+
+pub run_writable : (image : ImageValue) (workers : ℕ) (made : Result Ran AllocError) (found : Finding)
+    → found ≡ run_finding image workers made → IfOk made (HasWindow image) → IsWritable found
+run_writable image workers (Ok ran) found kept sized = subst IsWritable (sym kept) sized
+run_writable image workers (Err error) found kept sized = subst IsWritable (sym kept) tt
+
+-- and of a generated image where the words ask for it
+pub load_so : (load : Loading) (image : ImageValue) (settings : Settings) (placers : List Policy) (taps : List Reading)
+    (made : Result Ran AllocError) (found : Finding) → found ≡ load_finding load image settings.workers made
+    → image ≡ generated load.load load.seed load.size
+    → IfOk made (λ ran. IsRunSo image settings placers taps ran (told_steps settings.workers ran.closed.steps))
+    → IsLoadedSo load settings placers taps found
+load_so load image settings placers taps (Ok ran) found kept is so =
+    subst (IsLoadedSo load settings placers taps) (sym kept) (refl, is, so)
+load_so load image settings placers taps (Err error) found kept is so =
+    subst (IsLoadedSo load settings placers taps) (sym kept) tt
+
+pub load_writable : (load : Loading) (image : ImageValue) (workers : ℕ) (made : Result Ran AllocError) (found : Finding)
+    → found ≡ load_finding load image workers made → IfOk made (HasWindow image) → IsWritable found
+load_writable load image workers (Ok ran) found kept sized = subst IsWritable (sym kept) sized
+load_writable load image workers (Err error) found kept sized = subst IsWritable (sym kept) tt
+
+-- ---- a script
+
+module _ (request : Request) (image : ImageValue) (rest : List ℕ) (placers : List Policy) (taps : List Reading)
+    (script : List Act) (script_is : IsScript request rest script) where
+  -- what is found of the machine's answer is found behind the image that was read
+  pub play_found_behind : (made : Result Played AllocError) (found : Finding) → found ≡ play_finding image made
+      → request.command ≡ commands.Steps
+      → IfOk made (λ p. IfSome p.ran.end (λ end. IsPlayedRun Brand image request.settings script placers taps
+      p.said.items p.ran.closed.steps end (whole p.ran)))
+      → IfOk made (λ p. p.ran.end ≡ None → IsPlayedInPart Brand image request.settings script placers taps
+      p.ran.closed.steps (whole p.ran))
+      → IfOk made (λ p. IsRunOf image request.settings.commits request.settings.budget (whole p.ran))
+      → IsFoundBehind request image rest placers taps found
+  play_found_behind (Ok p) found kept is played part run =
+      subst (IsFoundBehind request image rest placers taps) (sym kept) (
+        is,
+        refl,
+        record { script = script; script_is = script_is; run = run; played = played; part = part },
+      )
+  play_found_behind (Err error) found kept is played part run =
+      subst (IsFoundBehind request image rest placers taps) (sym kept) tt
+
+  -- and so for its taps
+  pub trace_found_behind : (made : Result Traced AllocError) (found : Finding) → found ≡ trace_finding made
+      → request.command ≡ commands.Trace
+      → IfOk made (λ t. IfSome t.ran.end (λ end. IsTracedRun Brand image request.settings script placers taps
+      (lists_of t) t.ran.closed.steps end (whole t.ran)))
+      → IfOk made (λ t. t.ran.end ≡ None → IsPlayedInPart Brand image request.settings script placers taps
+      t.ran.closed.steps (whole t.ran))
+      → IfOk made (λ t. IsRunOf image request.settings.commits request.settings.budget (whole t.ran))
+      → IsFoundBehind request image rest placers taps found
+  trace_found_behind (Ok t) found kept is traced part run =
+      subst (IsFoundBehind request image rest placers taps) (sym kept) (
+        is,
+        record { script = script; script_is = script_is; run = run; traced = traced; part = part },
+      )
+  trace_found_behind (Err error) found kept is traced part run =
+      subst (IsFoundBehind request image rest placers taps) (sym kept) tt
+
+pub play_writable : (image : ImageValue) (made : Result Played AllocError) (found : Finding)
+    → found ≡ play_finding image made → IfOk made (λ p. length p.ran.closed.memory ≡ image.data_size)
+    → IsWritable found
+play_writable image (Ok p) found kept sized = subst IsWritable (sym kept) sized
+play_writable image (Err error) found kept sized = subst IsWritable (sym kept) tt
+
+pub trace_writable : (made : Result Traced AllocError) (found : Finding) → found ≡ trace_finding made
+    → IsWritable found
+trace_writable (Ok t) found kept = subst IsWritable (sym kept) tt
+trace_writable (Err error) found kept = subst IsWritable (sym kept) tt

@@ -1,5 +1,7 @@
 -- What is found with an image: runs that are made of it, and texts behind it.
-use Rattle.std.specs.Prelude.{◌≡◌, ◌≢◌, ◌≤◌, ◌==◌, ℕ, List, length, map, Ok, Some, None, IfSome, if◌then◌else◌}
+use Rattle.std.specs.Prelude.{◌≡◌, ◌≢◌, ◌≤◌, ◌==◌, ℕ, List, length, map, Result, Ok, Err, Some, None, IfSome}
+use Rattle.std.specs.Prelude.{MatchOption, if◌then◌else◌}
+use Rattle.std.specs.declared.alloc.AllocError.{AllocError}
 use Rattle.std.specs.declared.marker.Brand.{Brand}
 use Rattle.std.specs.declared.option.Option.{Option}
 use Rattle.guest_image.specs.ImageValue.{ImageValue}
@@ -20,6 +22,7 @@ use Rattle.step_script.specs.declared.fault.ScriptFault.TheVariants as faults
 use Rattle.machine_run.specs.Least.{IsLeastRun, run_of}
 use Rattle.machine_run.specs.Played.{IsPlayedInPart, IsPlayedRun, IsTracedRun}
 use Rattle.machine_run.specs.declared.left.Ran.{Ran}
+use Rattle.machine_run.specs.declared.left.Stopped.{Stopped}
 use Rattle.machine_run.specs.declared.playing.Played.{Played}
 use Rattle.machine_run.specs.declared.playing.Traced.{Traced}
 use Rattle.command_line.specs.declared.request.Command.TheVariants as commands
@@ -59,6 +62,27 @@ pub record IsRunSo (image : ImageValue) (settings : Settings) (placers : List Po
   pub steps_is : steps ≡ told_steps settings.workers ran.closed.steps
   pub over : ran.end ≢ Some ends.Unfinished
 
+-- what is found of what the machine answered, where the image that was read was to be run: the run that it made; and
+-- want of memory only where it made none
+abbrev pub run_finding : ImageValue → (workers : ℕ) → Result Ran AllocError → Finding
+run_finding image workers (Ok ran) = finding.Ran image ran (told_steps workers ran.closed.steps)
+run_finding image workers (Err error) = finding.Memory
+
+-- the same where a generated image was to be run
+abbrev pub load_finding : Loading → ImageValue → (workers : ℕ) → Result Ran AllocError → Finding
+load_finding load image workers (Ok ran) = finding.Loaded load image ran (told_steps workers ran.closed.steps)
+load_finding load image workers (Err error) = finding.Memory
+
+-- the same where a script was to be played
+abbrev pub play_finding : ImageValue → Result Played AllocError → Finding
+play_finding image (Ok played) = finding.Played image played
+play_finding image (Err error) = finding.Memory
+
+-- the same where a script was to be played for its taps
+abbrev pub trace_finding : Result Traced AllocError → Finding
+trace_finding (Ok traced) = finding.Traced traced
+trace_finding (Err error) = finding.Memory
+
 -- what was made of the tasks that pend after a run: the bytes of the image that goes on, or why there is none
 abbrev pub Saves : ImageValue → List ℕ → List Pending → Saving → Type 0
 Saves image memory pendings (saving.Bytes bytes) =
@@ -76,6 +100,14 @@ IsKeptSo image frozen steps (finding.Stopped ran told made) =
     (ran ≡ record { closed = frozen.closed; end = Some ends.Limit }) × (told ≡ steps)
     × Saves image frozen.closed.memory frozen.pending made
 IsKeptSo image frozen steps other = ⊥
+
+-- what is found of a run that was made and was to go on: that run, and where tasks were kept that pend after it, what
+-- was made of them
+abbrev pub IsKeptStopped : ImageValue → (workers : ℕ) → Stopped → Finding → Type 0
+IsKeptStopped image workers stopped found =
+    let steps = told_steps workers stopped.ran.closed.steps in
+    MatchOption stopped.pending (found ≡ finding.Ran image stopped.ran steps)
+    (λ pendings. IsKeptSo image (record { closed = stopped.ran.closed; pending = pendings }) steps found)
 
 -- the image was run to the commit limit, and this was made of what pends
 pub record IsStoppedSo (image : ImageValue) (settings : Settings) (placers : List Policy) (taps : List Reading)

@@ -11,7 +11,7 @@ ghost use Rattle.fractal_sim.specs.Given.{Reads};
 use crate::checking::check_report;
 use crate::finding::{Finding, Loading};
 use crate::playing::{play_behind, trace_behind};
-use crate::running::{run_image, run_load};
+use crate::running::{run_finding, run_image, run_load};
 use crate::saving::save_image;
 use command_line::{Command, Refusal, Request, read_words};
 use guest_image::{Image, ImageFault, read_image};
@@ -91,10 +91,10 @@ fn act<R: Threads + Wait + Sync, G: Gate + Sync, P: Placer + Send, T: Tap + Send
     ensures writable { IsWritable result }
 {
     match request.command {
-        Command::Run => match run_image(rt, alloc, &image, request.settings, gate, placers, taps) {
-            Ok((ran, steps)) => Finding::Ran(image, ran, steps),
-            Err(_) => Finding::Memory,
-        },
+        Command::Run => {
+            let made = run_image(rt, alloc, &image, request.settings, gate, placers, taps);
+            run_finding(image, request.settings.workers, made)
+        }
         Command::Save => save_image(rt, alloc, image, request.settings, gate, placers, taps),
         Command::Steps => play_behind(alloc, request, image, rest, placers, taps),
         Command::Trace => trace_behind(alloc, request, &image, rest, placers, taps),

@@ -27,8 +27,8 @@ pub(crate) enum Saving {
     TooMany(u32),
 }
 
-/// What is found before anything is written. No memory is taken from then on.
-#[derive(Drop)]
+/// What is found before anything is written. No memory is taken from then on. As with a run, which it may have, it is
+/// handed on or taken apart.
 pub(crate) enum Finding {
     /// The words are refused.
     Usage,

@@ -3,15 +3,15 @@
 ghost use Rattle.std.specs.Prelude.{◌≡◌, ◌≤◌, length, map};
 ghost use Rattle.guest_image.specs.ImageValue.{IsImage};
 ghost use Rattle.command_line.specs.Requests.{IsLimited};
-ghost use Rattle.fractal_sim.specs.Deciding.{IsFoundBehind, unscripted};
+ghost use Rattle.fractal_sim.specs.Deciding.{IsFoundBehind, play_finding, trace_finding, unscripted};
 ghost use Rattle.fractal_sim.specs.Finding.{IsWritable};
 
 use crate::finding::Finding;
 use command_line::{Command, Request};
 use guest_image::Image;
-use machine_run::{play_script, trace_script};
+use machine_run::{Played, Traced, play_script, trace_script};
 use place_policy::Placer;
-use std::alloc::Global;
+use std::alloc::{AllocError, Global};
 use std::marker::Brand;
 use step_script::{ScriptFault, read_script};
 use trace_tap::Tap;
@@ -38,7 +38,15 @@ pub(crate) fn play_behind<P: Placer, T: Tap>(
         Ok(script) => script,
         Err(fault) => return unscripted(fault),
     };
-    match play_script::<Brand, P, T>(alloc, &image, settings, &script, placers, taps) {
+    let made = play_script::<Brand, P, T>(alloc, &image, settings, &script, placers, taps);
+    play_finding(image, made)
+}
+
+/// What is found of a script that was to be played: the run that it made, or want of memory only where it made none.
+fn play_finding(image: Image, made: Result<Played, AllocError>) -> Finding
+    ensures { result ≡ play_finding image made }
+{
+    match made {
         Ok(played) => Finding::Played(image, played),
         Err(_) => Finding::Memory,
     }
@@ -67,7 +75,16 @@ pub(crate) fn trace_behind<P: Placer, T: Tap>(
         Ok(script) => script,
         Err(fault) => return unscripted(fault),
     };
-    match trace_script::<Brand, P, T>(alloc, image, settings, &script, placers, taps) {
+    let made = trace_script::<Brand, P, T>(alloc, image, settings, &script, placers, taps);
+    trace_finding(made)
+}
+
+/// What is found of a script that was to be played for its taps: the run that it made, or want of memory only where it
+/// made none.
+fn trace_finding(made: Result<Traced, AllocError>) -> Finding
+    ensures { result ≡ trace_finding made }
+{
+    match made {
         Ok(traced) => Finding::Traced(traced),
         Err(_) => Finding::Memory,
     }

@@ -41,11 +41,12 @@ fn left(status: u8, ran: Ran, steps: Option<u64>) -> Outcome
     ensures status { result.status ≡ status }
     ensures kept { HoldsRun (whole ran) steps result }
 {
+    let Ran { closed, end } = ran;
     let run = SerialRun {
-        journal: ran.closed.journal,
-        memory: ran.closed.memory,
-        output: ran.closed.output,
-        end: ran.end,
+        journal: closed.journal,
+        memory: closed.memory,
+        output: closed.output,
+        end,
     };
     outcome(status, run, steps)
 }

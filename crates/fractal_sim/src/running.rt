@@ -4,7 +4,7 @@ ghost use Rattle.std.specs.Prelude.{◌≡◌, map, IfOk};
 ghost use Rattle.guest_image.specs.ImageValue.{IsImage};
 ghost use Rattle.spec_state.specs.Settings.{IsValid};
 ghost use Rattle.load_gen.specs.Generated.{IsSize};
-ghost use Rattle.fractal_sim.specs.Deciding.{IsRunSo, IsLoadedSo, told_steps};
+ghost use Rattle.fractal_sim.specs.Deciding.{IsRunSo, IsLoadedSo, told_steps, run_finding, load_finding};
 ghost use Rattle.fractal_sim.specs.Finding.{HasWindow, IsWritable};
 
 use crate::finding::{Finding, Loading};
@@ -20,7 +20,7 @@ use std::thread::Threads;
 use tile_worker::Gate;
 use trace_tap::Tap;
 
-/// Runs an image up to its end, or as far as memory goes; tells how many events the run had where no workers made them.
+/// Runs an image up to its end, or as far as memory goes.
 pub(crate) fn run_image<R: Threads + Wait + Sync, G: Gate + Sync, P: Placer + Send, T: Tap + Send>(
     rt: &R,
     alloc: Global,
@@ -29,17 +29,30 @@ pub(crate) fn run_image<R: Threads + Wait + Sync, G: Gate + Sync, P: Placer + Se
     gate: &G,
     placers: Vec<P>,
     taps: Vec<T>,
-) -> Result<(Ran, Option<u64>), AllocError>
+) -> Result<Ran, AllocError>
     requires fits { IsImage image.now }
     requires valid { IsValid settings }
     ensures made { let serving = map P.policy placers.items in
         let noting = map T.reading taps.items in
-        IfOk result (λ made. IsRunSo image.now settings serving noting made.0 made.1) }
-    ensures window { IfOk result (λ made. HasWindow image.now made.0) }
+        IfOk result (λ ran.
+        IsRunSo image.now settings serving noting ran (told_steps settings.workers ran.closed.steps)) }
+    ensures window { IfOk result (HasWindow image.now) }
 {
-    let ran = run::<Brand, P, T, G, R>(rt, alloc, image, settings, gate, placers, taps)?;
-    let steps = told_steps(settings.workers, ran.closed.steps);
-    Ok((ran, steps))
+    run::<Brand, P, T, G, R>(rt, alloc, image, settings, gate, placers, taps)
+}
+
+/// What is found of an image that was read and was to be run: the run that was made, with its events where no workers
+/// made them, or want of memory only where none was made.
+pub(crate) fn run_finding(image: Image, workers: u32, made: Result<Ran, AllocError>) -> Finding
+    ensures { result ≡ run_finding image workers made }
+{
+    match made {
+        Ok(ran) => {
+            let steps = told_steps(workers, ran.closed.steps);
+            Finding::Ran(image, ran, steps)
+        }
+        Err(_) => Finding::Memory,
+    }
 }
 
 /// How many events are told.
@@ -69,8 +82,20 @@ pub(crate) fn run_load<R: Threads + Wait + Sync, G: Gate + Sync, P: Placer + Sen
     let Ok(image) = make(alloc, load.load, load.seed, load.size) else {
         return Finding::Memory;
     };
-    match run_image(rt, alloc, &image, settings, gate, placers, taps) {
-        Ok((ran, steps)) => Finding::Loaded(load, image, ran, steps),
+    let made = run_image(rt, alloc, &image, settings, gate, placers, taps);
+    load_finding(load, image, settings.workers, made)
+}
+
+/// What is found of a generated image that was to be run: the run that was made, with its events where no workers made
+/// them, or want of memory only where none was made.
+fn load_finding(load: Loading, image: Image, workers: u32, made: Result<Ran, AllocError>) -> Finding
+    ensures { result ≡ load_finding load image workers made }
+{
+    match made {
+        Ok(ran) => {
+            let steps = told_steps(workers, ran.closed.steps);
+            Finding::Loaded(load, image, ran, steps)
+        }
         Err(_) => Finding::Memory,
     }
 }

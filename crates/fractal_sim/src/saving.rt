@@ -1,11 +1,11 @@
 //! An image is run, and saved where the run meets its commit limit.
 
-ghost use Rattle.std.specs.Prelude.{◌≡◌, ◌<◌, ℕ, length, map, IfSome, Some, None};
+ghost use Rattle.std.specs.Prelude.{◌≡◌, ◌<◌, ℕ, length, map, IfOk, IfSome, MatchResult, Some, None};
 ghost use Rattle.guest_image.specs.ImageValue.{IsImage};
 ghost use Rattle.conflict_book.specs.Frozen.{IsFrozenOf};
 ghost use Rattle.spec_state.specs.Settings.{IsValid};
 ghost use Rattle.machine_run.specs.Stopping.{IsStoppedWith};
-ghost use Rattle.fractal_sim.specs.Deciding.{IsKeptSo, IsSavedSo, Saves};
+ghost use Rattle.fractal_sim.specs.Deciding.{IsKeptSo, IsKeptStopped, IsSavedSo, Saves};
 ghost use Rattle.fractal_sim.specs.Finding.{IsWritable};
 
 use crate::finding::{Finding, Saving};
@@ -16,7 +16,7 @@ use place_policy::Placer;
 use resume_image::{Frozen, SaveFault, snapshot};
 use serial_machine::End;
 use spec_state::Settings;
-use std::alloc::Global;
+use std::alloc::{AllocError, Global};
 use std::marker::Brand;
 use std::sync::Wait;
 use std::thread::Threads;
@@ -41,22 +41,41 @@ pub(crate) fn save_image<R: Threads + Wait + Sync, G: Gate + Sync, P: Placer + S
         IsSavedSo image settings serving noting result }
     ensures writable { IsWritable result }
 {
-    match run_to_save::<Brand, P, T, G, R>(rt, alloc, &image, settings, gate, placers, taps) {
-        Ok(stopped) => {
-            let Stopped { ran, pending } = stopped;
-            let steps = told_steps(settings.workers, ran.closed.steps);
-            match pending {
-                None => Finding::Ran(image, ran, steps),
-                Some(pending) => {
-                    let frozen = Frozen {
-                        closed: ran.closed,
-                        pending,
-                    };
-                    keep_frozen(alloc, image, frozen, steps)
-                }
-            }
-        }
+    let made = run_to_save::<Brand, P, T, G, R>(rt, alloc, &image, settings, gate, placers, taps);
+    save_finding(alloc, image, settings, made)
+}
+
+/// What is found of an image that was to be run and saved: the run that was made, or want of memory only where none was
+/// made.
+fn save_finding(
+    alloc: Global,
+    image: Image,
+    settings: Settings,
+    made: Result<Stopped, AllocError>,
+) -> Finding
+    requires { IfOk made (λ stopped. IfSome stopped.pending (IsStoppedWith image settings.budget stopped.ran)) }
+    ensures { MatchResult made (λ stopped. IsKeptStopped image settings.workers stopped result)
+        (λ error. result ≡ Finding.Memory) }
+{
+    match made {
+        Ok(stopped) => keep_stopped(alloc, image, settings, stopped),
         Err(_) => Finding::Memory,
+    }
+}
+
+/// What is found of a run that was made and is to go on. The run is kept, whatever comes of what follows it.
+fn keep_stopped(alloc: Global, image: Image, settings: Settings, stopped: Stopped) -> Finding
+    requires { IfSome stopped.pending (IsStoppedWith image settings.budget stopped.ran) }
+    ensures { IsKeptStopped image settings.workers stopped result }
+{
+    let Stopped { ran, pending } = stopped;
+    let steps = told_steps(settings.workers, ran.closed.steps);
+    match pending {
+        None => Finding::Ran(image, ran, steps),
+        Some(pending) => {
+            let Ran { closed, end: _ } = ran;
+            keep_frozen(alloc, image, Frozen { closed, pending }, steps)
+        }
     }
 }
 

@@ -17,7 +17,8 @@ use spec_state::Pendings;
 use trace_tap::Tap;
 
 /// A run that was made: what its closed book leaves, and its end; None where memory ran out.
-#[derive(Drop)]
+///
+/// It isn't `Drop`: whoever is handed a run hands it on, or takes it apart.
 pub struct Ran {
     /// What the closed book leaves.
     pub closed: Closed,
@@ -43,7 +44,6 @@ pub(crate) fn leave<N: Naming, P: Placer, T: Tap>(book: Book<N, P, T>, end: Opti
 }
 
 /// A run that was made, with the tasks that pend where it met its commit limit and was to go on later.
-#[derive(Drop)]
 pub struct Stopped {
     /// The run.
     pub ran: Ran,

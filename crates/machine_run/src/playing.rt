@@ -29,7 +29,6 @@ use trace_tap::Tap;
 
 /// A script that was played: the run that it left, and what was said of each act; the end is None where memory ran
 /// out on the way.
-#[derive(Drop)]
 pub struct Played {
     /// The run.
     pub ran: Ran,
@@ -39,7 +38,6 @@ pub struct Played {
 
 /// A script that was played: the run that it left, and the numbers of each tap's list; the end is None where memory
 /// ran out on the way, or for the lists.
-#[derive(Drop)]
 pub struct Traced {
     /// The run.
     pub ran: Ran,

@@ -58,7 +58,8 @@ pub fn run<
     ensures over { IfOk result (λ ran. ran.end ≢ Some End.Unfinished) }
 {
     let stopped = run_as::<N, P, T, G, R>(rt, alloc, image, settings, gate, placers, taps, false)?;
-    Ok(stopped.ran)
+    let Stopped { ran, pending: _ } = stopped;
+    Ok(ran)
 }
 
 /// Runs an image as `run` does, and keeps what pends where the run meets its commit limit. Where memory runs out for

@@ -9,6 +9,7 @@ use conflict_book::Reply;
 use guest_image::Image;
 use machine_run::{Played, Ran, Traced, play_script, run, trace_script};
 use place_policy::ByHint;
+use run_journal::Closed;
 use rv_core::Naming;
 use sample_image::READER_AND_WRITER;
 use serial_machine::End;
@@ -48,11 +49,11 @@ fn ran<N: Naming + Send + Sync, R: Threads + Wait + Sync + Alloc<A = Global>>(
 }
 
 /// The run came to its end: the writer, the reader and its child took their turns.
-fn is_whole(rt: &impl Abort, ran: &Ran) {
-    assert!(rt; is_normal(ran.end));
-    assert_eq!(rt; ran.closed.journal.as_slice().len(), 3);
+fn is_whole(rt: &impl Abort, closed: &Closed, end: Option<End>) {
+    assert!(rt; is_normal(end));
+    assert_eq!(rt; closed.journal.as_slice().len(), 3);
     assert_eq!(rt;
-        ran.closed.memory.as_slice(),
+        closed.memory.as_slice(),
         [7, 0, 0, 0, 8, 0, 0, 0].as_slice()
     );
 }
@@ -60,17 +61,17 @@ fn is_whole(rt: &impl Abort, ran: &Ran) {
 #[test]
 fn an_image_runs_without_workers(rt: HostRuntime) -> Result<(), Fail> {
     let image = image_of(rt.alloc(), &READER_AND_WRITER)?;
-    let ran = ran::<Brand, HostRuntime>(&rt, &image, TWO_TILES)?;
-    is_whole(&rt, &ran);
-    assert_eq!(rt; ran.closed.steps, 13);
+    let Ran { closed, end } = ran::<Brand, HostRuntime>(&rt, &image, TWO_TILES)?;
+    is_whole(&rt, &closed, end);
+    assert_eq!(rt; closed.steps, 13);
     Ok(())
 }
 
 #[test]
 fn an_image_runs_by_two_workers(rt: HostRuntime) -> Result<(), Fail> {
     let image = image_of(rt.alloc(), &READER_AND_WRITER)?;
-    let ran = ran::<Brand, HostRuntime>(&rt, &image, TWO_WORKERS)?;
-    is_whole(&rt, &ran);
+    let Ran { closed, end } = ran::<Brand, HostRuntime>(&rt, &image, TWO_WORKERS)?;
+    is_whole(&rt, &closed, end);
     Ok(())
 }
 
@@ -125,18 +126,19 @@ fn is_unfinished(end: Option<End>) -> bool {
 }
 
 /// The run stands open, and none of its stores is left.
-fn leaves_zeros(rt: &impl Abort, ran: &Ran) {
-    assert!(rt; is_unfinished(ran.end));
-    assert_eq!(rt; ran.closed.steps, 5);
-    assert_eq!(rt; ran.closed.memory.as_slice(), [0; 8].as_slice());
+fn leaves_zeros(rt: &impl Abort, ran: Ran) {
+    let Ran { closed, end } = ran;
+    assert!(rt; is_unfinished(end));
+    assert_eq!(rt; closed.steps, 5);
+    assert_eq!(rt; closed.memory.as_slice(), [0; 8].as_slice());
 }
 
 #[test]
 fn a_script_is_played(rt: HostRuntime) -> Result<(), Fail> {
     let image = image_of(rt.alloc(), &READER_AND_WRITER)?;
-    let played = played::<Brand>(rt.alloc(), &image, TWO_TILES)?;
-    leaves_zeros(&rt, &played.ran);
-    assert_eq!(rt; played.said.as_slice(), SAID.as_slice());
+    let Played { ran, said } = played::<Brand>(rt.alloc(), &image, TWO_TILES)?;
+    leaves_zeros(&rt, ran);
+    assert_eq!(rt; said.as_slice(), SAID.as_slice());
     Ok(())
 }
 
@@ -160,9 +162,10 @@ static RECORDS: [u64; 20] = [2, 0, 1, 0, 0, 2, 0, 1, 0, 0, 1, 1, 0, 0, 0, 2, 1, 
 #[test]
 fn a_tap_tells_of_a_script(rt: HostRuntime) -> Result<(), Fail> {
     let image = image_of(rt.alloc(), &READER_AND_WRITER)?;
-    let traced = traced::<Brand>(rt.alloc(), &image, TWO_TILES)?;
-    assert!(rt; is_unfinished(traced.ran.end));
-    assert_eq!(rt; traced.lists.len(), 1);
-    assert_eq!(rt; traced.lists[0].as_slice(), RECORDS.as_slice());
+    let Traced { ran, lists } = traced::<Brand>(rt.alloc(), &image, TWO_TILES)?;
+    let Ran { closed: _, end } = ran;
+    assert!(rt; is_unfinished(end));
+    assert_eq!(rt; lists.len(), 1);
+    assert_eq!(rt; lists[0].as_slice(), RECORDS.as_slice());
     Ok(())
 }
