@@ -5,7 +5,9 @@ ghost use Rattle.spec_state.specs.Settings.{IsValid};
 ghost use Rattle.conflict_book.specs.Ranges.{IsInRange};
 ghost use Rattle.conflict_book.specs.Seen.{view_of};
 
-use crate::machines::{ENDERS, Hinted, TWO_TILES, image_of, is_normal, one_tap, opened};
+use crate::machines::{
+    ENDERS, FOUR_CORES, Hinted, TWO_TILES, image_of, is_normal, one_tap, opened,
+};
 use conflict_book::{Applied, Book, Event, Halt, Reply};
 use guest_image::Image;
 use place_policy::Placer;
@@ -27,14 +29,6 @@ fn is_sent<T: Send>(_value: &T) {}
 fn book_is_sent<N: Naming + Send>(book: &Book<N>) {
     is_sent(book);
 }
-
-/// One tile of four cores, with a task queue of four.
-const FOUR_CORES: Settings = Settings {
-    tiles: 1,
-    cores: 4,
-    task_queue: 4,
-    ..TWO_TILES
-};
 
 /// What a schedule does in a tile; it steps the first core.
 #[derive(Clone, Copy)]

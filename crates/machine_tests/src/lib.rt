@@ -18,6 +18,8 @@ mod scripts;
 #[cfg(test)]
 mod states;
 #[cfg(test)]
+mod steps;
+#[cfg(test)]
 mod whole_runs;
 #[cfg(test)]
 mod workers;

@@ -35,6 +35,14 @@ pub const DEFAULTS: Settings = Settings {
     ..TWO_TILES
 };
 
+/// One tile of four cores, with a task queue of four.
+pub const FOUR_CORES: Settings = Settings {
+    tiles: 1,
+    cores: 4,
+    task_queue: 4,
+    ..TWO_TILES
+};
+
 /// Two tasks that end at once, at the timestamps 1 and 2.
 pub const ENDERS: Program = Program {
     text: &[0x0000_0893, 0x0000_0073],

@@ -3,7 +3,7 @@
 ghost use Rattle.std.specs.Prelude.{◌≡◌};
 ghost use Rattle.spec_state.specs.Settings.{IsValid};
 
-use crate::machines::{ENDERS, Hinted, TWO_TILES, image_of, opened};
+use crate::machines::{ENDERS, FOUR_CORES, Hinted, TWO_TILES, image_of, opened};
 use conflict_book::Reply;
 use guest_image::Image;
 use rv_core::Naming;
@@ -92,14 +92,6 @@ const ONE_FINISHED: Settings = Settings {
 
 /// Two tiles of one core, with task queues of four.
 const SHORT_QUEUES: Settings = Settings {
-    task_queue: 4,
-    ..TWO_TILES
-};
-
-/// One tile of four cores, with a task queue of four.
-const FOUR_CORES: Settings = Settings {
-    tiles: 1,
-    cores: 4,
     task_queue: 4,
     ..TWO_TILES
 };

@@ -22,12 +22,21 @@ use std::process::Abort;
 use std::sync::Wait;
 use std::sync::atomic::{AtomicU64, Ordering};
 use std::test::Fail;
-use std::thread::{Threads, join};
+use std::thread::{Threads, join, yield_now};
 use tile_worker::{Drained, Gate, OpenGate, Watched, opening_is_reading, run_tiles, run_watched};
 use trace_tap::{LastN, Tap};
 
-/// How many readings a reader takes.
+/// How many readings a reader takes once it has seen a commit.
 const ROUNDS: u32 = 1_000;
+
+/// How many readings a reader takes at most until it has seen a commit, so that a test ends whatever happens.
+const MOST_READINGS: u32 = 50_000_000;
+
+/// How often a worker looks for the reader at its first leg; at each later one as often once more.
+const LOOKS: u64 = 1_000;
+
+/// From this leg on it looks as often at each.
+const LAST_LONGER: u64 = 50;
 
 /// Four tiles of two cores.
 const FOUR_TILES: Settings = Settings {
@@ -71,6 +80,46 @@ impl Gate for CountingGate {
         };
         if leg != last.swap(leg, Ordering::SeqCst).saturating_add(1) {
             self.gaps.store(1, Ordering::SeqCst);
+        }
+    }
+}
+
+/// A gate at which a worker waits for a reader that has seen a commit, the longer the more legs the worker had: before
+/// the first commit that is in vain. It notes whether a worker passed after the reader had seen one.
+#[derive(Drop)]
+struct SeenGate {
+    seen: AtomicU64,
+    passed: AtomicU64,
+}
+
+impl SeenGate {
+    /// A gate of a run that hasn't begun.
+    fn new() -> SeenGate {
+        SeenGate {
+            seen: AtomicU64::new(0),
+            passed: AtomicU64::new(0),
+        }
+    }
+
+    /// The reader has seen a commit.
+    fn note_seen(&self) {
+        self.seen.store(1, Ordering::SeqCst);
+    }
+
+    /// Whether a worker passed after the reader had seen a commit.
+    fn was_passed(&self) -> bool {
+        self.passed.load(Ordering::SeqCst) != 0
+    }
+}
+
+impl Gate for SeenGate {
+    fn pass(&self, _worker: u32, leg: u64) {
+        for _ in 0..leg.min(LAST_LONGER).saturating_mul(LOOKS) {
+            if self.seen.load(Ordering::SeqCst) != 0 {
+                self.passed.store(1, Ordering::SeqCst);
+                return;
+            }
+            yield_now();
         }
     }
 }
@@ -145,6 +194,21 @@ fn legs_of_each_worker_are_numbered_without_a_gap(rt: HostRuntime) -> Result<(),
     Ok(())
 }
 
+/// Takes readings until one tells of a commit, and lets the workers know.
+fn await_commit<R: Wait>(rt: &R, board: &Board, mut reader: Reader, gate: &SeenGate) -> Reader
+    requires { reader.board ≡ board.now }
+    ensures { result.board ≡ board.now }
+{
+    for _ in 0..MOST_READINGS {
+        if board.read(rt, &mut reader).commits > 0 {
+            gate.note_seen();
+            return reader;
+        }
+        yield_now();
+    }
+    reader
+}
+
 /// Takes as many readings as there are rounds, and tells the most commits and the most output that it saw.
 fn follow<R: Wait>(rt: &R, board: &Board, mut reader: Reader) -> (Reader, Reading)
     requires { reader.board ≡ board.now }
@@ -171,6 +235,7 @@ fn watch<N: Naming + Send + Sync, P: Placer + Send, T: Tap + Send, R: Threads + 
     board: &Board,
     writer: Writer,
     reader: Reader,
+    gate: &SeenGate,
 ) -> (Watched<N, P, T>, (Reader, Reading))
     requires image { image.now ≡ N.image }
     requires workers { (1 ≤ workers) × (workers ≤ 16) }
@@ -191,11 +256,11 @@ fn watch<N: Naming + Send + Sync, P: Placer + Send, T: Tap + Send, R: Threads + 
                 × AreReadings N.image N.budget (view_of P.policy T.reading book).view.history writer.told
                 × (last_of writer.told ≡ counts_of (view_of P.policy T.reading book).view) }
             ensures { result.writer.board ≡ board.entry.now }
-        { run_watched(rt, image, book, workers, &OpenGate, board, writer) },
+        { run_watched(rt, image, book, workers, gate, board, writer) },
         move || -> (Reader, Reading)
             requires { reader.board ≡ board.now }
             ensures { result.0.board ≡ board.entry.now }
-        { follow(rt, board, reader) },
+        { follow(rt, board, await_commit(rt, board, reader, gate)) },
     )
 }
 
@@ -217,6 +282,7 @@ fn watch_by<N: Naming + Send + Sync>(
     board: &Board,
     writer: Writer,
     reader: Reader,
+    gate: &SeenGate,
 ) -> (Writer, Reader)
     requires image { image.now ≡ N.image }
     requires workers { (1 ≤ workers) × (workers ≤ 16) }
@@ -228,7 +294,7 @@ fn watch_by<N: Naming + Send + Sync>(
 {
     opening_is_reading();
     assert!(rt; book.steps() == 0 && book.counts() == writer.last());
-    let (watched, (reader, most)) = watch(rt, image, book, workers, board, writer, reader);
+    let (watched, (reader, most)) = watch(rt, image, book, workers, board, writer, reader, gate);
     let Watched { drained, writer } = watched;
     assert!(rt; matches!(drained.halt, Halt::Ended(End::Normal)));
     is_told(rt, &drained.book, &writer, commits);
@@ -243,6 +309,7 @@ fn watch_whole<N: Naming + Send + Sync>(
     settings: Settings,
     workers: u32,
     commits: u32,
+    gate: &SeenGate,
 ) -> Result<(), Fail>
     requires valid { IsValid settings }
     requires image { image.now ≡ N.image }
@@ -253,7 +320,9 @@ fn watch_whole<N: Naming + Send + Sync>(
     let book = book_of::<N>(rt.alloc(), image, settings)?;
     let (board, mut writer) = Board::new(rt.alloc())?;
     let reader = board.reader(&mut writer);
-    let (mut writer, reader) = watch_by(rt, image, book, workers, commits, &board, writer, reader);
+    let (mut writer, reader) = watch_by(
+        rt, image, book, workers, commits, &board, writer, reader, gate,
+    );
     board.join(rt, &mut writer, reader);
     Ok(())
 }
@@ -261,13 +330,16 @@ fn watch_whole<N: Naming + Send + Sync>(
 #[test]
 fn a_reader_follows_two_workers(rt: HostRuntime) -> Result<(), Fail> {
     let image = image_of(rt.alloc(), &ENDERS)?;
-    watch_whole::<Brand>(&rt, &image, TWO_TILES, 2, 2)
+    watch_whole::<Brand>(&rt, &image, TWO_TILES, 2, 2, &SeenGate::new())
 }
 
 #[test]
-fn a_reader_follows_a_walk(rt: HostRuntime) -> Result<(), Fail> {
+fn a_reader_sees_a_commit_of_workers_while_they_run(rt: HostRuntime) -> Result<(), Fail> {
     let image = make(rt.alloc(), Load::Walk, 7, 200)?;
-    watch_whole::<Brand>(&rt, &image, FOUR_TILES, 2, 400)
+    let gate = SeenGate::new();
+    watch_whole::<Brand>(&rt, &image, FOUR_TILES, 2, 400, &gate)?;
+    assert!(rt; gate.was_passed());
+    Ok(())
 }
 
 #[test]
