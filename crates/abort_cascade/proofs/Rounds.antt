@@ -4,7 +4,7 @@ use Rattle.std.proofs.lemmas.Bool.{cases_eq}
 use Rattle.std.proofs.lemmas.List.{get_or-set_other, get_or-set_same, length-set}
 use Rattle.std.proofs.lemmas.List.Sums.{sum_by-set}
 use Rattle.abort_cascade.specs.Cascade.{Marked, Reached, start, step}
-use Rattle.abort_cascade.specs.Growth.{Spreads, Tells}
+use Rattle.abort_cascade.specs.Growth.{Spreads, SaysGrown}
 use Rattle.abort_cascade.proofs.Union.{reached_twice}
 
 -- a new mark is one more
@@ -43,7 +43,7 @@ module _ (count : ℕ) (pull : ℕ → ℕ → Bool) where
   pub record RoundOf (a upto : ℕ) (old new : List Bool) (grown : Bool) : Type 0 where
     pub spreads : Spreads count pull old new
     pub all : (b : ℕ) → b < upto → pull a b ≡ true → Marked new b
-    pub tells : Tells old new grown
+    pub tells : SaysGrown old new grown
 
   pub RoundOf-none : (a : ℕ) (marks : List Bool) → RoundOf a 0 marks marks false
   RoundOf-none a marks =
@@ -79,7 +79,8 @@ module _ (count : ℕ) (pull : ℕ → ℕ → Bool) where
         };
       }
     where
-      grew : (g : Bool) → Tells old new g → count_by (λ mark. mark) old < count_by (λ mark. mark) (set new upto true)
+      grew : (g : Bool) → SaysGrown old new g
+          → count_by (λ mark. mark) old < count_by (λ mark. mark) (set new upto true)
       grew true tells = omega (arith, count-mark new upto within unmarked, tells.more refl)
       grew false tells = omega (arith, count-mark new upto within unmarked, ap (count_by (λ mark. mark)) (tells.same refl))
 
@@ -87,7 +88,7 @@ module _ (count : ℕ) (pull : ℕ → ℕ → Bool) where
   pub record PassTo (upto : ℕ) (old new : List Bool) (grown : Bool) : Type 0 where
     pub spreads : Spreads count pull old new
     pub closed : grown ≡ false → (a b : ℕ) → a < upto → b < count → pull a b ≡ true → Marked new a → Marked new b
-    pub tells : Tells old new grown
+    pub tells : SaysGrown old new grown
 
   pub PassTo-none : (marks : List Bool) → PassTo 0 marks marks false
   PassTo-none marks =
@@ -108,7 +109,7 @@ module _ (count : ℕ) (pull : ℕ → ℕ → Bool) where
         tells = done.tells;
       }
 
-  pub PassTo-spread : (upto : ℕ) (old mid new : List Bool) (grown more : Bool) → Spreads count pull mid new → ((b : ℕ) → b < count → pull upto b ≡ true → Marked new b) → Tells mid new more → PassTo upto old mid grown → PassTo (upto + 1) old new (grown || more)
+  pub PassTo-spread : (upto : ℕ) (old mid new : List Bool) (grown more : Bool) → Spreads count pull mid new → ((b : ℕ) → b < count → pull upto b ≡ true → Marked new b) → SaysGrown mid new more → PassTo upto old mid grown → PassTo (upto + 1) old new (grown || more)
   PassTo-spread upto old mid new grown more spreads all tells done =
       record {
         spreads = Spreads-more old mid new done.spreads spreads;
@@ -116,13 +117,13 @@ module _ (count : ℕ) (pull : ℕ → ℕ → Bool) where
         tells = told grown more tells done.tells;
       }
     where
-      told : (g h : Bool) → Tells mid new h → Tells old mid g → Tells old new (g || h)
+      told : (g h : Bool) → SaysGrown mid new h → SaysGrown old mid g → SaysGrown old new (g || h)
       told true true two one = record { same = λ no. absurd (cc); more = λ _. omega (arith, one.more refl, two.more refl) }
       told true false two one = record { same = λ no. absurd (cc); more = λ _. omega (arith, one.more refl, ap (count_by (λ mark. mark)) (two.same refl)) }
       told false true two one = record { same = λ no. absurd (cc); more = λ _. omega (arith, ap (count_by (λ mark. mark)) (one.same refl), two.more refl) }
       told false false two one = record { same = λ _. two.same refl ∙ one.same refl; more = λ no. absurd (cc) }
 
-      closed : (g h : Bool) → Tells mid new h → PassTo upto old mid g → (g || h) ≡ false → (a b : ℕ) → a < upto + 1 → b < count → pull a b ≡ true → Marked new a → Marked new b
+      closed : (g h : Bool) → SaysGrown mid new h → PassTo upto old mid g → (g || h) ≡ false → (a b : ℕ) → a < upto + 1 → b < count → pull a b ≡ true → Marked new a → Marked new b
       closed true h two one = λ e a b below high pulled marked. absurd (cc)
       closed false true two one = λ e a b below high pulled marked. absurd (cc)
       closed false false two one = λ same a b below high pulled marked.

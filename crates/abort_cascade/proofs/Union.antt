@@ -2,7 +2,7 @@
 use Rattle.std.proofs.Common.{◌≡◌, ℕ, zero, suc, ◌<◌, Bool, true, false, List, length, get_or, set, replicate, refl, sym, subst, inl, inr}
 use Rattle.std.proofs.lemmas.Bool.{cases_eq}
 use Rattle.std.proofs.lemmas.List.{get_or-set_other, get_or-set_same}
-use Rattle.abort_cascade.specs.Cascade.{Marked, IsClosed, Reached, start, step, IsLeastClosed, Only, ClosesToUnion, ClosesToLeast}
+use Rattle.abort_cascade.specs.Cascade.{Marked, IsClosed, Reached, start, step, IsLeastClosed, OnlyNode, ClosesToUnion, ClosesToLeast}
 
 -- no node is marked where each mark is false
 pub unmarked : (n k : ℕ) → get_or (replicate n false) k false ≡ false
@@ -16,7 +16,7 @@ module _ (count : ℕ) (pull : ℕ → ℕ → Bool) where
   reached_twice firsts mids each node (start a is) = each node is
   reached_twice firsts mids each node (step {a} b r low high pulled) = step b (reached_twice firsts mids each a r) low high pulled
 
-  pub reached_one : (firsts : ℕ → Type 0) (node : ℕ) → Reached count pull firsts node → (first : ℕ) × firsts first × Reached count pull (Only first) node
+  pub reached_one : (firsts : ℕ → Type 0) (node : ℕ) → Reached count pull firsts node → (first : ℕ) × firsts first × Reached count pull (OnlyNode first) node
   reached_one firsts node (start a is) = (node, is, start node refl)
   reached_one firsts node (step {a} b r low high pulled) = let one = reached_one firsts a r in (one.0, one.1, step b one.2 low high pulled)
 
@@ -27,12 +27,12 @@ module _ (count : ℕ) (pull : ℕ → ℕ → Bool) where
     | inr other ↦ absurd (cc (none node, get_or-set_other marks first node true false other, marked))
   ]
 
-  pub of_one : (first : ℕ) (marks new : List Bool) → first < length marks → ((k : ℕ) → get_or marks k false ≡ false) → IsLeastClosed count pull (Marked (set marks first true)) new → IsLeastClosed count pull (Only first) new
+  pub of_one : (first : ℕ) (marks new : List Bool) → first < length marks → ((k : ℕ) → get_or marks k false ≡ false) → IsLeastClosed count pull (Marked (set marks first true)) new → IsLeastClosed count pull (OnlyNode first) new
   of_one first marks new within none is =
       record {
         holds = λ node at. is.holds node (subst (Marked (set marks first true)) (sym at) (get_or-set_same marks first true false within));
         closed = is.closed;
-        reached = λ node marked. reached_twice (Only first) (Marked (set marks first true)) (λ k at. start k (only_first first marks none k at)) node (is.reached node marked);
+        reached = λ node marked. reached_twice (OnlyNode first) (Marked (set marks first true)) (λ k at. start k (only_first first marks none k at)) node (is.reached node marked);
       }
 
   -- a reached node is in each closed set that holds the first ones
@@ -44,7 +44,7 @@ module _ (count : ℕ) (pull : ℕ → ℕ → Bool) where
 pub is_union : ClosesToUnion
 is_union count pull firsts marks is node = (
   λ marked. reached_one count pull (Marked firsts) node (is.reached node marked),
-  λ one. reached_in_closed count pull (Only one.0) (Marked marks) (λ k e. subst (Marked marks) (sym e) (is.holds one.0 one.1)) is.closed node one.2,
+  λ one. reached_in_closed count pull (OnlyNode one.0) (Marked marks) (λ k e. subst (Marked marks) (sym e) (is.holds one.0 one.1)) is.closed node one.2,
 )
 
 pub is_least : ClosesToLeast

@@ -23,14 +23,14 @@ pub record IsLeastClosed (count : ℕ) (pull : ℕ → ℕ → Bool) (firsts : �
   pub reached : (node : ℕ) → Marked marks node → Reached count pull firsts node
 
 -- the set of this one node
-abbrev pub Only : ℕ → ℕ → Type 0
-Only first node = node ≡ first
+abbrev pub OnlyNode : ℕ → ℕ → Type 0
+OnlyNode first node = node ≡ first
 
 -- the least closed set of some nodes is the union of the least closed sets of each
 abbrev pub ClosesToUnion : Type 0
 ClosesToUnion =
     (count : ℕ) (pull : ℕ → ℕ → Bool) (firsts marks : List Bool) → IsLeastClosed count pull (Marked firsts) marks
-    → (node : ℕ) → Marked marks node ↔ ((first : ℕ) × Marked firsts first × Reached count pull (Only first) node)
+    → (node : ℕ) → Marked marks node ↔ ((first : ℕ) × Marked firsts first × Reached count pull (OnlyNode first) node)
 
 -- each closed set that holds the first nodes holds the least one
 abbrev pub ClosesToLeast : Type 0

@@ -9,7 +9,7 @@ pub record Spreads (count : ℕ) (pull : ℕ → ℕ → Bool) (old new : List B
   pub size : length new ≡ length old
 
 -- it says whether a mark is new
-pub record Tells (old new : List Bool) (grown : Bool) : Type 0 where
+pub record SaysGrown (old new : List Bool) (grown : Bool) : Type 0 where
   pub same : grown ≡ false → new ≡ old
   pub more : grown ≡ true → count_by (λ mark. mark) old < count_by (λ mark. mark) new
 

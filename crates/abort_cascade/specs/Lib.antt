@@ -1,2 +1,3 @@
+-- Contracts mean all of these.
 pub mod Cascade
 pub mod Growth

@@ -1,4 +1,4 @@
-// Sets that are closed under a relation, each grown in one walk.
+//! Sets that are closed under a relation, each grown in one walk.
 
 ghost use Rattle.std.specs.Prelude.{◌≡◌, ℕ, ◌<◌, ◌≤◌, ◌↔◌, true, length, take, count_by, slice_index, Contains};
 ghost use Rattle.abort_cascade.specs.Cascade.{Marked, IsLeastClosed, ClosesToUnion, ClosesToLeast};

@@ -3,7 +3,8 @@
 //! A set is a slice of marks, one for each node. `close` grows any set in one walk and lists its members: it calls
 //! `pulls` at most once for each member and each node, and wants a slice for the members beside the marks. `mark`
 //! finds the set of one node with the marks alone, in rounds over the marked nodes until one marks nothing new. No
-//! call takes memory. It stands on nothing; what takes tasks back in the machine of tiles calls it.
+//! call takes memory. It stands on nothing; `spec_rollback` and a bench call `close`, and the order, the state and its
+//! laws cite closed sets.
 #![tactic(auto)]
 
 mod closing;

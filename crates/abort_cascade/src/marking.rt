@@ -1,8 +1,8 @@
-// The closed set of one node, with no room but the marks.
+//! The closed set of one node, with no room but the marks.
 
 ghost use Rattle.std.specs.Prelude.{◌≡◌, ℕ, ◌<◌, true, false, length};
-ghost use Rattle.abort_cascade.specs.Cascade.{Marked, IsClosed, IsLeastClosed, Only};
-ghost use Rattle.abort_cascade.specs.Growth.{Spreads, Tells};
+ghost use Rattle.abort_cascade.specs.Cascade.{Marked, IsClosed, IsLeastClosed, OnlyNode};
+ghost use Rattle.abort_cascade.specs.Growth.{Spreads, SaysGrown};
 
 use crate::Pulls;
 
@@ -10,11 +10,11 @@ use crate::Pulls;
 ///
 /// What the marks were before does not matter. It goes over the marked nodes until a round marks nothing new: at
 /// most as many rounds as the set has nodes, each of at most as many calls of `pulls` as `close` makes. Who has
-/// room for the members calls `close`.
+/// memory for the members calls `close`.
 pub fn mark<P: Pulls>(relation: &P, first: usize, marks: &mut [bool])
     requires len { length marks.old ≡ P.count relation.now }
     requires node { first < P.count relation.now }
-    ensures { IsLeastClosed (P.count relation.now) (P.pull relation.now) (Only first) marks.new }
+    ensures { IsLeastClosed (P.count relation.now) (P.pull relation.now) (OnlyNode first) marks.new }
 {
     marks.fill(false);
     marks[first] = true;
@@ -37,7 +37,7 @@ fn pass<P: Pulls>(relation: &P, marks: &mut [bool]) -> bool
     requires { length marks.old ≡ P.count relation.now }
     ensures spreads { Spreads (P.count relation.now) (P.pull relation.now) marks.old marks.new }
     ensures closed { result ≡ false → IsClosed (P.count relation.now) (P.pull relation.now) (Marked marks.new) }
-    ensures tells { Tells marks.old marks.new result }
+    ensures tells { SaysGrown marks.old marks.new result }
 {
     let mut grown = false;
     for a in 0..marks.len() {
@@ -55,7 +55,7 @@ fn mark_pulled<P: Pulls>(relation: &P, a: usize, marks: &mut [bool]) -> bool
     requires marked { Marked marks.old a }
     ensures spreads { Spreads (P.count relation.now) (P.pull relation.now) marks.old marks.new }
     ensures all { (b : ℕ) → b < length marks.old → P.pull relation.now a b ≡ true → Marked marks.new b }
-    ensures tells { Tells marks.old marks.new result }
+    ensures tells { SaysGrown marks.old marks.new result }
 {
     let mut grown = false;
     for b in 0..marks.len() {

@@ -1,4 +1,4 @@
-// A relation between nodes.
+//! A relation between nodes.
 
 ghost use Rattle.std.specs.Prelude.{◌≡◌, ℕ, ◌<◌, Bool};
 

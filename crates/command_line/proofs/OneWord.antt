@@ -12,7 +12,8 @@ use Rattle.clap.specs.Walk.{Held, Rule, Text, Walk, arg_by_id, arg_by_index, arg
 use Rattle.clap.specs.declared.error.kind.ErrorKind.{ErrorKind}
 use Rattle.clap.proofs.OnLiterals.{clap_on_literals}
 use Rattle.command_line.specs.App.{option_rule}
-use Rattle.command_line.specs.Reading.{Word, Whole, Named, Plain, Stray, is_equals, named, dashed, word_of}
+use Rattle.command_line.specs.Reading.{ArgumentWord, Whole, Named, Plain, Stray, is_equals, word_with_name}
+use Rattle.command_line.specs.Reading.{word_with_dash, word_of}
 
 -- ---- what a word is
 
@@ -20,7 +21,7 @@ abbrev pub dashes : Text
 dashes = 45 ∷ 45 ∷ []
 
 -- clap reads the same name and text, and takes a plain word for no flag
-abbrev pub Reads : Text → Word → Type 0
+abbrev pub Reads : Text → ArgumentWord → Type 0
 Reads word (Whole name text) = (bytes_eq word dashes ≡ false) × (long_of word ≡ Some (name, Some text))
 Reads word (Named name) = (bytes_eq word dashes ≡ false) × (long_of word ≡ Some (name, None))
 Reads word Plain = (bytes_eq word dashes ≡ false) × (long_of word ≡ None) × (short_of word ≡ None)
@@ -31,20 +32,21 @@ by_equals : (x : ℕ) (xs : Text) (b : Bool) → list_any is_equals (x ∷ xs) �
 by_equals x xs true is = (refl, rw is refl)
 by_equals x xs false is = (refl, rw is refl)
 
-reads-named : (xs : Text) → Reads (45 ∷ 45 ∷ xs) (named xs)
-reads-named [] = tt
-reads-named (x ∷ xs) = by_equals x xs (list_any is_equals (x ∷ xs)) refl
+reads-word_with_name : (xs : Text) → Reads (45 ∷ 45 ∷ xs) (word_with_name xs)
+reads-word_with_name [] = tt
+reads-word_with_name (x ∷ xs) = by_equals x xs (list_any is_equals (x ∷ xs)) refl
 
-by_second : (y : ℕ) (ys : Text) (b : Bool) → (y == 45) ≡ b → Reads (45 ∷ y ∷ ys) (if b then named ys else Stray)
-by_second y ys true is = let P : ℕ → Type 0 = λ b. Reads (45 ∷ b ∷ ys) (named ys) in subst P (sym (eqb-true y 45 is)) (reads-named ys)
+by_second : (y : ℕ) (ys : Text) (b : Bool) → (y == 45) ≡ b
+    → Reads (45 ∷ y ∷ ys) (if b then word_with_name ys else Stray)
+by_second y ys true is = let P : ℕ → Type 0 = λ b. Reads (45 ∷ b ∷ ys) (word_with_name ys) in subst P (sym (eqb-true y 45 is)) (reads-word_with_name ys)
 by_second y ys false is = tt
 
-reads-dashed : (xs : Text) → Reads (45 ∷ xs) (dashed xs)
-reads-dashed [] = (refl, refl, refl)
-reads-dashed (y ∷ ys) = by_second y ys (y == 45) refl
+reads-word_with_dash : (xs : Text) → Reads (45 ∷ xs) (word_with_dash xs)
+reads-word_with_dash [] = (refl, refl, refl)
+reads-word_with_dash (y ∷ ys) = by_second y ys (y == 45) refl
 
-by_first : (x : ℕ) (xs : Text) (b : Bool) → (x == 45) ≡ b → Reads (x ∷ xs) (if b then dashed xs else Plain)
-by_first x xs true is = let P : ℕ → Type 0 = λ a. Reads (a ∷ xs) (dashed xs) in subst P (sym (eqb-true x 45 is)) (reads-dashed xs)
+by_first : (x : ℕ) (xs : Text) (b : Bool) → (x == 45) ≡ b → Reads (x ∷ xs) (if b then word_with_dash xs else Plain)
+by_first x xs true is = let P : ℕ → Type 0 = λ a. Reads (a ∷ xs) (word_with_dash xs) in subst P (sym (eqb-true x 45 is)) (reads-word_with_dash xs)
 by_first x xs false is = (rw is refl, rw is refl, rw is refl)
 
 pub reads : (word : Text) → Reads word (word_of word)

@@ -17,7 +17,7 @@ use Rattle.clap.specs.declared.parser.matches.ValueSource.TheVariants.{CommandLi
 use Rattle.clap.proofs.OnLiterals.{clap_on_literals}
 use Rattle.command_line.specs.App.{command_app, plain_app}
 use Rattle.command_line.specs.Settings.{Setting, all_settings}
-use Rattle.command_line.specs.Reading.{Word, Whole, Named, Plain, Stray, Given, word_of, is_stray, is_given, is_new, is_option, text_in, with_text, after_plain, after_word, after_name, read_on, given_in, further_names, kind, seed, size}
+use Rattle.command_line.specs.Reading.{ArgumentWord, Whole, Named, Plain, Stray, Given, word_of, is_stray, is_given, is_new, is_option, text_in, with_text, after_plain, after_word, after_name, read_on, given_in, further_names, kind, seed, size}
 use Rattle.command_line.proofs.OneWord.{Reads, reads, opt, place, walk_at, waits, at, Fails, whole_turn, whole_walked, repeated_turn, unknown_turn, unsettled_turn, named_turn, named_walked, value_turn, value_walked, further_turn, further_walked, unsettled_further, stray_turn}
 
 -- ---- the rules of our command
@@ -265,7 +265,7 @@ long_off m h p word n v bare long (e ∷ es) is fails = go (is_option n) refl wh
   go false known = unknown_turn shape m h p word n v bare long (no-long-of n known)
 
 -- any word where the last use doesn't settle
-dead_turn : (k : Spot) (h : Held) (word : Text) (kind : Word) → Reads word kind → is_stray kind ≡ false
+dead_turn : (k : Spot) (h : Held) (word : Text) (kind : ArgumentWord) → Reads word kind → is_stray kind ≡ false
     → (o : Kinds) → settle_fault shape.rules shape.args_override_self h ≡ o → Fails o → Fails (turn_fault shape [] (walk_at h (position_at k)) word)
 dead_turn k h word (Whole n v) reads ok o is fails = long_off None h (position_at k) word n (Some v) reads.0 reads.1 o is fails
 dead_turn k h word (Named n) reads ok o is fails = long_off None h (position_at k) word n None reads.0 reads.1 o is fails
@@ -295,7 +295,8 @@ repeated h n v known there = rw (id-of n known, there, once) tt
 dead_name : (k : Spot) (h : Held) (n : Text) (ws : List Text) → NoStray ws → h.pending ≡ Some (n, []) → is_option n ≡ true → has_row n h.rows ≡ true → Fails (fault (waits h n (position_at k)) ws)
 dead_name k h n [] ok pending known there = subst Fails (sym (fault-end (waits h n (position_at k)) ∙ no_text h n pending known)) tt
 dead_name k h n (w ∷ ws) ok pending known there = by_kind (word_of w) (reads w) ok.0 where
-  by_kind : (kind : Word) → Reads w kind → is_stray kind ≡ false → Fails (fault (waits h n (position_at k)) (w ∷ ws))
+  by_kind : (kind : ArgumentWord) → Reads w kind → is_stray kind ≡ false
+      → Fails (fault (waits h n (position_at k)) (w ∷ ws))
   by_kind (Whole m v) reads plain = fault-off (waits h n (position_at k)) w ws (long_off (Some n) h (position_at k) w m (Some v) reads.0 reads.1 _ (no_text h n pending known) tt)
   by_kind (Named m) reads plain = fault-off (waits h n (position_at k)) w ws (long_off (Some n) h (position_at k) w m None reads.0 reads.1 _ (no_text h n pending known) tt)
   by_kind Plain reads plain =
@@ -371,7 +372,7 @@ by_plain given second h w ws rest s reads ok = by_place given second third 2 h w
 by_plain given third h w ws rest s reads ok = by_place given third over 3 h w size ws rest s reads ok size_place refl refl s.fresh.0 tt
 by_plain given over h w ws rest s reads ok = step-off (walk_at h 4) w ws None (stray_turn shape h 4 w reads.0 reads.1 reads.2 no_place leaf) refl
 
-by_word : (given : List Given) (k : Spot) (h : Held) (w : Text) (ws : List Text) → Goes ws → Ready given k h → (kind : Word) → Reads w kind → is_stray kind ≡ false → NoStray ws
+by_word : (given : List Given) (k : Spot) (h : Held) (w : Text) (ws : List Text) → Goes ws → Ready given k h → (kind : ArgumentWord) → Reads w kind → is_stray kind ≡ false → NoStray ws
     → Agrees (walk_at h (position_at k)) (w ∷ ws) (after_word given (left_at k) w kind (λ given' left' waiting. read_on given' left' waiting ws))
 by_word given k h w ws rest s (Whole n v) reads plain ok = by_whole given k h w n v ws rest s reads ok (is_option n) refl (is_given given n) refl
 by_word given k h w ws rest s (Named n) reads plain ok = by_name given k h w n ws rest s reads ok (is_option n) refl (is_given given n) refl
@@ -379,7 +380,7 @@ by_word given k h w ws rest s Plain reads plain ok = by_plain given k h w ws res
 by_word given k h w ws rest s Stray reads plain ok = cc
 
 -- the word behind a name
-by_text : (given : List Given) (k : Spot) (h : Held) (n w : Text) (ws : List Text) → Goes ws → Waits given k n h → (kind : Word) → Reads w kind → is_stray kind ≡ false → NoStray ws
+by_text : (given : List Given) (k : Spot) (h : Held) (n w : Text) (ws : List Text) → Goes ws → Waits given k n h → (kind : ArgumentWord) → Reads w kind → is_stray kind ≡ false → NoStray ws
     → Agrees (waits h n (position_at k)) (w ∷ ws) (after_name given n w kind (λ given'. read_on given' (left_at k) None ws))
 by_text given k h n w ws rest s (Whole m v) reads plain ok = step-off (waits h n (position_at k)) w ws None (long_off (Some n) h (position_at k) w m (Some v) reads.0 reads.1 _ (no_text h n s.pending s.known) tt) refl
 by_text given k h n w ws rest s (Named m) reads plain ok = step-off (waits h n (position_at k)) w ws None (long_off (Some n) h (position_at k) w m None reads.0 reads.1 _ (no_text h n s.pending s.known) tt) refl
@@ -467,7 +468,7 @@ none-by ws ok faulty = go (parsed ws ok) where
 -- ---- stray words
 
 -- what is read from a word on, by what it is
-abbrev read_word : List Given → List (List ℕ) → Option Text → Text → List Text → Word → Option (List Given)
+abbrev read_word : List Given → List (List ℕ) → Option Text → Text → List Text → ArgumentWord → Option (List Given)
 read_word given left None w ws kind = after_word given left w kind (λ given' left' waiting. read_on given' left' waiting ws)
 read_word given left (Some n) w ws kind = after_name given n w kind (λ given'. read_on given' left None ws)
 
@@ -475,7 +476,7 @@ new_or_none : (b : Bool) (o : Option (List Given)) → o ≡ None → (if b then
 new_or_none true o is = is
 new_or_none false o is = refl
 
-stray_word : (given : List Given) (left : List (List ℕ)) (m : Option Text) (w : Text) (ws : List Text) (kind : Word) → (is_stray kind || list_any (λ w. is_stray (word_of w)) ws) ≡ true
+stray_word : (given : List Given) (left : List (List ℕ)) (m : Option Text) (w : Text) (ws : List Text) (kind : ArgumentWord) → (is_stray kind || list_any (λ w. is_stray (word_of w)) ws) ≡ true
     → ((given' : List Given) (left' : List (List ℕ)) (m' : Option Text) → list_any (λ w. is_stray (word_of w)) ws ≡ true → read_on given' left' m' ws ≡ None) → read_word given left m w ws kind ≡ None
 stray_word given left None w ws (Whole n v) h later = new_or_none (is_new given n) (read_on (with_text given n v) left None ws) (later (with_text given n v) left None h)
 stray_word given left None w ws (Named n) h later = new_or_none (is_new given n) (read_on given left (Some n) ws) (later given left (Some n) h)

@@ -8,32 +8,32 @@ use Rattle.std.specs.Str.{bytes_eq}
 use Rattle.command_line.specs.Settings.{all_settings}
 
 -- what a word is: `--name=text`, `--name` whose text is the next word, a plain word, or one that is none of these
-pub data Word : Type 0 where
-  Whole : (name text : List ℕ) → Word
-  Named : (name : List ℕ) → Word
-  Plain : Word
-  Stray : Word
+pub data ArgumentWord : Type 0 where
+  Whole : (name text : List ℕ) → ArgumentWord
+  Named : (name : List ℕ) → ArgumentWord
+  Plain : ArgumentWord
+  Stray : ArgumentWord
 
 abbrev pub is_equals : ℕ → Bool
 is_equals byte = byte == 61
 
 -- the word behind two dashes: the name stands before the first `=`, and the text behind it
-abbrev pub named : List ℕ → Word
-named [] = Stray
-named (x ∷ xs) =
+abbrev pub word_with_name : List ℕ → ArgumentWord
+word_with_name [] = Stray
+word_with_name (x ∷ xs) =
     let name = before_first is_equals (x ∷ xs) in
     if list_any is_equals (x ∷ xs) then Whole name (after_first is_equals (x ∷ xs)) else Named name
 
 -- the word behind one dash (45), where a dash alone is plain
-abbrev pub dashed : List ℕ → Word
-dashed [] = Plain
-dashed (x ∷ xs) = if x == 45 then named xs else Stray
+abbrev pub word_with_dash : List ℕ → ArgumentWord
+word_with_dash [] = Plain
+word_with_dash (x ∷ xs) = if x == 45 then word_with_name xs else Stray
 
-abbrev pub word_of : List ℕ → Word
+abbrev pub word_of : List ℕ → ArgumentWord
 word_of [] = Plain
-word_of (x ∷ xs) = if x == 45 then dashed xs else Plain
+word_of (x ∷ xs) = if x == 45 then word_with_dash xs else Plain
 
-abbrev pub is_stray : Word → Bool
+abbrev pub is_stray : ArgumentWord → Bool
 is_stray (Whole name text) = false
 is_stray (Named name) = false
 is_stray Plain = false
@@ -81,7 +81,7 @@ after_plain given [] word next = None
 after_plain given (name ∷ left) word next = next (with_text given name word) left
 
 -- what comes of a word where no name waits for its text
-abbrev pub after_word : List Given → (left : List (List ℕ)) → List ℕ → Word
+abbrev pub after_word : List Given → (left : List (List ℕ)) → List ℕ → ArgumentWord
     → (List Given → List (List ℕ) → Option (List ℕ) → Option (List Given)) → Option (List Given)
 after_word given left word (Whole name text) next =
     if is_new given name then next (with_text given name text) left None else None
@@ -90,7 +90,7 @@ after_word given left word Plain next = after_plain given left word (λ given' l
 after_word given left word Stray next = None
 
 -- the text of the name that waits is a plain word
-abbrev pub after_name : List Given → (name word : List ℕ) → Word
+abbrev pub after_name : List Given → (name word : List ℕ) → ArgumentWord
     → (List Given → Option (List Given)) → Option (List Given)
 after_name given name word Plain next = next (with_text given name word)
 after_name given name word other next = None

@@ -40,22 +40,22 @@ abbrev pub number_in : (ℕ → Bool) → List ℕ → Option ℕ
 number_in allows text = number_of text >>= λ number. if allows number then Some number else None
 
 -- the number of a setting whose option has this text, or isn't given
-abbrev pub value_of : Setting → Option (List ℕ) → Option ℕ
-value_of s None = Some s.default
-value_of s (Some text) = number_in s.allows text
+abbrev pub setting_value : Setting → Option (List ℕ) → Option ℕ
+setting_value s None = Some s.default
+setting_value s (Some text) = number_in s.allows text
 
 -- the number of a setting, by the texts that are given
-abbrev pub chosen : Setting → Texts → Option ℕ
-chosen s text = value_of s (text s.name)
+abbrev pub setting_number : Setting → Texts → Option ℕ
+setting_number s text = setting_value s (text s.name)
 
 -- all settings; none where the text of an option is no value of it
 unfoldable pub settings_by : Texts → Option Settings
 settings_by text =
-    chosen table.tiles text >>= λ tiles. chosen table.cores text >>= λ cores.
-    chosen table.task_queue text >>= λ task_queue. chosen table.commit_queue text >>= λ commit_queue.
-    chosen table.line text >>= λ line. chosen table.quantum text >>= λ quantum.
-    chosen table.workers text >>= λ workers. chosen table.commits text >>= λ commits.
-    chosen table.budget text >>= λ budget. chosen table.phase text >>= λ phase.
+    setting_number table.tiles text >>= λ tiles. setting_number table.cores text >>= λ cores.
+    setting_number table.task_queue text >>= λ task_queue. setting_number table.commit_queue text >>= λ commit_queue.
+    setting_number table.line text >>= λ line. setting_number table.quantum text >>= λ quantum.
+    setting_number table.workers text >>= λ workers. setting_number table.commits text >>= λ commits.
+    setting_number table.budget text >>= λ budget. setting_number table.phase text >>= λ phase.
     Some (record {
       tiles = tiles;
       cores = cores;
@@ -112,9 +112,9 @@ request_by word text =
     Some (record { command = command; settings = settings })
 
 -- what the words ask for; none where they are refused
-abbrev pub request_of : List (List ℕ) → Option Request
-request_of [] = None
-request_of (word ∷ words) = given_in words >>= λ given. request_by word (text_in given)
+abbrev pub request_of_words : List (List ℕ) → Option Request
+request_of_words [] = None
+request_of_words (word ∷ words) = given_in words >>= λ given. request_by word (text_in given)
 
 -- the size of a generated image is in the range of its kind
 abbrev pub HasSize : Command → Type 0

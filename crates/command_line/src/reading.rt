@@ -3,9 +3,9 @@
 ghost use Rattle.std.specs.Prelude.{◌≡◌, ◌≤◌, map, option_map, IfOk, IfSome, None, Some, if◌then◌else◌};
 ghost use Rattle.clap.specs.Words.{first_value, found_of};
 ghost use Rattle.spec_state.specs.Settings.{IsLine, IsValid};
-ghost use Rattle.command_line.specs.Requests.{HasSize, IsLimited, alone, chosen, command_by, greatest_size};
+ghost use Rattle.command_line.specs.Requests.{HasSize, IsLimited, alone, setting_number, command_by, greatest_size};
 ghost use Rattle.command_line.specs.Requests.{load_by, load_of};
-ghost use Rattle.command_line.specs.Requests.{number_in, request_by, request_of, settings_by};
+ghost use Rattle.command_line.specs.Requests.{number_in, request_by, request_of_words, settings_by};
 ghost use Rattle.command_line.specs.Settings.{between, is_line, line as line_setting, setting};
 ghost use Rattle.command_line.specs.Reading.{text_in};
 
@@ -19,8 +19,8 @@ use std::alloc::Global;
 
 /// What the words, without the program's name, ask for. `Usage` where they are outside the grammar.
 pub fn read_words(alloc: Global, words: &[&str]) -> Result<Request, Refusal>
-    ensures value { IfOk result (λ request. request_of (map (λ w. w.now) words.now) ≡ Some request) }
-    ensures usage { result ≡ Err Refusal.Usage → request_of (map (λ w. w.now) words.now) ≡ None }
+    ensures value { IfOk result (λ request. request_of_words (map (λ w. w.now) words.now) ≡ Some request) }
+    ensures usage { result ≡ Err Refusal.Usage → request_of_words (map (λ w. w.now) words.now) ≡ None }
     ensures limits { IfOk result IsLimited }
 {
     let Some((word, behind)) = words.split_first() else {
@@ -131,7 +131,7 @@ fn settings(matches: &ArgMatches<'_>) -> Option<Settings>
 
 /// How many bytes a line has.
 fn line(matches: &ArgMatches<'_>) -> Option<u32>
-    ensures value { result ≡ chosen line_setting (first_value (found_of matches.now)) }
+    ensures value { result ≡ setting_number line_setting (first_value (found_of matches.now)) }
     ensures valid { IfSome result IsLine }
 {
     match matches.get_str("line") {
@@ -161,7 +161,7 @@ fn number(
     requires least { least ≤ default }
     requires greatest { default ≤ greatest }
     ensures value { let row = setting name.now (between least greatest) default in
-        result ≡ chosen row (first_value (found_of matches.now)) }
+        result ≡ setting_number row (first_value (found_of matches.now)) }
     ensures least { IfSome result (λ number. least ≤ number) }
     ensures greatest { IfSome result (λ number. number ≤ greatest) }
 {

@@ -43,7 +43,7 @@ pub enum Refusal {
     /// They are outside the grammar.
     #[error("usage")]
     Usage,
-    /// Out of memory.
+    /// Out of memory, maybe for words outside the grammar.
     #[error("out of memory")]
     Memory,
 }

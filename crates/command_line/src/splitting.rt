@@ -5,7 +5,7 @@ ghost use Rattle.std.specs.List.{list_any};
 ghost use Rattle.clap.specs.Words.{app_of, found_of, kind_of, rule_of};
 ghost use Rattle.command_line.specs.App.{IsSplit, command_app, option_rule, plain_app, with_limits, with_places};
 ghost use Rattle.command_line.specs.App.{with_sizes};
-ghost use Rattle.command_line.specs.Reading.{dashed, given_in, is_stray, word_of};
+ghost use Rattle.command_line.specs.Reading.{word_with_dash, given_in, is_stray, word_of};
 
 use crate::request::Refusal;
 use clap::error::ErrorKind;
@@ -57,7 +57,7 @@ fn is_stray(word: &[u8]) -> bool
 }
 
 fn is_stray_behind(word: &[u8]) -> bool
-    ensures { result ≡ is_stray (dashed word.now) }
+    ensures { result ≡ is_stray (word_with_dash word.now) }
 {
     match word.split_first() {
         Some((second, name)) => *second != b'-' || name.is_empty(),

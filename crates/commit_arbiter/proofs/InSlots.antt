@@ -10,8 +10,8 @@ use Rattle.std.proofs.lemmas.List.Sorted.{IsPermutation-insert, IsPermutation-to
 use Rattle.std.proofs.lemmas.Map.Keys.{IsDistinct-IsPermutation, IsDistinct-head}
 use Rattle.std.proofs.lemmas.Cmp.{nat_eq_equiv}
 use Rattle.std.proofs.lemmas.Bool.Decides.{nat_tests}
-use Rattle.commit_arbiter.specs.declared.entry.Entry.{Entry}
-use Rattle.commit_arbiter.specs.Slots.{blank, in_slots, IsSlotted}
+use Rattle.commit_arbiter.specs.declared.candidate.Candidate.{Candidate}
+use Rattle.commit_arbiter.specs.Slots.{blank_candidate, in_slots, IsSlotted}
 
 map-insert : {X Y : Type 0} (f : X → Y) (xs : List X) (i : ℕ) (x : X) → map f (insert xs i x) ≡ insert (map f xs) i (f x)
 map-insert f xs i x =
@@ -19,12 +19,12 @@ map-insert f xs i x =
     ∙ ap (λ ys. ys ++ f x ∷ map f (drop i xs)) (sym (take-map f i xs))
     ∙ ap (λ ys. take i (map f xs) ++ f x ∷ ys) (sym (drop-map f i xs))
 
--- a write to a slot that is not among them changes no entry
-pub in_slots-set : (table : List Entry) (slot : ℕ) (e : Entry) (slots : List ℕ) → AllByRecursion (λ other. nat_eq slot other ≡ false) slots → in_slots (set table slot e) slots ≡ in_slots table slots
+-- a write to a slot that is not among them changes no candidate
+pub in_slots-set : (table : List Candidate) (slot : ℕ) (e : Candidate) (slots : List ℕ) → AllByRecursion (λ other. nat_eq slot other ≡ false) slots → in_slots (set table slot e) slots ≡ in_slots table slots
 in_slots-set table slot e [] other = refl
 in_slots-set table slot e (s ∷ slots) other =
     let differs : s ≢ slot = λ same. differ s same other.0 in
-    (λ i. get_or-set_other table slot s e blank differs i ∷ in_slots-set table slot e slots other.1 i)
+    (λ i. get_or-set_other table slot s e blank_candidate differs i ∷ in_slots-set table slot e slots other.1 i)
   where
     differ : (s : ℕ) → s ≡ slot → nat_eq slot s ≡ false → ⊥
     differ s same not = grind (arith, nat_tests)
@@ -45,7 +45,7 @@ slots_front order free slot =
 nat_eq_flips : (x y : ℕ) → nat_eq x y ≡ nat_eq y x
 nat_eq_flips x y = nat_eq_equiv.symm x y
 
-module _ (table : List Entry) (order free : List ℕ) (slot : ℕ) (order_room free_room : ℕ) (is : IsSlotted table order (free ++ slot ∷ []) order_room free_room) where
+module _ (table : List Candidate) (order free : List ℕ) (slot : ℕ) (order_room free_room : ℕ) (is : IsSlotted table order (free ++ slot ∷ []) order_room free_room) where
   front : IsDistinct nat_eq (slot ∷ (order ++ free))
   front = IsDistinct-IsPermutation nat_eq nat_eq_flips (order ++ (free ++ slot ∷ [])) (slot ∷ (order ++ free)) (slots_front order free slot) is.distinct
 
@@ -55,22 +55,23 @@ module _ (table : List Entry) (order free : List ℕ) (slot : ℕ) (order_room f
   pub slot_inside : slot < length table
   slot_inside = All-head (λ s. s < length table) slot (order ++ free) inside_all
 
-  inserted_entries : (e : Entry) (place : ℕ) → in_slots (set table slot e) (insert order place slot) ≡ insert (in_slots table order) place e
+  inserted_entries : (e : Candidate) (place : ℕ) → in_slots (set table slot e) (insert order place slot) ≡ insert (in_slots table order) place e
   inserted_entries e place =
       let others = in_slots-set table slot e order (All-front (λ s. nat_eq slot s ≡ false) order free (IsDistinct-head nat_eq slot (order ++ free) front)) in
-      map-insert (λ s. get_or (set table slot e) s blank) order place slot
-      ∙ ap (insert (in_slots (set table slot e) order) place) (get_or-set_same table slot e blank slot_inside)
+      map-insert (λ s. get_or (set table slot e) s blank_candidate) order place slot
+      ∙ ap (insert (in_slots (set table slot e) order) place) (get_or-set_same table slot e blank_candidate slot_inside)
       ∙ ap (λ xs. insert xs place e) others
 
-  -- the entries after the last free slot is written and comes to the order's end
-  pub entries_pushed : (e : Entry) → in_slots (set table slot e) (order ++ slot ∷ []) ≡ in_slots table order ++ e ∷ []
+  -- the candidates after the last free slot is written and comes to the order's end
+  pub entries_pushed : (e : Candidate)
+      → in_slots (set table slot e) (order ++ slot ∷ []) ≡ in_slots table order ++ e ∷ []
   entries_pushed e =
       ap (in_slots (set table slot e)) (sym (insert_end order slot))
       ∙ inserted_entries e (length order)
-      ∙ ap (λ n. insert (in_slots table order) n e) (sym (length-map order (λ s. get_or table s blank)))
+      ∙ ap (λ n. insert (in_slots table order) n e) (sym (length-map order (λ s. get_or table s blank_candidate)))
       ∙ insert_end (in_slots table order) e
 
-  inserted_slotted : (e : Entry) (place more_room less_room : ℕ) → place ≤ length order → order_room ≤ more_room → free_room ≤ less_room → IsSlotted (set table slot e) (insert order place slot) free more_room less_room
+  inserted_slotted : (e : Candidate) (place more_room less_room : ℕ) → place ≤ length order → order_room ≤ more_room → free_room ≤ less_room → IsSlotted (set table slot e) (insert order place slot) free more_room less_room
   inserted_slotted e place more_room less_room upto more less =
       let long = length-set table slot e in
       let one_more = length-insert order place slot upto in
@@ -84,13 +85,13 @@ module _ (table : List Entry) (order free : List ℕ) (slot : ℕ) (order_room f
         free_holds = (let holds = is.free_holds in omega arith);
       }
 
-  pub slotted_pushed : (e : Entry) (more_room less_room : ℕ) → order_room ≤ more_room → free_room ≤ less_room → IsSlotted (set table slot e) (order ++ slot ∷ []) free more_room less_room
+  pub slotted_pushed : (e : Candidate) (more_room less_room : ℕ) → order_room ≤ more_room → free_room ≤ less_room → IsSlotted (set table slot e) (order ++ slot ∷ []) free more_room less_room
   slotted_pushed e more_room less_room more less =
       subst (λ slots. IsSlotted (set table slot e) slots free more_room less_room) (insert_end order slot)
       (inserted_slotted e (length order) more_room less_room (omega arith) more less)
 
 -- the order's last slot goes to the free ones
-module _ (table : List Entry) (front free : List ℕ) (slot : ℕ) (order_room free_room : ℕ) (is : IsSlotted table (front ++ slot ∷ []) free order_room free_room) where
+module _ (table : List Candidate) (front free : List ℕ) (slot : ℕ) (order_room free_room : ℕ) (is : IsSlotted table (front ++ slot ∷ []) free order_room free_room) where
   slots_moved : IsPermutation ((front ++ slot ∷ []) ++ free) (front ++ (free ++ slot ∷ []))
   slots_moved =
       IsPermutation-trans ((front ++ slot ∷ []) ++ free) (slot ∷ (front ++ free)) (front ++ (free ++ slot ∷ []))
@@ -113,15 +114,15 @@ module _ (table : List Entry) (front free : List ℕ) (slot : ℕ) (order_room f
 take_front : {X : Type 0} (xs : List X) (y : X) → take (length (xs ++ y ∷ []) - 1) (xs ++ y ∷ []) ≡ xs
 take_front xs y = ap (λ n. take n (xs ++ y ∷ [])) (let long = length-append xs (y ∷ []) in omega arith) ∙ take-append_seam xs (y ∷ [])
 
-pub entries_popped : (table : List Entry) (order front : List ℕ) (slot : ℕ) → order ≡ front ++ slot ∷ [] → in_slots table front ≡ take (length (in_slots table order) - 1) (in_slots table order)
+pub entries_popped : (table : List Candidate) (order front : List ℕ) (slot : ℕ) → order ≡ front ++ slot ∷ [] → in_slots table front ≡ take (length (in_slots table order) - 1) (in_slots table order)
 entries_popped table order front slot is =
-    let f : ℕ → Entry = λ s. get_or table s blank in
+    let f : ℕ → Candidate = λ s. get_or table s blank_candidate in
     let parts : in_slots table order ≡ in_slots table front ++ f slot ∷ [] = ap (in_slots table) is ∙ map-append f front (slot ∷ []) in
     sym (take_front (in_slots table front) (f slot)) ∙ ap (λ es. take (length es - 1) es) (sym parts)
 
--- a place among the entries is one in the order
-pub place_within : (table : List Entry) (order : List ℕ) (entries : List Entry) (place : ℕ) → in_slots table order ≡ entries → place < length entries → place < length order
+-- a place among the candidates is one in the order
+pub place_within : (table : List Candidate) (order : List ℕ) (entries : List Candidate) (place : ℕ) → in_slots table order ≡ entries → place < length entries → place < length order
 place_within table order entries place same inside =
-    let long = length-map order (λ slot. get_or table slot blank) in
+    let long = length-map order (λ slot. get_or table slot blank_candidate) in
     let as_long = ap length same in
     omega arith

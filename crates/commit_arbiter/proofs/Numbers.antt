@@ -4,8 +4,8 @@ use Rattle.std.specs.List.{All, IsDistinct, AllByRecursion, range_with_len}
 use Rattle.std.proofs.lemmas.List.{length-replicate}
 use Rattle.std.proofs.lemmas.List.FromFn.{length-range_with_len, get_or-range_with_len}
 use Rattle.std.proofs.lemmas.Bool.Decides.{nat_tests}
-use Rattle.commit_arbiter.specs.declared.entry.Entry.{Entry}
-use Rattle.commit_arbiter.specs.Slots.{blank, IsSlotted}
+use Rattle.commit_arbiter.specs.declared.candidate.Candidate.{Candidate}
+use Rattle.commit_arbiter.specs.Slots.{blank_candidate, IsSlotted}
 
 pub range_more : (from many last : ℕ) → from + many ≡ last → range_with_len from many ++ last ∷ [] ≡ range_with_len from (suc many)
 range_more from zero last same = let here : last ≡ from = omega arith in ap (λ n. n ∷ []) here
@@ -20,9 +20,9 @@ unfolding IsDistinct
 range_distinct from zero = tt
 range_distinct from (suc many) = (above_differ from (from + 1) many (omega arith), range_distinct (from + 1) many)
 
-pub all_free : (table : List Entry) (free : List ℕ) (many order_room free_room : ℕ) → table ≡ replicate many blank → free ≡ range_with_len 0 many → many ≤ order_room → many ≤ free_room → IsSlotted table [] free order_room free_room
+pub all_free : (table : List Candidate) (free : List ℕ) (many order_room free_room : ℕ) → table ≡ replicate many blank_candidate → free ≡ range_with_len 0 many → many ≤ order_room → many ≤ free_room → IsSlotted table [] free order_room free_room
 all_free table free many order_room free_room blanks numbers order_holds free_holds =
-    let long : length table ≡ many = ap length blanks ∙ length-replicate many blank in
+    let long : length table ≡ many = ap length blanks ∙ length-replicate many blank_candidate in
     let as_long : length free ≡ many = ap length numbers ∙ length-range_with_len 0 many in
     record {
       distinct = subst (IsDistinct nat_eq) (sym numbers) (range_distinct 0 many);

@@ -1,4 +1,4 @@
--- One entry gets another tiebreaker, in its slot and in the heap.
+-- One candidate gets another tiebreaker, in its slot and in the heap.
 use Rattle.std.proofs.Common.{◌≡◌, ◌≢◌, ℕ, zero, suc, ◌<◌, false, nat_eq, Option, Some, None, List, [], ◌∷◌, ◌++◌, length, get_or, set, sym, ap, subst, ◌∙◌, inl, inr, arith}
 use Rattle.std.specs.Prelude.{Contains}
 use Rattle.std.specs.List.{AllPairs, AllByRecursion, IsDistinct, remove}
@@ -11,16 +11,16 @@ use Rattle.std.proofs.lemmas.List.{get_or-set_same, get_or-set_other, get_or_def
 use Rattle.std.proofs.lemmas.List.Sorted.{IsPermutation-remove, IsPermutation-sym, Contains-permutation, length_permutation}
 use Rattle.std.proofs.lemmas.Option.{slice_get_within, get_or_from_slice_get}
 use Rattle.fractal_vt.specs.Keys.{key_cmp}
-use Rattle.fractal_vt.specs.Sorted.{inserted}
+use Rattle.fractal_vt.specs.Sorted.{after_insert}
 use Rattle.fractal_vt.proofs.KeyLaws.{open_above}
-use Rattle.commit_arbiter.specs.declared.entry.Entry.{Entry}
-use Rattle.commit_arbiter.specs.Indexed.{entry_cmp, HasId, without, tied, IsOpenIn, IsTied}
-use Rattle.commit_arbiter.specs.Slots.{blank, in_slots, IsSlotted, entry_at, IsPlaceOf}
-use Rattle.commit_arbiter.specs.Heap.{IsHeap, IsHeapUp, IsHeapApart, IsHeapIndex, ordered, upto}
+use Rattle.commit_arbiter.specs.declared.candidate.Candidate.{Candidate}
+use Rattle.commit_arbiter.specs.Indexed.{candidate_cmp, HasId, without_candidate, with_tiebreaker, IsOpenIn, IsTied}
+use Rattle.commit_arbiter.specs.Slots.{blank_candidate, in_slots, IsSlotted, candidate_at, IsPlaceOfId}
+use Rattle.commit_arbiter.specs.Heap.{IsHeap, IsHeapUp, IsHeapApart, IsHeapIndex, in_rising_order, upto}
 use Rattle.commit_arbiter.proofs.InSlots.{in_slots-set}
 use Rattle.commit_arbiter.proofs.Swaps.{not_above_trans}
 use Rattle.commit_arbiter.proofs.Heaps.{changed, lowered}
-use Rattle.commit_arbiter.proofs.Ordered.{ordered-permutation, ordered-permutes, taken_out, ids_permuted, ids_in_order, has_permuted}
+use Rattle.commit_arbiter.proofs.Ordered.{in_rising_order-permutation, in_rising_order-permutes, taken_out, ids_permuted, ids_in_order, has_permuted}
 
 -- in the slots
 
@@ -41,31 +41,31 @@ differs_at x (y ∷ xs) zero d all inside = differ x y all.0
     differ x y not same = grind (arith, nat_tests)
 differs_at x (y ∷ xs) (suc k) d all inside = differs_at x xs k d all.1 (omega arith)
 
-written : (table : List Entry) (slots : List ℕ) (place d : ℕ) (e : Entry) → IsDistinct nat_eq slots → place < length slots → get_or slots place d < length table → in_slots (set table (get_or slots place d) e) slots ≡ set (in_slots table slots) place e
+written : (table : List Candidate) (slots : List ℕ) (place d : ℕ) (e : Candidate) → IsDistinct nat_eq slots → place < length slots → get_or slots place d < length table → in_slots (set table (get_or slots place d) e) slots ≡ set (in_slots table slots) place e
 unfolding IsDistinct
 written table [] place d e distinct inside low = absurd (omega arith)
 written table (s ∷ slots) zero d e distinct inside low =
-    λ i. get_or-set_same table s e blank low i ∷ in_slots-set table s e slots distinct.0 i
+    λ i. get_or-set_same table s e blank_candidate low i ∷ in_slots-set table s e slots distinct.0 i
 written table (s ∷ slots) (suc place) d e distinct inside low =
-    λ i. get_or-set_other table (get_or slots place d) s e blank (differs_at s slots place d distinct.0 (omega arith)) i ∷ written table slots place d e distinct.1 (omega arith) low i
+    λ i. get_or-set_other table (get_or slots place d) s e blank_candidate (differs_at s slots place d distinct.0 (omega arith)) i ∷ written table slots place d e distinct.1 (omega arith) low i
 
-pub slot_low : (table : List Entry) (order free : List ℕ) (place slot order_room free_room : ℕ) → IsSlotted table order free order_room free_room → place < length order → slot ≡ get_or order place slot → slot < length table
+pub slot_low : (table : List Candidate) (order free : List ℕ) (place slot order_room free_room : ℕ) → IsSlotted table order free order_room free_room → place < length order → slot ≡ get_or order place slot → slot < length table
 slot_low table order free place slot order_room free_room is inside there =
     let long = length-append order free in
     subst (λ s. s < length table) (get_or_append_left order free slot place inside ∙ sym there) (is.within place slot (omega arith))
 
-pub slots_written : (table : List Entry) (order free : List ℕ) (entries : List Entry) (place slot : ℕ) (order_room free_room : ℕ) (e : Entry) → IsSlotted table order free order_room free_room → in_slots table order ≡ entries → place < length order → slot < length table → slot ≡ get_or order place slot → in_slots (set table slot e) order ≡ set entries place e
+pub slots_written : (table : List Candidate) (order free : List ℕ) (entries : List Candidate) (place slot : ℕ) (order_room free_room : ℕ) (e : Candidate) → IsSlotted table order free order_room free_room → in_slots table order ≡ entries → place < length order → slot < length table → slot ≡ get_or order place slot → in_slots (set table slot e) order ≡ set entries place e
 slots_written table order free entries place slot order_room free_room e is view inside low there =
     ap (λ s. in_slots (set table s e) order) there
     ∙ written table order place slot e (front_distinct order free is.distinct) inside (subst (λ s. s < length table) there low)
     ∙ ap (λ es. set es place e) view
 
-pub slot_entry_is : (table : List Entry) (order : List ℕ) (entries : List Entry) (place slot : ℕ) → in_slots table order ≡ entries → place < length order → slot ≡ get_or order place slot → get_or table slot blank ≡ entry_at entries place
+pub slot_entry_is : (table : List Candidate) (order : List ℕ) (entries : List Candidate) (place slot : ℕ) → in_slots table order ≡ entries → place < length order → slot ≡ get_or order place slot → get_or table slot blank_candidate ≡ candidate_at entries place
 slot_entry_is table order entries place slot view inside there =
-    sym (ap (λ es. entry_at es place) (sym view) ∙ Rattle.std.proofs.lemmas.List.get_or-map (λ s. get_or table s blank) order place slot blank inside ∙ ap (λ s. get_or table s blank) (sym there))
+    sym (ap (λ es. candidate_at es place) (sym view) ∙ Rattle.std.proofs.lemmas.List.get_or-map (λ s. get_or table s blank_candidate) order place slot blank_candidate inside ∙ ap (λ s. get_or table s blank_candidate) (sym there))
 
--- entries of one id are one
-pub one_of_id : (es : List Entry) (a b : Entry) → AllPairs (λ x y. x.id ≢ y.id) es → Contains es a → Contains es b → a.id ≡ b.id → a ≡ b
+-- candidates of one id are one
+pub one_of_id : (es : List Candidate) (a b : Candidate) → AllPairs (λ x y. x.id ≢ y.id) es → Contains es a → Contains es b → a.id ≡ b.id → a ≡ b
 one_of_id es a b apart (i, iin, ia) (j, jin, jb) same = elim (cases_lt i j) [
   | inl before ↦ absurd (apart i j a before jin (ap (λ x. x.id) ia ∙ same ∙ sym (ap (λ x. x.id) (jb_at a))))
   | inr not_before ↦ elim (cases_eq i j) [
@@ -74,14 +74,14 @@ one_of_id es a b apart (i, iin, ia) (j, jin, jb) same = elim (cases_lt i j) [
   ]
 ]
   where
-    jb_at : (d : Entry) → get_or es j d ≡ b
+    jb_at : (d : Candidate) → get_or es j d ≡ b
     jb_at d = get_or_default es j d b jin ∙ jb
 
-    ia_at : (d : Entry) → get_or es i d ≡ a
+    ia_at : (d : Candidate) → get_or es i d ≡ a
     ia_at d = get_or_default es i d a iin ∙ ia
 
--- a closed tiebreaker makes an entry less
-pub closed_upto : (number : ℕ) (e : Entry) → e.key.tb ≡ None → upto (tied (Some number) e) e
+-- a closed tiebreaker makes a candidate less
+pub closed_upto : (number : ℕ) (e : Candidate) → e.key.tb ≡ None → upto (with_tiebreaker (Some number) e) e
 closed_upto number e none greater =
     let was : e.key ≡ record e.key { tb = None } = (λ i. record e.key { tb = none i }) in
     let less : key_cmp (record e.key { tb = Some number }) e.key ≡ Less = ap (key_cmp (record e.key { tb = Some number })) was ∙ open_above e.key.domain e.key.ts number in
@@ -90,84 +90,90 @@ closed_upto number e none greater =
     cc (no_way)
 
 -- the heap with another tiebreaker at one place
-module _ (tb : Option ℕ) (id place : ℕ) (old new : List Entry) (at : IsPlaceOf id old place) (put : new ≡ set old place (tied tb (entry_at old place))) where
-  abbrev was : Entry
-  was = entry_at old place
+module _ (tb : Option ℕ) (id place : ℕ) (old new : List Candidate) (at : IsPlaceOfId id old place) (put : new ≡ set old place (with_tiebreaker tb (candidate_at old place))) where
+  abbrev was : Candidate
+  was = candidate_at old place
 
   pub inside : place < length old
   inside = slice_get_within old place at.entry at.there
 
   long : length new ≡ length old
-  long = ap length put ∙ length-set old place (tied tb was)
+  long = ap length put ∙ length-set old place (with_tiebreaker tb was)
 
   pub inside_new : place < length new
   inside_new = omega (arith, long, inside)
 
-  here : entry_at new place ≡ tied tb was
-  here = ap (λ es. entry_at es place) put ∙ get_or-set_same old place (tied tb was) blank inside
+  here : candidate_at new place ≡ with_tiebreaker tb was
+  here = ap (λ es. candidate_at es place) put
+      ∙ get_or-set_same old place (with_tiebreaker tb was) blank_candidate inside
 
-  others : (k : ℕ) → k ≢ place → entry_at new k ≡ entry_at old k
-  others k other = ap (λ es. entry_at es k) put ∙ get_or-set_other old place k (tied tb was) blank other
+  others : (k : ℕ) → k ≢ place → candidate_at new k ≡ candidate_at old k
+  others k other = ap (λ es. candidate_at es k) put
+      ∙ get_or-set_other old place k (with_tiebreaker tb was) blank_candidate other
 
   mine : was.id ≡ id
-  mine = ap (λ e. e.id) (get_or_from_slice_get old place at.entry blank at.there) ∙ at.is
+  mine = ap (λ e. e.id) (get_or_from_slice_get old place at.entry blank_candidate at.there) ∙ at.id_is
 
   was_there : Contains old was
-  was_there = (place, inside, get_or_default old place was blank inside)
+  was_there = (place, inside, get_or_default old place was blank_candidate inside)
 
-  pub apart_tied : IsHeap old → IsHeapApart upto (entry_at new) (length new) place
-  apart_tied heap = subst (λ n. IsHeapApart upto (entry_at new) n place) (sym long) (changed upto not_above_trans (entry_at old) (entry_at new) (length old) place others heap inside)
+  pub apart_tied : IsHeap old → IsHeapApart upto (candidate_at new) (length new) place
+  apart_tied heap = subst (λ n. IsHeapApart upto (candidate_at new) n place) (sym long) (changed upto not_above_trans (candidate_at old) (candidate_at new) (length old) place others heap inside)
 
-  pub up_tied : upto (tied tb was) was → IsHeap old → IsHeapUp upto (entry_at new) (length new) place
-  up_tied less heap = subst (λ n. IsHeapUp upto (entry_at new) n place) (sym long) (lowered upto not_above_trans (entry_at old) (entry_at new) (length old) place others heap inside (subst (λ e. upto e was) (sym here) less))
+  pub up_tied : upto (with_tiebreaker tb was) was → IsHeap old → IsHeapUp upto (candidate_at new) (length new) place
+  up_tied less heap = subst (λ n. IsHeapUp upto (candidate_at new) n place) (sym long) (lowered upto not_above_trans (candidate_at old) (candidate_at new) (length old) place others heap inside (subst (λ e. upto e was) (sym here) less))
 
   rest_same : remove new place ≡ remove old place
-  rest_same = ap (λ es. remove es place) put ∙ (λ i. take-set-le place old place (tied tb was) (omega arith) i ++ drop-set-lt (suc place) old place (tied tb was) (omega arith) i)
+  rest_same = ap (λ es. remove es place) put ∙ (λ i. take-set-le place old place (with_tiebreaker tb was) (omega arith) i ++ drop-set-lt (suc place) old place (with_tiebreaker tb was) (omega arith) i)
 
   old_permuted : IsPermutation old (was ∷ remove old place)
-  old_permuted = IsPermutation-remove old place was inside (sym (get_or_default old place was blank inside))
+  old_permuted = IsPermutation-remove old place was inside (sym (get_or_default old place was blank_candidate inside))
 
-  new_permuted : IsPermutation new (tied tb was ∷ remove old place)
+  new_permuted : IsPermutation new (with_tiebreaker tb was ∷ remove old place)
   new_permuted =
-      subst (λ es. IsPermutation new (tied tb was ∷ es)) rest_same
-      (IsPermutation-remove new place (tied tb was) inside_new (sym (get_or_default new place (tied tb was) blank inside_new ∙ here)))
+      subst (λ es. IsPermutation new (with_tiebreaker tb was ∷ es)) rest_same
+      (IsPermutation-remove new place (with_tiebreaker tb was) inside_new (sym (get_or_default new place (with_tiebreaker tb was) blank_candidate inside_new ∙ here)))
 
-  abbrev AreApart : List Entry → Type 0
+  abbrev AreApart : List Candidate → Type 0
   AreApart es = IsDistinct (λ a b. nat_eq a.id b.id) es
 
-  ids_tied : AreApart (was ∷ remove old place) → AreApart (tied tb was ∷ remove old place)
+  ids_tied : AreApart (was ∷ remove old place) → AreApart (with_tiebreaker tb was ∷ remove old place)
   unfolding IsDistinct
   ids_tied ids = ids
 
-  module _ (final : List Entry) (moved : IsPermutation new final) (heap : IsHeapIndex old) where
+  module _ (final : List Candidate) (moved : IsPermutation new final) (heap : IsHeapIndex old) where
     pub ids_kept : AreApart final
     ids_kept =
         ids_permuted new final moved
-        (ids_permuted (tied tb was ∷ remove old place) new (IsPermutation-sym new (tied tb was ∷ remove old place) new_permuted)
+        (ids_permuted (with_tiebreaker tb was ∷ remove old place) new (IsPermutation-sym new (with_tiebreaker tb was ∷ remove old place) new_permuted)
         (ids_tied (ids_permuted old (was ∷ remove old place) old_permuted heap.ids)))
 
-    pub entries_tied : (shown : List Entry) → ordered old ≡ shown → IsTied id tb shown (ordered final)
+    pub entries_tied : (shown : List Candidate) → in_rising_order old ≡ shown
+        → IsTied id tb shown (in_rising_order final)
     entries_tied shown view e there same =
-        let one : e ≡ was = one_of_id (ordered old) e was (ids_in_order old heap.ids) (subst (λ es. Contains es e) (sym view) there) (Contains-permutation old (ordered old) was (ordered-permutes old) was_there) (same ∙ sym mine) in
-        ordered-permutation new final moved
-        ∙ sym (ordered-permutation new (tied tb was ∷ remove old place) new_permuted)
-        ∙ ap (inserted entry_cmp (tied tb was)) (taken_out was old (remove old place) old_permuted heap.ids ∙ ap (λ n. without n (ordered old)) mine ∙ ap (without id) view)
-        ∙ ap (λ x. inserted entry_cmp (tied tb x) (without id shown)) (sym one)
+        let one : e ≡ was = one_of_id (in_rising_order old) e was (ids_in_order old heap.ids) (subst (λ es. Contains es e) (sym view) there) (Contains-permutation old (in_rising_order old) was (in_rising_order-permutes old) was_there) (same ∙ sym mine) in
+        in_rising_order-permutation new final moved
+        ∙ sym (in_rising_order-permutation new (with_tiebreaker tb was ∷ remove old place) new_permuted)
+        ∙ ap (after_insert candidate_cmp (with_tiebreaker tb was)) (taken_out was old (remove old place) old_permuted heap.ids ∙ ap (λ n. without_candidate n (in_rising_order old)) mine ∙ ap (without_candidate id) view)
+        ∙ ap (λ x. after_insert candidate_cmp (with_tiebreaker tb x) (without_candidate id shown)) (sym one)
 
-    pub count_tied : (shown : List Entry) → ordered old ≡ shown → length (ordered final) ≡ length shown
+    pub count_tied : (shown : List Candidate) → in_rising_order old ≡ shown
+        → length (in_rising_order final) ≡ length shown
     count_tied shown view =
-        length_permutation final (ordered final) (ordered-permutes final) ∙ length_permutation new final moved ∙ long
-        ∙ sym (length_permutation old (ordered old) (ordered-permutes old)) ∙ ap length view
+        length_permutation final (in_rising_order final) (in_rising_order-permutes final)
+        ∙ length_permutation new final moved ∙ long
+        ∙ sym (length_permutation old (in_rising_order old) (in_rising_order-permutes old)) ∙ ap length view
 
-  -- what is there is open, where the entry of its id is
-  pub open_there : (shown : List Entry) → ordered old ≡ shown → IsHeapIndex old → IsOpenIn id shown → was.key.tb ≡ None
+  -- what is there is open, where the candidate of its id is
+  pub open_there : (shown : List Candidate) → in_rising_order old ≡ shown → IsHeapIndex old → IsOpenIn id shown
+      → was.key.tb ≡ None
   open_there shown view heap is_open =
-      let one : was ≡ is_open.entry = one_of_id (ordered old) was is_open.entry (ids_in_order old heap.ids) (Contains-permutation old (ordered old) was (ordered-permutes old) was_there) (subst (λ es. Contains es is_open.entry) (sym view) is_open.there) (mine ∙ sym is_open.is) in
+      let one : was ≡ is_open.entry = one_of_id (in_rising_order old) was is_open.entry (ids_in_order old heap.ids) (Contains-permutation old (in_rising_order old) was (in_rising_order-permutes old) was_there) (subst (λ es. Contains es is_open.entry) (sym view) is_open.there) (mine ∙ sym is_open.id_is) in
       ap (λ e. e.key.tb) one ∙ is_open.open_tie
 
 -- an id that is seen is there
-pub seen_there : (id : ℕ) (old shown : List Entry) → ordered old ≡ shown → HasId id shown → HasId id old
-seen_there id old shown view has = has_permuted id (ordered old) old (IsPermutation-sym old (ordered old) (ordered-permutes old)) (subst (HasId id) (sym view) has)
+pub seen_there : (id : ℕ) (old shown : List Candidate) → in_rising_order old ≡ shown → HasId id shown → HasId id old
+seen_there id old shown view has = has_permuted id (in_rising_order old) old (IsPermutation-sym old (in_rising_order old) (in_rising_order-permutes old)) (subst (HasId id) (sym view) has)
 
-pub open_has : (id : ℕ) (shown : List Entry) → IsOpenIn id shown → HasId id shown
-open_has id shown is_open = (is_open.there.0, is_open.entry, is_open.there.1, is_open.there.2, is_open.is)
+pub open_has : (id : ℕ) (shown : List Candidate) → IsOpenIn id shown → HasId id shown
+open_has id shown is_open = (is_open.there.0, is_open.entry, is_open.there.1, is_open.there.2, is_open.id_is)

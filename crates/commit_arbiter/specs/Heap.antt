@@ -1,12 +1,12 @@
--- Heaps of entries, and lists that want one step to be one.
+-- Heaps of candidates, and lists that want one exchange to be one.
 use Rattle.std.specs.Prelude.{◌≡◌, ◌≢◌, ℕ, ◌-◌, ◌<◌, ◌/◌, List, [], ◌∷◌, length, Bool, true, false, nat_eq}
 use Rattle.std.specs.List.{IsDistinct}
 use Rattle.std.specs.List.Sorted.{IsPermutation}
 use Rattle.std.specs.declared.cmp.Ordering.TheVariants.{Greater}
-use Rattle.fractal_vt.specs.Sorted.{inserted}
-use Rattle.commit_arbiter.specs.declared.entry.Entry.{Entry}
-use Rattle.commit_arbiter.specs.Indexed.{entry_cmp}
-use Rattle.commit_arbiter.specs.Slots.{entry_at}
+use Rattle.fractal_vt.specs.Sorted.{after_insert}
+use Rattle.commit_arbiter.specs.declared.candidate.Candidate.{Candidate}
+use Rattle.commit_arbiter.specs.Indexed.{candidate_cmp}
+use Rattle.commit_arbiter.specs.Slots.{candidate_at}
 
 -- the place above
 abbrev pub parent : ℕ → ℕ
@@ -26,42 +26,43 @@ pub record IsHeapApart {X : Type 0} (le : X → X → Type 0) (f : ℕ → X) (m
   pub order : (k : ℕ) → 0 < k → k < many → k ≢ i → parent k ≢ i → le (f (parent k)) (f k)
   pub over : (k : ℕ) → 0 < i → 0 < k → k < many → parent k ≡ i → le (f (parent i)) (f k)
 
--- the first entry is not greater than the second
-abbrev pub upto : Entry → Entry → Type 0
-upto a b = entry_cmp a b ≢ Greater
+-- the first candidate is not greater than the second
+abbrev pub upto : Candidate → Candidate → Type 0
+upto a b = candidate_cmp a b ≢ Greater
 
--- each entry is not less than its parent
-abbrev pub IsHeap : List Entry → Type 0
-IsHeap entries = IsHeapBy upto (entry_at entries) (length entries)
+-- each candidate is not less than its parent
+abbrev pub IsHeap : List Candidate → Type 0
+IsHeap entries = IsHeapBy upto (candidate_at entries) (length entries)
 
--- what a step up leaves: where it moved the entry, the parent's place is now the one that may stand wrong
-pub record StepsUp (old new : List Entry) (at : ℕ) (moved : Bool) : Type 0 where
+-- what one exchange up leaves: where it moved the candidate, the parent's place is now the one that may stand wrong
+pub record SiftsUpOnce (old new : List Candidate) (at : ℕ) (moved : Bool) : Type 0 where
   pub long : length new ≡ length old
   pub permuted : IsPermutation old new
-  pub up : moved ≡ true → IsHeapUp upto (entry_at new) (length new) (parent at)
+  pub up : moved ≡ true → IsHeapUp upto (candidate_at new) (length new) (parent at)
   pub all : moved ≡ false → IsHeap new
 
 -- the least child of a place
-pub record IsLeastChild (entries : List Entry) (at c : ℕ) : Type 0 where
+pub record IsLeastChild (entries : List Candidate) (at c : ℕ) : Type 0 where
   pub pos : 0 < c
   pub inside : c < length entries
   pub child : parent c ≡ at
-  pub least : (k : ℕ) → 0 < k → k < length entries → parent k ≡ at → upto (entry_at entries c) (entry_at entries k)
+  pub least : (k : ℕ) → 0 < k → k < length entries → parent k ≡ at
+      → upto (candidate_at entries c) (candidate_at entries k)
 
--- what a step down leaves: the place that may stand wrong is now the child's
-pub record StepsDown (old new : List Entry) (at c : ℕ) : Type 0 where
+-- what one exchange down leaves: the place that may stand wrong is now the child's
+pub record SiftsDownOnce (old new : List Candidate) (at c : ℕ) : Type 0 where
   pub long : length new ≡ length old
   pub permuted : IsPermutation old new
   pub inside : c < length new
   pub below : at < c
-  pub apart : IsHeapApart upto (entry_at new) (length new) c
+  pub apart : IsHeapApart upto (candidate_at new) (length new) c
 
--- the entries in their order
-abbrev pub ordered : List Entry → List Entry
-ordered [] = []
-ordered (e ∷ entries) = inserted entry_cmp e (ordered entries)
+-- the candidates in their order
+abbrev pub in_rising_order : List Candidate → List Candidate
+in_rising_order [] = []
+in_rising_order (e ∷ entries) = after_insert candidate_cmp e (in_rising_order entries)
 
--- a heap of entries, no two with one id
-pub record IsHeapIndex (entries : List Entry) : Type 0 where
+-- a heap of candidates, no two with one id
+pub record IsHeapIndex (entries : List Candidate) : Type 0 where
   pub heap : IsHeap entries
   pub ids : IsDistinct (λ a b. nat_eq a.id b.id) entries

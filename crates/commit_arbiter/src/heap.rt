@@ -1,23 +1,25 @@
+//! The heap of an index: candidates sift up and down in its slots.
+
 ghost use Rattle.std.specs.Prelude.{◌≡◌, ◌<◌, ◌/◌, ◌∷◌, length};
 ghost use Rattle.std.specs.List.Sorted.{IsPermutation};
-ghost use Rattle.commit_arbiter.specs.Slots.{entry_at};
+ghost use Rattle.commit_arbiter.specs.Slots.{candidate_at};
 ghost use Rattle.commit_arbiter.specs.Heap.{upto, IsHeap, IsHeapUp, IsHeapApart, IsLeastChild};
-ghost use Rattle.commit_arbiter.specs.Heap.{StepsUp, StepsDown};
+ghost use Rattle.commit_arbiter.specs.Heap.{SiftsUpOnce, SiftsDownOnce};
 
-use crate::entry::entry_order;
+use crate::candidate::candidate_order;
 use crate::slots::Slots;
 
-/// Exchanges an entry with its parent where it is less, and tells whether it did. What stands at its place then is
+/// Exchanges a candidate with its parent where it is less, and tells whether it did. What stands at its place then is
 /// noted.
-fn step_up(slots: &mut Slots, at: usize) -> bool
+fn sift_up_once(slots: &mut Slots, at: usize) -> bool
     requires below { 0 < at }
-    requires within { at < length slots.old.entries }
-    requires heap { IsHeapUp upto (entry_at slots.old.entries) (length slots.old.entries) at }
+    requires within { at < length slots.old.candidates }
+    requires heap { IsHeapUp upto (candidate_at slots.old.candidates) (length slots.old.candidates) at }
     ensures capacity { slots.new.capacity ≡ slots.old.capacity }
-    ensures step { StepsUp slots.old.entries slots.new.entries at result }
+    ensures step { SiftsUpOnce slots.old.candidates slots.new.candidates at result }
 {
     let above = (at - 1) / 2;
-    if entry_order(slots.get(at), slots.get(above)).is_lt() {
+    if candidate_order(slots.get(at), slots.get(above)).is_lt() {
         slots.swap(at, above);
         slots.note(at);
         return true;
@@ -26,17 +28,17 @@ fn step_up(slots: &mut Slots, at: usize) -> bool
     false
 }
 
-/// Exchanges an entry with its parent as long as it is less, and notes where it is then.
+/// Exchanges a candidate with its parent as long as it is less, and notes where it is then.
 pub(crate) fn sift_up(slots: &mut Slots, start: usize)
-    requires within { start < length slots.old.entries }
-    requires heap { IsHeapUp upto (entry_at slots.old.entries) (length slots.old.entries) start }
+    requires within { start < length slots.old.candidates }
+    requires heap { IsHeapUp upto (candidate_at slots.old.candidates) (length slots.old.candidates) start }
     ensures capacity { slots.new.capacity ≡ slots.old.capacity }
-    ensures heap { IsHeap slots.new.entries }
-    ensures permuted { IsPermutation slots.old.entries slots.new.entries }
+    ensures heap { IsHeap slots.new.candidates }
+    ensures permuted { IsPermutation slots.old.candidates slots.new.candidates }
 {
     let mut at = start;
     while at > 0 {
-        if !step_up(slots, at) {
+        if !sift_up_once(slots, at) {
             return;
         }
         at = (at - 1) / 2;
@@ -46,27 +48,27 @@ pub(crate) fn sift_up(slots: &mut Slots, start: usize)
 
 /// The least child of a place that has one.
 fn least_child(slots: &Slots, at: usize) -> usize
-    requires { at < length slots.now.entries / 2 }
-    ensures { IsLeastChild slots.now.entries at result }
+    requires { at < length slots.now.candidates / 2 }
+    ensures { IsLeastChild slots.now.candidates at result }
 {
     let many = slots.len();
     let left = 2 * at + 1;
     if left + 1 >= many {
         return left;
     }
-    if entry_order(slots.get(left + 1), slots.get(left)).is_lt() {
+    if candidate_order(slots.get(left + 1), slots.get(left)).is_lt() {
         left + 1
     } else {
         left
     }
 }
 
-/// Exchanges an entry with its least child, and tells which it was. The child's new place is noted.
-fn step_down(slots: &mut Slots, at: usize) -> usize
-    requires parent { at < length slots.old.entries / 2 }
-    requires heap { IsHeapApart upto (entry_at slots.old.entries) (length slots.old.entries) at }
+/// Exchanges a candidate with its least child, and tells which it was. The child's new place is noted.
+fn sift_down_once(slots: &mut Slots, at: usize) -> usize
+    requires parent { at < length slots.old.candidates / 2 }
+    requires heap { IsHeapApart upto (candidate_at slots.old.candidates) (length slots.old.candidates) at }
     ensures capacity { slots.new.capacity ≡ slots.old.capacity }
-    ensures step { StepsDown slots.old.entries slots.new.entries at result }
+    ensures step { SiftsDownOnce slots.old.candidates slots.new.candidates at result }
 {
     let child = least_child(slots, at);
     slots.swap(at, child);
@@ -74,30 +76,31 @@ fn step_down(slots: &mut Slots, at: usize) -> usize
     child
 }
 
-/// Moves the one entry that may stand wrong to where it belongs: down to a leaf, past the least child of each
+/// Moves the one candidate that may stand wrong to where it belongs: down to a leaf, past the least child of each
 /// place, and up again as far as it is less. What a removal puts there came from the end, and so mostly belongs
 /// near a leaf: this takes about one comparison a level, where a test on the way down takes two.
 pub(crate) fn settle(slots: &mut Slots, start: usize)
-    requires within { start < length slots.old.entries }
-    requires heap { IsHeapApart upto (entry_at slots.old.entries) (length slots.old.entries) start }
+    requires within { start < length slots.old.candidates }
+    requires heap { IsHeapApart upto (candidate_at slots.old.candidates) (length slots.old.candidates) start }
     ensures capacity { slots.new.capacity ≡ slots.old.capacity }
-    ensures heap { IsHeap slots.new.entries }
-    ensures permuted { IsPermutation slots.old.entries slots.new.entries }
+    ensures heap { IsHeap slots.new.candidates }
+    ensures permuted { IsPermutation slots.old.candidates slots.new.candidates }
 {
     let mut at = start;
     while at < slots.len() / 2 {
-        at = step_down(slots, at);
+        at = sift_down_once(slots, at);
     }
     sift_up(slots, at);
 }
 
-/// Takes the entry at a place out.
+/// Takes the candidate at a place out.
 pub(crate) fn take_out(slots: &mut Slots, place: usize)
-    requires within { place < length slots.old.entries }
-    requires heap { IsHeap slots.old.entries }
+    requires within { place < length slots.old.candidates }
+    requires heap { IsHeap slots.old.candidates }
     ensures capacity { slots.new.capacity ≡ slots.old.capacity }
-    ensures heap { IsHeap slots.new.entries }
-    ensures permuted { IsPermutation slots.old.entries (entry_at slots.old.entries place ∷ slots.new.entries) }
+    ensures heap { IsHeap slots.new.candidates }
+    ensures permuted { IsPermutation slots.old.candidates
+        (candidate_at slots.old.candidates place ∷ slots.new.candidates) }
 {
     let last = slots.len() - 1;
     slots.swap(place, last);

@@ -1,6 +1,8 @@
-ghost use Rattle.commit_arbiter.specs.Indexed.{OrderIsOne};
+//! The law of an index: its order is one.
 
-/// Law: two lists in the order of an index that hold the same entries are one.
-pub fn order_is_one()
-    ensures { OrderIsOne }
+ghost use Rattle.commit_arbiter.specs.Indexed.{IndexOrderIsOne};
+
+/// Law: two lists in the order of an index that hold the same candidates are one.
+pub fn index_order_is_one()
+    ensures { IndexOrderIsOne }
 {}

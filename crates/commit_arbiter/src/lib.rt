@@ -2,17 +2,17 @@
 //! all). `least` finds it in a list of keys, by one `cmp` for each and with no memory. `Index` keeps the tasks of
 //! all queues in the order of their keys: it takes its memory once, `first` costs one look, and `insert` and
 //! `remove` cost comparisons in the logarithm of the length. It stands on fractal_vt; the state of the machine
-//! calls it.
+//! and a bench call it.
 #![tactic(auto)]
 
 mod arbiter;
-mod entry;
+mod candidate;
 mod heap;
 mod index;
 mod laws;
 mod slots;
 
 pub use arbiter::{least, least_on};
-pub use entry::Entry;
+pub use candidate::Candidate;
 pub use index::Index;
-pub use laws::order_is_one;
+pub use laws::index_order_is_one;

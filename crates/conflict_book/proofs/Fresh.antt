@@ -5,14 +5,14 @@ use Rattle.std.proofs.lemmas.Bool.{cases_eq}
 use Rattle.spec_state.specs.declared.task.Creator.TheVariants.{Committed}
 use Rattle.spec_state.specs.declared.task.Status.TheVariants.{Idle}
 use Rattle.spec_state.specs.declared.task.Task.{Task}
-use Rattle.spec_state.specs.Groups.{waiting, waiting_task}
+use Rattle.spec_state.specs.Groups.{room_tasks, room_task}
 use Rattle.spec_state.specs.Opening.{Adds}
-use Rattle.spec_state.specs.Room.{Coalesces, HasFreeEntry, IsFull, IsMovable}
+use Rattle.spec_state.specs.Room.{Coalesces, QueueHasRoom, IsFull, IsMovable}
 use Rattle.spec_state.specs.Settings.{IsValid}
 use Rattle.spec_state.specs.Stored.{IsStored}
 use Rattle.spec_state.specs.View.{View, queue_at, task_at}
-use Rattle.book_law.proofs.Proved.{coalesced_was, kept_at, kept_fewer}
-use Rattle.turn_law.specs.Room.{queue_after}
+use Rattle.event_law.proofs.Proved.{coalesced_was, kept_at, kept_fewer}
+use Rattle.task_law.specs.Room.{queue_after}
 use Rattle.conflict_book.specs.Fresh.{AreFresh}
 
 -- what is no empty list holds something
@@ -32,7 +32,7 @@ fresh_moves size view tile stored fresh valid full =
       (
         has.0,
         record {
-          this = record { queued = first.1; there = has.1; idle = one.0 };
+          idle = record { queued = first.1; there = has.1; idle = one.0 };
           firm = inl (0, one.1.0, one.1.1);
         },
       ),
@@ -47,18 +47,18 @@ module _ (tile : ℕ) (old new : View) (c : Coalesces tile old new) where
   some_first [] some = absurd (some refl)
   some_first (id ∷ ids) some = some_in (id ∷ ids) (omega arith)
 
-  -- and a free entry
-  pub free_moved : length (queue_at old tile) ≤ old.settings.task_queue → HasFreeEntry new tile
+  -- and a free place
+  pub free_moved : length (queue_at old tile) ≤ old.settings.task_queue → QueueHasRoom new tile
   free_moved short =
       let first = some_first c.ids c.some in
       let movable = c.chosen.movable first.0 first.1 in
-      let gone : is_some (waiting new first.0) ≡ false = ap (λ o. is_some (option_map waiting_task o)) (c.gone first.0 first.1) in
-      let fewer = kept_fewer (waiting new) (queue_at old tile) first.0 movable.1.this.queued gone in
-      let queue_is : queue_at new tile ≡ queue_after (waiting new) (queue_at old tile) =
-      ap (λ (qs : List (List ℕ)). slice_index_or qs tile []) c.queues ∙ kept_at (waiting new) old.queues tile in
+      let gone : is_some (room_tasks new first.0) ≡ false = ap (λ o. is_some (option_map room_task o)) (c.gone first.0 first.1) in
+      let fewer = kept_fewer (room_tasks new) (queue_at old tile) first.0 movable.1.idle.queued gone in
+      let queue_is : queue_at new tile ≡ queue_after (room_tasks new) (queue_at old tile) =
+      ap (λ (qs : List (List ℕ)). slice_index_or qs tile []) c.queues ∙ kept_at (room_tasks new) old.queues tile in
       let now : length (queue_at new tile) < old.settings.task_queue =
       subst (λ (ids : List ℕ). length ids < old.settings.task_queue) (sym queue_is) (omega (arith, fewer, short)) in
-      subst (λ s. length (queue_at new tile) < s.task_queue) (sym (ap (λ v. v.settings) c.rest)) now
+      subst (λ s. length (queue_at new tile) < s.task_queue) (sym (ap (λ v. v.settings) c.frame)) now
 
 -- a task of the image that is added leaves all of them fresh
 pub fresh_added : (id index : ℕ) (task : Task) (old new : View) → AreFresh old → Adds id task old new → task.status ≡ Idle

@@ -9,21 +9,21 @@ use Rattle.serial_machine.specs.declared.limits.TheConstants.{MAX_COMMITS}
 use Rattle.serial_machine.specs.Run.{IsRun}
 use Rattle.spec_state.specs.declared.pending.Pending.{Pending}
 use Rattle.spec_state.specs.View.{View}
-use Rattle.spec_state.specs.Pendings.{is_before, pendings_in, Leaves}
+use Rattle.spec_state.specs.Pendings.{pending_before, pendings_in, RunLeaves}
 use Rattle.spec_law.specs.Sound.{Sound}
 use Rattle.spec_law.proofs.Proved.{undo_all_is_serial}
-use Rattle.book_event.specs.Book.{BookView}
-use Rattle.book_event.specs.Closing.{Closes}
+use Rattle.event_def.specs.Book.{BookView}
+use Rattle.event_def.specs.Closing.{Closes}
 use Rattle.pending_law.proofs.Proved.{pendings_are_serial}
 
 -- what is closed has the book's history for its journal
 journal_kept : (book : BookView) (closed : Closed) → Closes book closed → closed.journal ≡ book.view.history
-journal_kept book closed closes = closes.journal ∙ ap (λ (v : View). v.history) closes.undone.rest
+journal_kept book closed closes = closes.journal ∙ ap (λ (v : View). v.history) closes.undone.frame
 
 -- a sound book that is closed leaves a run, and its pending tasks are those of the serial machine after that run
 pub frozen_leaves : (image : ImageValue) (book : BookView) (closed : Closed) (pendings : List Pending) → Sound image book.view → Closes book closed
-    → IsPermutation (pendings_in book.view) pendings → IsSortedBy is_before pendings
-    → Leaves image book.view.settings.budget closed.journal closed.memory closed.output pendings
+    → IsPermutation (pendings_in book.view) pendings → IsSortedBy pending_before pendings
+    → RunLeaves image book.view.settings.budget closed.journal closed.memory closed.output pendings
 frozen_leaves image book closed pendings sound closes moved sorted =
     let same = journal_kept book closed closes in
     let undone = undo_all_is_serial image book.view closes.left sound closes.undone in

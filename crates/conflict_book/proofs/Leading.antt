@@ -10,12 +10,13 @@ use Rattle.spec_state.specs.Changes.{TakesLeg}
 use Rattle.spec_state.specs.Least.{IsLeast, IsLeastSpilled, IsLeastTask}
 use Rattle.spec_state.specs.Queries.{IsLeastIdle}
 use Rattle.spec_state.specs.View.{View, task_at}
-use Rattle.spec_law.specs.Sound.{HoldsCore, Sound}
-use Rattle.book_event.specs.declared.event.Event.TheVariants as event
-use Rattle.book_event.specs.Advancing.{IsLegFrom, IsNextEvent}
-use Rattle.book_event.specs.End.{IsOver}
-use Rattle.book_law.proofs.Proved.{next_event_is_given, running_within}
-use Rattle.step_law.proofs.Proved.{least_idle, next_is_commit, next_is_dispatch, next_is_split, next_is_step}
+use Rattle.spec_state.specs.Stored.{HasCore}
+use Rattle.spec_law.specs.Sound.{Sound}
+use Rattle.event_def.specs.declared.event.Event.TheVariants as event
+use Rattle.event_def.specs.Advancing.{IsLegFrom, IsNextEvent}
+use Rattle.event_def.specs.End.{IsOver}
+use Rattle.event_law.proofs.Proved.{next_event_is_given, running_within}
+use Rattle.event_lemma.proofs.Proved.{least_idle, next_is_commit, next_is_dispatch, next_is_split, next_is_step}
 
 -- the tile that is read of the task of this id
 abbrev ReadsTile : View → TaskId → ℕ → Type 0
@@ -28,7 +29,7 @@ tile_is view id tile task there read = subst (λ o. IfSome o (λ (t : Task). til
 pub runs_within : (image : ImageValue) (view : View) (id : TaskId) → Sound image view → IsLeast view (where_.Running id) → (task : Task)
     → task_at view id.0 ≡ Some task → task.core.used ≤ view.settings.budget
 runs_within image view id sound is task there =
-    let both : Some is.0 ≡ Some task = sym is.2.at.there ∙ there in
+    let both : Some is.0 ≡ Some task = sym is.2.queued_at.there ∙ there in
     let same : is.0 ≡ task = cc in
     running_within image view sound id.0 is.1 task there (ap (λ (t : Task). t.status) (sym same) ∙ is.3)
 
@@ -37,13 +38,13 @@ module _ (N : Type 0) (image : ImageValue) (view : View) (sound : Sound image vi
   pub next_dispatch : (id : TaskId) (tile : ℕ) → IsLeast view (where_.Idle id) → ReadsTile view id tile
       → IsNextEvent {N = N} image view (event.Dispatch tile)
   next_dispatch id tile is read =
-      subst (λ t. IsNextEvent {N = N} image view (event.Dispatch t)) (sym (tile_is view id tile is.0 is.1.at.there read))
+      subst (λ t. IsNextEvent {N = N} image view (event.Dispatch t)) (sym (tile_is view id tile is.0 is.1.queued_at.there read))
       (next_is_dispatch N image view going id.0 is.0 is.1 is.2)
 
   pub dispatch_is_idle : (id : TaskId) (tile : ℕ) → IsLeast view (where_.Idle id) → ReadsTile view id tile
       → (task : Task) × IsLeastIdle view tile id.0 task
   dispatch_is_idle id tile is read =
-      (is.0, subst (λ t. IsLeastIdle view t id.0 is.0) (sym (tile_is view id tile is.0 is.1.at.there read)) (least_idle image view id.0 is.0 sound is.1 is.2))
+      (is.0, subst (λ t. IsLeastIdle view t id.0 is.0) (sym (tile_is view id tile is.0 is.1.queued_at.there read)) (least_idle image view id.0 is.0 sound is.1 is.2))
 
   pub dispatch_is_inside : (id : TaskId) (tile : ℕ) → IsLeast view (where_.Idle id) → ReadsTile view id tile → tile < view.settings.tiles
   dispatch_is_inside id tile is read = next_event_is_given N image view (event.Dispatch tile) sound (next_dispatch id tile is read)
@@ -53,14 +54,14 @@ module _ (N : Type 0) (image : ImageValue) (view : View) (sound : Sound image vi
     module _ (tile : ℕ) (leg : LegValue) (read : ReadsTile view id tile) (from : (task : Task) → IsLeastTask view id.0 task → IsLegFrom image view task leg) where
       pub next_step : IsNextEvent {N = N} image view (event.Step tile is.1 leg)
       next_step =
-          subst (λ t. IsNextEvent {N = N} image view (event.Step t is.1 leg)) (sym (tile_is view id tile is.0 is.2.at.there read))
+          subst (λ t. IsNextEvent {N = N} image view (event.Step t is.1 leg)) (sym (tile_is view id tile is.0 is.2.queued_at.there read))
           (next_is_step N image view going id.0 is.1 is.0 leg is.2 is.3 (from is.0 is.2))
 
       pub step_takes : TakesLeg view tile is.1 leg id.0 is.0
       step_takes =
-          let there = is.2.at.there in
+          let there = is.2.queued_at.there in
           let in_tile = sym (tile_is view id tile is.0 there read) in
-          let held = (sound.sizes.held_are tile is.1 id.0).1 (is.0, there, in_tile, subst (λ status. HoldsCore status is.1) (sym is.3) refl) in
+          let held = (sound.sizes.held_are tile is.1 id.0).1 (is.0, there, in_tile, subst (λ status. HasCore status is.1) (sym is.3) refl) in
           record {
             runs = record { on = record { held = held; there = there }; running = is.3 };
             from = sym (from is.0 is.2).from;

@@ -3,14 +3,14 @@ use Rattle.guest_image.specs.ImageValue.{ImageValue}
 use Rattle.run_law.proofs.Proved.{lawful}
 use Rattle.spec_law.specs.Sound.{Sound}
 use Rattle.run_journal.specs.declared.closed.Closed.{Closed}
-use Rattle.book_event.specs.Book.{BookView}
-use Rattle.book_event.specs.Closing.{Closes}
-use Rattle.book_law.proofs.Proved.{close_is_serial}
-use Rattle.conflict_book.specs.Left.{LeavesRun}
+use Rattle.event_def.specs.Book.{BookView}
+use Rattle.event_def.specs.Closing.{Closes}
+use Rattle.event_law.proofs.Proved.{close_is_serial}
+use Rattle.conflict_book.specs.Left.{LeavesLawfulRun}
 
 -- a sound book that is closed leaves a run, which keeps the laws of runs
 pub closed_is_run : (image : ImageValue) (book : BookView) (closed : Closed) → Sound image book.view → Closes book closed
-    → LeavesRun image book.view.settings.budget closed
+    → LeavesLawfulRun image book.view.settings.budget closed
 closed_is_run image book closed sound closes =
     let run = close_is_serial image book closed sound closes in
     record {

@@ -5,35 +5,36 @@ use Rattle.std.proofs.lemmas.Nat.{mul-le}
 use Rattle.guest_image.specs.ImageValue.{ImageValue}
 use Rattle.place_policy.specs.Policy.{Policy}
 use Rattle.run_journal.specs.declared.end.End.TheVariants as ends
-use Rattle.task_step.specs.declared.request.Request.{Request}
-use Rattle.task_step.specs.declared.request.Request.TheVariants.{Continue, Load, Store, Enqueue, MakeSub, Emit, End, Trap}
+use Rattle.task_request.specs.declared.request.Request.{Request}
+use Rattle.task_request.specs.declared.request.Request.TheVariants.{Continue, Load, Store, Enqueue, MakeSub, Emit, End, Trap}
 use Rattle.trace_tap.specs.declared.record.Record.{Record}
-use Rattle.trace_tap.specs.Reading.{Reading}
+use Rattle.trace_tap.specs.TapValue.{TapValue}
 use Rattle.spec_state.specs.declared.task.TaskId.{TaskId}
 use Rattle.spec_state.specs.declared.task.Where.TheVariants as where_
 use Rattle.spec_state.specs.Least.{IsLeast}
 use Rattle.spec_state.specs.View.{View}
 use Rattle.spec_law.specs.Sound.{Sound}
-use Rattle.book_event.specs.declared.event.Advance.{Advance}
-use Rattle.book_event.specs.declared.event.Advance.TheVariants as answers
-use Rattle.book_event.specs.declared.event.Came.{Came}
-use Rattle.book_event.specs.declared.event.Came.TheVariants.{Made, Refused}
-use Rattle.book_event.specs.declared.event.Event.{Event}
-use Rattle.book_event.specs.declared.event.Event.TheVariants as event
-use Rattle.book_event.specs.declared.event.Halt.{Halt}
-use Rattle.book_event.specs.declared.event.Halt.TheVariants as halts
-use Rattle.book_event.specs.declared.event.Reply.{Reply}
-use Rattle.book_event.specs.declared.event.Reply.TheVariants as reply
-use Rattle.book_event.specs.Advancing.{AdvanceAnswers, AdvancesBy, IsNextEvent}
-use Rattle.book_event.specs.Book.{BookView, CountedView}
-use Rattle.book_event.specs.Comes.{Comes, IsAsBefore}
-use Rattle.book_event.specs.End.{IsOver}
-use Rattle.book_event.specs.Happens.{Happens}
-use Rattle.book_event.specs.Trace.{deed_of}
-use Rattle.book_law.proofs.Proved.{advances_fall, least_event_is_granted, least_events_are_few, next_event_is_given, rest_is_there}
-use Rattle.step_law.proofs.Proved.{comes_stays_sound, least_is_committed, limit_ends, trap_ends}
-use Rattle.conflict_book.specs.Halting.{FallsIfMoved, GoesOn, NextComes, RunsLeast, advance_by, advance_of, last_answer}
-use Rattle.conflict_book.specs.Seen.{going, told}
+use Rattle.event_def.specs.declared.event.Advance.{Advance}
+use Rattle.event_def.specs.declared.event.Advance.TheVariants as answers
+use Rattle.event_def.specs.declared.event.Came.{Came}
+use Rattle.event_def.specs.declared.event.Came.TheVariants.{Made, Refused}
+use Rattle.event_def.specs.declared.event.Event.{Event}
+use Rattle.event_def.specs.declared.event.Event.TheVariants as event
+use Rattle.event_def.specs.declared.event.Halt.{Halt}
+use Rattle.event_def.specs.declared.event.Halt.TheVariants as halts
+use Rattle.event_def.specs.declared.event.Reply.{Reply}
+use Rattle.event_def.specs.declared.event.Reply.TheVariants as reply
+use Rattle.event_def.specs.Advancing.{AdvanceAnswers, AdvancesBy, IsNextEvent}
+use Rattle.event_def.specs.Book.{BookView, CountedView}
+use Rattle.event_def.specs.Comes.{Comes, IsAsBefore}
+use Rattle.event_def.specs.End.{IsOver}
+use Rattle.event_def.specs.Happens.{Happens}
+use Rattle.event_def.specs.Trace.{deed_of}
+use Rattle.event_law.proofs.Proved.{advances_fall, least_event_is_granted, least_events_are_few, next_event_is_given, rest_is_there}
+use Rattle.event_lemma.proofs.Proved.{comes_stays_sound, least_is_committed, limit_ends, trap_ends}
+use Rattle.conflict_book.specs.Halting.{FallsIfMoved, AdvanceGoesOn, NextComes, RunsLeast, advance_by, advance_of}
+use Rattle.conflict_book.specs.Halting.{last_answer}
+use Rattle.conflict_book.specs.BookViews.{going_book, after_event}
 use Rattle.conflict_book.proofs.Telling.{happens_made, moved}
 
 -- where the least task is trapped the run is over
@@ -71,32 +72,32 @@ module _ (N : Type 0) (image : ImageValue) (old new : BookView) (aborted : ℕ) 
 -- what is answered of an event for the least task that was made
 module _ (N : Type 0) (image : ImageValue) (book : BookView) (goes_on : book.stopped ≡ false) (view : View) (placers : List Policy) (seen : Record) where
   made_by : (e : Event N) → IsNextEvent image book.view e → Comes book e (Made seen) view placers
-      → AdvanceAnswers N image book (advance_of seen) (told seen (moved book view placers))
+      → AdvanceAnswers N image book (advance_of seen) (after_event seen (moved book view placers))
   made_by (event.Dispatch tile) next comes =
-      subst (λ d. AdvanceAnswers N image book (advance_by d seen.aborted) (told seen (moved book view placers)))
+      subst (λ d. AdvanceAnswers N image book (advance_by d seen.aborted) (after_event seen (moved book view placers)))
       (ap (λ (r : Record). r.deed) (sym comes.2))
       (event.Dispatch tile, next, tt, happens_made book goes_on (event.Dispatch tile) view placers seen comes)
   made_by (event.Step tile core leg) next comes =
       let step : Event N = event.Step tile core leg in
       let happens = happens_made book goes_on step view placers seen comes in
-      subst (λ d. AdvanceAnswers N image book (advance_by d seen.aborted) (told seen (moved book view placers)))
+      subst (λ d. AdvanceAnswers N image book (advance_by d seen.aborted) (after_event seen (moved book view placers)))
       (ap (λ (r : Record). r.deed) (sym comes.2.3))
-      (moved_on N image book (told seen (moved book view placers)) seen.aborted step next happens _
+      (moved_on N image book (after_event seen (moved book view placers)) seen.aborted step next happens _
       (step, next, tt, happens))
   made_by (event.Split tile) next comes =
-      subst (λ d. AdvanceAnswers N image book (advance_by d seen.aborted) (told seen (moved book view placers)))
+      subst (λ d. AdvanceAnswers N image book (advance_by d seen.aborted) (after_event seen (moved book view placers)))
       (ap (λ (r : Record). r.deed) (sym comes.2))
       (event.Split tile, next, tt, happens_made book goes_on (event.Split tile) view placers seen comes)
   made_by event.Commit next comes =
       let commit : Event N = event.Commit in
       let happens = happens_made book goes_on commit view placers seen comes in
-      subst (λ d. AdvanceAnswers N image book (advance_by d seen.aborted) (told seen (moved book view placers)))
+      subst (λ d. AdvanceAnswers N image book (advance_by d seen.aborted) (after_event seen (moved book view placers)))
       (ap (λ (r : Record). r.deed) (sym comes.2.3))
-      (next, subst (λ n. Happens book commit reply.Ok n (told seen (moved book view placers))) comes.1.1 happens)
+      (next, subst (λ n. Happens book commit reply.Ok n (after_event seen (moved book view placers))) comes.1.1 happens)
   made_by (event.Abort tile) next comes = absurd next.least
   made_by (event.Coalesce tile) next comes = absurd next.least
 
-  pub answers_made : NextComes N image book (Made seen) view placers → AdvanceAnswers N image book (advance_of seen) (told seen (moved book view placers))
+  pub answers_made : NextComes N image book (Made seen) view placers → AdvanceAnswers N image book (advance_of seen) (after_event seen (moved book view placers))
   answers_made next = made_by next.0 next.1 next.2
 
 -- and of one that was refused
@@ -118,7 +119,7 @@ module _ (N : Type 0) (image : ImageValue) (book : BookView) (sound : Sound imag
   answers_refused answer next = refused_by next.0 next.1 answer next.2
 
 -- in the words of a book's parts: it was not stopped, and what it has now is told part by part
-module _ (N : Type 0) (image : ImageValue) (sound : CountedView) (placers : List Policy) (taps : List Reading) (stopped : Bool) (goes_on : stopped ≡ false)
+module _ (N : Type 0) (image : ImageValue) (sound : CountedView) (placers : List Policy) (taps : List TapValue) (stopped : Bool) (goes_on : stopped ≡ false)
     (view : View) (after : List Policy) (steps : ℕ) (same : steps ≡ sound.steps) where
   -- the book before
   abbrev was : Bool → BookView
@@ -128,22 +129,22 @@ module _ (N : Type 0) (image : ImageValue) (sound : CountedView) (placers : List
   abbrev becomes : ℕ → Bool → BookView
   becomes n s = record { view = view; placers = after; taps = taps; steps = n; stopped = s }
 
-  pub parts_made : (seen : Record) (new : BookView) → new ≡ told seen (becomes steps stopped)
-      → NextComes N image (going sound placers taps) (Made seen) view after
+  pub parts_made : (seen : Record) (new : BookView) → new ≡ after_event seen (becomes steps stopped)
+      → NextComes N image (going_book sound placers taps) (Made seen) view after
       → AdvanceAnswers N image (was stopped) (advance_of seen) new
   parts_made seen new is next =
-      let made = answers_made N image (going sound placers taps) refl view after seen next in
-      subst (AdvanceAnswers N image (was stopped) (advance_of seen)) (sym (is ∙ ap (λ n. told seen (becomes n stopped)) same))
-      (subst (λ s. AdvanceAnswers N image (was s) (advance_of seen) (told seen (becomes sound.steps s))) (sym goes_on) made)
+      let made = answers_made N image (going_book sound placers taps) refl view after seen next in
+      subst (AdvanceAnswers N image (was stopped) (advance_of seen)) (sym (is ∙ ap (λ n. after_event seen (becomes n stopped)) same))
+      (subst (λ s. AdvanceAnswers N image (was s) (advance_of seen) (after_event seen (becomes sound.steps s))) (sym goes_on) made)
 
-  pub parts_refused : Sound image sound.view → (answer : Reply) → NextComes N image (going sound placers taps) (Refused answer) view after
+  pub parts_refused : Sound image sound.view → (answer : Reply) → NextComes N image (going_book sound placers taps) (Refused answer) view after
       → AdvanceAnswers N image (was stopped) answers.Memory (becomes steps stopped)
   parts_refused is_sound answer next =
-      let refused = answers_refused N image (going sound placers taps) is_sound view after answer next in
+      let refused = answers_refused N image (going_book sound placers taps) is_sound view after answer next in
       subst (λ n. AdvanceAnswers N image (was stopped) answers.Memory (becomes n stopped)) (sym same)
       (subst (λ s. AdvanceAnswers N image (was s) answers.Memory (becomes sound.steps s)) (sym goes_on) refused)
 
-  pub parts_stay : IsAsBefore (going sound placers taps) view after → becomes steps stopped ≡ was stopped
+  pub parts_stay : IsAsBefore (going_book sound placers taps) view after → becomes steps stopped ≡ was stopped
   parts_stay as_before = λ i. record { view = as_before.0 i; placers = as_before.1 i; taps = taps; steps = same i; stopped = stopped }
 
 -- less is left after each event but a commit
@@ -157,7 +158,7 @@ falls_if_moved N image old new answers.Memory sound answered = tt
 
 -- a run of one event more
 next_one : (N : Type 0) (image : ImageValue) (n : ℕ) (old mid new : BookView) (answer : Advance) → AdvancesBy N image n old mid
-    → AdvanceAnswers N image mid answer new → GoesOn answer → AdvancesBy N image (suc n) old new
+    → AdvanceAnswers N image mid answer new → AdvanceGoesOn answer → AdvancesBy N image (suc n) old new
 next_one N image n old mid new (answers.Moved aborted) advances answered goes =
     (mid, aborted, advances, record { event = answered.0; next = answered.1; happens = answered.3 })
 next_one N image n old mid new answers.Committed advances answered goes =
@@ -166,7 +167,7 @@ next_one N image n old mid new (answers.Ended end) advances answered goes = absu
 next_one N image n old mid new answers.Memory advances answered goes = absurd goes
 
 pub one_more : (N : Type 0) (image : ImageValue) (n : ℕ) (old mid new : BookView) (answer : Advance) → AdvancesBy N image n old mid
-    → AdvanceAnswers N image mid answer new → GoesOn answer → AdvancesBy N image (n + 1) old new
+    → AdvanceAnswers N image mid answer new → AdvanceGoesOn answer → AdvancesBy N image (n + 1) old new
 one_more N image n old mid new answer advances answered goes =
     subst (λ m. AdvancesBy N image m old new) (sym (add-one n)) (next_one N image n old mid new answer advances answered goes)
 
@@ -182,7 +183,7 @@ pub halted : (N : Type 0) (image : ImageValue) (n : ℕ) (old mid new : BookView
 halted N image n old mid new halt sound advances answered =
     let same = halts_where N image mid new halt answered in
     let few = least_events_are_few N image n old mid sound advances in
-    let left = rest_is_there image mid.view few.now in
+    let left = rest_is_there image mid.view few.sound in
     let most = few.few left.0 left.1 in
     record {
       made = n;
@@ -198,9 +199,9 @@ pub not_enough : (N : Type 0) (image : ImageValue) (n : ℕ) (old mid : BookView
     → n ≡ (old.view.settings.commits + 1) * (old.view.settings.budget + 4) + 1 → ⊥
 not_enough N image n old mid sound advances all =
     let few = least_events_are_few N image n old mid sound advances in
-    let left = rest_is_there image mid.view few.now in
+    let left = rest_is_there image mid.view few.sound in
     let most = few.few left.0 left.1 in
-    let within : length mid.view.history ≤ old.view.settings.commits = subst (λ s. length mid.view.history ≤ s.commits) few.settings few.now.tasks.few in
+    let within : length mid.view.history ≤ old.view.settings.commits = subst (λ s. length mid.view.history ≤ s.commits) few.settings few.sound.tasks.few in
     let longer = few.longer in
     let product = mul-le (few.commits + 1) (old.view.settings.budget + 4) (old.view.settings.commits + 1) (old.view.settings.budget + 4) (omega (arith, within, longer)) (omega arith) in
     omega (arith, all, most, product)

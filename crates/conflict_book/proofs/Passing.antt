@@ -2,21 +2,22 @@
 use Rattle.std.proofs.Common.{ℕ, ◌≡◌, List, length, sym, ap, subst, ◌∙◌}
 use Rattle.guest_image.specs.ImageValue.{ImageValue}
 use Rattle.place_policy.specs.Policy.{Policy}
-use Rattle.trace_tap.specs.Reading.{Reading}
+use Rattle.trace_tap.specs.TapValue.{TapValue}
 use Rattle.spec_state.specs.declared.settings.Settings.{Settings}
 use Rattle.spec_state.specs.View.{View}
 use Rattle.spec_law.specs.Sound.{Sound}
-use Rattle.book_event.specs.declared.event.Came.{Came}
-use Rattle.book_event.specs.declared.event.Event.{Event}
-use Rattle.book_event.specs.declared.event.Event.TheVariants as event
-use Rattle.book_event.specs.Comes.{Comes}
-use Rattle.book_move.specs.Moving.{CommitComes, book_of, placers_after}
+use Rattle.event_def.specs.declared.event.Came.{Came}
+use Rattle.event_def.specs.declared.event.Event.{Event}
+use Rattle.event_def.specs.declared.event.Event.TheVariants as event
+use Rattle.event_def.specs.Comes.{Comes}
+use Rattle.event_def.specs.Book.{book_of}
+use Rattle.event_move.specs.Moving.{CommitComes, placers_after}
 use Rattle.conflict_book.proofs.Telling.{comes_keeps_settings}
 
 -- what comes of a commit, with the placers that are left as the view afterwards tells
 pub commit_comes : (N : Type 0) (image : ImageValue) (old new : View) (came : Came) (before after : List Policy) → Sound image old
     → CommitComes N old came new → after ≡ placers_after new.settings.phase (length new.history) came before
-    → (taps : List Reading) (steps : ℕ) → Comes {N = N} (book_of old before taps steps) event.Commit came new after
+    → (taps : List TapValue) (steps : ℕ) → Comes {N = N} (book_of old before taps steps) event.Commit came new after
 commit_comes N image old new came before after sound comes passed taps steps =
     let commit : Event N = event.Commit in
     let first = comes before taps steps in

@@ -2,15 +2,15 @@
 use Rattle.std.proofs.Common.{◌≡◌, ◌⊎◌, inl, inr, refl, ap, ℕ, true}
 use Rattle.guest_image.specs.ImageValue.{ImageValue}
 use Rattle.spec_law.specs.Sound.{Sound}
-use Rattle.book_event.specs.declared.event.Advance.{Advance}
-use Rattle.book_event.specs.declared.event.Advance.TheVariants as answers
-use Rattle.book_event.specs.declared.event.Event.{Event}
-use Rattle.book_event.specs.declared.event.Event.TheVariants as event
-use Rattle.book_event.specs.declared.event.Reply.TheVariants as reply
-use Rattle.book_event.specs.Advancing.{AdvanceAnswers, Advances, IsNextEvent}
-use Rattle.book_event.specs.Book.{BookView}
-use Rattle.book_event.specs.Happens.{Happens}
-use Rattle.book_law.proofs.Proved.{least_events_are_few}
+use Rattle.event_def.specs.declared.event.Advance.{Advance}
+use Rattle.event_def.specs.declared.event.Advance.TheVariants as answers
+use Rattle.event_def.specs.declared.event.Event.{Event}
+use Rattle.event_def.specs.declared.event.Event.TheVariants as event
+use Rattle.event_def.specs.declared.event.Reply.TheVariants as reply
+use Rattle.event_def.specs.Advancing.{AdvanceAnswers, Advances, IsNextEvent}
+use Rattle.event_def.specs.Book.{BookView}
+use Rattle.event_def.specs.Happens.{Happens}
+use Rattle.event_law.proofs.Proved.{least_events_are_few}
 
 one_settled : (N : Type 0) (image : ImageValue) (old new : BookView) (aborted : ℕ) → Sound image old.view → Advances N image old aborted new
     → new.view.settings ≡ old.view.settings

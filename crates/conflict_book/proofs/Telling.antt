@@ -3,20 +3,20 @@ use Rattle.std.proofs.Common.{◌≡◌, Bool, false, List, ℕ, inr, refl, sym,
 use Rattle.guest_image.specs.ImageValue.{ImageValue}
 use Rattle.place_policy.specs.Policy.{Policy}
 use Rattle.trace_tap.specs.declared.record.Record.{Record}
-use Rattle.trace_tap.specs.Reading.{Reading}
+use Rattle.trace_tap.specs.TapValue.{TapValue}
 use Rattle.spec_state.specs.View.{View}
 use Rattle.spec_law.specs.Sound.{Sound}
-use Rattle.book_event.specs.declared.event.Came.{Came}
-use Rattle.book_event.specs.declared.event.Came.TheVariants.{Made, Refused}
-use Rattle.book_event.specs.declared.event.Event.{Event}
-use Rattle.book_event.specs.declared.event.Reply.{Reply}
-use Rattle.book_event.specs.declared.event.Reply.TheVariants as reply
-use Rattle.book_event.specs.Book.{BookView, CountedView}
-use Rattle.book_event.specs.Comes.{Comes, IsAsBefore}
-use Rattle.book_event.specs.Events.{IsGiven}
-use Rattle.book_event.specs.Happens.{Happens, IsUnchanged}
-use Rattle.step_law.proofs.Proved.{makes_keeps_settings}
-use Rattle.conflict_book.specs.Seen.{going, told}
+use Rattle.event_def.specs.declared.event.Came.{Came}
+use Rattle.event_def.specs.declared.event.Came.TheVariants.{Made, Refused}
+use Rattle.event_def.specs.declared.event.Event.{Event}
+use Rattle.event_def.specs.declared.event.Reply.{Reply}
+use Rattle.event_def.specs.declared.event.Reply.TheVariants as reply
+use Rattle.event_def.specs.Book.{BookView, CountedView}
+use Rattle.event_def.specs.Comes.{Comes, IsAsBefore}
+use Rattle.event_def.specs.Events.{IsGiven}
+use Rattle.event_def.specs.Happens.{Happens, IsUnchanged}
+use Rattle.event_lemma.proofs.Proved.{makes_keeps_settings}
+use Rattle.conflict_book.specs.BookViews.{going_book, after_event}
 
 -- the book with another view and other placers
 abbrev pub moved : BookView → View → List Policy → BookView
@@ -25,7 +25,7 @@ moved book view placers = record book { view = view; placers = placers }
 module _ {N : Type 0} (book : BookView) (goes_on : book.stopped ≡ false) (e : Event N) (view : View) (placers : List Policy) where
   -- an event that was made
   pub happens_made : (seen : Record) → Comes book e (Made seen) view placers
-      → Happens book e reply.Ok seen.aborted (told seen (moved book view placers))
+      → Happens book e reply.Ok seen.aborted (after_event seen (moved book view placers))
   happens_made seen comes = record {
     goes_on = goes_on;
     granted = comes.0;
@@ -54,7 +54,7 @@ module _ {N : Type 0} (book : BookView) (goes_on : book.stopped ≡ false) (e : 
   happens_refused reply.Ended comes = record { goes_on = goes_on; refused = comes.0; unchanged = unchanged comes.1 }
 
 -- in the words of a book's parts: it was not stopped, and what it has now is told part by part
-module _ {N : Type 0} (sound : CountedView) (placers : List Policy) (taps : List Reading) (stopped : Bool) (goes_on : stopped ≡ false)
+module _ {N : Type 0} (sound : CountedView) (placers : List Policy) (taps : List TapValue) (stopped : Bool) (goes_on : stopped ≡ false)
     (e : Event N) (view : View) (after : List Policy) (steps : ℕ) (same : steps ≡ sound.steps) where
   -- the book before
   abbrev before : Bool → BookView
@@ -64,17 +64,19 @@ module _ {N : Type 0} (sound : CountedView) (placers : List Policy) (taps : List
   abbrev behind : ℕ → Bool → BookView
   behind n s = record { view = view; placers = after; taps = taps; steps = n; stopped = s }
 
-  pub part_made : (seen : Record) (new : BookView) → new ≡ told seen (behind steps stopped) → Comes (going sound placers taps) e (Made seen) view after
+  pub part_made : (seen : Record) (new : BookView) → new ≡ after_event seen (behind steps stopped) → Comes (going_book sound placers taps) e (Made seen) view after
       → Happens (before stopped) e reply.Ok seen.aborted new
   part_made seen new is comes =
-      let made = happens_made (going sound placers taps) refl e view after seen comes in
-      subst (Happens (before stopped) e reply.Ok seen.aborted) (sym (is ∙ ap (λ n. told seen (behind n stopped)) same))
-      (subst (λ s. Happens (before s) e reply.Ok seen.aborted (told seen (behind sound.steps s))) (sym goes_on) made)
+      let made = happens_made (going_book sound placers taps) refl e view after seen comes in
+      subst (Happens (before stopped) e reply.Ok seen.aborted)
+      (sym (is ∙ ap (λ n. after_event seen (behind n stopped)) same))
+      (subst (λ s. Happens (before s) e reply.Ok seen.aborted (after_event seen (behind sound.steps s)))
+      (sym goes_on) made)
 
-  pub part_refused : (answer : Reply) → Comes (going sound placers taps) e (Refused answer) view after
+  pub part_refused : (answer : Reply) → Comes (going_book sound placers taps) e (Refused answer) view after
       → Happens (before stopped) e answer 0 (behind steps stopped)
   part_refused answer comes =
-      let refused = happens_refused (going sound placers taps) refl e view after answer comes in
+      let refused = happens_refused (going_book sound placers taps) refl e view after answer comes in
       subst (λ n. Happens (before stopped) e answer 0 (behind n stopped)) (sym same)
       (subst (λ s. Happens (before s) e answer 0 (behind sound.steps s)) (sym goes_on) refused)
 

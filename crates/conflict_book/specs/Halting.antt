@@ -6,15 +6,15 @@ use Rattle.spec_state.specs.View.{View}
 use Rattle.trace_tap.specs.declared.record.Deed.{Deed}
 use Rattle.trace_tap.specs.declared.record.Deed.TheVariants as deed
 use Rattle.trace_tap.specs.declared.record.Record.{Record}
-use Rattle.book_event.specs.declared.event.Advance.{Advance}
-use Rattle.book_event.specs.declared.event.Advance.TheVariants as answers
-use Rattle.book_event.specs.declared.event.Came.{Came}
-use Rattle.book_event.specs.declared.event.Event.{Event}
-use Rattle.book_event.specs.declared.event.Halt.{Halt}
-use Rattle.book_event.specs.declared.event.Halt.TheVariants as halts
-use Rattle.book_event.specs.Advancing.{AdvanceAnswers, AdvancesBy, HasRest, IsNextEvent}
-use Rattle.book_event.specs.Book.{BookView}
-use Rattle.book_event.specs.Comes.{Comes}
+use Rattle.event_def.specs.declared.event.Advance.{Advance}
+use Rattle.event_def.specs.declared.event.Advance.TheVariants as answers
+use Rattle.event_def.specs.declared.event.Came.{Came}
+use Rattle.event_def.specs.declared.event.Event.{Event}
+use Rattle.event_def.specs.declared.event.Halt.{Halt}
+use Rattle.event_def.specs.declared.event.Halt.TheVariants as halts
+use Rattle.event_def.specs.Advancing.{AdvanceAnswers, AdvancesBy, HasRest, IsNextEvent}
+use Rattle.event_def.specs.Book.{BookView}
+use Rattle.event_def.specs.Comes.{Comes}
 
 -- what comes of the event for the least task
 abbrev pub NextComes : Type 0 → ImageValue → BookView → Came → View → List Policy → Type 0
@@ -36,10 +36,10 @@ abbrev pub advance_of : Record → Advance
 advance_of seen = advance_by seen.deed seen.aborted
 
 -- a run goes on after an event that was made
-abbrev pub GoesOn : Advance → Type 0
-GoesOn (answers.Moved aborted) = Unit {0}
-GoesOn answers.Committed = Unit {0}
-GoesOn other = ⊥
+abbrev pub AdvanceGoesOn : Advance → Type 0
+AdvanceGoesOn (answers.Moved aborted) = Unit {0}
+AdvanceGoesOn answers.Committed = Unit {0}
+AdvanceGoesOn other = ⊥
 
 -- the answer at which a run halted
 abbrev pub last_answer : Halt → Advance

@@ -3,12 +3,12 @@ use Rattle.std.specs.Prelude.{◌≡◌, ℕ}
 use Rattle.guest_image.specs.ImageValue.{ImageValue}
 use Rattle.run_law.specs.Laws.{AreLawful}
 use Rattle.serial_machine.specs.Run.{IsRun}
-use Rattle.serial_machine.specs.State.{State}
+use Rattle.serial_machine.specs.State.{SerialState}
 use Rattle.run_journal.specs.declared.closed.Closed.{Closed}
 
 -- the journal is a run of the serial machine, with this memory and output, and keeps the laws of runs
-pub record LeavesRun (image : ImageValue) (budget : ℕ) (closed : Closed) : Type 0 where
-  pub serial : State
+pub record LeavesLawfulRun (image : ImageValue) (budget : ℕ) (closed : Closed) : Type 0 where
+  pub serial : SerialState
   pub is_run : IsRun image budget closed.journal serial
   pub memory : closed.memory ≡ serial.memory
   pub output : closed.output ≡ serial.output

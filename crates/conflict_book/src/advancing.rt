@@ -2,26 +2,26 @@
 
 ghost use Rattle.std.specs.Prelude.{◌≡◌, ◌≤◌, ◌+◌, ◌*◌, ℕ, List, IfSome, IsNone, map};
 ghost use Rattle.place_policy.specs.Policy.{Policy};
-ghost use Rattle.trace_tap.specs.Reading.{Reading};
+ghost use Rattle.trace_tap.specs.TapValue.{TapValue};
 ghost use Rattle.spec_law.specs.Sound.{Sound};
 ghost use Rattle.spec_state.specs.declared.task.Task.{Task};
 ghost use Rattle.spec_state.specs.declared.task.Where.TheVariants as where_;
 ghost use Rattle.spec_state.specs.Least.{IsLeast, IsLeastTask, IsLeastSpilled};
 ghost use Rattle.spec_state.specs.Settings.{IsValid};
-ghost use Rattle.book_event.specs.Advancing.{AdvanceAnswers, HasRest, IsLegFrom};
-ghost use Rattle.book_event.specs.End.{IsOver};
-ghost use Rattle.book_move.specs.Moving.{book_of};
-ghost use Rattle.conflict_book.specs.Halting.{FallsIfMoved, GoesOn, NextComes, RunsLeast};
+ghost use Rattle.event_def.specs.Advancing.{AdvanceAnswers, HasRest, IsLegFrom};
+ghost use Rattle.event_def.specs.End.{IsOver};
+ghost use Rattle.event_def.specs.Book.{book_of};
+ghost use Rattle.conflict_book.specs.Halting.{FallsIfMoved, AdvanceGoesOn, NextComes, RunsLeast};
 ghost use Rattle.conflict_book.specs.Halting.{advance_of, last_answer};
 ghost use Rattle.conflict_book.specs.Next.{ComesNext};
-ghost use Rattle.conflict_book.specs.Seen.{going, view_of};
+ghost use Rattle.conflict_book.specs.BookViews.{going_book, machine_view, view_of};
 
 use crate::book::{Book, SoundState};
 use crate::events::pass_after;
-use book_event::{Advance, Came, Halt};
-use book_move::{make_commit, make_dispatch, make_split};
-use book_room::end_with;
-use book_step::make_step;
+use event_def::{Advance, Came, Halt};
+use event_move::{make_commit, make_dispatch, make_split};
+use event_room::end_with;
+use event_step::make_step;
 use guest_image::Image;
 use place_policy::Placer;
 use rv_core::{Leg, Naming};
@@ -40,7 +40,7 @@ fn run_leg_of<N: Naming>(leg: &mut Leg<N>, state: &State<N>, image: &Image, id: 
     state.has_limits();
     let settings = state.settings();
     leg.run_again(
-        state.decoded(),
+        state.decoded_text(),
         image,
         &state.task(id).core,
         settings.quantum,
@@ -61,7 +61,7 @@ fn step_least<N: Naming, P: Placer>(
     requires goes_on { IsOver state.old.view → ⊥ }
     requires least { IsLeast state.old.view (where_.Running id) }
     ensures { let before = map P.policy placers.old in
-        (taps : List Reading) (steps : ℕ)
+        (taps : List TapValue) (steps : ℕ)
         → NextComes N N.image (book_of state.old.view before taps steps) result state.new.view
         (map P.policy placers.new) }
 {
@@ -75,7 +75,7 @@ fn dispatch_least<N: Naming>(state: &mut State<N>, id: TaskId) -> Came
     requires sound { Sound N.image state.old.view }
     requires goes_on { IsOver state.old.view → ⊥ }
     requires least { IsLeast state.old.view (where_.Idle id) }
-    ensures { (placers : List Policy) (taps : List Reading) (steps : ℕ)
+    ensures { (placers : List Policy) (taps : List TapValue) (steps : ℕ)
         → NextComes N N.image (book_of state.old.view placers taps steps) result state.new.view
         placers }
 {
@@ -93,7 +93,7 @@ fn commit_least<N: Naming, P: Placer>(
     requires goes_on { IsOver state.old.view → ⊥ }
     requires least { IsLeast state.old.view (where_.Finished id) }
     ensures { let before = map P.policy placers.old.items in
-        (taps : List Reading) (steps : ℕ)
+        (taps : List TapValue) (steps : ℕ)
         → NextComes N N.image (book_of state.old.view before taps steps) result state.new.view
         (map P.policy placers.new.items) }
 {
@@ -107,7 +107,7 @@ fn split_least<N: Naming>(state: &mut State<N>, tile: u32) -> Came
     requires sound { Sound N.image state.old.view }
     requires goes_on { IsOver state.old.view → ⊥ }
     requires least { IsLeastSpilled state.old.view tile }
-    ensures { (placers : List Policy) (taps : List Reading) (steps : ℕ)
+    ensures { (placers : List Policy) (taps : List TapValue) (steps : ℕ)
         → NextComes N N.image (book_of state.old.view placers taps steps) result state.new.view
         placers }
 {
@@ -127,7 +127,7 @@ fn come_least<N: Naming, P: Placer>(
     requires goes_on { IsOver state.old.view → ⊥ }
     requires least { IsLeast state.old.view least }
     ensures { let before = map P.policy placers.old.items in
-        (taps : List Reading) (steps : ℕ)
+        (taps : List TapValue) (steps : ℕ)
         → NextComes N N.image (book_of state.old.view before taps steps) result state.new.view
         (map P.policy placers.new.items) }
 {
@@ -141,29 +141,29 @@ fn come_least<N: Naming, P: Placer>(
 }
 
 /// The end of a run that is over, or what came of the event for the least task.
-enum Next {
+enum NextEvent {
     Over(End),
     Came(Came),
 }
 
 impl<N: Naming> SoundState<N> {
     /// The end of a run that is over, or the event for the least task. It costs one call of `least` beside the event.
-    fn come_next<P: Placer>(&mut self, placers: &mut Vec<P>, image: &Image) -> Next
+    fn come_next<P: Placer>(&mut self, placers: &mut Vec<P>, image: &Image) -> NextEvent
         requires image { image.now ≡ N.image }
         ensures next { let before = map P.policy placers.old.items in
-            (taps : List Reading)
-            → ComesNext N N.image (going self.old before taps) result self.new.view
+            (taps : List TapValue)
+            → ComesNext N N.image (going_book self.old before taps) result self.new.view
             (map P.policy placers.new.items) }
         ensures steps { self.new.steps ≡ self.old.steps }
     {
         let least = self.state.least();
         if let Some(end) = end_with(&self.state, least) {
-            return Next::Over(end);
+            return NextEvent::Over(end);
         }
         match least {
             Some(stands) => {
                 let SoundState { state, leg, .. } = self;
-                Next::Came(come_least(state, leg, placers, image, stands))
+                NextEvent::Came(come_least(state, leg, placers, image, stands))
             }
             None => unreachable!(),
         }
@@ -185,7 +185,7 @@ fn advance_of(seen: &Record) -> Advance
 /// Why a run halts at this answer; None where it goes on.
 fn halt_of(answer: Advance) -> Option<Halt>
     ensures some { IfSome result (λ halt. answer ≡ last_answer halt) }
-    ensures none { IsNone result → GoesOn answer }
+    ensures none { IsNone result → AdvanceGoesOn answer }
 {
     match answer {
         Advance::Moved { .. } | Advance::Committed => None,
@@ -206,20 +206,20 @@ impl<N: Naming, P: Placer, T: Tap> Book<N, P, T> {
     /// The same as `advance`, of which it proves what is answered.
     fn advance_once(&mut self, image: &Image) -> Advance
         requires image { image.now ≡ N.image }
-        ensures { let old = view_of P.policy T.reading self.old in
-            AdvanceAnswers N N.image old result (view_of P.policy T.reading self.new) }
+        ensures { let old = view_of P.policy T.notes self.old in
+            AdvanceAnswers N N.image old result (view_of P.policy T.notes self.new) }
     {
         if self.stopped {
             return Advance::Memory;
         }
         self.is_sound();
         match self.sound.come_next(&mut self.placers, image) {
-            Next::Over(end) => Advance::Ended(end),
-            Next::Came(Came::Made(seen)) => {
+            NextEvent::Over(end) => Advance::Ended(end),
+            NextEvent::Came(Came::Made(seen)) => {
                 self.note(&seen);
                 advance_of(&seen)
             }
-            Next::Came(Came::Refused(_)) => Advance::Memory,
+            NextEvent::Came(Came::Refused(_)) => Advance::Memory,
         }
     }
 
@@ -229,14 +229,14 @@ impl<N: Naming, P: Placer, T: Tap> Book<N, P, T> {
     /// but that, and never more than the task budget and 4.
     pub fn advance(&mut self, image: &Image) -> Advance
         requires image { image.now ≡ N.image }
-        ensures answers { let old = view_of P.policy T.reading self.old in
-            AdvanceAnswers N N.image old result (view_of P.policy T.reading self.new) }
-        ensures falls { let old = view_of P.policy T.reading self.old in
-            FallsIfMoved result old.view (view_of P.policy T.reading self.new).view }
-        ensures bound { let new = view_of P.policy T.reading self.new in
+        ensures answers { let old = view_of P.policy T.notes self.old in
+            AdvanceAnswers N N.image old result (view_of P.policy T.notes self.new) }
+        ensures falls { let old = view_of P.policy T.notes self.old in
+            FallsIfMoved result old.view (machine_view self.new) }
+        ensures bound { let new = view_of P.policy T.notes self.new in
             (left : ℕ) → HasRest new.view left → left ≤ new.view.settings.budget + 4 }
-        ensures settings { let old = view_of P.policy T.reading self.old in
-            (view_of P.policy T.reading self.new).view.settings ≡ old.view.settings }
+        ensures settings { let old = view_of P.policy T.notes self.old in
+            (machine_view self.new).settings ≡ old.view.settings }
     {
         self.is_sound();
         self.advance_once(image)
@@ -245,8 +245,8 @@ impl<N: Naming, P: Placer, T: Tap> Book<N, P, T> {
     /// Makes events for the least tasks until the run is over or memory runs out, which a stopped book answers too.
     pub fn run_least(&mut self, image: &Image) -> Halt
         requires image { image.now ≡ N.image }
-        ensures { let old = view_of P.policy T.reading self.old in
-            RunsLeast N N.image old result (view_of P.policy T.reading self.new) }
+        ensures { let old = view_of P.policy T.notes self.old in
+            RunsLeast N N.image old result (view_of P.policy T.notes self.new) }
     {
         self.is_sound();
         for made in 0..enough_events(self.settings()) {

@@ -2,15 +2,15 @@
 
 ghost use Rattle.std.specs.Prelude.{◌≡◌, ◌+◌, ◌<◌, ◌≤◌, ◌++◌, ◌∷◌, [], All, IfOk, OnErr};
 ghost use Rattle.std.specs.Prelude.{length, map, vec_capacity};
-ghost use Rattle.book_event.specs.Happens.{Happens, HappenAll};
-ghost use Rattle.book_event.specs.declared.event.Event.TheVariants as event;
+ghost use Rattle.event_def.specs.Happens.{Happens, HappenAll};
+ghost use Rattle.event_def.specs.declared.event.Event.TheVariants as event;
 ghost use Rattle.conflict_book.specs.Legless.{event_of};
 ghost use Rattle.conflict_book.specs.Ranges.{IsInRange};
-ghost use Rattle.conflict_book.specs.Seen.{told, view_of};
+ghost use Rattle.conflict_book.specs.BookViews.{after_event, machine_view, view_of};
 
 use crate::book::Book;
 use crate::legless::Legless;
-use book_event::{Applied, Came, Event, Reply};
+use event_def::{Applied, Came, Event, Reply};
 use place_policy::Placer;
 use rv_core::{Leg, Naming};
 use std::alloc::AllocError;
@@ -29,10 +29,10 @@ fn push_answer(answers: &mut Vec<Applied>, applied: Applied)
 }
 
 impl<N: Naming, P: Placer, T: Tap> Book<N, P, T> {
-    /// Counts an event that was made, and tells the taps of it.
+    /// Counts an event that was made, and has the taps note it.
     pub(crate) fn note(&mut self, seen: &Record)
-        ensures { let old = view_of P.policy T.reading self.old in
-            view_of P.policy T.reading self.new ≡ told seen.now old }
+        ensures { let old = view_of P.policy T.notes self.old in
+            view_of P.policy T.notes self.new ≡ after_event seen.now old }
     {
         self.sound.count();
         note_all(self.taps.as_mut_slice(), seen);
@@ -40,13 +40,13 @@ impl<N: Naming, P: Placer, T: Tap> Book<N, P, T> {
 
     /// Makes an event without a leg, as `apply` does.
     pub fn apply_legless(&mut self, event: Legless) -> Applied
-        requires given { let old = view_of P.policy T.reading self.old in
+        requires given { let old = view_of P.policy T.notes self.old in
             IsInRange {N = N} old.view.settings (event_of event) }
-        ensures happens { let old = view_of P.policy T.reading self.old in
-            let new = view_of P.policy T.reading self.new in
+        ensures happens { let old = view_of P.policy T.notes self.old in
+            let new = view_of P.policy T.notes self.new in
             Happens {N = N} old (event_of event) result.reply result.aborted new }
-        ensures settings { let old = view_of P.policy T.reading self.old in
-            (view_of P.policy T.reading self.new).view.settings ≡ old.view.settings }
+        ensures settings { let old = view_of P.policy T.notes self.old in
+            (machine_view self.new).settings ≡ old.view.settings }
     {
         if self.stopped {
             return Applied {
@@ -68,13 +68,13 @@ impl<N: Naming, P: Placer, T: Tap> Book<N, P, T> {
 
     /// Hands in a leg that the caller keeps, as `apply` does with a step.
     pub fn apply_step(&mut self, tile: u32, core: u32, leg: &Leg<N>) -> Applied
-        requires tile { tile < (view_of P.policy T.reading self.old).view.settings.tiles }
-        requires core { core < (view_of P.policy T.reading self.old).view.settings.cores }
-        ensures happens { let old = view_of P.policy T.reading self.old in
-            let new = view_of P.policy T.reading self.new in
+        requires tile { tile < (machine_view self.old).settings.tiles }
+        requires core { core < (machine_view self.old).settings.cores }
+        ensures happens { let old = view_of P.policy T.notes self.old in
+            let new = view_of P.policy T.notes self.new in
             Happens {N = N} old (event.Step tile core leg.now) result.reply result.aborted new }
-        ensures settings { let old = view_of P.policy T.reading self.old in
-            (view_of P.policy T.reading self.new).view.settings ≡ old.view.settings }
+        ensures settings { let old = view_of P.policy T.notes self.old in
+            (machine_view self.new).settings ≡ old.view.settings }
     {
         if self.stopped {
             return Applied {
@@ -96,13 +96,13 @@ impl<N: Naming, P: Placer, T: Tap> Book<N, P, T> {
 
     /// The same as `apply`, of an event that the caller keeps.
     fn apply_kept(&mut self, event: &Event<N>) -> Applied
-        requires given { let old = view_of P.policy T.reading self.old in
+        requires given { let old = view_of P.policy T.notes self.old in
             IsInRange old.view.settings event.now }
-        ensures happens { let old = view_of P.policy T.reading self.old in
-            let new = view_of P.policy T.reading self.new in
+        ensures happens { let old = view_of P.policy T.notes self.old in
+            let new = view_of P.policy T.notes self.new in
             Happens old event.now result.reply result.aborted new }
-        ensures settings { let old = view_of P.policy T.reading self.old in
-            (view_of P.policy T.reading self.new).view.settings ≡ old.view.settings }
+        ensures settings { let old = view_of P.policy T.notes self.old in
+            (machine_view self.new).settings ≡ old.view.settings }
     {
         match event {
             Event::Step { tile, core, leg } => self.apply_step(*tile, *core, leg),
@@ -115,15 +115,15 @@ impl<N: Naming, P: Placer, T: Tap> Book<N, P, T> {
     }
 
     /// Makes an event on a tile and a core that are there, or refuses it, and then nothing changes. Each event that
-    /// is made is counted, and the taps are told of it. A stopped book answers `Memory`.
+    /// is made is counted, and the taps note it. A stopped book answers `Memory`.
     pub fn apply(&mut self, event: Event<N>) -> Applied
-        requires given { let old = view_of P.policy T.reading self.old in
+        requires given { let old = view_of P.policy T.notes self.old in
             IsInRange old.view.settings event }
-        ensures happens { let old = view_of P.policy T.reading self.old in
-            let new = view_of P.policy T.reading self.new in
+        ensures happens { let old = view_of P.policy T.notes self.old in
+            let new = view_of P.policy T.notes self.new in
             Happens old event result.reply result.aborted new }
-        ensures settings { let old = view_of P.policy T.reading self.old in
-            (view_of P.policy T.reading self.new).view.settings ≡ old.view.settings }
+        ensures settings { let old = view_of P.policy T.notes self.old in
+            (machine_view self.new).settings ≡ old.view.settings }
     {
         self.apply_kept(&event)
     }
@@ -131,13 +131,13 @@ impl<N: Naming, P: Placer, T: Tap> Book<N, P, T> {
     /// Makes or refuses events one after another, and lists their answers. `AllocError` where there is no memory
     /// for the list, and then no event was tried.
     pub fn apply_all(&mut self, events: Vec<Event<N>>) -> Result<Vec<Applied>, AllocError>
-        requires given { let old = view_of P.policy T.reading self.old in
+        requires given { let old = view_of P.policy T.notes self.old in
             All (IsInRange old.view.settings) events.items }
-        ensures ok { let old = view_of P.policy T.reading self.old in
-            let new = view_of P.policy T.reading self.new in
+        ensures ok { let old = view_of P.policy T.notes self.old in
+            let new = view_of P.policy T.notes self.new in
             IfOk result (λ answers. HappenAll old events.items answers.items new) }
-        ensures err { let old = view_of P.policy T.reading self.old in
-            OnErr result (view_of P.policy T.reading self.new ≡ old) }
+        ensures err { let old = view_of P.policy T.notes self.old in
+            OnErr result (view_of P.policy T.notes self.new ≡ old) }
     {
         let mut answers = Vec::with_capacity(self.sound.state.alloc(), events.len())?;
         for event in &events {

@@ -1,5 +1,7 @@
+//! The book, and the sound state in it.
+
 ghost use Rattle.std.specs.Prelude.{◌≡◌};
-ghost use Rattle.book_event.specs.Book.{counted};
+ghost use Rattle.event_def.specs.Book.{next_count};
 ghost use Rattle.spec_law.specs.Sound.{Sound};
 
 use place_policy::Placer;
@@ -18,7 +20,7 @@ pub struct SoundState<N: Naming> {
 }
 
 impl<N: Naming> Model for SoundState<N> {
-    ghost use Rattle.book_event.specs.Book.{CountedView};
+    ghost use Rattle.event_def.specs.Book.{CountedView};
     ghost use Rattle.spec_law.specs.Sound.{Sound};
 
     ghost Value = { CountedView };
@@ -59,7 +61,7 @@ impl<N: Naming> SoundState<N> {
 
     /// Counts an event that was made.
     pub(crate) fn count(&mut self)
-        ensures { self.new ≡ record self.old { steps = counted self.old.steps } }
+        ensures { self.new ≡ record self.old { steps = next_count self.old.steps } }
     {
         self.steps = self.steps.saturating_add(1);
     }

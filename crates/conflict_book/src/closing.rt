@@ -3,13 +3,13 @@
 ghost use Rattle.std.specs.Prelude.{◌≡◌};
 ghost use Rattle.spec_law.specs.Sound.{Sound};
 ghost use Rattle.spec_state.specs.Aborts.{UndoesAll};
-ghost use Rattle.book_event.specs.Book.{BookView};
-ghost use Rattle.book_event.specs.Closing.{Closes};
-ghost use Rattle.conflict_book.specs.Left.{LeavesRun};
-ghost use Rattle.conflict_book.specs.Seen.{view_of};
+ghost use Rattle.event_def.specs.Book.{BookView};
+ghost use Rattle.event_def.specs.Closing.{Closes};
+ghost use Rattle.conflict_book.specs.Left.{LeavesLawfulRun};
+ghost use Rattle.conflict_book.specs.BookViews.{view_of};
 
 use crate::book::{Book, SoundState};
-use book_event::Closed;
+use event_def::Closed;
 use place_policy::Placer;
 use rv_core::Naming;
 use spec_rollback::undo_all;
@@ -49,9 +49,9 @@ impl<N: Naming, P: Placer, T: Tap> Book<N, P, T> {
     /// The committed tasks, with their memory and output, once all other tasks are taken back: a run of the serial
     /// machine. It takes no memory.
     pub fn close(self) -> Closed
-        ensures closes { Closes (view_of P.policy T.reading self) result }
-        ensures run { let book = view_of P.policy T.reading self in
-            LeavesRun N.image book.view.settings.budget result }
+        ensures closes { Closes (view_of P.policy T.notes self) result }
+        ensures run { let book = view_of P.policy T.notes self in
+            LeavesLawfulRun N.image book.view.settings.budget result }
     {
         close_state(self.sound)
     }

@@ -1,22 +1,22 @@
 //! What comes of an event, of a sound state and its placers.
 
 ghost use Rattle.std.specs.Prelude.{◌≡◌, ◌<◌, ℕ, List, length, map};
-ghost use Rattle.trace_tap.specs.Reading.{Reading};
+ghost use Rattle.trace_tap.specs.TapValue.{TapValue};
 ghost use Rattle.spec_law.specs.Sound.{Sound};
-ghost use Rattle.book_event.specs.declared.event.Event.TheVariants as event;
-ghost use Rattle.book_event.specs.Book.{placers_after_commit};
-ghost use Rattle.book_event.specs.Comes.{Comes};
-ghost use Rattle.book_event.specs.Events.{IsGiven};
-ghost use Rattle.book_move.specs.Moving.{CommitComes, book_of, placers_after};
+ghost use Rattle.event_def.specs.declared.event.Event.TheVariants as event;
+ghost use Rattle.event_def.specs.Book.{placers_after_commit, book_of};
+ghost use Rattle.event_def.specs.Comes.{Comes};
+ghost use Rattle.event_def.specs.Events.{IsGiven};
+ghost use Rattle.event_move.specs.Moving.{CommitComes, placers_after};
 ghost use Rattle.conflict_book.specs.Legless.{event_of};
 ghost use Rattle.conflict_book.specs.Ranges.{IsInRange};
-ghost use Rattle.conflict_book.specs.Seen.{going};
+ghost use Rattle.conflict_book.specs.BookViews.{going_book};
 
 use crate::book::SoundState;
 use crate::legless::Legless;
-use book_event::Came;
-use book_move::{abort, coalesce, commit, dispatch, split};
-use book_step::step;
+use event_def::Came;
+use event_move::{abort, coalesce, commit, dispatch, split};
+use event_step::step;
 use place_policy::Placer;
 use rv_core::{Leg, Naming};
 use spec_state::State;
@@ -41,7 +41,7 @@ pub(crate) fn pass_after<N: Naming, P: Placer>(state: &State<N>, placers: &mut V
 {
     state.has_limits();
     if let Came::Made(_) = came {
-        pass_on(placers, state.settings().phase, state.committed());
+        pass_on(placers, state.settings().phase, state.commit_count());
     }
 }
 
@@ -49,7 +49,7 @@ pub(crate) fn pass_after<N: Naming, P: Placer>(state: &State<N>, placers: &mut V
 fn commit_event<N: Naming, P: Placer>(state: &mut State<N>, placers: &mut Vec<P>) -> Came
     requires sound { Sound N.image state.old.view }
     ensures { let before = map P.policy placers.old.items in
-        (taps : List Reading) (steps : ℕ)
+        (taps : List TapValue) (steps : ℕ)
         → Comes {N = N} (book_of state.old.view before taps steps) event.Commit result state.new.view
         (map P.policy placers.new.items) }
 {
@@ -88,7 +88,7 @@ fn come<N: Naming, P: Placer>(state: &mut State<N>, placers: &mut Vec<P>, event:
     requires sound { Sound N.image state.old.view }
     requires given { IsInRange {N = N} state.old.view.settings (event_of event) }
     ensures { let before = map P.policy placers.old.items in
-        (taps : List Reading) (steps : ℕ)
+        (taps : List TapValue) (steps : ℕ)
         → Comes {N = N} (book_of state.old.view before taps steps) (event_of event) result state.new.view
         (map P.policy placers.new.items) }
 {
@@ -113,7 +113,7 @@ fn come_step<N: Naming, P: Placer>(
     requires tile { tile < state.old.view.settings.tiles }
     requires core { core < state.old.view.settings.cores }
     ensures { let before = map P.policy placers.old.items in
-        (taps : List Reading) (steps : ℕ)
+        (taps : List TapValue) (steps : ℕ)
         → Comes {N = N} (book_of state.old.view before taps steps) (event.Step tile core leg.now) result state.new.view
         (map P.policy placers.new.items) }
 {
@@ -125,8 +125,8 @@ impl<N: Naming> SoundState<N> {
     pub(crate) fn come<P: Placer>(&mut self, placers: &mut Vec<P>, event: Legless) -> Came
         requires given { IsInRange {N = N} self.old.view.settings (event_of event) }
         ensures comes { let before = map P.policy placers.old.items in
-            (taps : List Reading)
-            → Comes {N = N} (going self.old before taps) (event_of event) result self.new.view
+            (taps : List TapValue)
+            → Comes {N = N} (going_book self.old before taps) (event_of event) result self.new.view
             (map P.policy placers.new.items) }
         ensures settings { self.new.view.settings ≡ self.old.view.settings }
         ensures steps { self.new.steps ≡ self.old.steps }
@@ -146,8 +146,8 @@ impl<N: Naming> SoundState<N> {
         requires tile { tile < self.old.view.settings.tiles }
         requires core { core < self.old.view.settings.cores }
         ensures comes { let before = map P.policy placers.old.items in
-            (taps : List Reading)
-            → Comes {N = N} (going self.old before taps) (event.Step tile core leg.now) result self.new.view
+            (taps : List TapValue)
+            → Comes {N = N} (going_book self.old before taps) (event.Step tile core leg.now) result self.new.view
             (map P.policy placers.new.items) }
         ensures settings { self.new.view.settings ≡ self.old.view.settings }
         ensures steps { self.new.steps ≡ self.old.steps }

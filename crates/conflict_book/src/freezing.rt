@@ -2,13 +2,13 @@
 
 ghost use Rattle.std.specs.Prelude.{◌≡◌, ◌≤◌, length, IfOk, IfErr, IsPermutation};
 ghost use Rattle.std.specs.List.Sorted.{IsSortedBy};
-ghost use Rattle.spec_state.specs.Pendings.{is_before, pendings_in};
-ghost use Rattle.book_event.specs.Closing.{Closes};
+ghost use Rattle.spec_state.specs.Pendings.{pending_before, pendings_in};
+ghost use Rattle.event_def.specs.Closing.{Closes};
 ghost use Rattle.conflict_book.specs.Frozen.{IsFrozenOf};
-ghost use Rattle.conflict_book.specs.Seen.{view_of};
+ghost use Rattle.conflict_book.specs.BookViews.{view_of};
 
 use crate::book::{Book, SoundState};
-use book_event::Closed;
+use event_def::Closed;
 use place_policy::Placer;
 use rv_core::Naming;
 use serial_machine::MAX_COMMITS;
@@ -28,7 +28,7 @@ pub struct Frozen {
 /// The tasks that pend in a sound state.
 fn pending_in<N: Naming>(sound: &SoundState<N>) -> Result<Pendings, AllocError>
     ensures held { IfOk result (IsPermutation (pendings_in sound.now.view)) }
-    ensures sorted { IfOk result (IsSortedBy is_before) }
+    ensures sorted { IfOk result (IsSortedBy pending_before) }
 {
     sound.state().pending()
 }
@@ -38,11 +38,11 @@ impl<N: Naming, P: Placer, T: Tap> Book<N, P, T> {
     ///
     /// The book is handed back as it was where memory runs out.
     pub fn freeze(self) -> Result<Frozen, Book<N, P, T>>
-        ensures closes { IfOk result (λ frozen. Closes (view_of P.policy T.reading self) frozen.closed) }
-        ensures frozen { let book = view_of P.policy T.reading self in
+        ensures closes { IfOk result (λ frozen. Closes (view_of P.policy T.notes self) frozen.closed) }
+        ensures frozen { let book = view_of P.policy T.notes self in
             IfOk result (IsFrozenOf N.image book.view.settings.budget) }
         ensures few { IfOk result (λ frozen. length frozen.closed.journal ≤ MAX_COMMITS) }
-        ensures back { IfErr result (λ book. view_of P.policy T.reading book ≡ view_of P.policy T.reading self) }
+        ensures back { IfErr result (λ book. view_of P.policy T.notes book ≡ view_of P.policy T.notes self) }
     {
         self.sound.is_sound();
         match pending_in(&self.sound) {

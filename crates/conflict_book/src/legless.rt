@@ -1,4 +1,6 @@
-/// An event that takes no leg: each but a step. It is handed in without the room that an event has for a leg.
+//! Events that take no leg.
+
+/// An event that takes no leg: each but a step. It is handed in without the bytes that an event has for a leg.
 #[derive(Clone, Copy, Debug, PartialEq, Eq)]
 pub enum Legless {
     /// The least idle task of a tile goes to its lowest free core.

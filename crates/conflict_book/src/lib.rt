@@ -3,8 +3,8 @@
 //!
 //! Its type keeps that the state is sound. A book keeps its state beside the placers, so that to pick a tile costs
 //! one call of a placer. It stands on all crates of the machine, and on the readings of a board, as one of which it
-//! tells how far its run has come (`counts`); scripts, workers and runs call it. An event costs a look at the least
-//! task beside its own change; no call copies the data.
+//! tells how far its run has come (`counts`); scripts, workers, runs and a bench call it, and saved images take what it
+//! froze. An event costs a look at the least task beside its own change; no call copies the data.
 #![tactic(auto)]
 
 mod advancing;
@@ -15,9 +15,9 @@ mod events;
 mod freezing;
 mod legless;
 mod opening;
-mod reading;
+mod queries;
 
 pub use book::{Book, SoundState};
-pub use book_event::{Advance, Applied, Closed, Event, Halt, Reply};
+pub use event_def::{Advance, Applied, Closed, Event, Halt, Reply};
 pub use freezing::Frozen;
 pub use legless::Legless;

@@ -8,16 +8,16 @@ ghost use Rattle.guest_image.specs.ImageValue.{IsImage};
 ghost use Rattle.place_policy.specs.Policy.{IsTileCount};
 ghost use Rattle.place_policy.specs.Serving.{first_placed, serving_tile};
 ghost use Rattle.task_desc.specs.Calls.{domain_ts};
-ghost use Rattle.trace_tap.specs.Reading.{Reading};
-ghost use Rattle.spec_state.specs.Opening.{IsOfImage};
-ghost use Rattle.spec_state.specs.Room.{HasFreeEntry, IsFull, Coalesces};
-ghost use Rattle.spec_state.specs.Settings.{IsValid};
+ghost use Rattle.trace_tap.specs.TapValue.{TapValue};
+ghost use Rattle.spec_state.specs.Opening.{DescIsOfImage};
+ghost use Rattle.spec_state.specs.Room.{QueueHasRoom, IsFull, Coalesces};
+ghost use Rattle.spec_state.specs.Settings.{IsNamed, IsValid};
 ghost use Rattle.spec_state.specs.Tasks.{root_descriptor};
 ghost use Rattle.spec_state.specs.View.{loads, task_at};
-ghost use Rattle.book_event.specs.Opening.{image_descriptor, root_kinds, opened};
-ghost use Rattle.book_event.specs.Opening.{Places, PlacesAll, IsOpening};
+ghost use Rattle.event_def.specs.Opening.{image_descriptor, root_kinds, opening_book};
+ghost use Rattle.event_def.specs.Opening.{PlacesImageTask, PlacesAll, IsOpening};
 ghost use Rattle.conflict_book.specs.Fresh.{AreFresh};
-ghost use Rattle.conflict_book.specs.Seen.{going, view_of};
+ghost use Rattle.conflict_book.specs.BookViews.{going_book, view_of};
 
 use crate::book::{Book, SoundState};
 use guest_image::{Image, ImageTask, Kind, TEXT_START};
@@ -54,7 +54,7 @@ fn kinds_of(kind: Kind) -> u16
 fn image_desc(kind: Kind, index: u32, task: &ImageTask) -> Desc
     ensures value { root_descriptor result ≡ image_descriptor kind index task.now }
     ensures name { result.name ≡ record { creator = 0; index = index } }
-    ensures image { IsOfImage result }
+    ensures image { DescIsOfImage result }
 {
     Desc {
         name: Name { creator: 0, index },
@@ -87,17 +87,17 @@ fn pick<N: Naming, P: Placer>(state: &State<N>, placers: &[P], hint: u32) -> u32
     serving_pick(placers, hint, loads.as_slice())
 }
 
-/// Leaves a free entry in the task queue of a tile: where it is full, idle tasks move into the tile's block.
-fn free_entry<N: Naming>(state: &mut State<N>, tile: u32) -> Result<(), AllocError>
+/// Leaves a free place in the task queue of a tile: where it is full, idle tasks move into the tile's block.
+fn make_queue_room<N: Naming>(state: &mut State<N>, tile: u32) -> Result<(), AllocError>
     requires tile { tile < state.old.view.settings.tiles }
     requires fresh { AreFresh state.old.view }
     ensures room { let old = state.old.view in
-        OnOk result ((HasFreeEntry old tile × (state.new.view ≡ old))
+        OnOk result ((QueueHasRoom old tile × (state.new.view ≡ old))
         ⊎ (IsFull old tile × Coalesces tile old state.new.view)) }
-    ensures free { OnOk result (HasFreeEntry state.new.view tile) }
+    ensures free { OnOk result (QueueHasRoom state.new.view tile) }
     ensures fresh { OnOk result (AreFresh state.new.view) }
 {
-    if state.has_free_entry(tile) {
+    if state.queue_has_room(tile) {
         return Ok(());
     }
     state.is_stored();
@@ -118,13 +118,13 @@ fn place<N: Naming, P: Placer>(
     requires fresh { AreFresh state.old.view }
     ensures places { let before = map P.policy placers.old in
         let after = map P.policy placers.new in
-        OnOk result ((taps : List Reading)
-        → Places kind index task.now (opened state.old.view before taps)
-        (opened state.new.view after taps)) }
+        OnOk result ((taps : List TapValue)
+        → PlacesImageTask kind index task.now (opening_book state.old.view before taps)
+        (opening_book state.new.view after taps)) }
     ensures fresh { OnOk result (AreFresh state.new.view) }
 {
     let tile = pick(state, placers, index);
-    free_entry(state, tile)?;
+    make_queue_room(state, tile)?;
     state.add(&image_desc(kind, index, task), tile)?;
     serving_placed(placers, tile);
     Ok(())
@@ -141,9 +141,9 @@ fn place_all<N: Naming, P: Placer>(
     requires few { length tasks.now ≤ 65536 }
     ensures { let before = map P.policy placers.old in
         let after = map P.policy placers.new in
-        OnOk result ((taps : List Reading)
-        → PlacesAll kind (enumerate_from 0 tasks.now) (opened state.old.view before taps)
-        (opened state.new.view after taps)) }
+        OnOk result ((taps : List TapValue)
+        → PlacesAll kind (enumerate_from 0 tasks.now) (opening_book state.old.view before taps)
+        (opening_book state.new.view after taps)) }
 {
     for index in 0..tasks.len() as u32 {
         place(state, placers, kind, index, &tasks[index as usize])?;
@@ -159,13 +159,11 @@ fn opening<N: Naming, P: Placer>(
     placers: &mut [P],
 ) -> Result<State<N>, AllocError>
     requires valid { IsValid settings }
-    requires image { image.now ≡ N.image }
-    requires budget { settings.budget ≡ N.budget }
-    requires commits { settings.commits ≡ N.commits }
+    requires named { IsNamed image.now settings N.image N.budget N.commits }
     ensures opening { let before = map P.policy placers.old in
         let after = map P.policy placers.new in
-        IfOk result (λ state. (taps : List Reading)
-        → IsOpening N.image settings before taps (opened state.view after taps)) }
+        IfOk result (λ state. (taps : List TapValue)
+        → IsOpening N.image settings before taps (opening_book state.view after taps)) }
     ensures image { IsImage N.image }
 {
     let tasks = image.tasks();
@@ -191,16 +189,14 @@ fn sound_opening<N: Naming, P: Placer>(
     placers: &mut Vec<P>,
 ) -> Result<SoundState<N>, AllocError>
     requires valid { IsValid settings }
-    requires image { image.now ≡ N.image }
-    requires budget { settings.budget ≡ N.budget }
-    requires commits { settings.commits ≡ N.commits }
+    requires named { IsNamed image.now settings N.image N.budget N.commits }
     ensures { let before = map P.policy placers.old.items in
         let after = map P.policy placers.new.items in
-        IfOk result (λ sound. (taps : List Reading)
-        → IsOpening N.image settings before taps (going sound after taps)) }
+        IfOk result (λ sound. (taps : List TapValue)
+        → IsOpening N.image settings before taps (going_book sound after taps)) }
 {
     let state = opening(alloc, image, settings, placers.as_mut_slice())?;
-    let leg = first_leg(state.decoded(), image, settings.budget);
+    let leg = first_leg(state.decoded_text(), image, settings.budget);
     Ok(SoundState {
         state,
         steps: 0,
@@ -220,13 +216,11 @@ impl<N: Naming, P: Placer, T: Tap> Book<N, P, T> {
         taps: Vec<T>,
     ) -> Result<Self, AllocError>
         requires valid { IsValid settings }
-        requires image { image.now ≡ N.image }
-        requires budget { settings.budget ≡ N.budget }
-        requires commits { settings.commits ≡ N.commits }
+        requires named { IsNamed image.now settings N.image N.budget N.commits }
         ensures { let serving = map P.policy placers.items in
-            let noting = map T.reading taps.items in
+            let noting = map T.notes taps.items in
             IfOk result (λ book.
-            IsOpening N.image settings serving noting (view_of P.policy T.reading book)) }
+            IsOpening N.image settings serving noting (view_of P.policy T.notes book)) }
     {
         let mut placers = placers;
         let sound = sound_opening(alloc, image, settings, &mut placers)?;

@@ -16,7 +16,7 @@ use Rattle.machine_run.specs.Played.{IsPlayedRun, IsTracedRun}
 use Rattle.machine_run.specs.declared.left.Ran.{Ran}
 use Rattle.machine_run.specs.declared.playing.Played.{Played}
 use Rattle.machine_run.specs.declared.playing.Traced.{Traced}
-use Rattle.play_text.specs.Traces.{trace_text}
+use Rattle.script_text.specs.Traces.{trace_text}
 use Rattle.command_line.specs.declared.request.Command.{Command}
 use Rattle.command_line.specs.declared.request.Command.TheVariants as commands
 use Rattle.command_line.specs.declared.request.Request.{Request}
@@ -33,13 +33,13 @@ use Rattle.fractal_sim.specs.declared.finding.Saving.TheVariants as saving
 use Rattle.guest_image.specs.Writing.{image_bytes}
 use Rattle.resume_image.specs.Saved.{saved_image}
 use Rattle.spec_state.specs.declared.pending.Pending.{Pending}
-use Rattle.fractal_sim.specs.Checks.{IsAccepted}
+use Rattle.fractal_sim.specs.Checks.{IsAcceptedReport}
 use Rattle.fractal_sim.specs.Texts.{end_status, played_status, accepted_line, tasks_line, run_text, load_text, played_text}
 use Rattle.fractal_sim.specs.Answers as table
 use Rattle.fractal_sim.specs.Answers.{IsAnswer, HoldsRunSoFar, TellsOutcome}
-use Rattle.fractal_sim.specs.Deciding.{whole, lists_of, Saves}
+use Rattle.fractal_sim.specs.Deciding.{run_with_end, lists_of_traced, Saves}
 use Rattle.fractal_sim.specs.Finding.{saving_status, saving_text, IsStopped}
-use Rattle.fractal_sim.specs.Finding.{IsFound, IsRan, IsLoaded, IsPlayed, IsTraced, HoldsRun, Keeps, status_by, status_of, text_of, TakesText, TellsFinding}
+use Rattle.fractal_sim.specs.Finding.{IsFound, IsRan, IsLoaded, IsPlayed, IsTraced, HoldsRun, OutcomeKeeps, status_by, status_of, text_of, TakesText, TellsFinding}
 use Rattle.fractal_sim.proofs.Found.{asked_for, left_alone, read_some}
 
 pub same_some : {A : Type 0} (a b : A) → Some a ≡ Some b → a ≡ b
@@ -57,26 +57,26 @@ holds_kept input request image run steps o given is_run kept = record {
   run = subst (IsRunOf image request.settings.commits request.settings.budget) (sym kept.run_is) is_run;
 }
 
-abbrev ran_held : (input : Input) (image : ImageValue) (ran : Ran) (steps : Option ℕ) (o : Outcome) → IsRan input image ran steps → HoldsRun (whole ran) steps o → HoldsRunOfInput input o
-ran_held input image ran steps o found kept = holds_kept input found.request image (whole ran) steps o (IsRead found.rest found.given) found.made.run kept
+abbrev ran_held : (input : Input) (image : ImageValue) (ran : Ran) (steps : Option ℕ) (o : Outcome) → IsRan input image ran steps → HoldsRun (run_with_end ran) steps o → HoldsRunOfInput input o
+ran_held input image ran steps o found kept = holds_kept input found.request image (run_with_end ran) steps o (IsRead found.bytes_behind found.given) found.made.run kept
 
-abbrev stopped_held : (input : Input) (ran : Ran) (steps : Option ℕ) (made : Saving) (o : Outcome) → IsStopped input ran steps made → HoldsRun (whole ran) steps o → HoldsRunOfInput input o
-stopped_held input ran steps made o found kept = holds_kept input found.request found.image (whole ran) steps o (IsRead found.rest found.given) found.stopped.run.run kept
+abbrev stopped_held : (input : Input) (ran : Ran) (steps : Option ℕ) (made : Saving) (o : Outcome) → IsStopped input ran steps made → HoldsRun (run_with_end ran) steps o → HoldsRunOfInput input o
+stopped_held input ran steps made o found kept = holds_kept input found.request found.image (run_with_end ran) steps o (IsRead found.bytes_behind found.given) found.stopped.run.run kept
 
-abbrev loaded_held : (input : Input) (load : Loading) (image : ImageValue) (ran : Ran) (steps : Option ℕ) (o : Outcome) → IsLoaded input load image ran steps → HoldsRun (whole ran) steps o
+abbrev loaded_held : (input : Input) (load : Loading) (image : ImageValue) (ran : Ran) (steps : Option ℕ) (o : Outcome) → IsLoaded input load image ran steps → HoldsRun (run_with_end ran) steps o
     → HoldsRunOfInput input o
 loaded_held input load image ran steps o found kept =
-    holds_kept input found.request image (whole ran) steps o (IsGenerated load.load load.seed load.size found.given) found.made.run kept
+    holds_kept input found.request image (run_with_end ran) steps o (IsGenerated load.load load.seed load.size found.given) found.made.run kept
 
-abbrev played_held : (input : Input) (image : ImageValue) (p : Played) (o : Outcome) → IsPlayed input image p → HoldsRun (whole p.ran) (Some p.ran.closed.steps) o → HoldsRunOfInput input o
+abbrev played_held : (input : Input) (image : ImageValue) (p : Played) (o : Outcome) → IsPlayed input image p → HoldsRun (run_with_end p.ran) (Some p.ran.closed.steps) o → HoldsRunOfInput input o
 played_held input image p o found kept =
-    holds_kept input found.request image (whole p.ran) (Some p.ran.closed.steps) o (IsRead found.rest found.given) found.made.run kept
+    holds_kept input found.request image (run_with_end p.ran) (Some p.ran.closed.steps) o (IsRead found.bytes_behind found.given) found.made.run kept
 
-abbrev traced_held : (input : Input) (t : Traced) (o : Outcome) → IsTraced input t → HoldsRun (whole t.ran) (Some t.ran.closed.steps) o → HoldsRunOfInput input o
+abbrev traced_held : (input : Input) (t : Traced) (o : Outcome) → IsTraced input t → HoldsRun (run_with_end t.ran) (Some t.ran.closed.steps) o → HoldsRunOfInput input o
 traced_held input t o found kept =
-    holds_kept input found.request found.image (whole t.ran) (Some t.ran.closed.steps) o (IsRead found.rest found.given) found.made.run kept
+    holds_kept input found.request found.image (run_with_end t.ran) (Some t.ran.closed.steps) o (IsRead found.bytes_behind found.given) found.made.run kept
 
-pub holds : (input : Input) (f : Finding) (o : Outcome) → IsFound input f → Keeps f o → HoldsRunOrNothing input o
+pub holds : (input : Input) (f : Finding) (o : Outcome) → IsFound input f → OutcomeKeeps f o → HoldsRunOrNothing input o
 holds input finding.Usage o found kept = inl kept
 holds input finding.Memory o found kept = inl kept
 holds input finding.Unread o found kept = inl kept
@@ -84,7 +84,7 @@ holds input finding.Long o found kept = inl kept
 holds input (finding.NoImage fault) o found kept = inl kept
 holds input (finding.Refused line) o found kept = inl kept
 holds input (finding.NoScript line) o found kept = inl kept
-holds input (finding.Accepted closed) o found kept = inr (holds_kept input found.request found.image closed None o (IsRead found.rest found.given) found.run kept)
+holds input (finding.Accepted closed) o found kept = inr (holds_kept input found.request found.image closed None o (IsRead found.bytes_behind found.given) found.run kept)
 holds input (finding.Ran image ran steps) o found kept = inr (ran_held input image ran steps o found kept)
 holds input (finding.Stopped ran steps made) o found kept = inr (stopped_held input ran steps made o found kept)
 holds input (finding.Loaded load image ran steps) o found kept = inr (loaded_held input load image ran steps o found kept)
@@ -96,10 +96,10 @@ holds_lawful input o = λ h. lawful h.image h.request.settings.budget o.journal 
 
 -- ---- runs to an end
 
-ran_to_end : (input : Input) (image : ImageValue) (ran : Ran) (steps : Option ℕ) (end : End) → ran.end ≡ Some end → IsRan input image ran steps → RunsToEnd input image end (whole ran)
+ran_to_end : (input : Input) (image : ImageValue) (ran : Ran) (steps : Option ℕ) (end : End) → ran.end ≡ Some end → IsRan input image ran steps → RunsToEnd input image end (run_with_end ran)
 ran_to_end input image ran steps end is found = record {
   request = found.request;
-  rest = found.rest;
+  bytes_behind = found.bytes_behind;
   given = found.given;
   told = subst (λ e. IfSome e (IsReported found.request.command)) is found.told;
   is_run = found.made.run;
@@ -107,10 +107,10 @@ ran_to_end input image ran steps end is found = record {
 }
 
 stops_at_limit : (input : Input) (ran : Ran) (steps : Option ℕ) (made : Saving) → (found : IsStopped input ran steps made)
-    → StopsAtLimit input found.image found.stopped.pendings (whole ran)
+    → StopsAtLimit input found.image found.stopped.pendings (run_with_end ran)
 stops_at_limit input ran steps made found = record {
   request = found.request;
-  rest = found.rest;
+  bytes_behind = found.bytes_behind;
   given = found.given;
   command = found.command;
   is_run = found.stopped.run.run;
@@ -119,7 +119,7 @@ stops_at_limit input ran steps made found = record {
 }
 
 loaded_to_end : (input : Input) (load : Loading) (image : ImageValue) (ran : Ran) (steps : Option ℕ) (end : End) → ran.end ≡ Some end → IsLoaded input load image ran steps
-    → LoadsToEnd input load.load load.seed load.size image end (whole ran)
+    → LoadsToEnd input load.load load.seed load.size image end (run_with_end ran)
 loaded_to_end input load image ran steps end is found = record {
   request = found.request;
   given = found.given;
@@ -129,14 +129,14 @@ loaded_to_end input load image ran steps end is found = record {
 }
 
 played_to_end : (input : Input) (image : ImageValue) (p : Played) (o : Outcome) (end : End) → p.ran.end ≡ Some end → IsPlayed input image p
-    → HoldsRun (whole p.ran) (Some p.ran.closed.steps) o → PlaysToEnd input image p.said.items end o
+    → HoldsRun (run_with_end p.ran) (Some p.ran.closed.steps) o → PlaysToEnd input image p.said.items end o
 played_to_end input image p o end is found kept =
     let made = found.made in
     let Is : SerialRun → Type 0 = IsPlayedRun Brand image found.request.settings made.script input.placers input.taps p.said.items p.ran.closed.steps end in
-    let at_end : Is (whole p.ran) = subst (λ e. IfSome e (λ end. IsPlayedRun Brand image found.request.settings made.script input.placers input.taps p.said.items p.ran.closed.steps end (whole p.ran))) is made.played in
+    let at_end : Is (run_with_end p.ran) = subst (λ e. IfSome e (λ end. IsPlayedRun Brand image found.request.settings made.script input.placers input.taps p.said.items p.ran.closed.steps end (run_with_end p.ran))) is made.played in
     record {
       request = found.request;
-      rest = found.rest;
+      bytes_behind = found.bytes_behind;
       given = found.given;
       command = found.command;
       script = made.script;
@@ -148,14 +148,15 @@ played_to_end input image p o end is found kept =
     }
 
 traced_to_end : (input : Input) (t : Traced) (o : Outcome) (end : End) → t.ran.end ≡ Some end → (found : IsTraced input t)
-    → HoldsRun (whole t.ran) (Some t.ran.closed.steps) o → TracesToEnd input found.image (lists_of t) end o
+    → HoldsRun (run_with_end t.ran) (Some t.ran.closed.steps) o
+    → TracesToEnd input found.image (lists_of_traced t) end o
 traced_to_end input t o end is found kept =
     let made = found.made in
-    let Is : SerialRun → Type 0 = IsTracedRun Brand found.image found.request.settings made.script input.placers input.taps (lists_of t) t.ran.closed.steps end in
-    let at_end : Is (whole t.ran) = subst (λ e. IfSome e (λ end. IsTracedRun Brand found.image found.request.settings made.script input.placers input.taps (lists_of t) t.ran.closed.steps end (whole t.ran))) is made.traced in
+    let Is : SerialRun → Type 0 = IsTracedRun Brand found.image found.request.settings made.script input.placers input.taps (lists_of_traced t) t.ran.closed.steps end in
+    let at_end : Is (run_with_end t.ran) = subst (λ e. IfSome e (λ end. IsTracedRun Brand found.image found.request.settings made.script input.placers input.taps (lists_of_traced t) t.ran.closed.steps end (run_with_end t.ran))) is made.traced in
     record {
       request = found.request;
-      rest = found.rest;
+      bytes_behind = found.bytes_behind;
       given = found.given;
       command = found.command;
       script = made.script;
@@ -169,7 +170,7 @@ traced_to_end input t o end is found kept =
 -- ---- the table of answers
 
 -- what was found, with its status and its text, is an answer
-answers : (input : Input) (f : Finding) (o : Outcome) (text : List ℕ) → IsFound input f → Keeps f o → text_of f ≡ Some text → IsAnswer input o (status_of f) text
+answers : (input : Input) (f : Finding) (o : Outcome) (text : List ℕ) → IsFound input f → OutcomeKeeps f o → text_of f ≡ Some text → IsAnswer input o (status_of f) text
 answers input finding.Usage o text found kept is = subst (IsAnswer input o 1) (same_some _ text is) (table.Usage found kept)
 answers input finding.Memory o text found kept is = let z : ⊥ = cc in absurd z
 answers input finding.Unread o text found kept is = let z : ⊥ = cc in absurd z
@@ -179,9 +180,9 @@ answers input (finding.Refused line) o text found kept is = subst (IsAnswer inpu
 answers input (finding.NoScript line) o text found kept is = subst (IsAnswer input o 9) (same_some _ text is) (table.NoScript line found kept)
 answers input (finding.Accepted closed) o text found kept is =
     let line : accepted_line (length o.journal) ≡ text = ap (λ c. accepted_line (length c.journal)) kept.run_is ∙ same_some _ text is in
-    subst (IsAnswer input o 0) line (table.Accepted (subst (IsAccepted input) (sym kept.run_is) found))
+    subst (IsAnswer input o 0) line (table.Accepted (subst (IsAcceptedReport input) (sym kept.run_is) found))
 answers input (finding.Ran image ran steps) o text found kept is = go ran.end refl is where
-  go : (e : Option End) → ran.end ≡ e → option_map (run_text image (whole ran)) e ≡ Some text → IsAnswer input o (status_by end_status e) text
+  go : (e : Option End) → ran.end ≡ e → option_map (run_text image (run_with_end ran)) e ≡ Some text → IsAnswer input o (status_by end_status e) text
   go None at t = let z : ⊥ = cc in absurd z
   go (Some end) at t =
       let told : run_text image (closed_of o) end ≡ text = ap (λ c. run_text image c end) kept.run_is ∙ same_some _ text t in
@@ -203,7 +204,7 @@ answers input (finding.Stopped ran steps made) o text found kept is = go made re
   go (saving.TooMany count) at told saves =
       subst (IsAnswer input o 13) (ap tasks_line (sym saves.2) ∙ told) (table.TooMany found.image pendings stops saves.0 saves.1)
 answers input (finding.Loaded load image ran steps) o text found kept is = go ran.end refl is where
-  go : (e : Option End) → ran.end ≡ e → option_map (load_text load.load load.seed load.size image (whole ran)) e ≡ Some text → IsAnswer input o (status_by end_status e) text
+  go : (e : Option End) → ran.end ≡ e → option_map (load_text load.load load.seed load.size image (run_with_end ran)) e ≡ Some text → IsAnswer input o (status_by end_status e) text
   go None at t = let z : ⊥ = cc in absurd z
   go (Some end) at t =
       let told : load_text load.load load.seed load.size image (closed_of o) end ≡ text = ap (λ c. load_text load.load load.seed load.size image c end) kept.run_is ∙ same_some _ text t in
@@ -211,16 +212,16 @@ answers input (finding.Loaded load image ran steps) o text found kept is = go ra
       subst (LoadsToEnd input load.load load.seed load.size image end) (sym kept.run_is) (loaded_to_end input load image ran steps end at found) in
       subst (IsAnswer input o (end_status end)) told (table.Loaded load.load load.seed load.size image end made)
 answers input (finding.Played image p) o text found kept is = go p.ran.end refl is where
-  go : (e : Option End) → p.ran.end ≡ e → option_map (played_text p.said.items image (whole p.ran)) e ≡ Some text → IsAnswer input o (status_by played_status e) text
+  go : (e : Option End) → p.ran.end ≡ e → option_map (played_text p.said.items image (run_with_end p.ran)) e ≡ Some text → IsAnswer input o (status_by played_status e) text
   go None at t = let z : ⊥ = cc in absurd z
   go (Some end) at t =
       let told : played_text p.said.items image (closed_of o) end ≡ text = ap (λ c. played_text p.said.items image c end) kept.run_is ∙ same_some _ text t in
       subst (IsAnswer input o (played_status end)) told (table.Played image p.said.items end (played_to_end input image p o end at found kept))
 answers input (finding.Traced t) o text found kept is = go t.ran.end refl is where
-  go : (e : Option End) → t.ran.end ≡ e → option_map (λ end. trace_text (lists_of t)) e ≡ Some text → IsAnswer input o (status_by (λ end. 0) e) text
+  go : (e : Option End) → t.ran.end ≡ e → option_map (λ end. trace_text (lists_of_traced t)) e ≡ Some text → IsAnswer input o (status_by (λ end. 0) e) text
   go None at told = let z : ⊥ = cc in absurd z
   go (Some end) at told =
-      subst (IsAnswer input o 0) (same_some _ text told) (table.Traced found.image (lists_of t) end (traced_to_end input t o end at found kept))
+      subst (IsAnswer input o 0) (same_some _ text told) (table.Traced found.image (lists_of_traced t) end (traced_to_end input t o end at found kept))
 
 -- ---- what is told
 
@@ -231,7 +232,7 @@ is_seven n = go (n == 7) refl where
   go false e = inr (λ h. grind (arith, nat_tests, common_steps))
 
 -- a finding with a text that was written
-took : (call : Call) (f : Finding) (o : Outcome) (text : List ℕ) → IsFound call.input f → Keeps f o → text_of f ≡ Some text
+took : (call : Call) (f : Finding) (o : Outcome) (text : List ℕ) → IsFound call.input f → OutcomeKeeps f o → text_of f ≡ Some text
     → o.status ≡ status_of f → TakesText call.sink_before call.sink_after (text_of f) → TellsOutcome call o
 took call f o text found kept is status written = inr (inr (inr record {
   text = text;
@@ -251,8 +252,8 @@ ran_out call o kept status read untouched = inl record { status_is = status; end
 
 -- a run that is told by its end; without one, memory ran out
 by_end : (call : Call) (f : Finding) (o : Outcome) (text : End → List ℕ) (status : End → ℕ) (ran : Ran) (steps : Option ℕ)
-    → text_of f ≡ option_map text ran.end → status_of f ≡ status_by status ran.end → HoldsRunSoFar call.input o → HoldsRun (whole ran) steps o
-    → ReadsAsAsked call.input → IsFound call.input f → Keeps f o
+    → text_of f ≡ option_map text ran.end → status_of f ≡ status_by status ran.end → HoldsRunSoFar call.input o → HoldsRun (run_with_end ran) steps o
+    → ReadsAsAsked call.input → IsFound call.input f → OutcomeKeeps f o
     → o.status ≡ status_of f → TakesText call.sink_before call.sink_after (text_of f) → TellsOutcome call o
 by_end call f o text status ran steps text_is status_is held holding read found kept s w = go ran.end refl where
   go : (e : Option End) → ran.end ≡ e → TellsOutcome call o
@@ -273,7 +274,7 @@ runs_no_check : (command : Command) → RunsRead command → command ≡ command
 runs_no_check command runs check = subst RunsRead check runs
 
 -- where the sink didn't fail
-well_told : (call : Call) (f : Finding) (o : Outcome) → IsFound call.input f → Keeps f o → o.status ≡ status_of f → TakesText call.sink_before call.sink_after (text_of f) → TellsOutcome call o
+well_told : (call : Call) (f : Finding) (o : Outcome) → IsFound call.input f → OutcomeKeeps f o → o.status ≡ status_of f → TakesText call.sink_before call.sink_after (text_of f) → TellsOutcome call o
 well_told call finding.Usage o found kept s w = took call finding.Usage o _ found kept refl s w
 well_told call finding.Memory o found kept s w = ran_out call o kept s found w
 well_told call finding.Unread o found kept s w = inr (inl record { status_is = s; empty = kept; unread = found; untouched = w })
@@ -287,8 +288,8 @@ well_told call (finding.Ran image ran steps) o found kept s w =
       held = ran_held call.input image ran steps o found kept;
       makes = runs_no_check found.request.command found.command;
     } in
-    let read = was_read call.input found.request image found.rest found.given in
-    by_end call (finding.Ran image ran steps) o (run_text image (whole ran)) end_status ran steps refl refl held kept read found kept s w
+    let read = was_read call.input found.request image found.bytes_behind found.given in
+    by_end call (finding.Ran image ran steps) o (run_text image (run_with_end ran)) end_status ran steps refl refl held kept read found kept s w
 well_told call (finding.Stopped ran steps made) o found kept s w = took call (finding.Stopped ran steps made) o _ found kept refl s w
 well_told call (finding.Loaded load image ran steps) o found kept s w =
     let held : HoldsRunSoFar call.input o = record {
@@ -296,21 +297,21 @@ well_told call (finding.Loaded load image ran steps) o found kept s w =
       makes = no_check found.request (commands.Load load.load load.seed load.size) found.given.command (λ clash. cc);
     } in
     let read = left_alone call.input found.given.untouched in
-    by_end call (finding.Loaded load image ran steps) o (load_text load.load load.seed load.size image (whole ran)) end_status ran steps refl refl held kept read found kept s w
+    by_end call (finding.Loaded load image ran steps) o (load_text load.load load.seed load.size image (run_with_end ran)) end_status ran steps refl refl held kept read found kept s w
 well_told call (finding.Played image p) o found kept s w =
     let held : HoldsRunSoFar call.input o = record {
       held = played_held call.input image p o found kept;
       makes = no_check found.request commands.Steps found.command (λ clash. cc);
     } in
-    let read = was_read call.input found.request image found.rest found.given in
-    by_end call (finding.Played image p) o (played_text p.said.items image (whole p.ran)) played_status p.ran (Some p.ran.closed.steps) refl refl held kept read found kept s w
+    let read = was_read call.input found.request image found.bytes_behind found.given in
+    by_end call (finding.Played image p) o (played_text p.said.items image (run_with_end p.ran)) played_status p.ran (Some p.ran.closed.steps) refl refl held kept read found kept s w
 well_told call (finding.Traced t) o found kept s w =
     let held : HoldsRunSoFar call.input o = record {
       held = traced_held call.input t o found kept;
       makes = no_check found.request commands.Trace found.command (λ clash. cc);
     } in
-    let read = was_read call.input found.request found.image found.rest found.given in
-    by_end call (finding.Traced t) o (λ end. trace_text (lists_of t)) (λ end. 0) t.ran (Some t.ran.closed.steps) refl refl held kept read found kept s w
+    let read = was_read call.input found.request found.image found.bytes_behind found.given in
+    by_end call (finding.Traced t) o (λ end. trace_text (lists_of_traced t)) (λ end. 0) t.ran (Some t.ran.closed.steps) refl refl held kept read found kept s w
 
 -- the text of a finding whose text the sink failed on
 record HasFront (old new : SinkState) (text : Option (List ℕ)) : Type 0 where

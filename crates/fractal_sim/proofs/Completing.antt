@@ -9,7 +9,7 @@ use Rattle.guest_image.specs.ImageValue.{ImageValue}
 use Rattle.guest_image.specs.Reading.{image_of}
 use Rattle.run_journal.specs.declared.end.End.{End}
 use Rattle.command_line.specs.declared.request.Request.{Request}
-use Rattle.command_line.specs.Requests.{request_of}
+use Rattle.command_line.specs.Requests.{request_of_words}
 use Rattle.fractal_sim.specs.declared.finding.Finding.{Finding}
 use Rattle.fractal_sim.specs.declared.finding.Finding.TheVariants as finding
 use Rattle.fractal_sim.specs.declared.outcome.Outcome.{Outcome}
@@ -37,14 +37,14 @@ past_all bytes old new limit is h = go new.left (subst (λ l. Consumes l new.lef
   go None taken = absurd taken
 
 -- the bytes of a source that is read are known
-told_bytes : (input : Input) (bytes : List ℕ) (request : Request) → IsKnown input bytes → request_of input.words ≡ Some request → Reads request.command
+told_bytes : (input : Input) (bytes : List ℕ) (request : Request) → IsKnown input bytes → request_of_words input.words ≡ Some request → Reads request.command
     → input.source_before.left ≡ Some bytes
 told_bytes input bytes request (inl is) asked reads = is
 told_bytes input bytes request (inr none) asked reads = absurd (none request asked reads)
 
 -- the words ask for this, which reads the source, and these are all the bytes that there are
 pub record IsAll (words : List (List ℕ)) (bytes found : List ℕ) (request : Request) : Type 0 where
-  pub asked : request_of words ≡ Some request
+  pub asked : request_of_words words ≡ Some request
   pub reads : Reads request.command
   pub same : found ≡ bytes
   pub within : length bytes ≤ input_limit
@@ -81,24 +81,24 @@ is_due input bytes (finding.NoImage fault) known well found =
     let all = asks_all input bytes found.bytes found.request known found.read in
     inr (due.NoImage found.request fault all.asked all.reads all.within (ap image_of (sym all.same) ∙ found.fault_is))
 is_due input bytes (finding.Refused line) known well found =
-    inr (due.Refused found.request found.image found.rest line (begins input bytes found.request found.image found.rest known found.given) found.command found.wrong)
+    inr (due.Refused found.request found.image found.bytes_behind line (begins input bytes found.request found.image found.bytes_behind known found.given) found.command found.wrong)
 is_due input bytes (finding.NoScript line) known well found =
-    inr (due.NoScript found.request found.image found.rest line (begins input bytes found.request found.image found.rest known found.given) found.command found.wrong)
+    inr (due.NoScript found.request found.image found.bytes_behind line (begins input bytes found.request found.image found.bytes_behind known found.given) found.command found.wrong)
 is_due input bytes (finding.Accepted closed) known well found =
-    inr (due.Checked found.request found.image found.rest found.report (begins input bytes found.request found.image found.rest known found.given) found.command found.report_is found.accepted)
+    inr (due.Checked found.request found.image found.bytes_behind found.report (begins input bytes found.request found.image found.bytes_behind known found.given) found.command found.report_is found.accepted)
 is_due input bytes (finding.Ran image ran steps) known well found = go ran.end refl where
   go : (e : Option End) → ran.end ≡ e → (status_by end_status e ≡ 5) ⊎ IsDue input.words bytes (status_by end_status e)
   go None at = inl refl
   go (Some end) at =
-      inr (due.Ended found.request image found.rest end (begins input bytes found.request image found.rest known found.given) (subst (λ e. IfSome e (IsReported found.request.command)) at found.told))
+      inr (due.Ended found.request image found.bytes_behind end (begins input bytes found.request image found.bytes_behind known found.given) (subst (λ e. IfSome e (IsReported found.request.command)) at found.told))
 is_due input bytes (finding.Stopped ran steps made) known well found = go made where
-  begun : BeginsWithImage input.words bytes found.request found.image found.rest
-  begun = begins input bytes found.request found.image found.rest known found.given
+  begun : BeginsWithImage input.words bytes found.request found.image found.bytes_behind
+  begun = begins input bytes found.request found.image found.bytes_behind known found.given
 
   go : (m : Saving) → (saving_status m ≡ 5) ⊎ IsDue input.words bytes (saving_status m)
-  go (saving.Bytes written) = inr (due.Saved found.request found.image found.rest begun found.command)
-  go (saving.Nested depth) = inr (due.Nested found.request found.image found.rest begun found.command)
-  go (saving.TooMany count) = inr (due.TooMany found.request found.image found.rest begun found.command)
+  go (saving.Bytes written) = inr (due.Saved found.request found.image found.bytes_behind begun found.command)
+  go (saving.Nested depth) = inr (due.Nested found.request found.image found.bytes_behind begun found.command)
+  go (saving.TooMany count) = inr (due.TooMany found.request found.image found.bytes_behind begun found.command)
 is_due input bytes (finding.Loaded load image ran steps) known well found = go ran.end refl where
   go : (e : Option End) → ran.end ≡ e → (status_by end_status e ≡ 5) ⊎ IsDue input.words bytes (status_by end_status e)
   go None at = inl refl
@@ -108,12 +108,12 @@ is_due input bytes (finding.Played image p) known well found = go p.ran.end wher
   go : (e : Option End) → (status_by played_status e ≡ 5) ⊎ IsDue input.words bytes (status_by played_status e)
   go None = inl refl
   go (Some end) =
-      inr (due.Played found.request image found.rest found.made.script end (begins input bytes found.request image found.rest known found.given) found.command found.made.script_is)
+      inr (due.Played found.request image found.bytes_behind found.made.script end (begins input bytes found.request image found.bytes_behind known found.given) found.command found.made.script_is)
 is_due input bytes (finding.Traced t) known well found = go t.ran.end where
   go : (e : Option End) → (status_by (λ end. 0) e ≡ 5) ⊎ IsDue input.words bytes (status_by (λ end. 0) e)
   go None = inl refl
   go (Some end) =
-      inr (due.Traced found.request found.image found.rest found.made.script (begins input bytes found.request found.image found.rest known found.given) found.command found.made.script_is)
+      inr (due.Traced found.request found.image found.bytes_behind found.made.script (begins input bytes found.request found.image found.bytes_behind known found.given) found.command found.made.script_is)
 
 pub complete : (call : Call) (f : Finding) (o : Outcome) → IsFound call.input f → TellsFinding f call.sink_before call.sink_after o → IsComplete call o
 complete call f o found tells = λ bytes known well.

@@ -12,57 +12,58 @@ use Rattle.machine_run.specs.Least.{IsLeastRun}
 use Rattle.machine_run.specs.Played.{IsPlayedRun, IsTracedRun}
 use Rattle.machine_run.specs.declared.left.Ran.{Ran}
 use Rattle.command_line.specs.declared.request.Request.{Request}
-use Rattle.command_line.specs.Requests.{request_of}
+use Rattle.command_line.specs.Requests.{request_of_words}
 use Rattle.fractal_sim.specs.declared.finding.Finding.{Finding}
 use Rattle.fractal_sim.specs.declared.finding.Finding.TheVariants as finding
 use Rattle.fractal_sim.specs.declared.outcome.Outcome.{Outcome}
 use Rattle.fractal_sim.specs.Call.{Input}
 use Rattle.fractal_sim.specs.Given.{HasImage, IsRead, IsGenerated}
 use Rattle.fractal_sim.specs.Runs as runs
-use Rattle.fractal_sim.specs.Runs.{closed_of, IsEmpty, Counts, IsMadeBy, MakesRun, PlaysScript, RunsImage, RunsRead, TellsSteps}
+use Rattle.fractal_sim.specs.Runs.{closed_of, IsEmpty, Counts, IsRunMadeBy, MakesRun, PlaysScript, RunsImage, RunsRead, CountsEvents}
 use Rattle.command_line.specs.declared.request.Command.{Command}
 use Rattle.command_line.specs.declared.request.Command.TheVariants as commands
-use Rattle.fractal_sim.specs.Deciding.{whole, lists_of, told_steps, IsRunSo}
-use Rattle.fractal_sim.specs.Finding.{IsFound, HoldsRun, Keeps}
+use Rattle.fractal_sim.specs.Deciding.{run_with_end, lists_of_traced, event_count, IsRunSo}
+use Rattle.fractal_sim.specs.Finding.{IsFound, HoldsRun, OutcomeKeeps}
 use Rattle.fractal_sim.proofs.Answering.{same_some}
 
 -- one list of words asks for one thing
-same_request : (words : List (List ℕ)) (a b : Request) → request_of words ≡ Some a → request_of words ≡ Some b → a ≡ b
+same_request : (words : List (List ℕ)) (a b : Request) → request_of_words words ≡ Some a
+    → request_of_words words ≡ Some b → a ≡ b
 same_request words a b ha hb = same_some a b (sym ha ∙ hb)
 
 -- whether a count is told is the same for one request
-counts_same : (words : List (List ℕ)) (a b : Request) → request_of words ≡ Some a → request_of words ≡ Some b → Counts b.settings.workers b.command
+counts_same : (words : List (List ℕ)) (a b : Request) → request_of_words words ≡ Some a → request_of_words words ≡ Some b → Counts b.settings.workers b.command
     → Counts a.settings.workers a.command
 counts_same words a b ha hb = subst (λ (r : Request). Counts r.settings.workers r.command) (sym (same_request words a b ha hb))
 
 -- an outcome without a run tells no count, and is empty
-none_told : (input : Input) (o : Outcome) → IsEmpty o → TellsSteps input o
+none_told : (input : Input) (o : Outcome) → IsEmpty o → CountsEvents input o
 none_told input o empty = record {
   made = subst (λ s. IfSome s (λ events. MakesRun input events (closed_of o))) (sym empty.steps) tt;
   told = λ request asked counts none. empty;
 }
 
 -- a count that is told where there are no workers
-counted : (workers events : ℕ) (P : ℕ → Type 0) → (workers ≡ 0 → P events) → IfSome (told_steps workers events) P
+counted : (workers events : ℕ) (P : ℕ → Type 0) → (workers ≡ 0 → P events) → IfSome (event_count workers events) P
 counted workers events P holds = go (workers == 0) refl where
   go : (b : Bool) → (workers == 0) ≡ b → IfSome (if◌then◌else◌ {A = Option ℕ} b (Some events) None) P
   go true e = holds (grind (arith, nat_tests, common_steps))
   go false e = tt
 
 -- a count is told where there are no workers
-is_told : (workers events : ℕ) → workers ≡ 0 → told_steps workers events ≡ None → ⊥
-is_told workers events zero none = go (subst (λ w. told_steps w events ≡ None) zero none) where
+is_told : (workers events : ℕ) → workers ≡ 0 → event_count workers events ≡ None → ⊥
+is_told workers events zero none = go (subst (λ w. event_count w events ≡ None) zero none) where
   go : Some events ≡ None → ⊥
   go clash = cc
 
 -- the image was run, and this is its count
-run_told : (input : Input) (o : Outcome) (request : Request) (image : ImageValue) (ran : Ran) (steps : Option ℕ) → request_of input.words ≡ Some request
+run_told : (input : Input) (o : Outcome) (request : Request) (image : ImageValue) (ran : Ran) (steps : Option ℕ) → request_of_words input.words ≡ Some request
     → RunsImage request.command → (Counts request.settings.workers request.command → request.settings.workers ≡ 0) → HasImage input request image
-    → IsRunSo image request.settings input.placers input.taps ran steps → HoldsRun (whole ran) steps o → TellsSteps input o
+    → IsRunSo image request.settings input.placers input.taps ran steps → HoldsRun (run_with_end ran) steps o → CountsEvents input o
 run_told input o request image ran steps asked runs_image plain given made kept =
     let workers = request.settings.workers in
     let events = ran.closed.steps in
-    let told_is : o.steps ≡ told_steps workers events = kept.steps_is ∙ made.steps_is in
+    let told_is : o.steps ≡ event_count workers events = kept.steps_is ∙ made.steps_is in
     let least : workers ≡ 0 → MakesRun input events (closed_of o) = λ none. record {
       request = request;
       asked = asked;
@@ -75,11 +76,11 @@ run_told input o request image ran steps asked runs_image plain given made kept 
     }
 
 -- a script was played, and this is its count
-script_told : (input : Input) (o : Outcome) (request : Request) (image : ImageValue) (run : SerialRun) (events : ℕ) → request_of input.words ≡ Some request
-    → HoldsRun run (Some events) o → IsMadeBy input request image events run → TellsSteps input o
+script_told : (input : Input) (o : Outcome) (request : Request) (image : ImageValue) (run : SerialRun) (events : ℕ) → request_of_words input.words ≡ Some request
+    → HoldsRun run (Some events) o → IsRunMadeBy input request image events run → CountsEvents input o
 script_told input o request image run events asked kept made = record {
   made = subst (λ s. IfSome s (λ events. MakesRun input events (closed_of o))) (sym kept.steps_is)
-      (record { request = request; asked = asked; image = image; made = subst (IsMadeBy input request image events) (sym kept.run_is) made });
+      (record { request = request; asked = asked; image = image; made = subst (IsRunMadeBy input request image events) (sym kept.run_is) made });
   told = λ other asks counts none. (let clash : Some events ≡ None = sym kept.steps_is ∙ none in absurd (cc (clash)));
 }
 
@@ -101,7 +102,7 @@ read_counts workers commands.Check runs counts = absurd runs
 read_counts workers (commands.Load load seed size) runs counts = absurd runs
 
 -- what was found tells the events of its run
-pub steps_told : (input : Input) (f : Finding) (o : Outcome) → IsFound input f → Keeps f o → TellsSteps input o
+pub steps_told : (input : Input) (f : Finding) (o : Outcome) → IsFound input f → OutcomeKeeps f o → CountsEvents input o
 steps_told input finding.Usage o found kept = none_told input o kept
 steps_told input finding.Memory o found kept = none_told input o kept
 steps_told input finding.Unread o found kept = none_told input o kept
@@ -116,30 +117,31 @@ steps_told input (finding.Accepted closed) o found kept = record {
 }
 steps_told input (finding.Ran image ran steps) o found kept =
     run_told input o found.request image ran steps found.given.read.asked (read_runs found.request.command found.command)
-    (read_counts found.request.settings.workers found.request.command found.command) (IsRead found.rest found.given) found.made kept
+    (read_counts found.request.settings.workers found.request.command found.command) (IsRead found.bytes_behind found.given) found.made kept
 steps_told input (finding.Stopped ran steps made) o found kept =
     run_told input o found.request found.image ran steps found.given.read.asked (subst RunsImage (sym found.command) tt)
-    (subst (Counts found.request.settings.workers) found.command) (IsRead found.rest found.given) found.stopped.run kept
+    (subst (Counts found.request.settings.workers) found.command)
+    (IsRead found.bytes_behind found.given) found.stopped.run kept
 steps_told input (finding.Loaded load image ran steps) o found kept =
     run_told input o found.request image ran steps found.given.asked (subst RunsImage (sym found.given.command) tt)
     (subst (Counts found.request.settings.workers) found.given.command) (IsGenerated load.load load.seed load.size found.given) found.made kept
 steps_told input (finding.Played image p) o found kept =
-    script_told input o found.request image (whole p.ran) p.ran.closed.steps found.given.read.asked kept (go p.ran.end refl found.made.played) where
+    script_told input o found.request image (run_with_end p.ran) p.ran.closed.steps found.given.read.asked kept (go p.ran.end refl found.made.played) where
       plays : PlaysScript found.request.command
       plays = subst PlaysScript (sym found.command) tt
 
       go : (e : Option End) → p.ran.end ≡ e
-          → IfSome e (λ end. IsPlayedRun Brand image found.request.settings found.made.script input.placers input.taps p.said.items p.ran.closed.steps end (whole p.ran))
-          → IsMadeBy input found.request image p.ran.closed.steps (whole p.ran)
-      go None is h = runs.ByPart found.rest found.made.script plays found.given found.made.script_is (found.made.part is)
-      go (Some end) is h = runs.ByScript found.rest found.made.script p.said.items end plays found.given found.made.script_is h
+          → IfSome e (λ end. IsPlayedRun Brand image found.request.settings found.made.script input.placers input.taps p.said.items p.ran.closed.steps end (run_with_end p.ran))
+          → IsRunMadeBy input found.request image p.ran.closed.steps (run_with_end p.ran)
+      go None is h = runs.ByPart found.bytes_behind found.made.script plays found.given found.made.script_is (found.made.part is)
+      go (Some end) is h = runs.ByScript found.bytes_behind found.made.script p.said.items end plays found.given found.made.script_is h
 steps_told input (finding.Traced t) o found kept =
-    script_told input o found.request found.image (whole t.ran) t.ran.closed.steps found.given.read.asked kept (go t.ran.end refl found.made.traced) where
+    script_told input o found.request found.image (run_with_end t.ran) t.ran.closed.steps found.given.read.asked kept (go t.ran.end refl found.made.traced) where
       plays : PlaysScript found.request.command
       plays = subst PlaysScript (sym found.command) tt
 
       go : (e : Option End) → t.ran.end ≡ e
-          → IfSome e (λ end. IsTracedRun Brand found.image found.request.settings found.made.script input.placers input.taps (lists_of t) t.ran.closed.steps end (whole t.ran))
-          → IsMadeBy input found.request found.image t.ran.closed.steps (whole t.ran)
-      go None is h = runs.ByPart found.rest found.made.script plays found.given found.made.script_is (found.made.part is)
-      go (Some end) is h = runs.ByScript found.rest found.made.script h.said end plays found.given found.made.script_is h.played
+          → IfSome e (λ end. IsTracedRun Brand found.image found.request.settings found.made.script input.placers input.taps (lists_of_traced t) t.ran.closed.steps end (run_with_end t.ran))
+          → IsRunMadeBy input found.request found.image t.ran.closed.steps (run_with_end t.ran)
+      go None is h = runs.ByPart found.bytes_behind found.made.script plays found.given found.made.script_is (found.made.part is)
+      go (Some end) is h = runs.ByScript found.bytes_behind found.made.script h.said end plays found.given found.made.script_is h.played

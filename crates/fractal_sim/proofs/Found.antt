@@ -7,7 +7,7 @@ use Rattle.std.specs.declared.option.Option.{Option}
 use Rattle.sim_io.specs.Parts.{ReadsAll, ReadsSome}
 use Rattle.sim_io.specs.Streams.{SourceState}
 use Rattle.guest_image.specs.ImageValue.{ImageValue}
-use Rattle.guest_image.specs.Reading.{image_of, after_header, header_fault, whole_length, value_of}
+use Rattle.guest_image.specs.Reading.{image_of, after_header, header_fault, whole_length, value_in_bytes}
 use Rattle.guest_image.specs.declared.fault.ImageFault.{ImageFault}
 use Rattle.guest_image.specs.declared.fault.ImageFault.TheVariants as faults
 use Rattle.load_gen.specs.declared.making.Load.{Load}
@@ -19,7 +19,7 @@ use Rattle.report_text.specs.Check.{IsReportOf}
 use Rattle.command_line.specs.declared.request.Command.{Command}
 use Rattle.command_line.specs.declared.request.Command.TheVariants as commands
 use Rattle.command_line.specs.declared.request.Request.{Request}
-use Rattle.command_line.specs.Requests.{request_of}
+use Rattle.command_line.specs.Requests.{request_of_words}
 use Rattle.fractal_sim.specs.declared.finding.Finding.{Finding}
 use Rattle.fractal_sim.specs.declared.finding.Finding.TheVariants as finding
 use Rattle.fractal_sim.specs.declared.finding.Loading.{Loading}
@@ -30,7 +30,7 @@ use Rattle.fractal_sim.specs.Deciding.{IsFoundBehind, IsLoadedSo, IsRunSo, IsSav
 use Rattle.fractal_sim.specs.Runs.{IsReported, RunsRead}
 use Rattle.machine_run.specs.declared.left.Ran.{Ran}
 use Rattle.place_policy.specs.Policy.{Policy}
-use Rattle.trace_tap.specs.Reading.{Reading}
+use Rattle.trace_tap.specs.TapValue.{TapValue}
 use Rattle.run_journal.specs.declared.end.End.{End}
 use Rattle.run_journal.specs.declared.end.End.TheVariants as ends
 use Rattle.std.specs.Prelude.{◌≢◌, IfSome}
@@ -74,7 +74,8 @@ holds-report image commits budget report closed a k = record {
 -- ---- findings
 
 -- what was taken for words that ask for what reads the source
-pub asked_for : (input : Input) (request : Request) → request_of input.words ≡ Some request → Reads request.command
+pub asked_for : (input : Input) (request : Request) → request_of_words input.words ≡ Some request
+    → Reads request.command
     → ReadsSome input.source_before input.source_after input_limit → ReadsAsAsked input
 asked_for input request asked reads some = record { read = some; untouched = λ none. absurd (none request asked reads) }
 
@@ -91,12 +92,12 @@ found_given input request image rest finding.Memory g h =
 found_given input request image rest finding.Unread g h = absurd h
 found_given input request image rest finding.Long g h = absurd h
 found_given input request image rest (finding.NoImage fault) g h = absurd h
-found_given input request image rest (finding.Refused line) g h = record { request = request; image = image; rest = rest; given = g; command = h.0; wrong = h.1 }
-found_given input request image rest (finding.NoScript line) g h = record { request = request; image = image; rest = rest; given = g; command = h.0; wrong = h.1 }
+found_given input request image rest (finding.Refused line) g h = record { request = request; image = image; bytes_behind = rest; given = g; command = h.0; wrong = h.1 }
+found_given input request image rest (finding.NoScript line) g h = record { request = request; image = image; bytes_behind = rest; given = g; command = h.0; wrong = h.1 }
 found_given input request image rest (finding.Accepted closed) g h = record {
   request = request;
   image = image;
-  rest = rest;
+  bytes_behind = rest;
   report = h.1.report;
   given = g;
   command = h.0;
@@ -107,18 +108,18 @@ found_given input request image rest (finding.Accepted closed) g h = record {
   end_is = h.1.kept.end_is;
 }
 found_given input request image rest (finding.Ran image' ran steps) g h =
-    let same : IsRan input image ran steps = record { request = request; rest = rest; given = g; command = h.0; made = h.2; told = h.3 } in
+    let same : IsRan input image ran steps = record { request = request; bytes_behind = rest; given = g; command = h.0; made = h.2; told = h.3 } in
     subst (λ i. IsRan input i ran steps) (sym h.1) same
 found_given input request image rest (finding.Stopped ran steps made) g h =
-    record { request = request; image = image; rest = rest; given = g; command = h.0; stopped = h.1 }
+    record { request = request; image = image; bytes_behind = rest; given = g; command = h.0; stopped = h.1 }
 found_given input request image rest (finding.Loaded load image' ran steps) g h = absurd h
 found_given input request image rest (finding.Played image' played) g h =
-    let same : IsPlayed input image played = record { request = request; rest = rest; given = g; command = h.0; made = h.2 } in
+    let same : IsPlayed input image played = record { request = request; bytes_behind = rest; given = g; command = h.0; made = h.2 } in
     subst (λ i. IsPlayed input i played) (sym h.1) same
-found_given input request image rest (finding.Traced traced) g h = record { request = request; image = image; rest = rest; given = g; command = h.0; made = h.1 }
+found_given input request image rest (finding.Traced traced) g h = record { request = request; image = image; bytes_behind = rest; given = g; command = h.0; made = h.1 }
 
 -- what is found where the words ask for a run that can go on is found behind the image
-pub saved_behind : (request : Request) (image : ImageValue) (rest : List ℕ) (placers : List Policy) (taps : List Reading) (f : Finding)
+pub saved_behind : (request : Request) (image : ImageValue) (rest : List ℕ) (placers : List Policy) (taps : List TapValue) (f : Finding)
     → request.command ≡ commands.Save → IsSavedSo image request.settings placers taps f → IsFoundBehind request image rest placers taps f
 saved_behind request image rest placers taps finding.Usage is h = absurd h
 saved_behind request image rest placers taps finding.Memory is h = tt
@@ -140,14 +141,14 @@ if_not None over = tt
 if_not (Some end) over = λ open_yet. over (ap Some open_yet)
 
 -- and so is a run of an image
-pub ran_behind : (request : Request) (image : ImageValue) (rest : List ℕ) (placers : List Policy) (taps : List Reading) (ran : Ran) (steps : Option ℕ)
+pub ran_behind : (request : Request) (image : ImageValue) (rest : List ℕ) (placers : List Policy) (taps : List TapValue) (ran : Ran) (steps : Option ℕ)
     → request.command ≡ commands.Run → IsRunSo image request.settings placers taps ran steps
     → IsFoundBehind request image rest placers taps (finding.Ran image ran steps)
 ran_behind request image rest placers taps ran steps is made =
     (subst RunsRead (sym is) tt, refl, made, subst (λ c. IfSome ran.end (IsReported c)) (sym is) (if_not ran.end made.over))
 
 -- what is found where a generated image is asked for is found, as the source is left alone
-pub found_loaded : (input : Input) (request : Request) (load : Loading) (f : Finding) → request_of input.words ≡ Some request
+pub found_loaded : (input : Input) (request : Request) (load : Loading) (f : Finding) → request_of_words input.words ≡ Some request
     → request.command ≡ commands.Load load.load load.seed load.size → input.source_after ≡ input.source_before
     → IsLoadedSo load request.settings input.placers input.taps f → IsFound input f
 found_loaded input request load finding.Usage asked command untouched h = absurd h
@@ -180,7 +181,7 @@ size_in (Err fault) = 0
 pub size-within : (bytes : List ℕ) (image : ImageValue) (size : ℕ) → image_of bytes ≡ Ok (image, size) → size ≤ length bytes
 unfolding image_of
 size-within bytes image size is = short (nat_lt (length bytes) 32) is where
-  whole : (b : Bool) → nat_lt (length bytes) (whole_length bytes) ≡ b → if◌then◌else◌ {A = Result (ImageValue × ℕ) ImageFault} b (Err (faults.Short (whole_length bytes) (length bytes))) (Ok (value_of bytes, whole_length bytes)) ≡ Ok (image, size) → size ≤ length bytes
+  whole : (b : Bool) → nat_lt (length bytes) (whole_length bytes) ≡ b → if◌then◌else◌ {A = Result (ImageValue × ℕ) ImageFault} b (Err (faults.Short (whole_length bytes) (length bytes))) (Ok (value_in_bytes bytes, whole_length bytes)) ≡ Ok (image, size) → size ≤ length bytes
   whole true e h = cc
   whole false e h = let same : whole_length bytes ≡ size = ap size_in h in grind (arith, nat_tests, common_steps)
 

@@ -7,15 +7,15 @@ use Rattle.std.specs.declared.option.Option.{Option}
 use Rattle.std.specs.declared.marker.Brand.{Brand}
 use Rattle.guest_image.specs.ImageValue.{ImageValue}
 use Rattle.place_policy.specs.Policy.{Policy}
-use Rattle.trace_tap.specs.Reading.{Reading}
+use Rattle.trace_tap.specs.TapValue.{TapValue}
 use Rattle.run_journal.specs.declared.end.End.TheVariants as ends
 use Rattle.run_journal.specs.declared.end.End.{End}
 use Rattle.serial_machine.specs.WholeRun.{IsRunOf}
 use Rattle.spec_state.specs.declared.settings.Settings.{Settings}
 use Rattle.spec_state.specs.declared.pending.Pending.{Pending}
-use Rattle.spec_state.specs.Pendings.{Leaves}
+use Rattle.spec_state.specs.Pendings.{RunLeaves}
 use Rattle.conflict_book.specs.declared.freezing.Frozen.{Frozen}
-use Rattle.machine_run.specs.Least.{IsLeastRun, run_of}
+use Rattle.machine_run.specs.Least.{IsLeastRun, run_of_closed}
 use Rattle.machine_run.specs.Played.{IsPlayedInPart, IsPlayedRun, IsTracedRun}
 use Rattle.machine_run.specs.Stopping.{IsStoppedWith}
 use Rattle.machine_run.specs.declared.left.Ran.{Ran}
@@ -25,12 +25,13 @@ use Rattle.machine_run.specs.declared.playing.Traced.{Traced}
 use Rattle.step_script.specs.declared.act.Act.{Act}
 use Rattle.command_line.specs.declared.request.Command.TheVariants as commands
 use Rattle.command_line.specs.declared.request.Request.{Request}
-use Rattle.load_gen.specs.Generated.{generated}
+use Rattle.load_gen.specs.Generated.{load_image}
 use Rattle.fractal_sim.specs.declared.finding.Finding.{Finding}
 use Rattle.fractal_sim.specs.declared.finding.Finding.TheVariants as finding
 use Rattle.fractal_sim.specs.declared.finding.Loading.{Loading}
 use Rattle.fractal_sim.specs.declared.finding.Saving.{Saving}
-use Rattle.fractal_sim.specs.Deciding.{whole, lists_of, told_steps, run_finding, load_finding, play_finding}
+use Rattle.fractal_sim.specs.Deciding.{run_with_end, lists_of_traced, event_count, run_finding, load_finding}
+use Rattle.fractal_sim.specs.Deciding.{play_finding}
 use Rattle.fractal_sim.specs.Deciding.{trace_finding, IsFoundBehind, IsKeptSo, IsKeptStopped, IsLoadedSo, IsRunSo}
 use Rattle.fractal_sim.specs.Deciding.{IsSavedSo, IsStoppedSo, Saves}
 use Rattle.fractal_sim.specs.Finding.{HasWindow, IsWritable}
@@ -39,12 +40,12 @@ use Rattle.fractal_sim.proofs.Found.{ran_behind}
 
 -- ---- a run that is to go on
 
-module _ (image : ImageValue) (settings : Settings) (placers : List Policy) (taps : List Reading) (frozen : Frozen)
-    (steps : Option ℕ) (steps_is : steps ≡ told_steps settings.workers frozen.closed.steps)
+module _ (image : ImageValue) (settings : Settings) (placers : List Policy) (taps : List TapValue) (frozen : Frozen)
+    (steps : Option ℕ) (steps_is : steps ≡ event_count settings.workers frozen.closed.steps)
     (least : settings.workers ≡ 0
-    → IsLeastRun Brand image settings placers taps frozen.closed.steps (run_of frozen.closed (Some ends.Limit)))
-    (run : IsRunOf image settings.commits settings.budget (run_of frozen.closed (Some ends.Limit)))
-    (left : Leaves image settings.budget frozen.closed.journal frozen.closed.memory frozen.closed.output
+    → IsLeastRun Brand image settings placers taps frozen.closed.steps (run_of_closed frozen.closed (Some ends.Limit)))
+    (run : IsRunOf image settings.commits settings.budget (run_of_closed frozen.closed (Some ends.Limit)))
+    (left : RunLeaves image settings.budget frozen.closed.journal frozen.closed.memory frozen.closed.output
     frozen.pending) where
   -- the run to its limit
   ran_to_limit : IsRunSo image settings placers taps (record { closed = frozen.closed; end = Some ends.Limit }) steps
@@ -130,11 +131,11 @@ kept_is_writable image frozen steps (finding.Traced traced) sized kept = tt
 
 -- what is kept of a frozen run is kept of the stopped one that it is of
 pub kept_frozen : (image : ImageValue) (workers : ℕ) (stopped : Stopped) (pendings : List Pending) (steps : Option ℕ)
-    (found : Finding) → stopped.pending ≡ Some pendings → steps ≡ told_steps workers stopped.ran.closed.steps
+    (found : Finding) → stopped.pending ≡ Some pendings → steps ≡ event_count workers stopped.ran.closed.steps
     → IsKeptSo image (record { closed = stopped.ran.closed; pending = pendings }) steps found
     → IsKeptStopped image workers stopped found
 kept_frozen image workers stopped pendings steps found is told kept =
-    let due = told_steps workers stopped.ran.closed.steps in
+    let due = event_count workers stopped.ran.closed.steps in
     subst (λ (pending : Option (List Pending)). MatchOption pending (found ≡ finding.Ran image stopped.ran due)
     (λ some. IsKeptSo image (record { closed = stopped.ran.closed; pending = some }) due found)) (sym is)
     (subst (λ s. IsKeptSo image (record { closed = stopped.ran.closed; pending = pendings }) s found) told kept)
@@ -145,11 +146,11 @@ reported : (told : Option End) → told ≢ Some ends.Unfinished → (told ≡ S
 reported None over limit = tt
 reported (Some end) over limit = (λ open_yet. over (ap Some open_yet), λ full. limit (ap Some full))
 
-module _ (image : ImageValue) (settings : Settings) (placers : List Policy) (taps : List Reading) where
+module _ (image : ImageValue) (settings : Settings) (placers : List Policy) (taps : List TapValue) where
   -- what is kept of a run that was made and was to go on is found where the words ask for such a run
   stopped_is_saved : (ran : Ran) (pending : Option (List Pending)) (found : Finding)
-      → (settings.workers ≡ 0 → IsLeastRun Brand image settings placers taps ran.closed.steps (whole ran))
-      → IsRunOf image settings.commits settings.budget (whole ran) → ran.end ≢ Some ends.Unfinished
+      → (settings.workers ≡ 0 → IsLeastRun Brand image settings placers taps ran.closed.steps (run_with_end ran))
+      → IsRunOf image settings.commits settings.budget (run_with_end ran) → ran.end ≢ Some ends.Unfinished
       → IfSome pending (IsStoppedWith image settings.budget ran) → (ran.end ≡ Some ends.Limit → IsSome pending)
       → IsKeptStopped image settings.workers (record { ran = ran; pending = pending }) found
       → IsSavedSo image settings placers taps found
@@ -161,17 +162,17 @@ module _ (image : ImageValue) (settings : Settings) (placers : List Policy) (tap
       )
   stopped_is_saved ran (Some pendings) found least run over stopped limit kept =
       kept_is_saved image settings placers taps (record { closed = ran.closed; pending = pendings })
-      (told_steps settings.workers ran.closed.steps) refl
-      (λ none. subst (λ e. IsLeastRun Brand image settings placers taps ran.closed.steps (run_of ran.closed e))
+      (event_count settings.workers ran.closed.steps) refl
+      (λ none. subst (λ e. IsLeastRun Brand image settings placers taps ran.closed.steps (run_of_closed ran.closed e))
       stopped.end_is (least none))
-      (subst (λ e. IsRunOf image settings.commits settings.budget (run_of ran.closed e)) stopped.end_is run)
+      (subst (λ e. IsRunOf image settings.commits settings.budget (run_of_closed ran.closed e)) stopped.end_is run)
       stopped.left found kept
 
   -- and so is what is found of the machine's answer
   pub made_is_saved : (made : Result Stopped AllocError) (found : Finding)
       → (settings.workers ≡ 0 → IfOk made (λ stopped.
-      IsLeastRun Brand image settings placers taps stopped.ran.closed.steps (whole stopped.ran)))
-      → IfOk made (λ stopped. IsRunOf image settings.commits settings.budget (whole stopped.ran))
+      IsLeastRun Brand image settings placers taps stopped.ran.closed.steps (run_with_end stopped.ran)))
+      → IfOk made (λ stopped. IsRunOf image settings.commits settings.budget (run_with_end stopped.ran))
       → IfOk made (λ stopped. stopped.ran.end ≢ Some ends.Unfinished)
       → IfOk made (λ stopped. IfSome stopped.pending (IsStoppedWith image settings.budget stopped.ran))
       → IfOk made (λ stopped. stopped.ran.end ≡ Some ends.Limit → IsSome stopped.pending)
@@ -188,7 +189,7 @@ stopped_is_writable : (image : ImageValue) (workers : ℕ) (ran : Ran) (pending 
     → IsKeptStopped image workers (record { ran = ran; pending = pending }) found → IsWritable found
 stopped_is_writable image workers ran None found sized kept = subst IsWritable (sym kept) sized
 stopped_is_writable image workers ran (Some pendings) found sized kept =
-    kept_is_writable image (record { closed = ran.closed; pending = pendings }) (told_steps workers ran.closed.steps)
+    kept_is_writable image (record { closed = ran.closed; pending = pendings }) (event_count workers ran.closed.steps)
     found sized kept
 
 -- and it can be written
@@ -202,27 +203,27 @@ made_is_writable image workers (Err error) found sized kept = subst IsWritable (
 
 -- ---- a run to its end
 
-module _ (image : ImageValue) (settings : Settings) (placers : List Policy) (taps : List Reading) where
+module _ (image : ImageValue) (settings : Settings) (placers : List Policy) (taps : List TapValue) where
   -- a run of the machine, with the count of its events
   pub made_so : (made : Result Ran AllocError)
       → (settings.workers ≡ 0 → IfOk made (λ ran.
-      IsLeastRun Brand image settings placers taps ran.closed.steps (whole ran)))
-      → IfOk made (λ ran. IsRunOf image settings.commits settings.budget (whole ran))
+      IsLeastRun Brand image settings placers taps ran.closed.steps (run_with_end ran)))
+      → IfOk made (λ ran. IsRunOf image settings.commits settings.budget (run_with_end ran))
       → IfOk made (λ ran. ran.end ≢ Some ends.Unfinished)
-      → IfOk made (λ ran. IsRunSo image settings placers taps ran (told_steps settings.workers ran.closed.steps))
+      → IfOk made (λ ran. IsRunSo image settings placers taps ran (event_count settings.workers ran.closed.steps))
   made_so (Ok ran) least run over = record { least = least; run = run; steps_is = refl; over = over }
   made_so (Err error) least run over = tt
 
 -- what is found of the machine's answer is found behind the image that was read
 pub run_found_behind : (request : Request) (image : ImageValue) (rest : List ℕ) (placers : List Policy)
-    (taps : List Reading) (made : Result Ran AllocError) (found : Finding)
+    (taps : List TapValue) (made : Result Ran AllocError) (found : Finding)
     → found ≡ run_finding image request.settings.workers made → request.command ≡ commands.Run
     → IfOk made (λ ran. IsRunSo image request.settings placers taps ran
-    (told_steps request.settings.workers ran.closed.steps))
+    (event_count request.settings.workers ran.closed.steps))
     → IsFoundBehind request image rest placers taps found
 run_found_behind request image rest placers taps (Ok ran) found kept is so =
     subst (IsFoundBehind request image rest placers taps) (sym kept)
-    (ran_behind request image rest placers taps ran (told_steps request.settings.workers ran.closed.steps) is so)
+    (ran_behind request image rest placers taps ran (event_count request.settings.workers ran.closed.steps) is so)
 run_found_behind request image rest placers taps (Err error) found kept is so =
     subst (IsFoundBehind request image rest placers taps) (sym kept) tt
 
@@ -232,10 +233,10 @@ run_writable image workers (Ok ran) found kept sized = subst IsWritable (sym kep
 run_writable image workers (Err error) found kept sized = subst IsWritable (sym kept) tt
 
 -- and of a generated image where the words ask for it
-pub load_so : (load : Loading) (image : ImageValue) (settings : Settings) (placers : List Policy) (taps : List Reading)
+pub load_so : (load : Loading) (image : ImageValue) (settings : Settings) (placers : List Policy) (taps : List TapValue)
     (made : Result Ran AllocError) (found : Finding) → found ≡ load_finding load image settings.workers made
-    → image ≡ generated load.load load.seed load.size
-    → IfOk made (λ ran. IsRunSo image settings placers taps ran (told_steps settings.workers ran.closed.steps))
+    → image ≡ load_image load.load load.seed load.size
+    → IfOk made (λ ran. IsRunSo image settings placers taps ran (event_count settings.workers ran.closed.steps))
     → IsLoadedSo load settings placers taps found
 load_so load image settings placers taps (Ok ran) found kept is so =
     subst (IsLoadedSo load settings placers taps) (sym kept) (refl, is, so)
@@ -249,16 +250,16 @@ load_writable load image workers (Err error) found kept sized = subst IsWritable
 
 -- ---- a script
 
-module _ (request : Request) (image : ImageValue) (rest : List ℕ) (placers : List Policy) (taps : List Reading)
+module _ (request : Request) (image : ImageValue) (rest : List ℕ) (placers : List Policy) (taps : List TapValue)
     (script : List Act) (script_is : IsScript request rest script) where
   -- what is found of the machine's answer is found behind the image that was read
   pub play_found_behind : (made : Result Played AllocError) (found : Finding) → found ≡ play_finding image made
       → request.command ≡ commands.Steps
       → IfOk made (λ p. IfSome p.ran.end (λ end. IsPlayedRun Brand image request.settings script placers taps
-      p.said.items p.ran.closed.steps end (whole p.ran)))
+      p.said.items p.ran.closed.steps end (run_with_end p.ran)))
       → IfOk made (λ p. p.ran.end ≡ None → IsPlayedInPart Brand image request.settings script placers taps
-      p.ran.closed.steps (whole p.ran))
-      → IfOk made (λ p. IsRunOf image request.settings.commits request.settings.budget (whole p.ran))
+      p.ran.closed.steps (run_with_end p.ran))
+      → IfOk made (λ p. IsRunOf image request.settings.commits request.settings.budget (run_with_end p.ran))
       → IsFoundBehind request image rest placers taps found
   play_found_behind (Ok p) found kept is played part run =
       subst (IsFoundBehind request image rest placers taps) (sym kept) (
@@ -273,10 +274,10 @@ module _ (request : Request) (image : ImageValue) (rest : List ℕ) (placers : L
   pub trace_found_behind : (made : Result Traced AllocError) (found : Finding) → found ≡ trace_finding made
       → request.command ≡ commands.Trace
       → IfOk made (λ t. IfSome t.ran.end (λ end. IsTracedRun Brand image request.settings script placers taps
-      (lists_of t) t.ran.closed.steps end (whole t.ran)))
+      (lists_of_traced t) t.ran.closed.steps end (run_with_end t.ran)))
       → IfOk made (λ t. t.ran.end ≡ None → IsPlayedInPart Brand image request.settings script placers taps
-      t.ran.closed.steps (whole t.ran))
-      → IfOk made (λ t. IsRunOf image request.settings.commits request.settings.budget (whole t.ran))
+      t.ran.closed.steps (run_with_end t.ran))
+      → IfOk made (λ t. IsRunOf image request.settings.commits request.settings.budget (run_with_end t.ran))
       → IsFoundBehind request image rest placers taps found
   trace_found_behind (Ok t) found kept is traced part run =
       subst (IsFoundBehind request image rest placers taps) (sym kept) (

@@ -5,7 +5,7 @@ use Rattle.guest_image.specs.declared.fault.ImageFault.{ImageFault}
 use Rattle.guest_image.specs.declared.fault.ImageFault.TheVariants as faults
 use Rattle.command_line.specs.declared.request.Command.TheVariants as commands
 use Rattle.command_line.specs.declared.request.Request.{Request}
-use Rattle.command_line.specs.Requests.{request_of, request_by, command_by, settings_by}
+use Rattle.command_line.specs.Requests.{request_of_words, request_by, command_by, settings_by}
 use Rattle.fractal_sim.specs.declared.outcome.Outcome.{Outcome}
 use Rattle.fractal_sim.specs.Answers as table
 use Rattle.fractal_sim.specs.Call.{Call, Input}
@@ -32,7 +32,7 @@ asked_for = record {
   };
 }
 
-asks : request_of (codes "steps" ∷ []) ≡ Some asked_for
+asks : request_of_words (codes "steps" ∷ []) ≡ Some asked_for
 unfolding request_by command_by settings_by
 asks = refl
 

@@ -2,7 +2,7 @@
 use Rattle.std.proofs.Common.{◌≡◌, ◌⊎◌, inl, inr, refl, sym, ap, ◌∙◌, subst, ℕ, ◌<◌, ◌≤◌, List, length, drop, codes}
 use Rattle.std.proofs.Common.{arith, Some, None, Result, Ok, Err}
 use Rattle.std.specs.declared.marker.Brand.{Brand}
-use Rattle.sim_io.specs.Parts.{Takes}
+use Rattle.sim_io.specs.Parts.{SinkTakes}
 use Rattle.guest_image.specs.ImageValue.{ImageValue, IsImage}
 use Rattle.guest_image.specs.Reading.{image_of}
 use Rattle.guest_image.specs.declared.fault.ImageFault.{ImageFault}
@@ -12,14 +12,14 @@ use Rattle.step_script.specs.declared.act.Act.{Act}
 use Rattle.step_script.specs.declared.saying.Said.{Said}
 use Rattle.step_script.proofs.Ranges.{acts_within}
 use Rattle.place_policy.specs.Policy.{Policy}
-use Rattle.trace_tap.specs.Reading.{Reading}
+use Rattle.trace_tap.specs.TapValue.{TapValue}
 use Rattle.machine_run.specs.Played.{IsPlayedRun, IsTracedRun}
 use Rattle.machine_run.proofs.One.{played_run_is_one, traced_run_is_one}
 use Rattle.command_line.specs.declared.request.Command.{Command}
 use Rattle.command_line.specs.declared.request.Command.TheVariants as commands
 use Rattle.command_line.specs.declared.request.Request.{Request}
-use Rattle.command_line.specs.Requests.{request_of}
-use Rattle.play_text.specs.Traces.{trace_text}
+use Rattle.command_line.specs.Requests.{request_of_words}
+use Rattle.script_text.specs.Traces.{trace_text}
 use Rattle.fractal_sim.specs.declared.outcome.Outcome.{Outcome}
 use Rattle.fractal_sim.specs.Answers as table
 use Rattle.fractal_sim.specs.Answers.{IsAnswer, TellsAnswer, TellsOutcome}
@@ -128,7 +128,7 @@ record Refuses (o : Outcome) (status : ℕ) (line : List ℕ) (n : ℕ) (text : 
   text_is : text ≡ line
 
 -- the script was played, and its replies are told
-record TellsPlay (placers : List Policy) (taps : List Reading) (request : Request) (image : ImageValue)
+record TellsPlay (placers : List Policy) (taps : List TapValue) (request : Request) (image : ImageValue)
     (script : List Act) (o : Outcome) (n : ℕ) (text : List ℕ) : Type 0 where
   command : request.command ≡ commands.Steps
   said : List Said
@@ -140,7 +140,7 @@ record TellsPlay (placers : List Policy) (taps : List Reading) (request : Reques
   text_is : text ≡ played_text said image (closed_of o) end
 
 -- the script was played, and what the taps saw is told
-record TellsTrace (placers : List Policy) (taps : List Reading) (request : Request) (image : ImageValue)
+record TellsTrace (placers : List Policy) (taps : List TapValue) (request : Request) (image : ImageValue)
     (script : List Act) (o : Outcome) (n : ℕ) (text : List ℕ) : Type 0 where
   command : request.command ≡ commands.Trace
   lists : List (List ℕ)
@@ -151,7 +151,7 @@ record TellsTrace (placers : List Policy) (taps : List Reading) (request : Reque
   status_is : n ≡ 0
   text_is : text ≡ trace_text lists
 
-abbrev Tells : List Policy → List Reading → Request → Outcome → ℕ → List ℕ → Verdict → Type 0
+abbrev Tells : List Policy → List TapValue → Request → Outcome → ℕ → List ℕ → Verdict → Type 0
 Tells placers taps request o n text TooLong = Refuses o 10 (codes "fault long\n") n text
 Tells placers taps request o n text (NoImageThere fault) = Refuses o 2 (image_fault_line fault) n text
 Tells placers taps request o n text (NoScriptThere line) = Refuses o 9 (script_fault_line line) n text
@@ -174,13 +174,13 @@ not_reported commands.Check end plays told = plays
 not_reported (commands.Load load seed size) end plays told = plays
 
 module _ (input : Input) (bytes : List ℕ) (request : Request) (o : Outcome)
-    (has : input.source_before.left ≡ Some bytes) (asked : request_of input.words ≡ Some request)
+    (has : input.source_before.left ≡ Some bytes) (asked : request_of_words input.words ≡ Some request)
     (plays : PlaysScript request.command) where
-  same : (r : Request) → request_of input.words ≡ Some r → r ≡ request
+  same : (r : Request) → request_of_words input.words ≡ Some r → r ≡ request
   same r asks = same_some r request (sym asks ∙ asked)
 
   -- no other command is asked for
-  asks_so : (r : Request) (command : Command) → request_of input.words ≡ Some r → r.command ≡ command
+  asks_so : (r : Request) (command : Command) → request_of_words input.words ≡ Some r → r.command ≡ command
       → PlaysScript command
   asks_so r command asks is = subst PlaysScript (ap (λ (q : Request). q.command) (sym (same r asks)) ∙ is) plays
 
@@ -201,7 +201,7 @@ module _ (input : Input) (bytes : List ℕ) (request : Request) (o : Outcome)
       }
   says (table.Refused line is empty) = absurd (asks_so is.request commands.Check is.given.read.asked is.command)
   says (table.NoScript line is empty) =
-      let begun = begins input bytes is.request is.image is.rest (inl has) is.given in
+      let begun = begins input bytes is.request is.image is.bytes_behind (inl has) is.given in
       let rest = drop begun.size bytes in
       let behind : IsNoScriptAt is.request rest line =
       subst (λ rest. IsNoScriptAt is.request rest line) begun.rest_is is.wrong in
@@ -224,7 +224,7 @@ module _ (input : Input) (bytes : List ℕ) (request : Request) (o : Outcome)
   says (table.Loaded load seed size image end is) =
       absurd (asks_so is.request (commands.Load load seed size) is.given.asked is.given.command)
   says (table.Played image said end is) =
-      let begun = begins input bytes is.request image is.rest (inl has) is.given in
+      let begun = begins input bytes is.request image is.bytes_behind (inl has) is.given in
       let one = same is.request begun.asked in
       let rest = drop begun.size bytes in
       let behind : IsScript is.request rest is.script =
@@ -251,7 +251,7 @@ module _ (input : Input) (bytes : List ℕ) (request : Request) (o : Outcome)
         );
       }
   says (table.Traced image lists end is) =
-      let begun = begins input bytes is.request image is.rest (inl has) is.given in
+      let begun = begins input bytes is.request image is.bytes_behind (inl has) is.given in
       let one = same is.request begun.asked in
       let rest = drop begun.size bytes in
       let behind : IsScript is.request rest is.script =
@@ -301,7 +301,7 @@ module _ (o other : Outcome) (n m : ℕ) (text other_text : List ℕ) where
     text_is = two.text_is ∙ sym one.text_is;
   }
 
-  module _ (placers : List Policy) (taps : List Reading) (request : Request) (image : ImageValue) (script : List Act)
+  module _ (placers : List Policy) (taps : List TapValue) (request : Request) (image : ImageValue) (script : List Act)
       (rest : List ℕ) (is_script : IsScript request rest script) (fits : IsImage image)
       (valid : IsValid request.settings) where
     play_one : TellsPlay placers taps request image script o n text
@@ -348,7 +348,7 @@ module _ (o other : Outcome) (n m : ℕ) (text other_text : List ℕ) where
     script_told_one (inr one) (inl two) = absurd (not_both two.command one.command)
     script_told_one (inr one) (inr two) = trace_one one two
 
-  told_one : (placers : List Policy) (taps : List Reading) (request : Request) (bytes : List ℕ) (v : Verdict)
+  told_one : (placers : List Policy) (taps : List TapValue) (request : Request) (bytes : List ℕ) (v : Verdict)
       → IsOf request bytes v → Tells placers taps request o n text v → Tells placers taps request other m other_text v
       → IsOneAnswer o other n m text other_text
   told_one placers taps request bytes TooLong is one two = refusal_one 10 (codes "fault long\n") one two
@@ -375,7 +375,7 @@ script_calls_are_one call other o other_o asks given tells other_tells well othe
     let bytes = given.bytes in
     let request = asks.request in
     let input = call.input in
-    let asked = ap request_of given.words ∙ asks.asked in
+    let asked = ap request_of_words given.words ∙ asks.asked in
     let one = says input bytes request o given.has asks.asked asks.plays first.answer in
     let two = says other.input bytes request other_o given.other_has asked asks.plays second.answer in
     let same_verdict : two.verdict ≡ one.verdict =
@@ -402,5 +402,5 @@ script_calls_are_one call other o other_o asks given tells other_tells well othe
       };
       text = first.text;
       took = first.took;
-      other_took = subst (Takes other.sink_before other.sink_after) is.text_is second.took;
+      other_took = subst (SinkTakes other.sink_before other.sink_after) is.text_is second.took;
     }

@@ -1,10 +1,11 @@
 -- The table of answers: which status and which text tell an outcome, and why.
 use Rattle.std.specs.Prelude.{◌≡◌, ◌<◌, ◌≤◌, ◌⊎◌, ◌-◌, ◌^◌, ℕ, List, length, min, codes, None}
 use Rattle.sim_io.specs.Causes.{Rose}
-use Rattle.sim_io.specs.Parts.{Takes, TakesFront}
+use Rattle.sim_io.specs.Parts.{SinkTakes, TakesFront}
 use Rattle.guest_image.specs.ImageValue.{ImageValue}
 use Rattle.guest_image.specs.Writing.{image_bytes}
 use Rattle.guest_image.specs.declared.fault.ImageFault.{ImageFault}
+use Rattle.guest_image.specs.declared.limits.TheConstants.{MAX_TASKS}
 use Rattle.run_journal.specs.declared.end.End.{End}
 use Rattle.resume_image.specs.Pendings.{AreOfRoot, IsGreatestDepth}
 use Rattle.resume_image.specs.Saved.{saved_image}
@@ -12,11 +13,11 @@ use Rattle.spec_state.specs.declared.pending.Pending.{Pending}
 use Rattle.load_gen.specs.declared.making.Load.{Load}
 use Rattle.step_script.specs.declared.saying.Said.{Said}
 use Rattle.command_line.specs.declared.request.Command.TheVariants.{Check}
-use Rattle.play_text.specs.Traces.{trace_text}
+use Rattle.script_text.specs.Traces.{trace_text}
 use Rattle.fractal_sim.specs.declared.outcome.Outcome.{Outcome}
 use Rattle.fractal_sim.specs.Call.{Call, Input}
 use Rattle.fractal_sim.specs.Given.{ReadsAsAsked, IsUsage, IsUnread, IsLong, IsNoImage}
-use Rattle.fractal_sim.specs.Checks.{IsAccepted, IsRefused, IsNoScript}
+use Rattle.fractal_sim.specs.Checks.{IsAcceptedReport, IsRefusedReport, IsNoScript}
 use Rattle.fractal_sim.specs.Runs.{closed_of, IsEmpty, HoldsRunOfInput, RunsToEnd, StopsAtLimit, LoadsToEnd, PlaysToEnd}
 use Rattle.fractal_sim.specs.Runs.{TracesToEnd}
 use Rattle.fractal_sim.specs.Texts.{end_status, played_status, image_fault_line, journal_fault_line, script_fault_line}
@@ -27,19 +28,19 @@ pub data IsAnswer (input : Input) (o : Outcome) : ℕ → List ℕ → Type 0 wh
   Long : IsLong input → IsEmpty o → IsAnswer input o 10 (codes "fault long\n")
   NoImage : (fault : ImageFault) → IsNoImage input fault → IsEmpty o
       → IsAnswer input o 2 (image_fault_line fault)
-  Refused : (line : ℕ) → IsRefused input line → IsEmpty o → IsAnswer input o 8 (journal_fault_line line)
+  Refused : (line : ℕ) → IsRefusedReport input line → IsEmpty o → IsAnswer input o 8 (journal_fault_line line)
   NoScript : (line : ℕ) → IsNoScript input line → IsEmpty o → IsAnswer input o 9 (script_fault_line line)
-  Accepted : IsAccepted input (closed_of o) → IsAnswer input o 0 (accepted_line (length o.journal))
+  Accepted : IsAcceptedReport input (closed_of o) → IsAnswer input o 0 (accepted_line (length o.journal))
   Ended : (image : ImageValue) (end : End) → RunsToEnd input image end (closed_of o)
       → IsAnswer input o (end_status end) (run_text image (closed_of o) end)
   Saved : (image : ImageValue) (pendings : List Pending) → StopsAtLimit input image pendings (closed_of o)
-      → AreOfRoot pendings → length pendings ≤ 65536
+      → AreOfRoot pendings → length pendings ≤ MAX_TASKS
       → IsAnswer input o 4 (image_bytes (saved_image image o.memory pendings))
   Nested : (image : ImageValue) (pendings : List Pending) (depth : ℕ)
       → StopsAtLimit input image pendings (closed_of o) → IsGreatestDepth pendings depth → 1 < depth
       → IsAnswer input o 12 (nested_line depth)
   TooMany : (image : ImageValue) (pendings : List Pending) → StopsAtLimit input image pendings (closed_of o)
-      → AreOfRoot pendings → 65536 < length pendings
+      → AreOfRoot pendings → MAX_TASKS < length pendings
       → IsAnswer input o 13 (tasks_line (min (length pendings) (2 ^ 32 - 1)))
   Loaded : (load : Load) (seed size : ℕ) (image : ImageValue) (end : End)
       → LoadsToEnd input load seed size image end (closed_of o)
@@ -53,7 +54,7 @@ pub data IsAnswer (input : Input) (o : Outcome) : ℕ → List ℕ → Type 0 wh
 pub record TellsAnswer (call : Call) (o : Outcome) : Type 0 where
   pub text : List ℕ
   pub answer : IsAnswer call.input o o.status text
-  pub took : Takes call.sink_before call.sink_after text
+  pub took : SinkTakes call.sink_before call.sink_after text
 
 -- the sink failed (7): it took the first bytes of the text that tells what was found, and no other byte
 pub record TellsSinkFault (call : Call) (o : Outcome) : Type 0 where

@@ -2,14 +2,14 @@
 use denote.Ref.{Bor}
 use Rattle.std.specs.Prelude.{ℕ, List, map}
 use Rattle.place_policy.specs.Policy.{Policy}
-use Rattle.trace_tap.specs.Reading.{Reading}
+use Rattle.trace_tap.specs.TapValue.{TapValue}
 use Rattle.sim_io.specs.Streams.{SinkState, SourceState}
 
 -- what a call was given: its words, its placers and its taps, and the source before and after it
 pub record Input : Type 0 where
   pub words : List (List ℕ)
   pub placers : List Policy
-  pub taps : List Reading
+  pub taps : List TapValue
   pub source_before : SourceState
   pub source_after : SourceState
 
@@ -20,7 +20,7 @@ pub record Call : Type 0 where
   pub sink_after : SinkState
 
 -- an input with these words behind their references
-abbrev pub input_of : List (Bor (List ℕ)) → List Policy → List Reading
+abbrev pub input_of : List (Bor (List ℕ)) → List Policy → List TapValue
     → (source_before source_after : SourceState) → Input
 input_of words placers taps source_before source_after = record {
   words = map (λ w. w.now) words;

@@ -25,27 +25,27 @@ pub data IsWrongLine (image : ImageValue) (request : Request) (rest : List ℕ) 
       → IsWrongLine image request rest line
 
 -- the words ask for a check, and the report behind the image is accepted; this is its run
-pub record IsAccepted (input : Input) (closed : SerialRun) : Type 0 where
+pub record IsAcceptedReport (input : Input) (closed : SerialRun) : Type 0 where
   pub request : Request
   pub image : ImageValue
-  pub rest : List ℕ
+  pub bytes_behind : List ℕ
   pub report : Report
-  pub given : ReadsImage input request image rest
+  pub given : ReadsImage input request image bytes_behind
   pub command : request.command ≡ Check
-  pub report_is : report_of rest ≡ Ok report
+  pub report_is : report_of bytes_behind ≡ Ok report
   pub accepted : IsReportOf image request.settings.commits request.settings.budget report
   pub run : IsRunOf image request.settings.commits request.settings.budget closed
   pub journal_is : closed.journal ≡ report.journal
   pub end_is : closed.end ≡ Some report.end
 
 -- the words ask for a check, and the report behind the image is refused at a line
-pub record IsRefused (input : Input) (line : ℕ) : Type 0 where
+pub record IsRefusedReport (input : Input) (line : ℕ) : Type 0 where
   pub request : Request
   pub image : ImageValue
-  pub rest : List ℕ
-  pub given : ReadsImage input request image rest
+  pub bytes_behind : List ℕ
+  pub given : ReadsImage input request image bytes_behind
   pub command : request.command ≡ Check
-  pub wrong : IsWrongLine image request rest line
+  pub wrong : IsWrongLine image request bytes_behind line
 
 -- this is the first line of the text behind the image that is outside the grammar of scripts, for the machine of these
 -- settings
@@ -56,7 +56,7 @@ IsNoScriptAt request rest line = acts_of rest request.settings.tiles request.set
 pub record IsNoScript (input : Input) (line : ℕ) : Type 0 where
   pub request : Request
   pub image : ImageValue
-  pub rest : List ℕ
-  pub given : ReadsImage input request image rest
+  pub bytes_behind : List ℕ
+  pub given : ReadsImage input request image bytes_behind
   pub command : PlaysScript request.command
-  pub wrong : IsNoScriptAt request rest line
+  pub wrong : IsNoScriptAt request bytes_behind line

@@ -13,7 +13,7 @@ use Rattle.report_text.specs.Check.{IsReportOf}
 use Rattle.step_script.specs.declared.act.Act.{Act}
 use Rattle.command_line.specs.declared.request.Command.TheVariants as commands
 use Rattle.command_line.specs.declared.request.Request.{Request}
-use Rattle.command_line.specs.Requests.{request_of}
+use Rattle.command_line.specs.Requests.{request_of_words}
 use Rattle.fractal_sim.specs.declared.outcome.Outcome.{Outcome}
 use Rattle.fractal_sim.specs.Call.{Call, Input}
 use Rattle.fractal_sim.specs.Given.{input_limit, NeedsNoInput, Reads}
@@ -24,7 +24,7 @@ use Rattle.fractal_sim.specs.Texts.{end_status, played_status}
 -- the words ask for this, and the bytes are no more than are read and begin with this image, behind which these stand
 pub record BeginsWithImage (words : List (List ℕ)) (bytes : List ℕ)
     (request : Request) (image : ImageValue) (rest : List ℕ) : Type 0 where
-  pub asked : request_of words ≡ Some request
+  pub asked : request_of_words words ≡ Some request
   pub within : length bytes ≤ input_limit
   pub size : ℕ
   pub image_is : image_of bytes ≡ Ok (image, size)
@@ -33,10 +33,11 @@ pub record BeginsWithImage (words : List (List ℕ)) (bytes : List ℕ)
 -- the status that is due to words and to bytes that are all there is; which of its ends a run has is told by its
 -- journal
 pub data IsDue (words : List (List ℕ)) (bytes : List ℕ) : ℕ → Type 0 where
-  Usage : request_of words ≡ None → IsDue words bytes 1
-  Long : (request : Request) → request_of words ≡ Some request → Reads request.command → input_limit < length bytes
+  Usage : request_of_words words ≡ None → IsDue words bytes 1
+  Long : (request : Request) → request_of_words words ≡ Some request → Reads request.command
+      → input_limit < length bytes
       → IsDue words bytes 10
-  NoImage : (request : Request) (fault : ImageFault) → request_of words ≡ Some request → Reads request.command
+  NoImage : (request : Request) (fault : ImageFault) → request_of_words words ≡ Some request → Reads request.command
       → length bytes ≤ input_limit → image_of bytes ≡ Err fault → IsDue words bytes 2
   Ended : (request : Request) (image : ImageValue) (rest : List ℕ) (end : End)
       → BeginsWithImage words bytes request image rest → IsReported request.command end
@@ -47,7 +48,7 @@ pub data IsDue (words : List (List ℕ)) (bytes : List ℕ) : ℕ → Type 0 whe
       → BeginsWithImage words bytes request image rest → request.command ≡ commands.Save → IsDue words bytes 12
   TooMany : (request : Request) (image : ImageValue) (rest : List ℕ)
       → BeginsWithImage words bytes request image rest → request.command ≡ commands.Save → IsDue words bytes 13
-  Loaded : (request : Request) (load : Load) (seed size : ℕ) (end : End) → request_of words ≡ Some request
+  Loaded : (request : Request) (load : Load) (seed size : ℕ) (end : End) → request_of_words words ≡ Some request
       → request.command ≡ commands.Load load seed size → end ≢ ends.Unfinished → IsDue words bytes (end_status end)
   Played : (request : Request) (image : ImageValue) (rest : List ℕ) (script : List Act) (end : End)
       → BeginsWithImage words bytes request image rest → request.command ≡ commands.Steps → IsScript request rest script

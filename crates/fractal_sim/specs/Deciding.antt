@@ -4,11 +4,12 @@ use Rattle.std.specs.Prelude.{MatchOption, if◌then◌else◌}
 use Rattle.std.specs.declared.alloc.AllocError.{AllocError}
 use Rattle.std.specs.declared.marker.Brand.{Brand}
 use Rattle.std.specs.declared.option.Option.{Option}
+use Rattle.guest_image.specs.declared.limits.TheConstants.{MAX_TASKS}
 use Rattle.guest_image.specs.ImageValue.{ImageValue}
 use Rattle.place_policy.specs.Policy.{Policy}
-use Rattle.trace_tap.specs.Reading.{Reading}
+use Rattle.trace_tap.specs.TapValue.{TapValue}
 use Rattle.run_journal.specs.declared.end.End.TheVariants as ends
-use Rattle.serial_machine.specs.State.{State}
+use Rattle.serial_machine.specs.State.{SerialState}
 use Rattle.serial_machine.specs.WholeRun.{IsRunOf}
 use Rattle.serial_machine.specs.declared.whole_run.SerialRun.{SerialRun}
 use Rattle.spec_state.specs.declared.settings.Settings.{Settings}
@@ -19,7 +20,7 @@ use Rattle.report_text.specs.Check.{IsReportOf}
 use Rattle.step_script.specs.declared.act.Act.{Act}
 use Rattle.step_script.specs.declared.fault.ScriptFault.{ScriptFault}
 use Rattle.step_script.specs.declared.fault.ScriptFault.TheVariants as faults
-use Rattle.machine_run.specs.Least.{IsLeastRun, run_of}
+use Rattle.machine_run.specs.Least.{IsLeastRun, run_of_closed}
 use Rattle.machine_run.specs.Played.{IsPlayedInPart, IsPlayedRun, IsTracedRun}
 use Rattle.machine_run.specs.declared.left.Ran.{Ran}
 use Rattle.machine_run.specs.declared.left.Stopped.{Stopped}
@@ -27,7 +28,7 @@ use Rattle.machine_run.specs.declared.playing.Played.{Played}
 use Rattle.machine_run.specs.declared.playing.Traced.{Traced}
 use Rattle.command_line.specs.declared.request.Command.TheVariants as commands
 use Rattle.command_line.specs.declared.request.Request.{Request}
-use Rattle.load_gen.specs.Generated.{generated}
+use Rattle.load_gen.specs.Generated.{load_image}
 use Rattle.fractal_sim.specs.declared.finding.Finding.{Finding}
 use Rattle.fractal_sim.specs.declared.finding.Loading.{Loading}
 use Rattle.fractal_sim.specs.declared.finding.Saving.{Saving}
@@ -37,40 +38,40 @@ use Rattle.resume_image.specs.declared.fault.SaveFault.TheVariants as save_fault
 use Rattle.resume_image.specs.Pendings.{AreOfRoot}
 use Rattle.resume_image.specs.Saved.{saved_image, CannotSave}
 use Rattle.spec_state.specs.declared.pending.Pending.{Pending}
-use Rattle.spec_state.specs.Pendings.{Leaves}
+use Rattle.spec_state.specs.Pendings.{RunLeaves}
 use Rattle.fractal_sim.specs.declared.finding.Finding.TheVariants as finding
 use Rattle.fractal_sim.specs.Checks.{IsNoScriptAt, IsWrongLine}
 use Rattle.fractal_sim.specs.Runs.{IsReported, IsScript, PlaysScript, RunsRead}
 
 -- the run that was left, with its end
-abbrev pub whole : Ran → SerialRun
-whole ran = run_of ran.closed ran.end
+abbrev pub run_with_end : Ran → SerialRun
+run_with_end ran = run_of_closed ran.closed ran.end
 
 -- the numbers of the taps
-abbrev pub lists_of : Traced → List (List ℕ)
-lists_of t = map (λ list. list.items) t.lists.items
+abbrev pub lists_of_traced : Traced → List (List ℕ)
+lists_of_traced t = map (λ list. list.items) t.lists.items
 
 -- a count of events is told where no workers made them
-abbrev pub told_steps : (workers events : ℕ) → Option ℕ
-told_steps workers events = if workers == 0 then Some events else None
+abbrev pub event_count : (workers events : ℕ) → Option ℕ
+event_count workers events = if workers == 0 then Some events else None
 
 -- the image was run to its end, or as far as memory went
-pub record IsRunSo (image : ImageValue) (settings : Settings) (placers : List Policy) (taps : List Reading)
+pub record IsRunSo (image : ImageValue) (settings : Settings) (placers : List Policy) (taps : List TapValue)
     (ran : Ran) (steps : Option ℕ) : Type 0 where
-  pub least : settings.workers ≡ 0 → IsLeastRun Brand image settings placers taps ran.closed.steps (whole ran)
-  pub run : IsRunOf image settings.commits settings.budget (whole ran)
-  pub steps_is : steps ≡ told_steps settings.workers ran.closed.steps
+  pub least : settings.workers ≡ 0 → IsLeastRun Brand image settings placers taps ran.closed.steps (run_with_end ran)
+  pub run : IsRunOf image settings.commits settings.budget (run_with_end ran)
+  pub steps_is : steps ≡ event_count settings.workers ran.closed.steps
   pub over : ran.end ≢ Some ends.Unfinished
 
 -- what is found of what the machine answered, where the image that was read was to be run: the run that it made; and
 -- want of memory only where it made none
 abbrev pub run_finding : ImageValue → (workers : ℕ) → Result Ran AllocError → Finding
-run_finding image workers (Ok ran) = finding.Ran image ran (told_steps workers ran.closed.steps)
+run_finding image workers (Ok ran) = finding.Ran image ran (event_count workers ran.closed.steps)
 run_finding image workers (Err error) = finding.Memory
 
 -- the same where a generated image was to be run
 abbrev pub load_finding : Loading → ImageValue → (workers : ℕ) → Result Ran AllocError → Finding
-load_finding load image workers (Ok ran) = finding.Loaded load image ran (told_steps workers ran.closed.steps)
+load_finding load image workers (Ok ran) = finding.Loaded load image ran (event_count workers ran.closed.steps)
 load_finding load image workers (Err error) = finding.Memory
 
 -- the same where a script was to be played
@@ -86,7 +87,7 @@ trace_finding (Err error) = finding.Memory
 -- what was made of the tasks that pend after a run: the bytes of the image that goes on, or why there is none
 abbrev pub Saves : ImageValue → List ℕ → List Pending → Saving → Type 0
 Saves image memory pendings (saving.Bytes bytes) =
-    AreOfRoot pendings × (length pendings ≤ 65536)
+    AreOfRoot pendings × (length pendings ≤ MAX_TASKS)
     × (bytes.items ≡ image_bytes (saved_image image memory pendings))
 Saves image memory pendings (saving.Nested depth) = CannotSave pendings (save_faults.Nested depth)
 Saves image memory pendings (saving.TooMany count) = CannotSave pendings (save_faults.TooMany count)
@@ -105,21 +106,21 @@ IsKeptSo image frozen steps other = ⊥
 -- was made of them
 abbrev pub IsKeptStopped : ImageValue → (workers : ℕ) → Stopped → Finding → Type 0
 IsKeptStopped image workers stopped found =
-    let steps = told_steps workers stopped.ran.closed.steps in
+    let steps = event_count workers stopped.ran.closed.steps in
     MatchOption stopped.pending (found ≡ finding.Ran image stopped.ran steps)
     (λ pendings. IsKeptSo image (record { closed = stopped.ran.closed; pending = pendings }) steps found)
 
 -- the image was run to the commit limit, and this was made of what pends
-pub record IsStoppedSo (image : ImageValue) (settings : Settings) (placers : List Policy) (taps : List Reading)
+pub record IsStoppedSo (image : ImageValue) (settings : Settings) (placers : List Policy) (taps : List TapValue)
     (ran : Ran) (steps : Option ℕ) (made : Saving) : Type 0 where
   pub run : IsRunSo image settings placers taps ran steps
   pub limit : ran.end ≡ Some ends.Limit
   pub pendings : List Pending
-  pub left : Leaves image settings.budget ran.closed.journal ran.closed.memory ran.closed.output pendings
+  pub left : RunLeaves image settings.budget ran.closed.journal ran.closed.memory ran.closed.output pendings
   pub saves : Saves image ran.closed.memory pendings made
 
 -- why something is found where the words ask for a run of this image that can go on
-abbrev pub IsSavedSo : ImageValue → Settings → List Policy → List Reading → Finding → Type 0
+abbrev pub IsSavedSo : ImageValue → Settings → List Policy → List TapValue → Finding → Type 0
 IsSavedSo image settings placers taps finding.Memory = Unit {0}
 IsSavedSo image settings placers taps (finding.Ran image' ran steps) =
     (image' ≡ image) × IsRunSo image settings placers taps ran steps × IfSome ran.end (IsReported commands.Save)
@@ -128,37 +129,37 @@ IsSavedSo image settings placers taps (finding.Stopped ran steps made) =
 IsSavedSo image settings placers taps other = ⊥
 
 -- why something is found where the words ask for the run of a generated image
-abbrev pub IsLoadedSo : Loading → Settings → List Policy → List Reading → Finding → Type 0
+abbrev pub IsLoadedSo : Loading → Settings → List Policy → List TapValue → Finding → Type 0
 IsLoadedSo load settings placers taps finding.Memory = Unit {0}
 IsLoadedSo load settings placers taps (finding.Loaded load' image ran steps) =
-    (load' ≡ load) × (image ≡ generated load.load load.seed load.size) × IsRunSo image settings placers taps ran steps
+    (load' ≡ load) × (image ≡ load_image load.load load.seed load.size) × IsRunSo image settings placers taps ran steps
 IsLoadedSo load settings placers taps other = ⊥
 
 -- the text behind the image was played as a script, or as much of it as memory was there for
 pub record IsPlayedSo (request : Request) (image : ImageValue) (rest : List ℕ)
-    (placers : List Policy) (taps : List Reading) (p : Played) : Type 0 where
+    (placers : List Policy) (taps : List TapValue) (p : Played) : Type 0 where
   pub script : List Act
   pub script_is : IsScript request rest script
-  pub run : IsRunOf image request.settings.commits request.settings.budget (whole p.ran)
+  pub run : IsRunOf image request.settings.commits request.settings.budget (run_with_end p.ran)
   pub played : IfSome p.ran.end (λ end. IsPlayedRun Brand image request.settings script placers taps
-      p.said.items p.ran.closed.steps end (whole p.ran))
+      p.said.items p.ran.closed.steps end (run_with_end p.ran))
   pub part : p.ran.end ≡ None → IsPlayedInPart Brand image request.settings script placers taps
-      p.ran.closed.steps (whole p.ran)
+      p.ran.closed.steps (run_with_end p.ran)
 
 -- the text behind the image was played as a script, or as much of it as memory was there for, and the taps have these
 -- lists
 pub record IsTracedSo (request : Request) (image : ImageValue) (rest : List ℕ)
-    (placers : List Policy) (taps : List Reading) (t : Traced) : Type 0 where
+    (placers : List Policy) (taps : List TapValue) (t : Traced) : Type 0 where
   pub script : List Act
   pub script_is : IsScript request rest script
-  pub run : IsRunOf image request.settings.commits request.settings.budget (whole t.ran)
+  pub run : IsRunOf image request.settings.commits request.settings.budget (run_with_end t.ran)
   pub traced : IfSome t.ran.end (λ end. IsTracedRun Brand image request.settings script placers taps
-      (lists_of t) t.ran.closed.steps end (whole t.ran))
+      (lists_of_traced t) t.ran.closed.steps end (run_with_end t.ran))
   pub part : t.ran.end ≡ None → IsPlayedInPart Brand image request.settings script placers taps
-      t.ran.closed.steps (whole t.ran)
+      t.ran.closed.steps (run_with_end t.ran)
 
 -- the run of a report, which led to this state
-pub record IsClosedReport (state : State) (report : Report) (closed : SerialRun) : Type 0 where
+pub record IsClosedReport (state : SerialState) (report : Report) (closed : SerialRun) : Type 0 where
   pub journal_is : closed.journal ≡ report.journal
   pub memory_is : closed.memory ≡ state.memory
   pub output_is : closed.output ≡ state.output
@@ -172,12 +173,12 @@ pub record IsAcceptedSo (request : Request) (image : ImageValue) (rest : List �
   pub kept : IsClosedReport accepted.state report closed
 
 -- what is found where a text is no script
-abbrev pub unscripted : ScriptFault → Finding
-unscripted (faults.Line line) = finding.NoScript line
-unscripted faults.Memory = finding.Memory
+abbrev pub no_script_finding : ScriptFault → Finding
+no_script_finding (faults.Line line) = finding.NoScript line
+no_script_finding faults.Memory = finding.Memory
 
 -- why something is found with an image and the bytes behind it
-abbrev pub IsFoundBehind : Request → ImageValue → List ℕ → List Policy → List Reading → Finding → Type 0
+abbrev pub IsFoundBehind : Request → ImageValue → List ℕ → List Policy → List TapValue → Finding → Type 0
 IsFoundBehind request image rest placers taps finding.Memory = Unit {0}
 IsFoundBehind request image rest placers taps (finding.Refused line) =
     (request.command ≡ commands.Check) × IsWrongLine image request rest line

@@ -2,7 +2,7 @@
 use Rattle.std.specs.Prelude.{◌≡◌, ◌≢◌, ℕ, List, codes, length, Some, None, IfSome, IsSomeAnd, option_map}
 use Rattle.std.specs.declared.option.Option.{Option}
 use Rattle.sim_io.specs.Causes.{Rose}
-use Rattle.sim_io.specs.Parts.{Takes, TakesFront}
+use Rattle.sim_io.specs.Parts.{SinkTakes, TakesFront}
 use Rattle.sim_io.specs.Streams.{SinkState}
 use Rattle.guest_image.specs.ImageValue.{ImageValue}
 use Rattle.run_journal.specs.declared.end.End.{End}
@@ -12,7 +12,7 @@ use Rattle.machine_run.specs.declared.playing.Played.{Played}
 use Rattle.machine_run.specs.declared.playing.Traced.{Traced}
 use Rattle.command_line.specs.declared.request.Command.TheVariants.{Save, Steps, Trace}
 use Rattle.command_line.specs.declared.request.Request.{Request}
-use Rattle.play_text.specs.Traces.{trace_text}
+use Rattle.script_text.specs.Traces.{trace_text}
 use Rattle.fractal_sim.specs.declared.finding.Finding.{Finding}
 use Rattle.fractal_sim.specs.declared.finding.Loading.{Loading}
 use Rattle.fractal_sim.specs.declared.finding.Saving.{Saving}
@@ -22,18 +22,18 @@ use Rattle.fractal_sim.specs.declared.outcome.Outcome.{Outcome}
 use Rattle.fractal_sim.specs.Call.{Input}
 use Rattle.fractal_sim.specs.Given.{ReadsImage, ReadsAsAsked, Generates, IsUsage, IsUnread, IsLong, IsNoImage}
 use Rattle.fractal_sim.specs.Runs.{closed_of, IsEmpty, IsReported, RunsRead}
-use Rattle.fractal_sim.specs.Checks.{IsAccepted, IsRefused, IsNoScript}
+use Rattle.fractal_sim.specs.Checks.{IsAcceptedReport, IsRefusedReport, IsNoScript}
 use Rattle.fractal_sim.specs.Texts.{end_status, played_status, image_fault_line, journal_fault_line, script_fault_line}
 use Rattle.fractal_sim.specs.Texts.{accepted_line, nested_line, tasks_line, run_text, load_text, played_text}
-use Rattle.fractal_sim.specs.Deciding.{whole, lists_of, IsRunSo, IsStoppedSo, IsPlayedSo, IsTracedSo}
+use Rattle.fractal_sim.specs.Deciding.{run_with_end, lists_of_traced, IsRunSo, IsStoppedSo, IsPlayedSo, IsTracedSo}
 
 -- ---- why something was found
 
 -- the words ask for a run, and this is one of the image that was read
 pub record IsRan (input : Input) (image : ImageValue) (ran : Ran) (steps : Option ℕ) : Type 0 where
   pub request : Request
-  pub rest : List ℕ
-  pub given : ReadsImage input request image rest
+  pub bytes_behind : List ℕ
+  pub given : ReadsImage input request image bytes_behind
   pub command : RunsRead request.command
   pub made : IsRunSo image request.settings input.placers input.taps ran steps
   pub told : IfSome ran.end (IsReported request.command)
@@ -42,8 +42,8 @@ pub record IsRan (input : Input) (image : ImageValue) (ran : Ran) (steps : Optio
 pub record IsStopped (input : Input) (ran : Ran) (steps : Option ℕ) (made : Saving) : Type 0 where
   pub request : Request
   pub image : ImageValue
-  pub rest : List ℕ
-  pub given : ReadsImage input request image rest
+  pub bytes_behind : List ℕ
+  pub given : ReadsImage input request image bytes_behind
   pub command : request.command ≡ Save
   pub stopped : IsStoppedSo image request.settings input.placers input.taps ran steps made
 
@@ -56,19 +56,19 @@ pub record IsLoaded (input : Input) (load : Loading) (image : ImageValue) (ran :
 -- the words ask for a script to be played, and the one behind the image that was read was played so
 pub record IsPlayed (input : Input) (image : ImageValue) (played : Played) : Type 0 where
   pub request : Request
-  pub rest : List ℕ
-  pub given : ReadsImage input request image rest
+  pub bytes_behind : List ℕ
+  pub given : ReadsImage input request image bytes_behind
   pub command : request.command ≡ Steps
-  pub made : IsPlayedSo request image rest input.placers input.taps played
+  pub made : IsPlayedSo request image bytes_behind input.placers input.taps played
 
 -- the words ask what the taps see, and the script behind the image that was read was played so
 pub record IsTraced (input : Input) (traced : Traced) : Type 0 where
   pub request : Request
   pub image : ImageValue
-  pub rest : List ℕ
-  pub given : ReadsImage input request image rest
+  pub bytes_behind : List ℕ
+  pub given : ReadsImage input request image bytes_behind
   pub command : request.command ≡ Trace
-  pub made : IsTracedSo request image rest input.placers input.taps traced
+  pub made : IsTracedSo request image bytes_behind input.placers input.taps traced
 
 -- why something was found
 abbrev pub IsFound : Input → Finding → Type 0
@@ -77,9 +77,9 @@ IsFound input finding.Memory = ReadsAsAsked input
 IsFound input finding.Unread = IsUnread input
 IsFound input finding.Long = IsLong input
 IsFound input (finding.NoImage fault) = IsNoImage input fault
-IsFound input (finding.Refused line) = IsRefused input line
+IsFound input (finding.Refused line) = IsRefusedReport input line
 IsFound input (finding.NoScript line) = IsNoScript input line
-IsFound input (finding.Accepted closed) = IsAccepted input closed
+IsFound input (finding.Accepted closed) = IsAcceptedReport input closed
 IsFound input (finding.Ran image ran steps) = IsRan input image ran steps
 IsFound input (finding.Stopped ran steps made) = IsStopped input ran steps made
 IsFound input (finding.Loaded load image ran steps) = IsLoaded input load image ran steps
@@ -131,13 +131,13 @@ text_of (finding.NoImage fault) = Some (image_fault_line fault)
 text_of (finding.Refused line) = Some (journal_fault_line line)
 text_of (finding.NoScript line) = Some (script_fault_line line)
 text_of (finding.Accepted closed) = Some (accepted_line (length closed.journal))
-text_of (finding.Ran image ran steps) = option_map (run_text image (whole ran)) ran.end
+text_of (finding.Ran image ran steps) = option_map (run_text image (run_with_end ran)) ran.end
 text_of (finding.Stopped ran steps made) = Some (saving_text made)
 text_of (finding.Loaded load image ran steps) =
-    option_map (load_text load.load load.seed load.size image (whole ran)) ran.end
+    option_map (load_text load.load load.seed load.size image (run_with_end ran)) ran.end
 text_of (finding.Played image played) =
-    option_map (played_text played.said.items image (whole played.ran)) played.ran.end
-text_of (finding.Traced traced) = option_map (λ end. trace_text (lists_of traced)) traced.ran.end
+    option_map (played_text played.said.items image (run_with_end played.ran)) played.ran.end
+text_of (finding.Traced traced) = option_map (λ end. trace_text (lists_of_traced traced)) traced.ran.end
 
 -- the outcome holds this run, and this count of the events that made it
 pub record HoldsRun (run : SerialRun) (steps : Option ℕ) (o : Outcome) : Type 0 where
@@ -145,14 +145,14 @@ pub record HoldsRun (run : SerialRun) (steps : Option ℕ) (o : Outcome) : Type 
   pub steps_is : o.steps ≡ steps
 
 -- what an outcome keeps of what was found
-abbrev pub Keeps : Finding → Outcome → Type 0
-Keeps (finding.Accepted closed) o = HoldsRun closed None o
-Keeps (finding.Ran image ran steps) o = HoldsRun (whole ran) steps o
-Keeps (finding.Stopped ran steps made) o = HoldsRun (whole ran) steps o
-Keeps (finding.Loaded load image ran steps) o = HoldsRun (whole ran) steps o
-Keeps (finding.Played image played) o = HoldsRun (whole played.ran) (Some played.ran.closed.steps) o
-Keeps (finding.Traced traced) o = HoldsRun (whole traced.ran) (Some traced.ran.closed.steps) o
-Keeps other o = IsEmpty o
+abbrev pub OutcomeKeeps : Finding → Outcome → Type 0
+OutcomeKeeps (finding.Accepted closed) o = HoldsRun closed None o
+OutcomeKeeps (finding.Ran image ran steps) o = HoldsRun (run_with_end ran) steps o
+OutcomeKeeps (finding.Stopped ran steps made) o = HoldsRun (run_with_end ran) steps o
+OutcomeKeeps (finding.Loaded load image ran steps) o = HoldsRun (run_with_end ran) steps o
+OutcomeKeeps (finding.Played image played) o = HoldsRun (run_with_end played.ran) (Some played.ran.closed.steps) o
+OutcomeKeeps (finding.Traced traced) o = HoldsRun (run_with_end traced.ran) (Some traced.ran.closed.steps) o
+OutcomeKeeps other o = IsEmpty o
 
 -- the image's window lies in the memory that the run left
 abbrev pub HasWindow : ImageValue → Ran → Type 0
@@ -168,23 +168,23 @@ IsWritable other = Unit {0}
 -- the sink took this text, or was left alone where there is none
 abbrev pub TakesText : SinkState → SinkState → Option (List ℕ) → Type 0
 TakesText old new None = new ≡ old
-TakesText old new (Some text) = Takes old new text
+TakesText old new (Some text) = SinkTakes old new text
 
 -- the text was written and the status answered, or the sink failed on it (7)
 pub record TellsFinding (found : Finding) (old new : SinkState) (o : Outcome) : Type 0 where
-  pub kept : Keeps found o
+  pub kept : OutcomeKeeps found o
   pub told : o.status ≢ 7 → (o.status ≡ status_of found) × TakesText old new (text_of found)
   pub failed : o.status ≡ 7 → Rose old.faults new.faults × IsSomeAnd (text_of found) (TakesFront old new)
 
 -- the line was written and the status answered, or the sink failed on it (7); the outcome is empty
 pub record TellsLine (status : ℕ) (line : List ℕ) (old new : SinkState) (o : Outcome) : Type 0 where
   pub empty : IsEmpty o
-  pub told : o.status ≢ 7 → (o.status ≡ status) × Takes old new line
+  pub told : o.status ≢ 7 → (o.status ≡ status) × SinkTakes old new line
   pub failed : o.status ≡ 7 → Rose old.faults new.faults × TakesFront old new line
 
 -- the text was written and the status answered, or the sink failed on it (7); the outcome holds this run
 pub record TellsStopped (status : ℕ) (text : List ℕ) (ran : Ran) (steps : Option ℕ) (old new : SinkState) (o : Outcome)
     : Type 0 where
-  pub kept : HoldsRun (whole ran) steps o
-  pub told : o.status ≢ 7 → (o.status ≡ status) × Takes old new text
+  pub kept : HoldsRun (run_with_end ran) steps o
+  pub told : o.status ≢ 7 → (o.status ≡ status) × SinkTakes old new text
   pub failed : o.status ≡ 7 → Rose old.faults new.faults × TakesFront old new text

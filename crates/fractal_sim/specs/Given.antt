@@ -6,11 +6,11 @@ use Rattle.guest_image.specs.ImageValue.{ImageValue, IsImage}
 use Rattle.guest_image.specs.Reading.{image_of}
 use Rattle.guest_image.specs.declared.fault.ImageFault.{ImageFault}
 use Rattle.load_gen.specs.declared.making.Load.{Load}
-use Rattle.load_gen.specs.Generated.{generated}
+use Rattle.load_gen.specs.Generated.{load_image}
 use Rattle.command_line.specs.declared.request.Command.{Command}
 use Rattle.command_line.specs.declared.request.Command.TheVariants as commands
 use Rattle.command_line.specs.declared.request.Request.{Request}
-use Rattle.command_line.specs.Requests.{request_of, IsLimited}
+use Rattle.command_line.specs.Requests.{request_of_words, IsLimited}
 use Rattle.fractal_sim.specs.Call.{Input}
 
 -- the greatest number of bytes that are read
@@ -24,16 +24,17 @@ Reads other = Unit {0}
 
 -- the words ask for nothing that reads the source
 abbrev pub NeedsNoInput : List (List ℕ) → Type 0
-NeedsNoInput words = (request : Request) → request_of words ≡ Some request → Reads request.command → ⊥
+NeedsNoInput words = (request : Request) → request_of_words words ≡ Some request → Reads request.command → ⊥
 
--- at most as many bytes as are read were taken, and none where the words ask for nothing that reads the source
+-- at most as many bytes as are read were taken, where they are told, and none where the words ask for nothing that
+-- reads the source
 pub record ReadsAsAsked (input : Input) : Type 0 where
   pub read : ReadsSome input.source_before input.source_after input_limit
   pub untouched : NeedsNoInput input.words → input.source_after ≡ input.source_before
 
 -- the words ask for this, which reads the source, and these are all the bytes that the source had left
 pub record ReadsInput (input : Input) (request : Request) (bytes : List ℕ) : Type 0 where
-  pub asked : request_of input.words ≡ Some request
+  pub asked : request_of_words input.words ≡ Some request
   pub reads : Reads request.command
   pub read : ReadsAll input.source_before input.source_after input_limit bytes
 
@@ -51,9 +52,9 @@ pub record ReadsImage (input : Input) (request : Request) (image : ImageValue) (
 -- the words ask for a generated image, which is this one, and the source was left alone
 pub record Generates (input : Input) (request : Request) (load : Load) (seed size : ℕ) (image : ImageValue)
     : Type 0 where
-  pub asked : request_of input.words ≡ Some request
+  pub asked : request_of_words input.words ≡ Some request
   pub command : request.command ≡ commands.Load load seed size
-  pub image_is : image ≡ generated load seed size
+  pub image_is : image ≡ load_image load seed size
   pub untouched : input.source_after ≡ input.source_before
 
 -- the image that the words ask for: the one at the front of the source, or a generated one
@@ -64,13 +65,13 @@ pub data HasImage (input : Input) (request : Request) (image : ImageValue) : Typ
 
 -- the words are refused, and the source was left alone
 pub record IsUsage (input : Input) : Type 0 where
-  pub refused : request_of input.words ≡ None
+  pub refused : request_of_words input.words ≡ None
   pub untouched : input.source_after ≡ input.source_before
 
 -- the words ask for what reads the source, and it failed behind at most as many bytes as are read
 pub record IsUnread (input : Input) : Type 0 where
   pub request : Request
-  pub asked : request_of input.words ≡ Some request
+  pub asked : request_of_words input.words ≡ Some request
   pub reads : Reads request.command
   pub read : ReadsSome input.source_before input.source_after input_limit
   pub rose : Rose input.source_before.faults input.source_after.faults
@@ -78,7 +79,7 @@ pub record IsUnread (input : Input) : Type 0 where
 -- the words ask for what reads the source, and it has more bytes than are read
 pub record IsLong (input : Input) : Type 0 where
   pub request : Request
-  pub asked : request_of input.words ≡ Some request
+  pub asked : request_of_words input.words ≡ Some request
   pub reads : Reads request.command
   pub past : ReadsPast input.source_before input.source_after input_limit
 

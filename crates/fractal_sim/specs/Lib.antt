@@ -1,3 +1,4 @@
+-- Contracts mean all but Finding and Deciding, which serve this crate alone.
 pub mod Call
 pub mod Given
 pub mod Runs
@@ -5,6 +6,7 @@ pub mod Checks
 pub mod Texts
 pub mod Answers
 pub mod Complete
+pub mod Program
 pub mod Finding
 pub mod Deciding
 pub mod Twice

@@ -1,4 +1,4 @@
--- The runs that an outcome holds.
+-- Which run an outcome holds, and which events made it. `Brand` is the naming under which the program's runs are made.
 use Rattle.std.specs.Prelude.{◌≡◌, ◌≢◌, ◌⊎◌, ℕ, List, [], Some, None, Ok, IfSome}
 use Rattle.std.specs.declared.marker.Brand.{Brand}
 use Rattle.guest_image.specs.ImageValue.{ImageValue}
@@ -16,9 +16,9 @@ use Rattle.machine_run.specs.Played.{IsPlayedInPart, IsPlayedRun, IsTracedRun}
 use Rattle.command_line.specs.declared.request.Command.{Command}
 use Rattle.command_line.specs.declared.request.Command.TheVariants as commands
 use Rattle.command_line.specs.declared.request.Request.{Request}
-use Rattle.command_line.specs.Requests.{request_of}
+use Rattle.command_line.specs.Requests.{request_of_words}
 use Rattle.spec_state.specs.declared.pending.Pending.{Pending}
-use Rattle.spec_state.specs.Pendings.{Leaves}
+use Rattle.spec_state.specs.Pendings.{RunLeaves}
 use Rattle.fractal_sim.specs.declared.outcome.Outcome.{Outcome}
 use Rattle.fractal_sim.specs.Call.{Input}
 use Rattle.fractal_sim.specs.Given.{ReadsImage, Generates, HasImage}
@@ -92,8 +92,8 @@ IsReported other end = ⊥
 -- the words ask for a run, and the image that was read was run to this end, which a report tells
 pub record RunsToEnd (input : Input) (image : ImageValue) (end : End) (run : SerialRun) : Type 0 where
   pub request : Request
-  pub rest : List ℕ
-  pub given : ReadsImage input request image rest
+  pub bytes_behind : List ℕ
+  pub given : ReadsImage input request image bytes_behind
   pub told : IsReported request.command end
   pub is_run : IsRunOf image request.settings.commits request.settings.budget run
   pub end_is : run.end ≡ Some end
@@ -102,12 +102,12 @@ pub record RunsToEnd (input : Input) (image : ImageValue) (end : End) (run : Ser
 -- pend
 pub record StopsAtLimit (input : Input) (image : ImageValue) (pendings : List Pending) (run : SerialRun) : Type 0 where
   pub request : Request
-  pub rest : List ℕ
-  pub given : ReadsImage input request image rest
+  pub bytes_behind : List ℕ
+  pub given : ReadsImage input request image bytes_behind
   pub command : request.command ≡ commands.Save
   pub is_run : IsRunOf image request.settings.commits request.settings.budget run
   pub end_is : run.end ≡ Some ends.Limit
-  pub left : Leaves image request.settings.budget run.journal run.memory run.output pendings
+  pub left : RunLeaves image request.settings.budget run.journal run.memory run.output pendings
 
 -- the words ask for the run of a generated image, which was run to this end
 pub record LoadsToEnd (input : Input) (load : Load) (seed size : ℕ) (image : ImageValue) (end : End) (run : SerialRun)
@@ -125,11 +125,11 @@ IsScript request rest script = acts_of rest request.settings.tiles request.setti
 -- the words ask for a script to be played, and the one behind the image that was read was played so, up to this end
 pub record PlaysToEnd (input : Input) (image : ImageValue) (said : List Said) (end : End) (o : Outcome) : Type 0 where
   pub request : Request
-  pub rest : List ℕ
-  pub given : ReadsImage input request image rest
+  pub bytes_behind : List ℕ
+  pub given : ReadsImage input request image bytes_behind
   pub command : request.command ≡ commands.Steps
   pub script : List Act
-  pub script_is : IsScript request rest script
+  pub script_is : IsScript request bytes_behind script
   pub events : ℕ
   pub steps_is : o.steps ≡ Some events
   pub played : IsPlayedRun Brand image request.settings script input.placers input.taps said events end (closed_of o)
@@ -140,11 +140,11 @@ pub record PlaysToEnd (input : Input) (image : ImageValue) (said : List Said) (e
 pub record TracesToEnd (input : Input) (image : ImageValue) (lists : List (List ℕ)) (end : End) (o : Outcome)
     : Type 0 where
   pub request : Request
-  pub rest : List ℕ
-  pub given : ReadsImage input request image rest
+  pub bytes_behind : List ℕ
+  pub given : ReadsImage input request image bytes_behind
   pub command : request.command ≡ commands.Trace
   pub script : List Act
-  pub script_is : IsScript request rest script
+  pub script_is : IsScript request bytes_behind script
   pub events : ℕ
   pub steps_is : o.steps ≡ Some events
   pub traced : IsTracedRun Brand image request.settings script input.placers input.taps lists events end (closed_of o)
@@ -154,30 +154,31 @@ pub record TracesToEnd (input : Input) (image : ImageValue) (lists : List (List 
 
 -- so many events made the run: those of the least tasks of an image that is run without workers, those of the script
 -- behind an image, or those of as much of this script as memory was there for
-pub data IsMadeBy (input : Input) (request : Request) (image : ImageValue) (events : ℕ) (run : SerialRun) : Type 0 where
+pub data IsRunMadeBy (input : Input) (request : Request) (image : ImageValue) (events : ℕ)
+    (run : SerialRun) : Type 0 where
   ByLeast : RunsImage request.command → request.settings.workers ≡ 0 → HasImage input request image
       → IsLeastRun Brand image request.settings input.placers input.taps events run
-      → IsMadeBy input request image events run
-  ByScript : (rest : List ℕ) (script : List Act) (said : List Said) (end : End) → PlaysScript request.command
-      → ReadsImage input request image rest → IsScript request rest script
+      → IsRunMadeBy input request image events run
+  ByScript : (bytes_behind : List ℕ) (script : List Act) (said : List Said) (end : End) → PlaysScript request.command
+      → ReadsImage input request image bytes_behind → IsScript request bytes_behind script
       → IsPlayedRun Brand image request.settings script input.placers input.taps said events end run
-      → IsMadeBy input request image events run
-  ByPart : (rest : List ℕ) (script : List Act) → PlaysScript request.command
-      → ReadsImage input request image rest → IsScript request rest script
+      → IsRunMadeBy input request image events run
+  ByPart : (bytes_behind : List ℕ) (script : List Act) → PlaysScript request.command
+      → ReadsImage input request image bytes_behind → IsScript request bytes_behind script
       → IsPlayedInPart Brand image request.settings script input.placers input.taps events run
-      → IsMadeBy input request image events run
+      → IsRunMadeBy input request image events run
 
 -- so many events made the run of the image that the words ask for, with the placers and taps that were handed in
 pub record MakesRun (input : Input) (events : ℕ) (run : SerialRun) : Type 0 where
   pub request : Request
-  pub asked : request_of input.words ≡ Some request
+  pub asked : request_of_words input.words ≡ Some request
   pub image : ImageValue
-  pub made : IsMadeBy input request image events run
+  pub made : IsRunMadeBy input request image events run
 
 -- where a count is told, so many events made the run that the outcome holds; where the words ask for a run that is told
 -- with its count, an outcome without one is empty
-pub record TellsSteps (input : Input) (o : Outcome) : Type 0 where
+pub record CountsEvents (input : Input) (o : Outcome) : Type 0 where
   pub made : IfSome o.steps (λ events. MakesRun input events (closed_of o))
-  pub told : (request : Request) → request_of input.words ≡ Some request
+  pub told : (request : Request) → request_of_words input.words ≡ Some request
       → Counts request.settings.workers request.command
       → o.steps ≡ None → IsEmpty o

@@ -10,7 +10,7 @@ use Rattle.load_gen.specs.declared.making.Load.TheVariants.{Walk, Nest}
 use Rattle.serial_machine.specs.declared.whole_run.SerialRun.{SerialRun}
 use Rattle.report_text.specs.Report.{body_lines, end_line, report}
 use Rattle.step_script.specs.declared.saying.Said.{Said}
-use Rattle.play_text.specs.Replies.{reply_lines}
+use Rattle.script_text.specs.Replies.{reply_lines}
 
 -- ---- statuses
 

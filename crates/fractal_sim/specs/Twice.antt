@@ -1,8 +1,8 @@
 -- Two calls that were given the same.
 use Rattle.std.specs.Prelude.{◌≡◌, ◌≢◌, ℕ, List, Some}
-use Rattle.sim_io.specs.Parts.{Takes}
+use Rattle.sim_io.specs.Parts.{SinkTakes}
 use Rattle.command_line.specs.declared.request.Request.{Request}
-use Rattle.command_line.specs.Requests.{request_of}
+use Rattle.command_line.specs.Requests.{request_of_words}
 use Rattle.fractal_sim.specs.declared.outcome.Outcome.{Outcome}
 use Rattle.fractal_sim.specs.Answers.{TellsOutcome}
 use Rattle.fractal_sim.specs.Call.{Call}
@@ -27,13 +27,13 @@ pub record EndsWell (o : Outcome) : Type 0 where
 pub record AnswerSame (call other : Call) (o other_o : Outcome) : Type 0 where
   pub outcome : other_o ≡ o
   pub text : List ℕ
-  pub took : Takes call.sink_before call.sink_after text
-  pub other_took : Takes other.sink_before other.sink_after text
+  pub took : SinkTakes call.sink_before call.sink_after text
+  pub other_took : SinkTakes other.sink_before other.sink_after text
 
 -- the words ask for a script to be played, for what is said of it or for what the taps see
 pub record AskForScript (words : List (List ℕ)) : Type 0 where
   pub request : Request
-  pub asked : request_of words ≡ Some request
+  pub asked : request_of_words words ≡ Some request
   pub plays : PlaysScript request.command
 
 -- whatever the program tells of two calls that play a script and are given the same, where both end well they answer

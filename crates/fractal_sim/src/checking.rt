@@ -2,11 +2,12 @@
 
 ghost use Rattle.std.specs.Prelude.{◌≡◌, ◌≤◌, ◌<◌, length, List};
 ghost use Rattle.place_policy.specs.Policy.{Policy};
-ghost use Rattle.trace_tap.specs.Reading.{Reading};
+ghost use Rattle.trace_tap.specs.TapValue.{TapValue};
 ghost use Rattle.report_text.specs.Check.{IsReportOf};
 ghost use Rattle.command_line.specs.Requests.{IsLimited};
 ghost use Rattle.fractal_sim.specs.Deciding.{IsClosedReport, IsFoundBehind};
 ghost use Rattle.fractal_sim.specs.Finding.{IsWritable};
+ghost use Rattle.fractal_sim.specs.Given.{input_limit};
 
 use crate::finding::Finding;
 use command_line::{Command, Request};
@@ -20,8 +21,8 @@ use std::alloc::Global;
 pub(crate) fn check_report(alloc: Global, request: Request, image: &Image, rest: &[u8]) -> Finding
     requires command { request.command ≡ Command.Check }
     requires limits { IsLimited request }
-    requires short { length rest.now ≤ 67108864 }
-    ensures found { (placers : List Policy) (taps : List Reading)
+    requires short { length rest.now ≤ input_limit }
+    ensures found { (placers : List Policy) (taps : List TapValue)
         → IsFoundBehind request image.now rest.now placers taps result }
     ensures writable { IsWritable result }
 {

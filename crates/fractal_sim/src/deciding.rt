@@ -6,7 +6,7 @@ ghost use Rattle.command_line.specs.Requests.{IsLimited};
 ghost use Rattle.fractal_sim.specs.Call.{input_of};
 ghost use Rattle.fractal_sim.specs.Deciding.{IsFoundBehind};
 ghost use Rattle.fractal_sim.specs.Finding.{IsFound, IsWritable};
-ghost use Rattle.fractal_sim.specs.Given.{Reads};
+ghost use Rattle.fractal_sim.specs.Given.{input_limit, Reads};
 
 use crate::checking::check_report;
 use crate::finding::{Finding, Loading};
@@ -43,7 +43,7 @@ pub(crate) fn find<
     taps: Vec<T>,
 ) -> Finding
     ensures found { let serving = map P.policy placers.items in
-        let noting = map T.reading taps.items in
+        let noting = map T.notes taps.items in
         IsFound (input_of words.now serving noting (S.state source.old) (S.state source.new)) result }
     ensures writable { IsWritable result }
 {
@@ -84,9 +84,9 @@ fn act<R: Threads + Wait + Sync, G: Gate + Sync, P: Placer + Send, T: Tap + Send
 ) -> Finding
     requires reads { Reads request.command }
     requires limits { IsLimited request }
-    requires short { length rest.now ≤ 67108864 }
+    requires short { length rest.now ≤ input_limit }
     ensures found { let serving = map P.policy placers.items in
-        let noting = map T.reading taps.items in
+        let noting = map T.notes taps.items in
         IsFoundBehind request image rest.now serving noting result }
     ensures writable { IsWritable result }
 {

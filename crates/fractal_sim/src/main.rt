@@ -1,4 +1,4 @@
-//! Runs a guest program on the machine of tiles, plays a script on it, saves a run that is to go on later, or checks
+//! Runs a guest program on the speculative machine, plays a script on it, saves a run that is to go on later, or checks
 //! the report of a run: the image comes from standard input or is generated, and the report, the saved image, or a line
 //! that says what is wrong, goes to standard output. Everything is found before anything is written; a run takes memory
 //! for its tasks, its journal and its output, and one copy of the data memory.
@@ -18,6 +18,7 @@ mod program;
 mod publishing;
 mod running;
 mod saving;
+mod statuses;
 mod telling;
 #[cfg(test)]
 mod tests;
@@ -25,6 +26,7 @@ mod tests;
 use place_policy::{ByHint, LeastLoaded, Placer, RoundRobin};
 use program::top;
 use sim_io::{StdSink, StdSource};
+use statuses::NO_MEMORY;
 use std::alloc::{AllocError, Global};
 use std::env;
 use std::io::{ErrorKind, Read};
@@ -33,9 +35,6 @@ use std::sync::Wait;
 use std::thread::Threads;
 use tile_worker::OpenGate;
 use trace_tap::{LastN, LineProfile, Tap};
-
-/// The exit status where memory ran out.
-const NO_MEMORY: u8 = 5;
 
 /// How many events the first tap keeps, and how many lines the second one counts by.
 const KEPT: u32 = 16;

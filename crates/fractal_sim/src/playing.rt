@@ -3,8 +3,9 @@
 ghost use Rattle.std.specs.Prelude.{◌≡◌, ◌≤◌, length, map};
 ghost use Rattle.guest_image.specs.ImageValue.{IsImage};
 ghost use Rattle.command_line.specs.Requests.{IsLimited};
-ghost use Rattle.fractal_sim.specs.Deciding.{IsFoundBehind, play_finding, trace_finding, unscripted};
+ghost use Rattle.fractal_sim.specs.Deciding.{IsFoundBehind, play_finding, trace_finding, no_script_finding};
 ghost use Rattle.fractal_sim.specs.Finding.{IsWritable};
+ghost use Rattle.fractal_sim.specs.Given.{input_limit};
 
 use crate::finding::Finding;
 use command_line::{Command, Request};
@@ -27,16 +28,16 @@ pub(crate) fn play_behind<P: Placer, T: Tap>(
 ) -> Finding
     requires command { request.command ≡ Command.Steps }
     requires limits { IsLimited request }
-    requires short { length rest.now ≤ 67108864 }
+    requires short { length rest.now ≤ input_limit }
     ensures found { let serving = map P.policy placers.items in
-        let noting = map T.reading taps.items in
+        let noting = map T.notes taps.items in
         IsFoundBehind request image rest.now serving noting result }
     ensures writable { IsWritable result }
 {
     let settings = request.settings;
     let script = match read_script(alloc, rest, settings.tiles, settings.cores) {
         Ok(script) => script,
-        Err(fault) => return unscripted(fault),
+        Err(fault) => return no_script_finding(fault),
     };
     let made = play_script::<Brand, P, T>(alloc, &image, settings, &script, placers, taps);
     play_finding(image, made)
@@ -64,16 +65,16 @@ pub(crate) fn trace_behind<P: Placer, T: Tap>(
     requires fits { IsImage image.now }
     requires command { request.command ≡ Command.Trace }
     requires limits { IsLimited request }
-    requires short { length rest.now ≤ 67108864 }
+    requires short { length rest.now ≤ input_limit }
     ensures found { let serving = map P.policy placers.items in
-        let noting = map T.reading taps.items in
+        let noting = map T.notes taps.items in
         IsFoundBehind request image.now rest.now serving noting result }
     ensures writable { IsWritable result }
 {
     let settings = request.settings;
     let script = match read_script(alloc, rest, settings.tiles, settings.cores) {
         Ok(script) => script,
-        Err(fault) => return unscripted(fault),
+        Err(fault) => return no_script_finding(fault),
     };
     let made = trace_script::<Brand, P, T>(alloc, image, settings, &script, placers, taps);
     trace_finding(made)
@@ -91,8 +92,8 @@ fn trace_finding(made: Result<Traced, AllocError>) -> Finding
 }
 
 /// What is found where the text is no script.
-fn unscripted(fault: ScriptFault) -> Finding
-    ensures { result ≡ unscripted fault }
+fn no_script_finding(fault: ScriptFault) -> Finding
+    ensures { result ≡ no_script_finding fault }
 {
     match fault {
         ScriptFault::Line { line } => Finding::NoScript(line),

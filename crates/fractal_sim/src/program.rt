@@ -1,10 +1,8 @@
 //! The whole program but its entry.
 
 ghost use Rattle.std.specs.Prelude.{map};
-ghost use Rattle.fractal_sim.specs.Answers.{TellsOutcome};
 ghost use Rattle.fractal_sim.specs.Call.{call_on, input_of};
-ghost use Rattle.fractal_sim.specs.Complete.{IsComplete};
-ghost use Rattle.fractal_sim.specs.Runs.{HoldsLawfulRun, HoldsRunOrNothing, TellsSteps};
+ghost use Rattle.fractal_sim.specs.Program.{Answers};
 
 use crate::deciding::find;
 use crate::outcome::Outcome;
@@ -43,23 +41,10 @@ pub fn top<R: Threads + Wait + Sync, S: Source, K: Sink, G: Gate + Sync>(
     placers: Vec<Box<dyn Placer + Send>>,
     taps: Vec<Box<dyn Tap + Send>>,
 ) -> Outcome
-    ensures run { let serving = map ⟦<Box<dyn Placer + Send> as Placer>⟧.policy placers.items in
-        let noting = map ⟦<Box<dyn Tap + Send> as Tap>⟧.reading taps.items in
-        HoldsRunOrNothing (input_of words.now serving noting (S.state source.old) (S.state source.new)) result }
-    ensures laws { let serving = map ⟦<Box<dyn Placer + Send> as Placer>⟧.policy placers.items in
-        let noting = map ⟦<Box<dyn Tap + Send> as Tap>⟧.reading taps.items in
-        HoldsLawfulRun (input_of words.now serving noting (S.state source.old) (S.state source.new)) result }
-    ensures steps { let serving = map ⟦<Box<dyn Placer + Send> as Placer>⟧.policy placers.items in
-        let noting = map ⟦<Box<dyn Tap + Send> as Tap>⟧.reading taps.items in
-        TellsSteps (input_of words.now serving noting (S.state source.old) (S.state source.new)) result }
-    ensures told { let serving = map ⟦<Box<dyn Placer + Send> as Placer>⟧.policy placers.items in
-        let noting = map ⟦<Box<dyn Tap + Send> as Tap>⟧.reading taps.items in
+    ensures answers { let serving = map ⟦<Box<dyn Placer + Send> as Placer>⟧.policy placers.items in
+        let noting = map ⟦<Box<dyn Tap + Send> as Tap>⟧.notes taps.items in
         let input = input_of words.now serving noting (S.state source.old) (S.state source.new) in
-        TellsOutcome (call_on input (K.state sink.old) (K.state sink.new)) result }
-    ensures complete { let serving = map ⟦<Box<dyn Placer + Send> as Placer>⟧.policy placers.items in
-        let noting = map ⟦<Box<dyn Tap + Send> as Tap>⟧.reading taps.items in
-        let input = input_of words.now serving noting (S.state source.old) (S.state source.new) in
-        IsComplete (call_on input (K.state sink.old) (K.state sink.new)) result }
+        Answers (call_on input (K.state sink.old) (K.state sink.new)) result }
 {
     let found = find(rt, alloc, words, source, gate, placers, taps);
     tell(alloc, sink, found)

@@ -3,20 +3,22 @@
 ghost use Rattle.std.specs.Prelude.{◌≡◌, ◌≢◌, ◌++◌, Some, None, length, map, OnOk};
 ghost use Rattle.sim_io.specs.Parts.{Writes};
 ghost use Rattle.report_text.specs.Report.{body_lines, end_line};
-ghost use Rattle.play_text.specs.Traces.{trace_text};
-ghost use Rattle.machine_run.specs.Least.{run_of};
-ghost use Rattle.fractal_sim.specs.Deciding.{whole};
+ghost use Rattle.script_text.specs.Traces.{trace_text};
+ghost use Rattle.machine_run.specs.Least.{run_of_closed};
+ghost use Rattle.fractal_sim.specs.declared.statuses.TheConstants.{SINK_FAULT};
+ghost use Rattle.fractal_sim.specs.Deciding.{run_with_end};
 ghost use Rattle.fractal_sim.specs.Finding.{HasWindow, HoldsRun, TellsFinding, TellsStopped};
 ghost use Rattle.fractal_sim.specs.Texts.{commits_line, end_status, load_line, load_text, played_status, played_text};
 
 use crate::finding::{Finding, Loading, Saving};
 use crate::lines::{accept_line, commits_line, load_line, nested_line, tasks_line};
 use crate::outcome::Outcome;
+use crate::statuses::{DONE, LIMIT, NESTED, NO_MEMORY, SINK_FAULT, TOO_MANY, TRAP};
 use guest_image::Image;
 use machine_run::{Played, Ran, Traced};
-use play_text::{write_replies, write_trace};
 use report_text::{write_body, write_end, write_report};
 use run_journal::Closed;
+use script_text::{write_replies, write_trace};
 use serial_machine::{End, SerialRun};
 use sim_io::{Failed, Sink, write_all};
 use step_script::Said;
@@ -37,9 +39,9 @@ fn outcome(status: u8, run: SerialRun, steps: Option<u64>) -> Outcome
 }
 
 /// What is answered with what a closed book left.
-fn left(status: u8, ran: Ran, steps: Option<u64>) -> Outcome
+fn outcome_of_run(status: u8, ran: Ran, steps: Option<u64>) -> Outcome
     ensures status { result.status ≡ status }
-    ensures kept { HoldsRun (whole ran) steps result }
+    ensures kept { HoldsRun (run_with_end ran) steps result }
 {
     let Ran { closed, end } = ran;
     let run = SerialRun {
@@ -57,8 +59,8 @@ pub(crate) fn accept<K: Sink>(sink: &mut K, run: SerialRun) -> Outcome
 {
     let line = accept_line(run.journal.as_slice().len() as u64);
     match write_all(sink, line.as_slice()) {
-        Ok(()) => outcome(0, run, None),
-        Err(_) => outcome(7, run, None),
+        Ok(()) => outcome(DONE, run, None),
+        Err(_) => outcome(SINK_FAULT, run, None),
     }
 }
 
@@ -68,11 +70,11 @@ pub(crate) fn publish<K: Sink>(sink: &mut K, image: &Image, ran: Ran, steps: Opt
     ensures { TellsFinding (Finding.Ran image.now ran steps) (K.state sink.old) (K.state sink.new) result }
 {
     let Some(end) = ran.end else {
-        return left(5, ran, steps);
+        return outcome_of_run(NO_MEMORY, ran, steps);
     };
     match write_report(sink, image, &ran.closed, &end) {
-        Ok(()) => left(end_status(&end), ran, steps),
-        Err(_) => left(7, ran, steps),
+        Ok(()) => outcome_of_run(end_status(&end), ran, steps),
+        Err(_) => outcome_of_run(SINK_FAULT, ran, steps),
     }
 }
 
@@ -86,9 +88,21 @@ pub(crate) fn publish_stopped<K: Sink>(
     ensures { TellsFinding (Finding.Stopped ran steps made) (K.state sink.old) (K.state sink.new) result }
 {
     match made {
-        Saving::Bytes(bytes) => tell_stopped(sink, 4, &bytes, ran, steps),
-        Saving::Nested(depth) => tell_stopped(sink, 12, nested_line(depth).as_slice(), ran, steps),
-        Saving::TooMany(count) => tell_stopped(sink, 13, tasks_line(count).as_slice(), ran, steps),
+        Saving::Bytes(bytes) => tell_stopped(sink, LIMIT, &bytes, ran, steps),
+        Saving::Nested(depth) => tell_stopped(
+            sink,
+            NESTED,
+            nested_line(depth).as_slice(),
+            ran,
+            steps,
+        ),
+        Saving::TooMany(count) => tell_stopped(
+            sink,
+            TOO_MANY,
+            tasks_line(count).as_slice(),
+            ran,
+            steps,
+        ),
     }
 }
 
@@ -100,12 +114,12 @@ fn tell_stopped<K: Sink>(
     ran: Ran,
     steps: Option<u64>,
 ) -> Outcome
-    requires { status ≢ 7 }
+    requires { status ≢ SINK_FAULT }
     ensures { TellsStopped status text.now ran steps (K.state sink.old) (K.state sink.new) result }
 {
     match write_all(sink, text) {
-        Ok(()) => left(status, ran, steps),
-        Err(_) => left(7, ran, steps),
+        Ok(()) => outcome_of_run(status, ran, steps),
+        Err(_) => outcome_of_run(SINK_FAULT, ran, steps),
     }
 }
 
@@ -121,11 +135,11 @@ pub(crate) fn publish_load<K: Sink>(
     ensures { TellsFinding (Finding.Loaded load image.now ran steps) (K.state sink.old) (K.state sink.new) result }
 {
     let Some(end) = ran.end else {
-        return left(5, ran, steps);
+        return outcome_of_run(NO_MEMORY, ran, steps);
     };
     match write_load(sink, load, image, &ran.closed, &end) {
-        Ok(()) => left(end_status(&end), ran, steps),
-        Err(_) => left(7, ran, steps),
+        Ok(()) => outcome_of_run(end_status(&end), ran, steps),
+        Err(_) => outcome_of_run(SINK_FAULT, ran, steps),
     }
 }
 
@@ -137,11 +151,11 @@ pub(crate) fn publish_played<K: Sink>(sink: &mut K, image: &Image, played: Playe
     let Played { ran, said } = played;
     let steps = Some(ran.closed.steps);
     let Some(end) = ran.end else {
-        return left(5, ran, steps);
+        return outcome_of_run(NO_MEMORY, ran, steps);
     };
     match write_played(sink, &said, image, &ran.closed, &end) {
-        Ok(()) => left(played_status(&end), ran, steps),
-        Err(_) => left(7, ran, steps),
+        Ok(()) => outcome_of_run(played_status(&end), ran, steps),
+        Err(_) => outcome_of_run(SINK_FAULT, ran, steps),
     }
 }
 
@@ -152,11 +166,11 @@ pub(crate) fn publish_trace<K: Sink>(sink: &mut K, traced: Traced) -> Outcome
     let Traced { ran, lists } = traced;
     let steps = Some(ran.closed.steps);
     if ran.end.is_none() {
-        return left(5, ran, steps);
+        return outcome_of_run(NO_MEMORY, ran, steps);
     }
     match write_trace(sink, &lists) {
-        Ok(()) => left(0, ran, steps),
-        Err(_) => left(7, ran, steps),
+        Ok(()) => outcome_of_run(DONE, ran, steps),
+        Err(_) => outcome_of_run(SINK_FAULT, ran, steps),
     }
 }
 
@@ -170,7 +184,7 @@ fn write_load<K: Sink>(
 ) -> Result<(), Failed>
     requires { length closed.now.memory ≡ image.now.data_size }
     ensures { Writes (K.state sink.old) (K.state sink.new) result
-        (load_text load.load load.seed load.size image.now (run_of closed.now None) end.now) }
+        (load_text load.load load.seed load.size image.now (run_of_closed closed.now None) end.now) }
 {
     match write_load_front(sink, load, image, closed) {
         Ok(()) => write_end(sink, end),
@@ -229,7 +243,7 @@ fn write_played<K: Sink>(
 ) -> Result<(), Failed>
     requires { length closed.now.memory ≡ image.now.data_size }
     ensures { Writes (K.state sink.old) (K.state sink.new) result
-        (played_text said.now image.now (run_of closed.now None) end.now) }
+        (played_text said.now image.now (run_of_closed closed.now None) end.now) }
 {
     match write_replies(sink, said) {
         Ok(()) => write_report(sink, image, closed, end),
@@ -240,23 +254,23 @@ fn write_played<K: Sink>(
 /// The status of a run to its end.
 fn end_status(end: &End) -> u8
     ensures value { result ≡ end_status end.now }
-    ensures small { result ≢ 7 }
+    ensures small { result ≢ SINK_FAULT }
 {
     match end {
-        End::Normal => 0,
-        End::Trap { .. } => 3,
-        End::Limit => 4,
-        End::Unfinished => 5,
+        End::Normal => DONE,
+        End::Trap { .. } => TRAP,
+        End::Limit => LIMIT,
+        End::Unfinished => NO_MEMORY,
     }
 }
 
 /// The status of a script that was played: it may leave a run that isn't over.
 fn played_status(end: &End) -> u8
     ensures value { result ≡ played_status end.now }
-    ensures small { result ≢ 7 }
+    ensures small { result ≢ SINK_FAULT }
 {
     match end {
-        End::Unfinished => 0,
+        End::Unfinished => DONE,
         other => end_status(other),
     }
 }

@@ -4,7 +4,7 @@ ghost use Rattle.std.specs.Prelude.{◌≡◌, map, IfOk};
 ghost use Rattle.guest_image.specs.ImageValue.{IsImage};
 ghost use Rattle.spec_state.specs.Settings.{IsValid};
 ghost use Rattle.load_gen.specs.Generated.{IsSize};
-ghost use Rattle.fractal_sim.specs.Deciding.{IsRunSo, IsLoadedSo, told_steps, run_finding, load_finding};
+ghost use Rattle.fractal_sim.specs.Deciding.{IsRunSo, IsLoadedSo, event_count, run_finding, load_finding};
 ghost use Rattle.fractal_sim.specs.Finding.{HasWindow, IsWritable};
 
 use crate::finding::{Finding, Loading};
@@ -33,9 +33,9 @@ pub(crate) fn run_image<R: Threads + Wait + Sync, G: Gate + Sync, P: Placer + Se
     requires fits { IsImage image.now }
     requires valid { IsValid settings }
     ensures made { let serving = map P.policy placers.items in
-        let noting = map T.reading taps.items in
+        let noting = map T.notes taps.items in
         IfOk result (λ ran.
-        IsRunSo image.now settings serving noting ran (told_steps settings.workers ran.closed.steps)) }
+        IsRunSo image.now settings serving noting ran (event_count settings.workers ran.closed.steps)) }
     ensures window { IfOk result (HasWindow image.now) }
 {
     run::<Brand, P, T, G, R>(rt, alloc, image, settings, gate, placers, taps)
@@ -48,7 +48,7 @@ pub(crate) fn run_finding(image: Image, workers: u32, made: Result<Ran, AllocErr
 {
     match made {
         Ok(ran) => {
-            let steps = told_steps(workers, ran.closed.steps);
+            let steps = event_count(workers, ran.closed.steps);
             Finding::Ran(image, ran, steps)
         }
         Err(_) => Finding::Memory,
@@ -56,8 +56,8 @@ pub(crate) fn run_finding(image: Image, workers: u32, made: Result<Ran, AllocErr
 }
 
 /// How many events are told.
-pub(crate) fn told_steps(workers: u32, events: u64) -> Option<u64>
-    ensures { result ≡ told_steps workers events }
+pub(crate) fn event_count(workers: u32, events: u64) -> Option<u64>
+    ensures { result ≡ event_count workers events }
 {
     if workers == 0 { Some(events) } else { None }
 }
@@ -75,7 +75,7 @@ pub(crate) fn run_load<R: Threads + Wait + Sync, G: Gate + Sync, P: Placer + Sen
     requires size { IsSize load.load load.size }
     requires valid { IsValid settings }
     ensures found { let serving = map P.policy placers.items in
-        let noting = map T.reading taps.items in
+        let noting = map T.notes taps.items in
         IsLoadedSo load settings serving noting result }
     ensures writable { IsWritable result }
 {
@@ -93,7 +93,7 @@ fn load_finding(load: Loading, image: Image, workers: u32, made: Result<Ran, All
 {
     match made {
         Ok(ran) => {
-            let steps = told_steps(workers, ran.closed.steps);
+            let steps = event_count(workers, ran.closed.steps);
             Finding::Loaded(load, image, ran, steps)
         }
         Err(_) => Finding::Memory,

@@ -9,7 +9,7 @@ ghost use Rattle.fractal_sim.specs.Deciding.{IsKeptSo, IsKeptStopped, IsSavedSo,
 ghost use Rattle.fractal_sim.specs.Finding.{IsWritable};
 
 use crate::finding::{Finding, Saving};
-use crate::running::told_steps;
+use crate::running::event_count;
 use guest_image::{Image, write_image};
 use machine_run::{Ran, Stopped, run_to_save};
 use place_policy::Placer;
@@ -37,7 +37,7 @@ pub(crate) fn save_image<R: Threads + Wait + Sync, G: Gate + Sync, P: Placer + S
     requires fits { IsImage image }
     requires valid { IsValid settings }
     ensures found { let serving = map P.policy placers.items in
-        let noting = map T.reading taps.items in
+        let noting = map T.notes taps.items in
         IsSavedSo image settings serving noting result }
     ensures writable { IsWritable result }
 {
@@ -69,7 +69,7 @@ fn keep_stopped(alloc: Global, image: Image, settings: Settings, stopped: Stoppe
     ensures { IsKeptStopped image settings.workers stopped result }
 {
     let Stopped { ran, pending } = stopped;
-    let steps = told_steps(settings.workers, ran.closed.steps);
+    let steps = event_count(settings.workers, ran.closed.steps);
     match pending {
         None => Finding::Ran(image, ran, steps),
         Some(pending) => {

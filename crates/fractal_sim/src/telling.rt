@@ -1,6 +1,7 @@
 //! What was found is written, and told by a status. Nothing here takes memory.
 
 ghost use Rattle.std.specs.Prelude.{◌≡◌, ◌≢◌, ◌<◌, ◌-◌, ◌^◌};
+ghost use Rattle.fractal_sim.specs.declared.statuses.TheConstants.{SINK_FAULT};
 ghost use Rattle.fractal_sim.specs.Finding.{IsWritable, TellsFinding, TellsLine};
 ghost use Rattle.fractal_sim.specs.Runs.{IsEmpty};
 
@@ -9,6 +10,9 @@ use crate::lines::{image_line, journal_line, script_line};
 use crate::outcome::Outcome;
 use crate::publishing::{
     accept, publish, publish_load, publish_played, publish_stopped, publish_trace,
+};
+use crate::statuses::{
+    IMAGE_FAULT, LONG, NO_MEMORY, REPORT_FAULT, SCRIPT_FAULT, SINK_FAULT, SOURCE_FAULT, USAGE,
 };
 use guest_image::ImageFault;
 use serial_machine::{Bytes, Journal};
@@ -21,10 +25,10 @@ pub(crate) fn tell<K: Sink>(alloc: Global, sink: &mut K, found: Finding) -> Outc
     ensures { TellsFinding found (K.state sink.old) (K.state sink.new) result }
 {
     match found {
-        Finding::Usage => tell_line(alloc, sink, 1, b"fault usage\n"),
-        Finding::Memory => empty(alloc, 5),
-        Finding::Unread => empty(alloc, 6),
-        Finding::Long => tell_line(alloc, sink, 10, b"fault long\n"),
+        Finding::Usage => tell_line(alloc, sink, USAGE, b"fault usage\n"),
+        Finding::Memory => empty(alloc, NO_MEMORY),
+        Finding::Unread => empty(alloc, SOURCE_FAULT),
+        Finding::Long => tell_line(alloc, sink, LONG, b"fault long\n"),
         Finding::NoImage(fault) => tell_image_fault(alloc, sink, fault),
         Finding::Refused(line) => tell_journal_fault(alloc, sink, line),
         Finding::NoScript(line) => tell_script_fault(alloc, sink, line),
@@ -53,12 +57,12 @@ fn empty(alloc: Global, status: u8) -> Outcome
 
 /// Writes a line that tells why there is no run.
 fn tell_line<K: Sink>(alloc: Global, sink: &mut K, status: u8, line: &[u8]) -> Outcome
-    requires { status ≢ 7 }
+    requires { status ≢ SINK_FAULT }
     ensures { TellsLine status line.now (K.state sink.old) (K.state sink.new) result }
 {
     match write_all(sink, line) {
         Ok(()) => empty(alloc, status),
-        Err(_) => empty(alloc, 7),
+        Err(_) => empty(alloc, SINK_FAULT),
     }
 }
 
@@ -66,19 +70,19 @@ fn tell_image_fault<K: Sink>(alloc: Global, sink: &mut K, fault: ImageFault) -> 
     ensures { TellsFinding (Finding.NoImage fault) (K.state sink.old) (K.state sink.new) result }
 {
     let line = image_line(fault);
-    tell_line(alloc, sink, 2, line.as_slice())
+    tell_line(alloc, sink, IMAGE_FAULT, line.as_slice())
 }
 
 fn tell_journal_fault<K: Sink>(alloc: Global, sink: &mut K, wrong: u32) -> Outcome
     ensures { TellsFinding (Finding.Refused wrong) (K.state sink.old) (K.state sink.new) result }
 {
     let line = journal_line(wrong);
-    tell_line(alloc, sink, 8, line.as_slice())
+    tell_line(alloc, sink, REPORT_FAULT, line.as_slice())
 }
 
 fn tell_script_fault<K: Sink>(alloc: Global, sink: &mut K, wrong: u32) -> Outcome
     ensures { TellsFinding (Finding.NoScript wrong) (K.state sink.old) (K.state sink.new) result }
 {
     let line = script_line(wrong);
-    tell_line(alloc, sink, 9, line.as_slice())
+    tell_line(alloc, sink, SCRIPT_FAULT, line.as_slice())
 }

@@ -130,7 +130,7 @@ fn left_by(
 }
 
 /// What a call leaves with the placers and taps that the program comes with.
-fn left(
+fn what_is_left(
     rt: &(impl Alloc<A = Global> + Threads + Wait + Sync),
     words: &[&str],
     source: &mut MemSource,
@@ -157,7 +157,7 @@ fn leaves(
     let words = split(alloc, words)?;
     let mut source = source_of(alloc, bytes, streams)?;
     let mut sink = sink_of(alloc, streams)?;
-    let left = left(rt, &words, &mut source, &mut sink)?;
+    let left = what_is_left(rt, &words, &mut source, &mut sink)?;
     assert_eq!(rt; sink.bytes(), written);
     assert_eq!(rt; left, wanted);
     Ok(())

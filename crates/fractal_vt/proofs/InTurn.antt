@@ -8,8 +8,8 @@ use Rattle.std.specs.Cmp.{IsTotalOrder}
 use Rattle.std.proofs.lemmas.Bool.{cases_lt}
 use Rattle.std.proofs.lemmas.List.{append_assoc, set_split, set-append_right, set-get_or, set-set, set_comm, length-take-le, length-drop, drop_more, take-append-drop, get_or-drop, get_or_default}
 use Rattle.std.proofs.lemmas.List.Sorted.{IsPermutation-keeps}
-use Rattle.fractal_vt.specs.Sorted.{IsInOrder, inserted}
-use Rattle.fractal_vt.proofs.Sorted.{in_turn, in_turn-middle, in_turn-in_order, inserted-inserted}
+use Rattle.fractal_vt.specs.Sorted.{IsInOrder, after_insert}
+use Rattle.fractal_vt.proofs.Sorted.{in_turn, in_turn-middle, in_turn-in_order, after_insert-after_insert}
 
 -- a list by what stands at two of its places
 record At {X : Type 0} (xs : List X) (i j : ℕ) (d : X) : Type 0 where
@@ -50,13 +50,13 @@ module _ {X : Type 0} (R : X → X → Ordering) (total : IsTotalOrder R) (same 
   turned xs ys = in_turn R total same ys ≡ in_turn R total same xs
 
   swapped_parts : (front between back : List X) (x y : X) → in_turn R total same (front ++ x ∷ (between ++ y ∷ back)) ≡ in_turn R total same (front ++ y ∷ (between ++ x ∷ back))
-  swapped_parts front between back x y = one x y ∙ inserted-inserted R total same x y _ ∙ sym (one y x)
+  swapped_parts front between back x y = one x y ∙ after_insert-after_insert R total same x y _ ∙ sym (one y x)
     where
-      one : (a b : X) → in_turn R total same (front ++ a ∷ (between ++ b ∷ back)) ≡ inserted R a (inserted R b (in_turn R total same ((front ++ between) ++ back)))
+      one : (a b : X) → in_turn R total same (front ++ a ∷ (between ++ b ∷ back)) ≡ after_insert R a (after_insert R b (in_turn R total same ((front ++ between) ++ back)))
       one a b =
           in_turn-middle R total same front a (between ++ b ∷ back)
-          ∙ ap (λ zs. inserted R a (in_turn R total same zs)) (sym (append_assoc front between (b ∷ back)))
-          ∙ ap (inserted R a) (in_turn-middle R total same (front ++ between) b back)
+          ∙ ap (λ zs. after_insert R a (in_turn R total same zs)) (sym (append_assoc front between (b ∷ back)))
+          ∙ ap (after_insert R a) (in_turn-middle R total same (front ++ between) b back)
 
   swap_below : (xs : List X) (i j : ℕ) (d : X) → i < j → j < length xs → in_turn R total same (set (set xs i (get_or xs j d)) j (get_or xs i d)) ≡ in_turn R total same xs
   swap_below xs i j d before inside =

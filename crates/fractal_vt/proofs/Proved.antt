@@ -1,10 +1,10 @@
--- What the crates above may cite of these proofs.
+-- What the crates above cite of these proofs, but for what `commit_arbiter` and `spill_store` name by its file.
 pub use Rattle.fractal_vt.proofs.InTurn.{in_turn-permutation}
 pub use Rattle.fractal_vt.proofs.KeyLaws.{deeper_less, equal_keys_tie, key_cmp_total, last_levels_decide}
 pub use Rattle.fractal_vt.proofs.Renumbered.{keeps_order, place_cmp, place_within}
 pub use Rattle.fractal_vt.proofs.Search.{first_of_one, least_at}
-pub use Rattle.fractal_vt.proofs.Sorted.{All-inserted, AllPairs-head, AllPairs-map, AllPairs-tail, front-inserted, in_order-inserted}
-pub use Rattle.fractal_vt.proofs.Sorted.{in_turn, inserted-permutes, inserted_at, length-inserted, place_beyond, place_upto}
+pub use Rattle.fractal_vt.proofs.Sorted.{All-after_insert, AllPairs-head, AllPairs-map, AllPairs-tail, front-after_insert, in_order-after_insert}
+pub use Rattle.fractal_vt.proofs.Sorted.{in_turn, after_insert-permutes, inserted_at, length-after_insert, place_beyond, place_upto}
 pub use Rattle.fractal_vt.proofs.Sorted.{ties_behind}
 pub use Rattle.fractal_vt.proofs.Stack.{deeper_is_less, not_both, prefix_is_less, same_child_on_path, same_depth, same_front}
 pub use Rattle.fractal_vt.proofs.Stack.{stays_on_path, sub_child_on_path, super_child_on_path}

@@ -17,12 +17,12 @@ use Rattle.std.proofs.lemmas.Bool.Decides.{nat_tests}
 use Rattle.std.proofs.lemmas.Cmp.{tied_itself}
 use Rattle.std.proofs.lemmas.List.Elements.{All-nil, All-cons, All-head, All-tail}
 use Rattle.fractal_vt.specs.declared.level.Level.{Level}
-use Rattle.fractal_vt.specs.Levels.{Open, closed, tie_cmp, level_cmp, levels_cmp}
+use Rattle.fractal_vt.specs.Levels.{Open, closed_level, tie_cmp, level_cmp, levels_cmp}
 use Rattle.fractal_vt.specs.Keys.{last, levels}
 use Rattle.fractal_vt.specs.Paths.{Begins}
-use Rattle.fractal_vt.specs.Renumbered.{place_in, with_number, renumbered_level, renumbered, renumbered_key, IsHeld, HoldsDomain, RenumberingKeepsOrder, RenumberingKeepsPrefixes, RenumberingKeepsDomains, NumbersStayApart, PlacesAreWhereNumbersStand}
+use Rattle.fractal_vt.specs.Renumbered.{place_in, with_number, renumbered_level, renumbered_levels, renumbered_key, IsHeld, HoldsDomain, RenumberingKeepsKeyOrder, RenumberingKeepsPrefixes, RenumberingKeepsDomains, NumbersStayApart, PlacesAreWhereNumbersStand}
 use Rattle.fractal_vt.proofs.Total.{level_cmp_total}
-use Rattle.fractal_vt.proofs.KeyLaws.{level_cmp-same, closed-same}
+use Rattle.fractal_vt.proofs.KeyLaws.{level_cmp-same, closed_level-same}
 
 -- what one number of a table adds to the places of others
 abbrev one : ℕ → ℕ → ℕ
@@ -113,15 +113,15 @@ levels_kept table (x ∷ xs) (y ∷ ys) in_x in_y =
     ∙ ap (ordering_then (level_cmp x y)) (levels_kept table xs ys (All-tail (IsHeld table) x xs in_x) (All-tail (IsHeld table) y ys in_y))
 
 -- the levels of the renumbered key are those of the key, each renumbered
-levels_placed : (table : List ℕ) (ds : List Level) (o : Open) → map closed (renumbered table ds) ++ open_placed table o ∷ [] ≡ map (open_placed table) (map closed ds ++ o ∷ [])
+levels_placed : (table : List ℕ) (ds : List Level) (o : Open) → map closed_level (renumbered_levels table ds) ++ open_placed table o ∷ [] ≡ map (open_placed table) (map closed_level ds ++ o ∷ [])
 levels_placed table [] o = refl
-levels_placed table (d ∷ ds) o = ap (λ xs. closed (renumbered_level table d) ∷ xs) (levels_placed table ds o)
+levels_placed table (d ∷ ds) o = ap (λ xs. closed_level (renumbered_level table d) ∷ xs) (levels_placed table ds o)
 
-domain_placed : (table : List ℕ) (ds : List Level) → map closed (renumbered table ds) ≡ map (open_placed table) (map closed ds)
+domain_placed : (table : List ℕ) (ds : List Level) → map closed_level (renumbered_levels table ds) ≡ map (open_placed table) (map closed_level ds)
 domain_placed table [] = refl
-domain_placed table (d ∷ ds) = ap (λ xs. closed (renumbered_level table d) ∷ xs) (domain_placed table ds)
+domain_placed table (d ∷ ds) = ap (λ xs. closed_level (renumbered_level table d) ∷ xs) (domain_placed table ds)
 
-pub keeps_order : RenumberingKeepsOrder
+pub keeps_order : RenumberingKeepsKeyOrder
 keeps_order table a b in_a in_b =
     ap (levels_cmp (levels (renumbered_key table a))) (levels_placed table b.domain (last b))
     ∙ ap (λ xs. levels_cmp xs (map (open_placed table) (levels b))) (levels_placed table a.domain (last a))
@@ -168,19 +168,21 @@ module _ {X : Type 0} (g : X → X) (Ok : X → Type 0) (apart : (x y : X) → O
 
 pub keeps_domains : RenumberingKeepsDomains
 keeps_domains table domain key in_domain in_key =
-    subst (λ xs. Begins xs (levels (renumbered_key table key)) ↔ Begins (map closed domain) (levels key)) (sym (domain_placed table domain))
-    (subst (λ ys. Begins (map (open_placed table) (map closed domain)) ys ↔ Begins (map closed domain) (levels key)) (sym (levels_placed table key.domain (last key)))
-    (begins_kept (open_placed table) (IsHeld table) (level_apart table) (map closed domain) (levels key) in_domain in_key))
+    subst (λ xs. Begins xs (levels (renumbered_key table key)) ↔ Begins (map closed_level domain) (levels key)) (sym (domain_placed table domain))
+    (subst (λ ys. Begins (map (open_placed table) (map closed_level domain)) ys ↔ Begins (map closed_level domain) (levels key)) (sym (levels_placed table key.domain (last key)))
+    (begins_kept (open_placed table) (IsHeld table) (level_apart table) (map closed_level domain) (levels key) in_domain in_key))
 
-held_each : (table : List ℕ) (ds : List Level) → HoldsDomain table ds → All (λ level. IsHeld table (closed level)) ds
-held_each table [] held = All-nil (λ level. IsHeld table (closed level))
+held_each : (table : List ℕ) (ds : List Level) → HoldsDomain table ds
+    → All (λ level. IsHeld table (closed_level level)) ds
+held_each table [] held = All-nil (λ level. IsHeld table (closed_level level))
 held_each table (d ∷ ds) held =
-    All-cons (λ level. IsHeld table (closed level)) d ds (All-head (IsHeld table) (closed d) (map closed ds) held) (held_each table ds (All-tail (IsHeld table) (closed d) (map closed ds) held))
+    All-cons (λ level. IsHeld table (closed_level level)) d ds (All-head (IsHeld table) (closed_level d) (map closed_level ds) held) (held_each table ds (All-tail (IsHeld table) (closed_level d) (map closed_level ds) held))
 
 pub keeps_prefixes : RenumberingKeepsPrefixes
 keeps_prefixes table a b in_a in_b =
-    begins_kept (renumbered_level table) (λ level. IsHeld table (closed level))
-    (λ x y in_x in_y same. closed-same x y (level_apart table (closed x) (closed y) in_x in_y (ap closed same)))
+    begins_kept (renumbered_level table) (λ level. IsHeld table (closed_level level))
+    (λ x y in_x in_y same. closed_level-same x y
+    (level_apart table (closed_level x) (closed_level y) in_x in_y (ap closed_level same)))
     a b (held_each table a in_a) (held_each table b in_b)
 
 -- a number of the table has a place in it

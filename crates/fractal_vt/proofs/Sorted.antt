@@ -12,7 +12,7 @@ use Rattle.std.specs.declared.cmp.Ordering.{Ordering}
 use Rattle.std.specs.declared.cmp.Ordering.TheVariants.{Less, Equal, Greater}
 use Rattle.std.specs.Cmp.{IsTotalOrder}
 use Rattle.std.proofs.lemmas.Cmp.{alike_right, tied_itself}
-use Rattle.fractal_vt.specs.Sorted.{IsInOrder, inserted, place_for}
+use Rattle.fractal_vt.specs.Sorted.{IsInOrder, after_insert, place_for}
 
 pub AllPairs-head : {X : Type 0} (S : X → X → Type 0) (x : X) (xs : List X) → AllPairs S (x ∷ xs) → All (S x) xs
 AllPairs-head S x xs all k d inside = all 0 (suc k) d (omega arith) (omega arith)
@@ -42,11 +42,11 @@ back_upto Equal e = λ no_way. cc
 back_upto Greater e = λ no_way. cc
 
 -- the list with the element is the list with the element at its place
-pub inserted_at : {X : Type 0} (R : X → X → Ordering) (x : X) (xs : List X) → inserted R x xs ≡ insert xs (place_for R x xs) x
+pub inserted_at : {X : Type 0} (R : X → X → Ordering) (x : X) (xs : List X) → after_insert R x xs ≡ insert xs (place_for R x xs) x
 inserted_at R x [] = refl
 inserted_at R x (y ∷ ys) = by_case (is_lt (R x y)) (inserted_at R x ys)
   where
-    by_case : (b : Bool) → inserted R x ys ≡ insert ys (place_for R x ys) x → (if b then x ∷ y ∷ ys else y ∷ inserted R x ys) ≡ insert (y ∷ ys) (if b then 0 else suc (place_for R x ys)) x
+    by_case : (b : Bool) → after_insert R x ys ≡ insert ys (place_for R x ys) x → (if b then x ∷ y ∷ ys else y ∷ after_insert R x ys) ≡ insert (y ∷ ys) (if b then 0 else suc (place_for R x ys)) x
     by_case true more = refl
     by_case false more = ap (λ zs. y ∷ zs) more
 
@@ -58,33 +58,35 @@ place_within R x (y ∷ ys) = by_case (is_lt (R x y)) (place_within R x ys)
     by_case true more = omega arith
     by_case false more = omega arith
 
-pub inserted-permutes : {X : Type 0} (R : X → X → Ordering) (x : X) (xs : List X) → IsPermutation (x ∷ xs) (inserted R x xs)
-inserted-permutes R x xs = subst (IsPermutation (x ∷ xs)) (sym (inserted_at R x xs)) (IsPermutation-insert xs (place_for R x xs) x)
+pub after_insert-permutes : {X : Type 0} (R : X → X → Ordering) (x : X) (xs : List X) → IsPermutation (x ∷ xs) (after_insert R x xs)
+after_insert-permutes R x xs = subst (IsPermutation (x ∷ xs)) (sym (inserted_at R x xs)) (IsPermutation-insert xs (place_for R x xs) x)
 
-pub length-inserted : {X : Type 0} (R : X → X → Ordering) (x : X) (xs : List X) → length (inserted R x xs) ≡ suc (length xs)
-length-inserted R x [] = refl
-length-inserted R x (y ∷ ys) = by_case (is_lt (R x y)) (length-inserted R x ys)
+pub length-after_insert : {X : Type 0} (R : X → X → Ordering) (x : X) (xs : List X) → length (after_insert R x xs) ≡ suc (length xs)
+length-after_insert R x [] = refl
+length-after_insert R x (y ∷ ys) = by_case (is_lt (R x y)) (length-after_insert R x ys)
   where
-    by_case : (b : Bool) → length (inserted R x ys) ≡ suc (length ys) → length (if b then x ∷ y ∷ ys else y ∷ inserted R x ys) ≡ suc (suc (length ys))
+    by_case : (b : Bool) → length (after_insert R x ys) ≡ suc (length ys) → length (if b then x ∷ y ∷ ys else y ∷ after_insert R x ys) ≡ suc (suc (length ys))
     by_case true more = refl
     by_case false more = ap suc more
 
-pub All-inserted : {X : Type 0} (P : X → Type 0) (R : X → X → Ordering) (x : X) (xs : List X) → P x → All P xs → All P (inserted R x xs)
-All-inserted P R x [] here all = All-cons P x [] here (All-nil P)
-All-inserted P R x (y ∷ ys) here all = by_case (is_lt (R x y)) (All-inserted P R x ys here (All-tail P y ys all))
+pub All-after_insert : {X : Type 0} (P : X → Type 0) (R : X → X → Ordering) (x : X) (xs : List X) → P x → All P xs → All P (after_insert R x xs)
+All-after_insert P R x [] here all = All-cons P x [] here (All-nil P)
+All-after_insert P R x (y ∷ ys) here all =
+    by_case (is_lt (R x y)) (All-after_insert P R x ys here (All-tail P y ys all))
   where
-    by_case : (b : Bool) → All P (inserted R x ys) → All P (if b then x ∷ y ∷ ys else y ∷ inserted R x ys)
+    by_case : (b : Bool) → All P (after_insert R x ys) → All P (if b then x ∷ y ∷ ys else y ∷ after_insert R x ys)
     by_case true more = All-cons P x (y ∷ ys) here all
-    by_case false more = All-cons P y (inserted R x ys) (All-head P y ys all) more
+    by_case false more = All-cons P y (after_insert R x ys) (All-head P y ys all) more
 
 -- pairs that a symmetric relation joins
-pub AllPairs-inserted : {X : Type 0} (S : X → X → Type 0) (flips : (a b : X) → S a b → S b a) (R : X → X → Ordering) (x : X) (xs : List X) → All (S x) xs → AllPairs S xs → AllPairs S (inserted R x xs)
-AllPairs-inserted S flips R x [] all pairs = AllPairs-cons S x [] all pairs
-AllPairs-inserted S flips R x (y ∷ ys) all pairs = by_case (is_lt (R x y)) (AllPairs-inserted S flips R x ys (All-tail (S x) y ys all) (AllPairs-tail S y ys pairs))
+pub AllPairs-after_insert : {X : Type 0} (S : X → X → Type 0) (flips : (a b : X) → S a b → S b a) (R : X → X → Ordering) (x : X) (xs : List X) → All (S x) xs → AllPairs S xs → AllPairs S (after_insert R x xs)
+AllPairs-after_insert S flips R x [] all pairs = AllPairs-cons S x [] all pairs
+AllPairs-after_insert S flips R x (y ∷ ys) all pairs = by_case (is_lt (R x y)) (AllPairs-after_insert S flips R x ys (All-tail (S x) y ys all) (AllPairs-tail S y ys pairs))
   where
-    by_case : (b : Bool) → AllPairs S (inserted R x ys) → AllPairs S (if b then x ∷ y ∷ ys else y ∷ inserted R x ys)
+    by_case : (b : Bool) → AllPairs S (after_insert R x ys)
+        → AllPairs S (if b then x ∷ y ∷ ys else y ∷ after_insert R x ys)
     by_case true more = AllPairs-cons S x (y ∷ ys) all pairs
-    by_case false more = AllPairs-cons S y (inserted R x ys) (All-inserted (S y) R x ys (flips x y (All-head (S x) y ys all)) (AllPairs-head S y ys pairs)) more
+    by_case false more = AllPairs-cons S y (after_insert R x ys) (All-after_insert (S y) R x ys (flips x y (All-head (S x) y ys all)) (AllPairs-head S y ys pairs)) more
 
 module _ {X : Type 0} (R : X → X → Ordering) (total : IsTotalOrder R) where
   abbrev Upto : X → X → Type 0
@@ -93,14 +95,14 @@ module _ {X : Type 0} (R : X → X → Ordering) (total : IsTotalOrder R) where
   upto_rest : (x y : X) (ys : List X) → R x y ≡ Less → All (Upto y) ys → All (Upto x) (y ∷ ys)
   upto_rest x y ys less all = All-cons (Upto x) y ys (less_upto (R x y) less) (λ k d inside. less_upto (R x (get_or ys k d)) (less_then total x y (get_or ys k d) less (all k d inside)))
 
-  pub in_order-inserted : (x : X) (xs : List X) → IsInOrder R xs → IsInOrder R (inserted R x xs)
-  in_order-inserted x [] order = AllPairs-cons Upto x [] (All-nil (Upto x)) order
-  in_order-inserted x (y ∷ ys) order = by_case (is_lt (R x y)) refl (in_order-inserted x ys (AllPairs-tail Upto y ys order))
+  pub in_order-after_insert : (x : X) (xs : List X) → IsInOrder R xs → IsInOrder R (after_insert R x xs)
+  in_order-after_insert x [] order = AllPairs-cons Upto x [] (All-nil (Upto x)) order
+  in_order-after_insert x (y ∷ ys) order = by_case (is_lt (R x y)) refl (in_order-after_insert x ys (AllPairs-tail Upto y ys order))
     where
-      by_case : (b : Bool) → is_lt (R x y) ≡ b → IsInOrder R (inserted R x ys) → IsInOrder R (if b then x ∷ y ∷ ys else y ∷ inserted R x ys)
+      by_case : (b : Bool) → is_lt (R x y) ≡ b → IsInOrder R (after_insert R x ys) → IsInOrder R (if b then x ∷ y ∷ ys else y ∷ after_insert R x ys)
       by_case true less more = AllPairs-cons Upto x (y ∷ ys) (upto_rest x y ys (less_from (R x y) less) (AllPairs-head Upto y ys order)) order
-      by_case false not more = AllPairs-cons Upto y (inserted R x ys)
-          (All-inserted (Upto y) R x ys (subst (λ o. o ≢ Greater) (sym (total.antisymm y x)) (back_upto (R x y) not)) (AllPairs-head Upto y ys order))
+      by_case false not more = AllPairs-cons Upto y (after_insert R x ys)
+          (All-after_insert (Upto y) R x ys (subst (λ o. o ≢ Greater) (sym (total.antisymm y x)) (back_upto (R x y) not)) (AllPairs-head Upto y ys order))
           more
 
   -- the search for the place: at an element that is greater it is no later
@@ -159,11 +161,11 @@ module _ {X : Type 0} (R : X → X → Ordering) (total : IsTotalOrder R) (x : X
       by_case Equal is = ap (λ zs. x ∷ zs) none
       by_case Greater is = absurd (cc (is))
 
-  both : (y : X) (ys : List X) (b : Bool) → filter ties (inserted R x ys) ≡ filter ties ys ++ x ∷ [] → cond b (y ∷ filter ties (inserted R x ys)) (filter ties (inserted R x ys)) ≡ cond b (y ∷ filter ties ys) (filter ties ys) ++ x ∷ []
+  both : (y : X) (ys : List X) (b : Bool) → filter ties (after_insert R x ys) ≡ filter ties ys ++ x ∷ [] → cond b (y ∷ filter ties (after_insert R x ys)) (filter ties (after_insert R x ys)) ≡ cond b (y ∷ filter ties ys) (filter ties ys) ++ x ∷ []
   both y ys true more = ap (λ zs. y ∷ zs) more
   both y ys false more = more
 
-  pub ties_behind : (xs : List X) → IsInOrder R xs → filter (λ y. is_eq (R x y)) (inserted R x xs) ≡ filter (λ y. is_eq (R x y)) xs ++ x ∷ []
+  pub ties_behind : (xs : List X) → IsInOrder R xs → filter (λ y. is_eq (R x y)) (after_insert R x xs) ≡ filter (λ y. is_eq (R x y)) xs ++ x ∷ []
   ties_behind [] order = alone [] refl
   ties_behind (y ∷ ys) order =
       by_case (R x y) refl (ties_behind ys (AllPairs-tail (λ a b. R a b ≢ Greater) y ys order))
@@ -171,8 +173,8 @@ module _ {X : Type 0} (R : X → X → Ordering) (total : IsTotalOrder R) (x : X
       rest_above : R x y ≡ Less → filter ties (y ∷ ys) ≡ []
       rest_above less = none_ties (y ∷ ys) (All-cons (λ z. R x z ≡ Less) y ys less (λ k d inside. less_then total x y (get_or ys k d) less (AllPairs-head (λ a b. R a b ≢ Greater) y ys order k d inside)))
 
-      by_case : (o : Ordering) → R x y ≡ o → filter ties (inserted R x ys) ≡ filter ties ys ++ x ∷ []
-          → filter ties (if is_lt o then x ∷ y ∷ ys else y ∷ inserted R x ys) ≡ filter ties (y ∷ ys) ++ x ∷ []
+      by_case : (o : Ordering) → R x y ≡ o → filter ties (after_insert R x ys) ≡ filter ties ys ++ x ∷ []
+          → filter ties (if is_lt o then x ∷ y ∷ ys else y ∷ after_insert R x ys) ≡ filter ties (y ∷ ys) ++ x ∷ []
       by_case Less is more = alone (y ∷ ys) (rest_above is) ∙ ap (λ zs. zs ++ x ∷ []) (sym (rest_above is))
       by_case Equal is more = both y ys (is_eq (R x y)) more
       by_case Greater is more = both y ys (is_eq (R x y)) more
@@ -197,11 +199,13 @@ module _ {X : Type 0} (R : X → X → Ordering) (total : IsTotalOrder R) (same 
       by_case Greater is = ap is_lt is
 
   -- elements go in in either order
-  pub inserted-inserted : (a b : X) (xs : List X) → inserted R a (inserted R b xs) ≡ inserted R b (inserted R a xs)
-  inserted-inserted a b [] = pair_swaps a b []
-  inserted-inserted a b (y ∷ ys) = by_case (is_lt (R a y)) (is_lt (R b y)) refl refl (inserted-inserted a b ys)
+  pub after_insert-after_insert : (a b : X) (xs : List X)
+      → after_insert R a (after_insert R b xs) ≡ after_insert R b (after_insert R a xs)
+  after_insert-after_insert a b [] = pair_swaps a b []
+  after_insert-after_insert a b (y ∷ ys) =
+      by_case (is_lt (R a y)) (is_lt (R b y)) refl refl (after_insert-after_insert a b ys)
     where
-      by_case : (p q : Bool) → is_lt (R a y) ≡ p → is_lt (R b y) ≡ q → inserted R a (inserted R b ys) ≡ inserted R b (inserted R a ys) → inserted R a (inserted R b (y ∷ ys)) ≡ inserted R b (inserted R a (y ∷ ys))
+      by_case : (p q : Bool) → is_lt (R a y) ≡ p → is_lt (R b y) ≡ q → after_insert R a (after_insert R b ys) ≡ after_insert R b (after_insert R a ys) → after_insert R a (after_insert R b (y ∷ ys)) ≡ after_insert R b (after_insert R a (y ∷ ys))
       by_case true true ea eb more = simp (ea, eb) (pair_swaps a b (y ∷ ys))
       by_case true false ea eb more = let no = not_before a b y ea eb in simp (ea, eb, no)
       by_case false true ea eb more = let no = not_before b a y eb ea in simp (ea, eb, no)
@@ -210,18 +214,18 @@ module _ {X : Type 0} (R : X → X → Ordering) (total : IsTotalOrder R) (same 
   -- a list in its order
   abbrev pub in_turn : List X → List X
   in_turn [] = []
-  in_turn (x ∷ xs) = inserted R x (in_turn xs)
+  in_turn (x ∷ xs) = after_insert R x (in_turn xs)
 
-  pub in_turn-middle : (front : List X) (x : X) (back : List X) → in_turn (front ++ x ∷ back) ≡ inserted R x (in_turn (front ++ back))
+  pub in_turn-middle : (front : List X) (x : X) (back : List X) → in_turn (front ++ x ∷ back) ≡ after_insert R x (in_turn (front ++ back))
   in_turn-middle [] x back = refl
-  in_turn-middle (f ∷ front) x back = ap (inserted R f) (in_turn-middle front x back) ∙ inserted-inserted f x (in_turn (front ++ back))
+  in_turn-middle (f ∷ front) x back = ap (after_insert R f) (in_turn-middle front x back) ∙ after_insert-after_insert f x (in_turn (front ++ back))
 
   -- an element that is greater than none of a list goes to its front
-  pub front-inserted : (x : X) (xs : List X) → All (λ y. R x y ≢ Greater) xs → inserted R x xs ≡ x ∷ xs
-  front-inserted x [] all = refl
-  front-inserted x (y ∷ ys) all = by_case (R x y) refl (All-head (λ y. R x y ≢ Greater) y ys all) (λ one. front-inserted x ys (All-tail (λ y. R x y ≢ Greater) y ys all))
+  pub front-after_insert : (x : X) (xs : List X) → All (λ y. R x y ≢ Greater) xs → after_insert R x xs ≡ x ∷ xs
+  front-after_insert x [] all = refl
+  front-after_insert x (y ∷ ys) all = by_case (R x y) refl (All-head (λ y. R x y ≢ Greater) y ys all) (λ one. front-after_insert x ys (All-tail (λ y. R x y ≢ Greater) y ys all))
     where
-      by_case : (o : Ordering) → R x y ≡ o → o ≢ Greater → (x ≡ y → inserted R x ys ≡ x ∷ ys) → (if is_lt o then x ∷ y ∷ ys else y ∷ inserted R x ys) ≡ x ∷ y ∷ ys
+      by_case : (o : Ordering) → R x y ≡ o → o ≢ Greater → (x ≡ y → after_insert R x ys ≡ x ∷ ys) → (if is_lt o then x ∷ y ∷ ys else y ∷ after_insert R x ys) ≡ x ∷ y ∷ ys
       by_case Less is upto more = refl
       by_case Equal is upto more = let one = same x y is in ap (λ zs. y ∷ zs) (more one) ∙ (λ i. sym one i ∷ one i ∷ ys)
       by_case Greater is upto more = absurd (upto refl)
@@ -230,5 +234,5 @@ module _ {X : Type 0} (R : X → X → Ordering) (total : IsTotalOrder R) (same 
   pub in_turn-in_order : (xs : List X) → IsInOrder R xs → in_turn xs ≡ xs
   in_turn-in_order [] order = refl
   in_turn-in_order (x ∷ xs) order =
-      ap (inserted R x) (in_turn-in_order xs (AllPairs-tail (λ a b. R a b ≢ Greater) x xs order))
-      ∙ front-inserted x xs (AllPairs-head (λ a b. R a b ≢ Greater) x xs order)
+      ap (after_insert R x) (in_turn-in_order xs (AllPairs-tail (λ a b. R a b ≢ Greater) x xs order))
+      ∙ front-after_insert x xs (AllPairs-head (λ a b. R a b ≢ Greater) x xs order)

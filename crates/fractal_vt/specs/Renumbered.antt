@@ -4,7 +4,7 @@ use Rattle.std.specs.Option.{option_map}
 use Rattle.std.specs.List.Sorted.{IsStrictlyIncreasing}
 use Rattle.fractal_vt.specs.declared.level.Level.{Level}
 use Rattle.fractal_vt.specs.declared.key.Key.{Key}
-use Rattle.fractal_vt.specs.Levels.{Open, closed}
+use Rattle.fractal_vt.specs.Levels.{Open, closed_level}
 use Rattle.fractal_vt.specs.Keys.{levels, key_cmp}
 use Rattle.fractal_vt.specs.Paths.{Begins}
 
@@ -21,13 +21,13 @@ abbrev pub renumbered_level : List ℕ → Level → Level
 renumbered_level table level = record { ts = level.ts; tb = place_in table level.tb }
 
 -- the same of all levels of a domain or a path
-abbrev pub renumbered : List ℕ → List Level → List Level
-renumbered table domain = map (renumbered_level table) domain
+abbrev pub renumbered_levels : List ℕ → List Level → List Level
+renumbered_levels table domain = map (renumbered_level table) domain
 
 -- the same of all levels of a key; an open tiebreaker stays open
 abbrev pub renumbered_key : List ℕ → Key → Key
 renumbered_key table key = record {
-  domain = renumbered table key.domain;
+  domain = renumbered_levels table key.domain;
   ts = key.ts;
   tb = option_map (place_in table) key.tb;
 }
@@ -38,15 +38,15 @@ IsHeld table level = IfSome level.tb (Contains table)
 
 -- the tiebreakers of a domain or a path stand in the table
 abbrev pub HoldsDomain : List ℕ → List Level → Type 0
-HoldsDomain table domain = All (IsHeld table) (map closed domain)
+HoldsDomain table domain = All (IsHeld table) (map closed_level domain)
 
 -- the tiebreakers of a key stand in the table, but for an open one
 abbrev pub HoldsKey : List ℕ → Key → Type 0
 HoldsKey table key = All (IsHeld table) (levels key)
 
 -- keys whose tiebreakers a table holds compare by the places as by the tiebreakers
-abbrev pub RenumberingKeepsOrder : Type 0
-RenumberingKeepsOrder =
+abbrev pub RenumberingKeepsKeyOrder : Type 0
+RenumberingKeepsKeyOrder =
     (table : List ℕ) (a b : Key) → HoldsKey table a → HoldsKey table b
     → key_cmp (renumbered_key table a) (renumbered_key table b) ≡ key_cmp a b
 
@@ -54,14 +54,14 @@ RenumberingKeepsOrder =
 abbrev pub RenumberingKeepsPrefixes : Type 0
 RenumberingKeepsPrefixes =
     (table : List ℕ) (a b : List Level) → HoldsDomain table a → HoldsDomain table b
-    → Begins (renumbered table a) (renumbered table b) ↔ Begins a b
+    → Begins (renumbered_levels table a) (renumbered_levels table b) ↔ Begins a b
 
 -- a domain begins the levels of a key exactly where it does so renumbered
 abbrev pub RenumberingKeepsDomains : Type 0
 RenumberingKeepsDomains =
     (table : List ℕ) (domain : List Level) (key : Key) → HoldsDomain table domain → HoldsKey table key
-    → Begins (map closed (renumbered table domain)) (levels (renumbered_key table key))
-    ↔ Begins (map closed domain) (levels key)
+    → Begins (map closed_level (renumbered_levels table domain)) (levels (renumbered_key table key))
+    ↔ Begins (map closed_level domain) (levels key)
 
 -- two numbers of a table have one place exactly where they are one
 abbrev pub NumbersStayApart : Type 0

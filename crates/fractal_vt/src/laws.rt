@@ -1,6 +1,9 @@
+//! Laws of the order of keys, and of renumbering.
+
 ghost use Rattle.std.specs.Cmp.{IsTotalOrder};
 ghost use Rattle.fractal_vt.specs.Keys.{key_cmp};
-ghost use Rattle.fractal_vt.specs.Renumbered.{RenumberingKeepsOrder, RenumberingKeepsPrefixes, RenumberingKeepsDomains};
+ghost use Rattle.fractal_vt.specs.Renumbered.{RenumberingKeepsKeyOrder, RenumberingKeepsPrefixes};
+ghost use Rattle.fractal_vt.specs.Renumbered.{RenumberingKeepsDomains};
 ghost use Rattle.fractal_vt.specs.Renumbered.{NumbersStayApart, PlacesAreWhereNumbersStand};
 ghost use Rattle.fractal_vt.specs.Laws.{OnlyEqualKeysTie, ExtensionsAreGreater, OpenIsAboveNumbers, DeeperIsLess};
 ghost use Rattle.fractal_vt.specs.Laws.{LastLevelsDecide};
@@ -36,8 +39,8 @@ pub fn same_depth_by_last_level()
 {}
 
 /// Law: keys whose tiebreakers a table holds compare by the tiebreakers' places in it as by the tiebreakers.
-pub fn renumbering_keeps_order()
-    ensures { RenumberingKeepsOrder }
+pub fn renumbering_keeps_key_order()
+    ensures { RenumberingKeepsKeyOrder }
 {}
 
 /// Law: of two domains whose tiebreakers a table holds, one begins the other exactly where it does so renumbered.

@@ -1,6 +1,8 @@
+//! Tiebreakers replaced by their places in a table.
+
 ghost use Rattle.std.specs.Prelude.{◌≡◌, map};
 ghost use Rattle.std.specs.List.Sorted.{IsStrictlyIncreasing};
-ghost use Rattle.fractal_vt.specs.Renumbered.{place_in, renumbered_level, renumbered, renumbered_key};
+ghost use Rattle.fractal_vt.specs.Renumbered.{place_in, renumbered_level, renumbered_levels, renumbered_key};
 
 use crate::key::Key;
 use crate::level::Level;
@@ -32,9 +34,9 @@ pub(crate) fn renumber_level(level: Level, table: &[u64]) -> Level
 /// does not hold gets the place that it would take. No memory.
 pub fn renumber(vt: &Vt, table: &[u64]) -> Vt
     requires rising { IsStrictlyIncreasing table.now }
-    ensures { result ≡ renumbered table.now vt.now }
+    ensures { result ≡ renumbered_levels table.now vt.now }
 {
-    vt.renumbered(table)
+    vt.with_places_of(table)
 }
 
 /// The key with each tiebreaker replaced by its place in the table, as `renumber` does; an open one stays open. No

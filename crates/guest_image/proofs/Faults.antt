@@ -7,7 +7,7 @@ use Rattle.guest_image.specs.declared.image.Image.{Image}
 use Rattle.guest_image.specs.declared.fault.ImageFault.{ImageFault}
 use Rattle.guest_image.specs.declared.fault.ImageFault.TheVariants.{Short, Magic, Version, RootKind, Limit, Window, NoTask, Memory}
 use Rattle.guest_image.specs.ImageValue.{ImageValue}
-use Rattle.guest_image.specs.Reading.{Gives, Fails, image_of, header_fault}
+use Rattle.guest_image.specs.Reading.{GivesImage, Fails, image_of, header_fault}
 
 -- a fault of the bytes is told as it is
 fails : (e : ImageFault) (read : Result (ImageValue × ℕ) ImageFault) → e ≢ Memory → read ≡ Err e → Fails e read
@@ -28,7 +28,7 @@ image_of-fault bytes e enough is =
 
 -- reading hands the fault of the header on
 pub gives_fault : (bytes : List ℕ) (result : Result (Image × ℕ) ImageFault) (e : ImageFault) → IsErrAnd result (λ told. told ≡ e)
-    → 32 ≤ length bytes → Err e ≡ header_fault bytes → e ≢ Memory → Gives result (image_of bytes)
+    → 32 ≤ length bytes → Err e ≡ header_fault bytes → e ≢ Memory → GivesImage result (image_of bytes)
 gives_fault bytes (Ok x) e told enough is own = absurd told
 gives_fault bytes (Err f) e told enough is own =
     fails f (image_of bytes) (λ memory. own (sym told ∙ memory)) (image_of-fault bytes e enough (sym is) ∙ ap (λ x. Err x) (sym told))

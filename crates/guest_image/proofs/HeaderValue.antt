@@ -6,7 +6,7 @@ use Rattle.guest_image.specs.declared.image.Kind.{Kind}
 use Rattle.guest_image.specs.declared.image.ImageTask.{ImageTask}
 use Rattle.guest_image.specs.Limits.{AreWithinLimits}
 use Rattle.guest_image.specs.Numbers.{word_at, half_at}
-use Rattle.guest_image.specs.Reading.{HeaderFits, value_of, words_from, tasks_from, task_at, root_kind}
+use Rattle.guest_image.specs.Reading.{HeaderFits, value_in_bytes, words_from, tasks_from, image_task_at, root_kind}
 
 length-words_from : (bytes : List ℕ) (at n : ℕ) → length (words_from bytes at n) ≡ n
 unfolding words_from
@@ -14,7 +14,7 @@ length-words_from bytes at n = length-map-range_with_len (λ k. word_at bytes (a
 
 length-tasks_from : (bytes : List ℕ) (at n : ℕ) → length (tasks_from bytes at n) ≡ n
 unfolding tasks_from
-length-tasks_from bytes at n = length-map-range_with_len (λ k. task_at bytes (at + 20 * k)) 0 n
+length-tasks_from bytes at n = length-map-range_with_len (λ k. image_task_at bytes (at + 20 * k)) 0 n
 
 length-part : (bytes : List ℕ) (n m : ℕ) → 32 + 4 * n + m ≤ length bytes → length (slice_range bytes (32 + 4 * n) (32 + 4 * n + m)) ≡ m
 length-part bytes n m room =
@@ -38,6 +38,6 @@ pub value_from : (bytes : List ℕ) (v : ℕ) (k : Kind) (n m t d o w : ℕ) (te
     → d ≡ word_at bytes 16 → o ≡ word_at bytes 20 → w ≡ word_at bytes 24
     → text ≡ words_from bytes 32 n → initial ≡ slice_range bytes (32 + 4 * n) (32 + 4 * n + m)
     → tasks ≡ tasks_from bytes (32 + 4 * n + m) t
-    → record { version = v; kind = k; text = text; initial = initial; data_size = d; window_offset = o; window_words = w; tasks = tasks } ≡ value_of bytes
-unfolding value_of
+    → record { version = v; kind = k; text = text; initial = initial; data_size = d; window_offset = o; window_words = w; tasks = tasks } ≡ value_in_bytes bytes
+unfolding value_in_bytes
 value_from bytes v k n m t d o w text initial tasks ev ek en em et ed eo ew ex ei ea = rw (ex, ei, ea, ev, ek, en, em, et, ed, eo, ew) refl

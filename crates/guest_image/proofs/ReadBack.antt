@@ -11,8 +11,8 @@ use Rattle.guest_image.specs.declared.image.Kind.TheVariants.{Unordered, Ordered
 use Rattle.guest_image.specs.Numbers.{word_at, half_at, word_bytes, half_bytes}
 use Rattle.guest_image.specs.ImageValue.{ImageValue, IsImage, IsVersion}
 use Rattle.guest_image.specs.Limits.{limits_fault, AreWithinLimits}
-use Rattle.guest_image.specs.Reading.{image_of, words_from, tasks_from, task_at, value_of, header_fault, whole_length, root_kind}
-use Rattle.guest_image.specs.Writing.{kind_number, header_bytes, task_bytes, image_bytes, ReadsBack}
+use Rattle.guest_image.specs.Reading.{image_of, words_from, tasks_from, image_task_at, value_in_bytes, header_fault, whole_length, root_kind}
+use Rattle.guest_image.specs.Writing.{kind_number, header_bytes, task_bytes, image_bytes, ImageReadsBack}
 use Rattle.guest_image.proofs.WordsBack.{words_back, tasks_back, length-words, length-tasks}
 
 -- the bytes of an image before others, grouped to the right
@@ -157,11 +157,11 @@ first_tasks_back i rest h =
     let front = (header_bytes i ++ T) ++ i.initial in
     let bytes : front ++ (K ++ rest) ≡ header_bytes i ++ (T ++ (i.initial ++ (K ++ rest))) = append_assoc (header_bytes i ++ T) i.initial (K ++ rest) ∙ append_assoc (header_bytes i) T (i.initial ++ (K ++ rest)) in
     let count : at + 20 * 0 ≡ length front = omega (arith, length-append (header_bytes i ++ T) i.initial, length-append (header_bytes i) T, length-words i.text) in
-    subst (λ bs. map (λ k. task_at bs (at + 20 * k)) (range_with_len 0 (length i.tasks)) ≡ i.tasks) bytes
+    subst (λ bs. map (λ k. image_task_at bs (at + 20 * k)) (range_with_len 0 (length i.tasks)) ≡ i.tasks) bytes
     (tasks_back front rest i.tasks at 0 count (recursion_from_All _ i.tasks h.each_task))
 
-value_back : (i : ImageValue) (rest : List ℕ) → IsImage i → Header i (laid i rest) → value_of (laid i rest) ≡ i
-unfolding value_of
+value_back : (i : ImageValue) (rest : List ℕ) → IsImage i → Header i (laid i rest) → value_in_bytes (laid i rest) ≡ i
+unfolding value_in_bytes
 value_back i rest h w =
     rw (w.version, w.kind, w.text, w.initial, w.size, w.offset, w.words, w.tasks, kind_back i.kind, text_back i rest h, initial_back i rest, first_tasks_back i rest h) refl
 
@@ -178,7 +178,7 @@ laid_back i rest h =
     let own : nat_lt (length (laid i rest)) (size_of i) ≡ false = grind (arith, nat_tests, common_steps, n) in
     rw (long, header_fault-none i (laid i rest) h w, whole_back i rest w, own, value_back i rest h w) refl
 
-pub read_back : ReadsBack
+pub read_back : ImageReadsBack
 read_back i rest h =
     ap image_of (image_bytes-append i rest) ∙ laid_back i rest h ∙ ap (λ n. Ok (i, n)) (sym (length-image_bytes i h))
 

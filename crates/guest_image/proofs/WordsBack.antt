@@ -7,7 +7,7 @@ use Rattle.byteorder.specs.Numbers.{little_number-reads_back}
 use Rattle.guest_image.specs.declared.image.ImageTask.{ImageTask}
 use Rattle.guest_image.specs.Numbers.{word_at, word_bytes}
 use Rattle.guest_image.specs.ImageValue.{IsTask}
-use Rattle.guest_image.specs.Reading.{task_at}
+use Rattle.guest_image.specs.Reading.{image_task_at}
 use Rattle.guest_image.specs.Writing.{task_bytes}
 use Rattle.std.proofs.lemmas.List.Elements.{recursion_from_All}
 
@@ -49,8 +49,8 @@ five_back e ts a b c back he hts ha hb hc = (
 )
 
 parts_back : (front back : List ℕ) (e ts : ℕ) (args : List ℕ) → e < 2 ^ 32 → ts < 2 ^ 32 → length args ≡ 3 → AreWords args
-    → task_at (front ++ (flat_map word_bytes (e ∷ ts ∷ args) ++ back)) (length front) ≡ record { entry = e; ts = ts; args = args }
-unfolding task_at
+    → image_task_at (front ++ (flat_map word_bytes (e ∷ ts ∷ args) ++ back)) (length front) ≡ record { entry = e; ts = ts; args = args }
+unfolding image_task_at
 parts_back front back e ts [] he hts three small = absurd (omega (arith, three))
 parts_back front back e ts (a ∷ []) he hts three small = absurd (omega (arith, three))
 parts_back front back e ts (a ∷ b ∷ []) he hts three small = absurd (omega (arith, three))
@@ -63,7 +63,7 @@ parts_back front back e ts (a ∷ b ∷ c ∷ []) he hts three small =
     rw (first, k 4 ∙ w.1, k 8 ∙ w.2, k 12 ∙ w.3, k 16 ∙ w.4) refl
 parts_back front back e ts (a ∷ b ∷ c ∷ d ∷ r) he hts three small = absurd (omega (arith, three))
 
-task_back : (front back : List ℕ) (t : ImageTask) → IsTask t → task_at (front ++ (task_bytes t ++ back)) (length front) ≡ t
+task_back : (front back : List ℕ) (t : ImageTask) → IsTask t → image_task_at (front ++ (task_bytes t ++ back)) (length front) ≡ t
 task_back front back t is = parts_back front back t.entry t.ts t.args is.entry is.ts is.three (recursion_from_All _ t.args is.args)
 
 pub length-words : (words : List ℕ) → length (flat_map word_bytes words) ≡ 4 * length words
@@ -74,14 +74,14 @@ length-task_bytes : (t : ImageTask) → IsTask t → length (task_bytes t) ≡ 2
 length-task_bytes t is = omega (arith, length-words t.args, is.three)
 
 pub tasks_back : (front back : List ℕ) (tasks : List ImageTask) (at n : ℕ) → at + 20 * n ≡ length front → AllByRecursion IsTask tasks
-    → map (λ k. task_at (front ++ (flat_map task_bytes tasks ++ back)) (at + 20 * k)) (range_with_len n (length tasks)) ≡ tasks
+    → map (λ k. image_task_at (front ++ (flat_map task_bytes tasks ++ back)) (at + 20 * k)) (range_with_len n (length tasks)) ≡ tasks
 tasks_back front back [] at n e each = refl
 tasks_back front back (t ∷ ts) at n e each =
     let bytes : front ++ ((task_bytes t ++ flat_map task_bytes ts) ++ back) ≡ (front ++ task_bytes t) ++ (flat_map task_bytes ts ++ back) = simp (append_assoc) refl in
-    let first : task_at (front ++ ((task_bytes t ++ flat_map task_bytes ts) ++ back)) (at + 20 * n) ≡ t = rw (e, append_assoc) (task_back front (flat_map task_bytes ts ++ back) t each.0) in
+    let first : image_task_at (front ++ ((task_bytes t ++ flat_map task_bytes ts) ++ back)) (at + 20 * n) ≡ t = rw (e, append_assoc) (task_back front (flat_map task_bytes ts ++ back) t each.0) in
     let rest = tasks_back (front ++ task_bytes t) back ts at (n + 1) (omega (arith, e, length-append front (task_bytes t), length-task_bytes t each.0)) each.1 in
-    let again = subst (λ bs. map (λ k. task_at bs (at + 20 * k)) (range_with_len (n + 1) (length ts)) ≡ ts) (sym bytes) rest in
-    ap (λ x. x ∷ map (λ k. task_at (front ++ ((task_bytes t ++ flat_map task_bytes ts) ++ back)) (at + 20 * k)) (range_with_len (n + 1) (length ts))) first ∙ ap (λ xs. t ∷ xs) again
+    let again = subst (λ bs. map (λ k. image_task_at bs (at + 20 * k)) (range_with_len (n + 1) (length ts)) ≡ ts) (sym bytes) rest in
+    ap (λ x. x ∷ map (λ k. image_task_at (front ++ ((task_bytes t ++ flat_map task_bytes ts) ++ back)) (at + 20 * k)) (range_with_len (n + 1) (length ts))) first ∙ ap (λ xs. t ∷ xs) again
 
 pub length-tasks : (tasks : List ImageTask) → AllByRecursion IsTask tasks → length (flat_map task_bytes tasks) ≡ 20 * length tasks
 length-tasks [] each = refl

@@ -1,3 +1,4 @@
+-- Contracts mean all of these.
 pub mod Fault
 pub mod Fetch
 pub mod Numbers

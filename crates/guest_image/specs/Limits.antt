@@ -37,8 +37,8 @@ AreInLimits image =
     (length image.tasks)
 
 -- a length as a fault tells it, in a number of 4 bytes
-abbrev pub told : ℕ → ℕ
-told n = min n 4294967295
+abbrev pub fault_length : ℕ → ℕ
+fault_length n = min n 4294967295
 
 -- the value, where there is no fault
 abbrev pub unless_fault : Result (Unit {0}) ImageFault → ImageValue → Result ImageValue ImageFault
@@ -49,6 +49,7 @@ unless_fault (Err e) value = Err e
 unfoldable pub image_made : ImageValue → Result ImageValue ImageFault
 image_made value =
     unless_fault
-    (limits_fault (told (length value.text)) (told (length value.initial)) value.data_size value.window_offset
-    value.window_words (told (length value.tasks)))
+    (limits_fault (fault_length (length value.text))
+    (fault_length (length value.initial)) value.data_size value.window_offset
+    value.window_words (fault_length (length value.tasks)))
     value

@@ -17,8 +17,8 @@ unfoldable pub words_from : List ℕ → ℕ → ℕ → List ℕ
 words_from bytes at count = map (λ k. word_at bytes (at + 4 * k)) (range_with_len 0 count)
 
 -- the task in the 20 bytes from an offset on
-unfoldable pub task_at : List ℕ → ℕ → ImageTask
-task_at bytes at = record {
+unfoldable pub image_task_at : List ℕ → ℕ → ImageTask
+image_task_at bytes at = record {
   entry = word_at bytes at;
   ts = word_at bytes (at + 4);
   args = word_at bytes (at + 8) ∷ word_at bytes (at + 12) ∷ word_at bytes (at + 16) ∷ [];
@@ -26,7 +26,7 @@ task_at bytes at = record {
 
 -- as many tasks, one after another from an offset on
 unfoldable pub tasks_from : List ℕ → ℕ → ℕ → List ImageTask
-tasks_from bytes at count = map (λ k. task_at bytes (at + 20 * k)) (range_with_len 0 count)
+tasks_from bytes at count = map (λ k. image_task_at bytes (at + 20 * k)) (range_with_len 0 count)
 
 -- each row of the header's table of faults: where the test holds it is this fault, else the next row is tried
 unfoldable pub header_fault : List ℕ → Result (Unit {0}) ImageFault
@@ -53,8 +53,8 @@ abbrev pub root_kind : ℕ → Kind
 root_kind n = if n == 0 then Unordered else Ordered
 
 -- what the bytes of an image say
-unfoldable pub value_of : List ℕ → ImageValue
-value_of bytes = record {
+unfoldable pub value_in_bytes : List ℕ → ImageValue
+value_in_bytes bytes = record {
   version = half_at bytes 4;
   kind = root_kind (half_at bytes 6);
   text = words_from bytes 32 (word_at bytes 8);
@@ -70,7 +70,7 @@ abbrev pub after_header : List ℕ → Result (Unit {0}) ImageFault → Result (
 after_header bytes (Err e) = Err e
 after_header bytes (Ok _) =
     if nat_lt (length bytes) (whole_length bytes) then Err (faults.Short (whole_length bytes) (length bytes))
-    else Ok (value_of bytes, whole_length bytes)
+    else Ok (value_in_bytes bytes, whole_length bytes)
 
 -- the image at the front of the bytes with its length, or the first fault
 unfoldable pub image_of : List ℕ → Result (ImageValue × ℕ) ImageFault
@@ -84,6 +84,6 @@ Fails faults.Memory read = IsOk read
 Fails e read = read ≡ Err e
 
 -- what a call returned is what the definition gives, unless memory ran out
-abbrev pub Gives : Result (Image × ℕ) ImageFault → Result (ImageValue × ℕ) ImageFault → Type 0
-Gives (Ok x) read = read ≡ Ok (x.0, x.1)
-Gives (Err e) read = Fails e read
+abbrev pub GivesImage : Result (Image × ℕ) ImageFault → Result (ImageValue × ℕ) ImageFault → Type 0
+GivesImage (Ok x) read = read ≡ Ok (x.0, x.1)
+GivesImage (Err e) read = Fails e read

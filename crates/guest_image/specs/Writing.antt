@@ -35,7 +35,7 @@ image_bytes image =
     header_bytes image ++ flat_map word_bytes image.text ++ image.initial ++ flat_map task_bytes image.tasks
 
 -- an image that was written is read back, whatever follows its bytes
-abbrev pub ReadsBack : Type 0
-ReadsBack =
+abbrev pub ImageReadsBack : Type 0
+ImageReadsBack =
     (image : ImageValue) (rest : List ℕ) → IsImage image
     → image_of (image_bytes image ++ rest) ≡ Ok (image, length (image_bytes image))

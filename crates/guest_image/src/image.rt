@@ -1,11 +1,11 @@
 //! An image, as a value.
 
 ghost use Rattle.std.specs.Prelude.{◌≡◌, ◌⊎◌, ◌↔◌, ◌*◌, ◌%◌, ◌^◌, ◌<◌, IfSome, IsOk, All, length};
-ghost use Rattle.guest_image.specs.Fetch.{fetched, text_loaded};
+ghost use Rattle.guest_image.specs.Fetch.{fetched_word, text_loaded};
 ghost use Rattle.guest_image.specs.ImageValue.{IsTask};
 
 use crate::fault::ImageFault;
-use crate::limits::{check_limits, told};
+use crate::limits::{check_limits, fault_length};
 use crate::memory_map::TEXT_START;
 use std::marker::Model;
 
@@ -31,7 +31,8 @@ pub struct ImageTask {
 
 /// A program, its data and its initial tasks, within the limits of the format: at most 65,536 words of text,
 /// 16,777,216 bytes of data that begin with the initial bytes, a window of at most 4,096 words that lies in the
-/// data from a multiple of 4 on, and 1 to 65,536 tasks.
+/// data from a multiple of 4 on, and 1 to 65,536 tasks. Its fields are private, so that reading and making go
+/// through one place.
 #[derive(Drop)]
 pub struct Image {
     version: u16,
@@ -79,6 +80,8 @@ impl Image {
     /// An image of version 1 of the given values, or the first of the limits that they exceed, in the order in which
     /// the limits of a header are tried. `kind` is that of the root domain; `data_size` and `window_offset` are in
     /// bytes. A list longer than 4,294,967,295 is told as that number. Takes no memory.
+    ///
+    /// Its answer is said twice: by the table of faults, and when it is Ok.
     #[tactic(auto, unfolding(crate::specs::Limits::image_made))]
     pub fn new(
         kind: Kind,
@@ -95,12 +98,12 @@ impl Image {
             (image_value kind text.items initial.items data_size window_offset window_words tasks.items) }
     {
         check_limits(
-            told(text.len()),
-            told(initial.len()),
+            fault_length(text.len()),
+            fault_length(initial.len()),
             data_size,
             window_offset,
             window_words,
-            told(tasks.len()),
+            fault_length(tasks.len()),
         )?;
         Ok(Image::from_parts(
             1,
@@ -205,7 +208,7 @@ impl Image {
 
     /// The word of the text at an address; None where the address is no multiple of 4 or lies outside the text.
     pub fn fetch(&self, addr: u32) -> Option<u32>
-        ensures { result ≡ fetched self.now.text addr }
+        ensures { result ≡ fetched_word self.now.text addr }
     {
         if addr % 4 != 0 || addr < TEXT_START {
             return None;

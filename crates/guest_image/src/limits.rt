@@ -1,7 +1,7 @@
 //! The limits of an image's numbers, alike for one that is read and one that is made.
 
 ghost use Rattle.std.specs.Prelude.{◌≡◌, ◌≢◌, ◌↔◌, IfErr, IsOk};
-ghost use Rattle.guest_image.specs.Limits.{limits_fault, AreWithinLimits, told as told_lem};
+ghost use Rattle.guest_image.specs.Limits.{limits_fault, AreWithinLimits, fault_length as fault_length_lem};
 
 use crate::fault::ImageFault;
 
@@ -11,7 +11,8 @@ const MAX_DATA_SIZE: u32 = 16_777_216;
 
 const MAX_WINDOW_WORDS: u32 = 4096;
 
-const MAX_TASKS: u32 = 65_536;
+/// How many initial tasks an image has at most.
+pub const MAX_TASKS: u32 = 65_536;
 
 /// The fault of a number that is above its limit, told by the offset of its field in the header.
 fn above(field: u32, value: u32) -> Result<(), ImageFault>
@@ -62,8 +63,8 @@ pub(crate) fn check_limits(
 }
 
 /// A length in a number of 4 bytes, at most 4,294,967,295.
-pub(crate) fn told(length: usize) -> u32
-    ensures { result ≡ told_lem length }
+pub(crate) fn fault_length(length: usize) -> u32
+    ensures { result ≡ fault_length_lem length }
 {
     u32::try_from(length).unwrap_or(u32::MAX)
 }

@@ -2,8 +2,9 @@
 
 ghost use Rattle.std.specs.Prelude.{◌≡◌, ◌≢◌, ◌+◌, ◌*◌, ◌≤◌, length, IfErr, IfOk, OnOk};
 ghost use Rattle.guest_image.specs.Numbers.{word_at, half_at};
-ghost use Rattle.guest_image.specs.Reading.{Gives, image_of, header_fault, HeaderFits, whole_length, task_at};
-ghost use Rattle.guest_image.specs.Reading.{tasks_from, words_from, value_of, root_kind};
+ghost use Rattle.guest_image.specs.Reading.{GivesImage, image_of, header_fault, HeaderFits, whole_length};
+ghost use Rattle.guest_image.specs.Reading.{image_task_at};
+ghost use Rattle.guest_image.specs.Reading.{tasks_from, words_from, value_in_bytes, root_kind};
 
 use crate::fault::ImageFault;
 use crate::image::{Image, ImageTask, Kind};
@@ -69,10 +70,10 @@ fn words(alloc: Global, bytes: &[u8], at: usize, count: usize) -> Result<Vec<u32
 }
 
 /// The task in the 20 bytes from an offset on.
-#[tactic(auto, unfolding(crate::specs::Reading::task_at))]
+#[tactic(auto, unfolding(crate::specs::Reading::image_task_at))]
 fn task(bytes: &[u8], at: usize) -> ImageTask
     requires { at + 20 ≤ length bytes.now }
-    ensures { result ≡ task_at bytes.now at }
+    ensures { result ≡ image_task_at bytes.now at }
 {
     ImageTask {
         entry: word(bytes, at),
@@ -124,7 +125,7 @@ fn length_of(bytes: &[u8]) -> usize
 fn whole(alloc: Global, bytes: &[u8]) -> Result<Image, AllocError>
     requires room { 32 + 4 * word_at bytes.now 8 + word_at bytes.now 12 + 20 * word_at bytes.now 28 ≤ length bytes.now }
     requires fits { HeaderFits bytes.now }
-    ensures { IfOk result (λ image. image ≡ value_of bytes.now) }
+    ensures { IfOk result (λ image. image ≡ value_in_bytes bytes.now) }
 {
     let text_words = word(bytes, 8) as usize;
     let initial_len = word(bytes, 12) as usize;
@@ -149,7 +150,7 @@ fn whole(alloc: Global, bytes: &[u8]) -> Result<Image, AllocError>
 /// follows the image is not looked at. `Memory` comes only where the bytes begin with an image.
 #[tactic(auto, unfolding(crate::specs::Reading::image_of, crate::specs::Reading::whole_length))]
 pub fn read_image(alloc: Global, bytes: &[u8]) -> Result<(Image, usize), ImageFault>
-    ensures { Gives result (image_of bytes.now) }
+    ensures { GivesImage result (image_of bytes.now) }
 {
     if bytes.len() < HEADER {
         return Err(ImageFault::Short {

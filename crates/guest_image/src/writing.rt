@@ -4,7 +4,7 @@ ghost use Rattle.std.specs.Prelude.{◌≡◌, ◌++◌, ◌∷◌, [], length, 
 ghost use Rattle.std.specs.List.{flat_map};
 ghost use Rattle.guest_image.specs.Numbers.{word_bytes, half_bytes};
 ghost use Rattle.guest_image.specs.Reading.{image_of};
-ghost use Rattle.guest_image.specs.Writing.{kind_number, header_bytes, task_bytes, image_bytes, ReadsBack};
+ghost use Rattle.guest_image.specs.Writing.{kind_number, header_bytes, task_bytes, image_bytes, ImageReadsBack};
 ghost use Rattle.guest_image.specs.Writing.{header_numbers};
 
 use crate::image::{Image, ImageTask, Kind};
@@ -102,5 +102,5 @@ pub fn write_image(alloc: Global, image: &Image) -> Result<Vec<u8>, AllocError>
 /// An image that was written is read back, whatever follows its bytes.
 #[tactic(auto, using(crate::proofs::ReadBack::read_back))]
 pub fn written_images_read_back()
-    ensures { ReadsBack }
+    ensures { ImageReadsBack }
 {}

@@ -1,2 +1,2 @@
--- What a slab whose values stay ends as where it lends one.
+-- Contracts mean it. What a slab whose values stay ends as where it lends one.
 pub mod Lends

@@ -2,7 +2,8 @@
 //!
 //! Contracts see it as a slab. The memory of all values that may be is taken when it is made, so that to put a value
 //! in and to take one out moves an address, and what a value has grown (a list's room, say) serves the next one.
-//! It stands on the kit's `slab`. The state of the machine keeps its tasks in one.
+//! It stands on the kit's `slab`. The state of the machine keeps its tasks in one, and what changes it goes through
+//! them.
 #![tactic(auto)]
 
 ghost use Rattle.std.specs.Prelude.{◌≡◌, ◌+◌, ◌<◌, ◌≤◌, ◌↔◌, [], length, IsTrue, IfOk, None, Some, option_copied};
@@ -24,24 +25,24 @@ pub trait Blank: Sized {
 
 /// A value at an address of its own.
 #[derive(Drop)]
-pub struct Held<T> {
-    at: Box<T>,
+pub struct Boxed<T> {
+    boxed: Box<T>,
 }
 
-impl<T> Model for Held<T> {
+impl<T> Model for Boxed<T> {
     ghost Value = { T };
 
-    ghost view = { λ h. h.at.value };
+    ghost view = { λ h. h.boxed.value };
 }
 
-impl<T> Held<T> {
-    ghost use Rattle.kept_slab.specs.contracts.Held.{the_row};
+impl<T> Boxed<T> {
+    ghost use Rattle.kept_slab.specs.contracts.Boxed.{the_row};
 
     /// The value.
     pub fn value(&self) -> &T
         ensures { result.now ≡ self.now }
     {
-        &self.at
+        &self.boxed
     }
 
     /// The value, for writing.
@@ -49,15 +50,15 @@ impl<T> Held<T> {
         ensures* lends { sem 𝓛 (Lends (the_row T.row) T.row self.entry result (λ w. w)) }
         ensures value { result.now ≡ self.old }
     {
-        &mut self.at
+        &mut self.boxed
     }
 }
 
 /// A slab whose values stay where they are. Its type keeps a spare value for each place that is free.
 #[derive(Drop)]
 pub struct KeptSlab<T> {
-    places: Slab<Held<T>>,
-    spares: Vec<Held<T>>,
+    places: Slab<Boxed<T>>,
+    spares: Vec<Boxed<T>>,
 }
 
 impl<T> Model for KeptSlab<T> {
@@ -75,14 +76,14 @@ impl<T> Model for KeptSlab<T> {
 }
 
 /// Blank values, one for each of so many places.
-fn blanks<T: Blank + Drop>(alloc: Global, places: usize) -> Result<Vec<Held<T>>, AllocError>
+fn blanks<T: Blank + Drop>(alloc: Global, places: usize) -> Result<Vec<Boxed<T>>, AllocError>
     ensures count { IfOk result (λ held. vec_len held ≡ places) }
     ensures room { IfOk result (λ held. places ≤ vec_capacity held) }
 {
     let mut held = Vec::with_capacity(alloc, places)?;
     for _ in 0..places {
         let at = Box::new(alloc, T::blank(alloc))?;
-        held.push(Held { at })?;
+        held.push(Boxed { boxed: at })?;
     }
     Ok(held)
 }
@@ -130,7 +131,7 @@ impl<T> KeptSlab<T> {
     }
 
     /// An iterator over the keys and values, by rising key.
-    pub fn iter(&self) -> Iter<'_, Held<T>>
+    pub fn iter(&self) -> Iter<'_, Boxed<T>>
         ensures rest { result ≡ entries self.now }
         ensures len { length result ≡ slab_len self.now }
     {

@@ -1,3 +1,4 @@
+-- Contracts mean all of these.
 pub mod Exact
 pub mod Laws
 pub mod Note

@@ -1,4 +1,4 @@
-// What the machine asks of a set of lines.
+//! What the machine asks of a set of lines.
 
 ghost use Rattle.std.specs.Prelude.{◌≡◌, ◌↔◌, ℕ, Bool, true, false, List, [], ◌∷◌, ◌++◌, IsTrue, OnOk, OnErr};
 ghost use Rattle.line_table.specs.Note.{Note, touched_in, wrote_in, Meet};

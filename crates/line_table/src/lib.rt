@@ -5,7 +5,7 @@
 //! search in it, and only a new line takes memory. `Signature` tells lines apart by their number modulo 1,024
 //! alone: it is two rows of that many bits, so a note or an answer looks at one word or two, two signatures are
 //! compared by at most sixteen pairs of words, and nothing takes memory. It stands on nothing; the machine's tasks
-//! keep a `Signature` each, and the laws of memory hold of any filter.
+//! keep a `Signature` each, `spec_rollback` compares them, and the laws of memory hold of any filter.
 #![tactic(auto)]
 
 mod exact;

@@ -1,4 +1,4 @@
-// A row of bits, one for each remainder of a line's number.
+//! A row of bits, one for each remainder of a line's number.
 
 ghost use Rattle.std.specs.Prelude.{◌≡◌, ◌==◌, ◌%◌, ◌<◌, ◌↔◌, ◌||◌, ℕ, true, false, IsTrue, length};
 ghost use Rattle.line_table.specs.Row.{is_set, same_bit, no_bits, ShareBit};
@@ -14,17 +14,17 @@ const WORDS: usize = BITS / WORD_BITS;
 
 /// A set of lines that tells lines apart by their number modulo `BITS` alone.
 #[derive(Clone, Copy)]
-pub struct Row {
+pub struct BitRow {
     words: [u64; WORDS],
 }
 
-impl Row {
+impl BitRow {
     /// A row with no bit set.
     #[tactic(auto, unfolding(crate::specs::Row::no_bits))]
     pub const fn new() -> Self
         ensures { result ≡ no_bits }
     {
-        Row { words: [0; WORDS] }
+        BitRow { words: [0; WORDS] }
     }
 
     /// Sets the bit of the line.
@@ -44,7 +44,7 @@ impl Row {
     }
 
     /// Whether some bit is set in both rows.
-    pub fn meets(&self, other: &Row) -> bool
+    pub fn meets(&self, other: &BitRow) -> bool
         ensures { IsTrue result ↔ ShareBit self.now other.now }
     {
         share_bit(&self.words, &other.words)

@@ -1,4 +1,4 @@
-// A filter of fixed size.
+//! A filter of fixed size.
 
 ghost use Rattle.std.specs.Prelude.{◌≡◌, ◌↔◌, true, false, List, [], ◌∷◌, ◌++◌, IsTrue, IsOk, OnOk, OnErr};
 ghost use Rattle.line_table.specs.Note.{Note, Meet};
@@ -7,14 +7,15 @@ ghost use Rattle.line_table.specs.Signature.{no_lines, meets_of};
 ghost use Rattle.line_table.specs.SignatureLaws.{SignaturesAgree};
 
 use crate::Filter;
-use crate::row::Row;
+use crate::row::BitRow;
 use std::alloc::AllocError;
 
-/// Which remainders modulo 1,024 the noted lines have, and which the lines noted with a write.
+/// Which remainders modulo 1,024 the noted lines have, and which the lines noted with a write. It
+/// has no model, so that it is `Copy` with no proof.
 #[derive(Clone, Copy)]
 pub struct Signature {
-    touched: Row,
-    wrote: Row,
+    touched: BitRow,
+    wrote: BitRow,
 }
 
 impl Signature {
@@ -25,8 +26,8 @@ impl Signature {
         ensures notes { IsSignature result [] }
     {
         Signature {
-            touched: Row::new(),
-            wrote: Row::new(),
+            touched: BitRow::new(),
+            wrote: BitRow::new(),
         }
     }
 
@@ -42,7 +43,8 @@ impl Signature {
     }
 }
 
-/// Law: two signatures that have the same notes, in whatever order and however often, answer alike.
+/// Law: two signatures that have the same notes, in whatever order and however often, answer alike; no
+/// other filter has to.
 pub fn signatures_agree()
     ensures { SignaturesAgree }
 {}

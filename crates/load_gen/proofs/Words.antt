@@ -5,7 +5,7 @@ use Rattle.std.specs.Option.{option_map}
 use Rattle.std.proofs.lemmas.Bool.{eqb-true}
 use Rattle.std.proofs.lemmas.Option.{slice_get-map}
 use Rattle.rv_table.specs.Fields.{opcode, rd, funct3, rs1, rs2, funct7, shamt, bits, signed, i_immediate, s_immediate, b_immediate, u_immediate}
-use Rattle.rv_table.specs.Table.{Row, table, fits, first_fit, decoded, i_type, r_type, s_type, b_type, u_type, shift, one_word}
+use Rattle.rv_table.specs.Table.{Row, table, fits, first_fit, instr_of_word, i_type, r_type, s_type, b_type, u_type, shift, one_word}
 use Rattle.rv_table.specs.declared.instr.Instr.{Instr}
 use Rattle.rv_table.specs.declared.instr.Instr.TheVariants.{Lui, Auipc, Jal, Jalr, Branch, Load, Store, OpImm, Op, Fence, Ecall, Ebreak}
 use Rattle.rv_table.specs.declared.instr.Cond.{Cond}
@@ -124,7 +124,7 @@ found_row : (w : ℕ) (i : Instr) (row : Row) (f : Found table w i) → slice_ge
 found_row w i row f own = some_is f.row row (sym f.stands ∙ ap (slice_get table) (sym (place_is w i f)) ∙ own)
 
 -- a word fits the row of its instruction
-fits_row : (w : ℕ) (i : Instr) (row : Row) → decoded w ≡ Some i → slice_get table (row_of i) ≡ Some row → RowFits row w i
+fits_row : (w : ℕ) (i : Instr) (row : Row) → instr_of_word w ≡ Some i → slice_get table (row_of i) ≡ Some row → RowFits row w i
 fits_row w i row e own =
     let f : Found table w i = found table w i e in
     record {
@@ -205,7 +205,7 @@ fit_7 f7 f3 op w e =
     let c = and_both (funct7 w == f7) (funct3 w == f3) b.0 in
     (eqb-true _ _ c.0, eqb-true _ _ c.1, eqb-true _ _ b.1)
 
-lui_word : (w v d imm : ℕ) → w < 2 ^ 32 → v < 2 ^ 32 → decoded w ≡ Some (Lui d imm) → decoded v ≡ Some (Lui d imm) → w ≡ v
+lui_word : (w v d imm : ℕ) → w < 2 ^ 32 → v < 2 ^ 32 → instr_of_word w ≡ Some (Lui d imm) → instr_of_word v ≡ Some (Lui d imm) → w ≡ v
 lui_word w v d imm wlt vlt e f =
     let ew : RowFits (u_type 0b0110111 Lui) w (Lui d imm) = fits_row w _ _ e refl in
     let ev : RowFits (u_type 0b0110111 Lui) v (Lui d imm) = fits_row v _ _ f refl in
@@ -214,7 +214,7 @@ lui_word w v d imm wlt vlt e f =
     let i_is : u_immediate w ≡ u_immediate v = cc in
     u_word w v wlt vlt (eqb-true _ _ ew.fit ∙ sym (eqb-true _ _ ev.fit)) d_is i_is
 
-addi_word : (w v d s : ℕ) (imm : ℤ) → w < 2 ^ 32 → v < 2 ^ 32 → decoded w ≡ Some (OpImm imm_op.Add d s imm) → decoded v ≡ Some (OpImm imm_op.Add d s imm) → w ≡ v
+addi_word : (w v d s : ℕ) (imm : ℤ) → w < 2 ^ 32 → v < 2 ^ 32 → instr_of_word w ≡ Some (OpImm imm_op.Add d s imm) → instr_of_word v ≡ Some (OpImm imm_op.Add d s imm) → w ≡ v
 addi_word w v d s imm wlt vlt e f =
     let ew : RowFits (i_type 0b000 0b0010011 (OpImm imm_op.Add)) w (OpImm imm_op.Add d s imm) = fits_row w _ _ e refl in
     let ev : RowFits (i_type 0b000 0b0010011 (OpImm imm_op.Add)) v (OpImm imm_op.Add d s imm) = fits_row v _ _ f refl in
@@ -226,7 +226,7 @@ addi_word w v d s imm wlt vlt e f =
     let i_is : i_immediate w ≡ i_immediate v = cc in
     i_word w v wlt vlt (fw.1 ∙ sym fv.1) (fw.0 ∙ sym fv.0) d_is s_is i_is
 
-lw_word : (w v d s : ℕ) (imm : ℤ) → w < 2 ^ 32 → v < 2 ^ 32 → decoded w ≡ Some (Load load.W d s imm) → decoded v ≡ Some (Load load.W d s imm) → w ≡ v
+lw_word : (w v d s : ℕ) (imm : ℤ) → w < 2 ^ 32 → v < 2 ^ 32 → instr_of_word w ≡ Some (Load load.W d s imm) → instr_of_word v ≡ Some (Load load.W d s imm) → w ≡ v
 lw_word w v d s imm wlt vlt e f =
     let ew : RowFits (i_type 0b010 0b0000011 (Load load.W)) w (Load load.W d s imm) = fits_row w _ _ e refl in
     let ev : RowFits (i_type 0b010 0b0000011 (Load load.W)) v (Load load.W d s imm) = fits_row v _ _ f refl in
@@ -238,7 +238,7 @@ lw_word w v d s imm wlt vlt e f =
     let i_is : i_immediate w ≡ i_immediate v = cc in
     i_word w v wlt vlt (fw.1 ∙ sym fv.1) (fw.0 ∙ sym fv.0) d_is s_is i_is
 
-sw_word : (w v s t : ℕ) (imm : ℤ) → w < 2 ^ 32 → v < 2 ^ 32 → decoded w ≡ Some (Store store.W s t imm) → decoded v ≡ Some (Store store.W s t imm) → w ≡ v
+sw_word : (w v s t : ℕ) (imm : ℤ) → w < 2 ^ 32 → v < 2 ^ 32 → instr_of_word w ≡ Some (Store store.W s t imm) → instr_of_word v ≡ Some (Store store.W s t imm) → w ≡ v
 sw_word w v s t imm wlt vlt e f =
     let ew : RowFits (s_type 0b010 0b0100011 (Store store.W)) w (Store store.W s t imm) = fits_row w _ _ e refl in
     let ev : RowFits (s_type 0b010 0b0100011 (Store store.W)) v (Store store.W s t imm) = fits_row v _ _ f refl in
@@ -250,7 +250,7 @@ sw_word w v s t imm wlt vlt e f =
     let i_is : s_immediate w ≡ s_immediate v = cc in
     s_word w v wlt vlt (fw.1 ∙ sym fv.1) (fw.0 ∙ sym fv.0) s_is t_is i_is
 
-bne_word : (w v s t : ℕ) (imm : ℤ) → w < 2 ^ 32 → v < 2 ^ 32 → decoded w ≡ Some (Branch cond.Ne s t imm) → decoded v ≡ Some (Branch cond.Ne s t imm) → w ≡ v
+bne_word : (w v s t : ℕ) (imm : ℤ) → w < 2 ^ 32 → v < 2 ^ 32 → instr_of_word w ≡ Some (Branch cond.Ne s t imm) → instr_of_word v ≡ Some (Branch cond.Ne s t imm) → w ≡ v
 bne_word w v s t imm wlt vlt e f =
     let ew : RowFits (b_type 0b001 0b1100011 (Branch cond.Ne)) w (Branch cond.Ne s t imm) = fits_row w _ _ e refl in
     let ev : RowFits (b_type 0b001 0b1100011 (Branch cond.Ne)) v (Branch cond.Ne s t imm) = fits_row v _ _ f refl in
@@ -262,7 +262,7 @@ bne_word w v s t imm wlt vlt e f =
     let i_is : b_immediate w ≡ b_immediate v = cc in
     b_word w v wlt vlt (fw.1 ∙ sym fv.1) (fw.0 ∙ sym fv.0) s_is t_is i_is
 
-blt_word : (w v s t : ℕ) (imm : ℤ) → w < 2 ^ 32 → v < 2 ^ 32 → decoded w ≡ Some (Branch cond.Lt s t imm) → decoded v ≡ Some (Branch cond.Lt s t imm) → w ≡ v
+blt_word : (w v s t : ℕ) (imm : ℤ) → w < 2 ^ 32 → v < 2 ^ 32 → instr_of_word w ≡ Some (Branch cond.Lt s t imm) → instr_of_word v ≡ Some (Branch cond.Lt s t imm) → w ≡ v
 blt_word w v s t imm wlt vlt e f =
     let ew : RowFits (b_type 0b100 0b1100011 (Branch cond.Lt)) w (Branch cond.Lt s t imm) = fits_row w _ _ e refl in
     let ev : RowFits (b_type 0b100 0b1100011 (Branch cond.Lt)) v (Branch cond.Lt s t imm) = fits_row v _ _ f refl in
@@ -274,7 +274,7 @@ blt_word w v s t imm wlt vlt e f =
     let i_is : b_immediate w ≡ b_immediate v = cc in
     b_word w v wlt vlt (fw.1 ∙ sym fv.1) (fw.0 ∙ sym fv.0) s_is t_is i_is
 
-slli_word : (w v d s : ℕ) (imm : ℤ) → w < 2 ^ 32 → v < 2 ^ 32 → decoded w ≡ Some (OpImm imm_op.Sll d s imm) → decoded v ≡ Some (OpImm imm_op.Sll d s imm) → w ≡ v
+slli_word : (w v d s : ℕ) (imm : ℤ) → w < 2 ^ 32 → v < 2 ^ 32 → instr_of_word w ≡ Some (OpImm imm_op.Sll d s imm) → instr_of_word v ≡ Some (OpImm imm_op.Sll d s imm) → w ≡ v
 slli_word w v d s imm wlt vlt e f =
     let ew : RowFits (shift 0b0000000 0b001 0b0010011 (OpImm imm_op.Sll)) w (OpImm imm_op.Sll d s imm) = fits_row w _ _ e refl in
     let ev : RowFits (shift 0b0000000 0b001 0b0010011 (OpImm imm_op.Sll)) v (OpImm imm_op.Sll d s imm) = fits_row v _ _ f refl in
@@ -286,7 +286,7 @@ slli_word w v d s imm wlt vlt e f =
     let i_is : rs2 w ≡ rs2 v = cc in
     by_fields w v wlt vlt (fw.2 ∙ sym fv.2) d_is (fw.1 ∙ sym fv.1) s_is i_is (fw.0 ∙ sym fv.0)
 
-add_word : (w v d s t : ℕ) → w < 2 ^ 32 → v < 2 ^ 32 → decoded w ≡ Some (Op reg_op.Add d s t) → decoded v ≡ Some (Op reg_op.Add d s t) → w ≡ v
+add_word : (w v d s t : ℕ) → w < 2 ^ 32 → v < 2 ^ 32 → instr_of_word w ≡ Some (Op reg_op.Add d s t) → instr_of_word v ≡ Some (Op reg_op.Add d s t) → w ≡ v
 add_word w v d s t wlt vlt e f =
     let ew : RowFits (r_type 0b0000000 0b000 0b0110011 (Op reg_op.Add)) w (Op reg_op.Add d s t) = fits_row w _ _ e refl in
     let ev : RowFits (r_type 0b0000000 0b000 0b0110011 (Op reg_op.Add)) v (Op reg_op.Add d s t) = fits_row v _ _ f refl in
@@ -298,7 +298,7 @@ add_word w v d s t wlt vlt e f =
     let t_is : rs2 w ≡ rs2 v = cc in
     by_fields w v wlt vlt (fw.2 ∙ sym fv.2) d_is (fw.1 ∙ sym fv.1) s_is t_is (fw.0 ∙ sym fv.0)
 
-ecall_word : (w v : ℕ) → decoded w ≡ Some Ecall → decoded v ≡ Some Ecall → w ≡ v
+ecall_word : (w v : ℕ) → instr_of_word w ≡ Some Ecall → instr_of_word v ≡ Some Ecall → w ≡ v
 ecall_word w v e f =
     let ew : RowFits (one_word 0x00000073 Ecall) w Ecall = fits_row w _ _ e refl in
     let ev : RowFits (one_word 0x00000073 Ecall) v Ecall = fits_row v _ _ f refl in
@@ -317,7 +317,7 @@ IsUsed (Op reg_op.Add rd rs1 rs2) = Unit {0}
 IsUsed Ecall = Unit {0}
 IsUsed _ = ⊥
 
-one_encoding : (w v : ℕ) (i : Instr) → w < 2 ^ 32 → v < 2 ^ 32 → IsUsed i → decoded w ≡ Some i → decoded v ≡ Some i → w ≡ v
+one_encoding : (w v : ℕ) (i : Instr) → w < 2 ^ 32 → v < 2 ^ 32 → IsUsed i → instr_of_word w ≡ Some i → instr_of_word v ≡ Some i → w ≡ v
 one_encoding w v (Lui d imm) wlt vlt used e f = lui_word w v d imm wlt vlt e f
 one_encoding w v (Branch cond.Ne s t imm) wlt vlt used e f = bne_word w v s t imm wlt vlt e f
 one_encoding w v (Branch cond.Lt s t imm) wlt vlt used e f = blt_word w v s t imm wlt vlt e f
@@ -336,34 +336,34 @@ rest_same : (a b : Option Instr) (xs ys : List (Option Instr)) → (a ∷ xs) �
 rest_same a b xs ys e = cc
 
 -- two lists of words that stand for one program are one list
-same_words : (ws vs : List ℕ) (program : List Instr) → AllByRecursion (λ w. w < 2 ^ 32) ws → AllByRecursion (λ w. w < 2 ^ 32) vs → AllByRecursion IsUsed program → map decoded ws ≡ map Some program → map decoded vs ≡ map Some program → ws ≡ vs
+same_words : (ws vs : List ℕ) (program : List Instr) → AllByRecursion (λ w. w < 2 ^ 32) ws → AllByRecursion (λ w. w < 2 ^ 32) vs → AllByRecursion IsUsed program → map instr_of_word ws ≡ map Some program → map instr_of_word vs ≡ map Some program → ws ≡ vs
 same_words [] [] program ws_small vs_small used e f = refl
 same_words [] (v ∷ vs) [] ws_small vs_small used e f = cc
 same_words [] (v ∷ vs) (i ∷ program) ws_small vs_small used e f = cc
 same_words (w ∷ ws) vs [] ws_small vs_small used e f = cc
 same_words (w ∷ ws) [] (i ∷ program) ws_small vs_small used e f = cc
 same_words (w ∷ ws) (v ∷ vs) (i ∷ program) ws_small vs_small used e f =
-    let ew : decoded w ≡ Some i = first_same _ _ _ _ e in
-    let ev : decoded v ≡ Some i = first_same _ _ _ _ f in
+    let ew : instr_of_word w ≡ Some i = first_same _ _ _ _ e in
+    let ev : instr_of_word v ≡ Some i = first_same _ _ _ _ f in
     ap (λ x. x ∷ ws) (one_encoding w v i ws_small.0 vs_small.0 used.0 ew ev)
     ∙ ap (λ xs. v ∷ xs) (same_words ws vs program ws_small.1 vs_small.1 used.1 (rest_same _ _ _ _ e) (rest_same _ _ _ _ f))
 
 -- the words written out decode to the walk
-pub walk_decodes : map decoded walk_words ≡ map Some breadth_first_walk
+pub walk_decodes : map instr_of_word walk_words ≡ map Some breadth_first_walk
 unfolding breadth_first_walk walk_words
 walk_decodes = refl
 
 -- the words written out decode to the nested additions
-pub nest_decodes : map decoded nest_words ≡ map Some nested_additions
+pub nest_decodes : map instr_of_word nest_words ≡ map Some nested_additions
 unfolding nested_additions nest_words
 nest_decodes = refl
 
 -- the words of the walk are those written out
-pub walk_words_are : (ws : List ℕ) → AllByRecursion (λ w. w < 2 ^ 32) ws → map decoded ws ≡ map Some breadth_first_walk → ws ≡ walk_words
+pub walk_words_are : (ws : List ℕ) → AllByRecursion (λ w. w < 2 ^ 32) ws → map instr_of_word ws ≡ map Some breadth_first_walk → ws ≡ walk_words
 unfolding breadth_first_walk walk_words
 walk_words_are ws small e = same_words ws walk_words breadth_first_walk small (search rules) (search rules) e walk_decodes
 
 -- the words of the nested additions are those written out
-pub nest_words_are : (ws : List ℕ) → AllByRecursion (λ w. w < 2 ^ 32) ws → map decoded ws ≡ map Some nested_additions → ws ≡ nest_words
+pub nest_words_are : (ws : List ℕ) → AllByRecursion (λ w. w < 2 ^ 32) ws → map instr_of_word ws ≡ map Some nested_additions → ws ≡ nest_words
 unfolding nested_additions nest_words
 nest_words_are ws small e = same_words ws nest_words nested_additions small (search rules) (search rules) e nest_decodes

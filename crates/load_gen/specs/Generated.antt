@@ -12,6 +12,6 @@ IsSize Walk size = (0 < size) × (size ≤ 100000)
 IsSize Nest size = (0 < size) × (size ≤ 10000)
 
 -- the image of a load of this seed and size
-abbrev pub generated : Load → ℕ → ℕ → ImageValue
-generated Walk seed size = walk_image seed size
-generated Nest seed size = nest_image seed size
+abbrev pub load_image : Load → ℕ → ℕ → ImageValue
+load_image Walk seed size = walk_image seed size
+load_image Nest seed size = nest_image seed size

@@ -1,3 +1,4 @@
+-- Contracts mean all of these.
 pub mod Programs
 pub mod Walk
 pub mod Nest

@@ -1,7 +1,7 @@
 //! The words of the instructions that the programs are made of, in the operand order of the assembler.
 
 ghost use Rattle.std.specs.Prelude.{◌≡◌, ◌<◌, ◌^◌, ◌%◌, pos, Some, IsTrue};
-ghost use Rattle.rv_table.specs.Table.{decoded};
+ghost use Rattle.rv_table.specs.Table.{instr_of_word};
 ghost use Rattle.rv_table.specs.Valid.{is_branch_offset, is_twelve_bits};
 
 use rv_table::{Cond, ImmOp, Instr, LoadWidth, Reg, RegOp, StoreWidth, encode};
@@ -18,7 +18,7 @@ fn reg(number: u8) -> Reg
 pub(crate) fn lui(rd: u8, imm: u32) -> u32
     requires register { rd < 32 }
     requires imm { imm % 2 ^ 12 ≡ 0 }
-    ensures { decoded result ≡ Some (Instr.Lui rd imm) }
+    ensures { instr_of_word result ≡ Some (Instr.Lui rd imm) }
 {
     encode(&Instr::Lui { rd: reg(rd), imm })
 }
@@ -27,7 +27,7 @@ pub(crate) fn lui(rd: u8, imm: u32) -> u32
 pub(crate) fn addi(rd: u8, rs1: u8, imm: i32) -> u32
     requires registers { (rd < 32) × (rs1 < 32) }
     requires imm { IsTrue (is_twelve_bits imm) }
-    ensures { decoded result ≡ Some (Instr.OpImm ImmOp.Add rd rs1 imm) }
+    ensures { instr_of_word result ≡ Some (Instr.OpImm ImmOp.Add rd rs1 imm) }
 {
     encode(&Instr::OpImm {
         op: ImmOp::Add,
@@ -41,7 +41,7 @@ pub(crate) fn addi(rd: u8, rs1: u8, imm: i32) -> u32
 pub(crate) fn slli(rd: u8, rs1: u8, amount: u8) -> u32
     requires registers { (rd < 32) × (rs1 < 32) }
     requires amount { amount < 32 }
-    ensures { decoded result ≡ Some (Instr.OpImm ImmOp.Sll rd rs1 (pos amount)) }
+    ensures { instr_of_word result ≡ Some (Instr.OpImm ImmOp.Sll rd rs1 (pos amount)) }
 {
     encode(&Instr::OpImm {
         op: ImmOp::Sll,
@@ -54,7 +54,7 @@ pub(crate) fn slli(rd: u8, rs1: u8, amount: u8) -> u32
 /// `add rd, rs1, rs2`
 pub(crate) fn add(rd: u8, rs1: u8, rs2: u8) -> u32
     requires { (rd < 32) × (rs1 < 32) × (rs2 < 32) }
-    ensures { decoded result ≡ Some (Instr.Op RegOp.Add rd rs1 rs2) }
+    ensures { instr_of_word result ≡ Some (Instr.Op RegOp.Add rd rs1 rs2) }
 {
     encode(&Instr::Op {
         op: RegOp::Add,
@@ -67,7 +67,7 @@ pub(crate) fn add(rd: u8, rs1: u8, rs2: u8) -> u32
 /// `lw rd, 0(rs1)`
 pub(crate) fn lw(rd: u8, rs1: u8) -> u32
     requires { (rd < 32) × (rs1 < 32) }
-    ensures { decoded result ≡ Some (Instr.Load LoadWidth.W rd rs1 (pos 0)) }
+    ensures { instr_of_word result ≡ Some (Instr.Load LoadWidth.W rd rs1 (pos 0)) }
 {
     encode(&Instr::Load {
         width: LoadWidth::W,
@@ -80,7 +80,7 @@ pub(crate) fn lw(rd: u8, rs1: u8) -> u32
 /// `sw rs2, 0(rs1)`
 pub(crate) fn sw(rs2: u8, rs1: u8) -> u32
     requires { (rs2 < 32) × (rs1 < 32) }
-    ensures { decoded result ≡ Some (Instr.Store StoreWidth.W rs1 rs2 (pos 0)) }
+    ensures { instr_of_word result ≡ Some (Instr.Store StoreWidth.W rs1 rs2 (pos 0)) }
 {
     encode(&Instr::Store {
         width: StoreWidth::W,
@@ -94,7 +94,7 @@ pub(crate) fn sw(rs2: u8, rs1: u8) -> u32
 pub(crate) fn branch(cond: Cond, rs1: u8, rs2: u8, imm: i32) -> u32
     requires registers { (rs1 < 32) × (rs2 < 32) }
     requires imm { IsTrue (is_branch_offset imm) }
-    ensures { decoded result ≡ Some (Instr.Branch cond rs1 rs2 imm) }
+    ensures { instr_of_word result ≡ Some (Instr.Branch cond rs1 rs2 imm) }
 {
     encode(&Instr::Branch {
         cond,
@@ -106,7 +106,7 @@ pub(crate) fn branch(cond: Cond, rs1: u8, rs2: u8, imm: i32) -> u32
 
 /// `ecall`
 pub(crate) fn ecall() -> u32
-    ensures { decoded result ≡ Some Instr.Ecall }
+    ensures { instr_of_word result ≡ Some Instr.Ecall }
 {
     encode(&Instr::Ecall)
 }

@@ -1,7 +1,7 @@
 //! Laws of the generated images.
 
 ghost use Rattle.std.specs.Prelude.{◌≡◌, ℕ, ◌≤◌, map, slice_index, Some};
-ghost use Rattle.rv_table.specs.Table.{decoded};
+ghost use Rattle.rv_table.specs.Table.{instr_of_word};
 ghost use Rattle.load_gen.specs.Programs.{breadth_first_walk, nested_additions, nest_words, walk_words};
 ghost use Rattle.load_gen.specs.Walk.{edges};
 
@@ -15,6 +15,6 @@ pub fn third_edges_lead_no_deeper()
 /// nothing; its contract is the law.
 #[tactic(auto, using(crate::proofs::Words::walk_decodes, crate::proofs::Words::nest_decodes))]
 pub fn texts_are_the_programs()
-    ensures walk { map decoded walk_words ≡ map Some breadth_first_walk }
-    ensures nest { map decoded nest_words ≡ map Some nested_additions }
+    ensures walk { map instr_of_word walk_words ≡ map Some breadth_first_walk }
+    ensures nest { map instr_of_word nest_words ≡ map Some nested_additions }
 {}

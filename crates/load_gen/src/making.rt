@@ -3,7 +3,7 @@
 ghost use Rattle.std.specs.Prelude.{◌≡◌, IfOk, length};
 ghost use Rattle.guest_image.specs.ImageValue.{image_value};
 ghost use Rattle.guest_image.specs.Limits.{AreInLimits};
-ghost use Rattle.load_gen.specs.Generated.{IsSize, generated};
+ghost use Rattle.load_gen.specs.Generated.{IsSize, load_image};
 
 use crate::nest::nest_image;
 use crate::walk::walk_image;
@@ -53,7 +53,7 @@ pub(crate) fn image_of(
 /// additions.
 pub fn make(alloc: Global, load: Load, seed: u32, size: u32) -> Result<Image, AllocError>
     requires size { IsSize load size }
-    ensures image { IfOk result (λ image. image ≡ generated load seed size) }
+    ensures image { IfOk result (λ image. image ≡ load_image load seed size) }
 {
     match load {
         Load::Walk => walk_image(alloc, seed, size),

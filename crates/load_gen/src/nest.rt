@@ -2,7 +2,7 @@
 
 ghost use Rattle.std.specs.Prelude.{◌≡◌, ◌<◌, ◌≤◌, ◌^◌, IfOk, map, Some, vec_len};
 ghost use Rattle.std.specs.List.{AllByRecursion, range_with_len};
-ghost use Rattle.rv_table.specs.Table.{decoded};
+ghost use Rattle.rv_table.specs.Table.{instr_of_word};
 ghost use Rattle.load_gen.specs.Programs.{nested_additions, nest_words as nest_words_lem};
 ghost use Rattle.load_gen.specs.Nest.{cell as cell_lem, nest_task as nest_task_lem, nest_image as nest_image_lem};
 
@@ -14,7 +14,7 @@ use std::alloc::{AllocError, Global};
 /// Nested additions. In a task of the root x10 is its amount, and x11 and x12 are the addresses of its cells.
 #[tactic(auto, unfolding(crate::specs::Programs::nested_additions))]
 fn nested_words() -> [u32; 23]
-    ensures decodes { map decoded result ≡ map Some nested_additions }
+    ensures decodes { map instr_of_word result ≡ map Some nested_additions }
     ensures small { AllByRecursion (λ word. word < 2 ^ 32) result }
 {
     [

@@ -2,7 +2,7 @@
 
 ghost use Rattle.std.specs.Prelude.{◌≡◌, ◌<◌, ◌≤◌, ◌^◌, ◌++◌, IfOk, OnOk, map, Some};
 ghost use Rattle.std.specs.List.{AllByRecursion, flat_map};
-ghost use Rattle.rv_table.specs.Table.{decoded};
+ghost use Rattle.rv_table.specs.Table.{instr_of_word};
 ghost use Rattle.guest_image.specs.Numbers.{word_bytes};
 ghost use Rattle.load_gen.specs.Programs.{breadth_first_walk, walk_words as walk_words_lem};
 ghost use Rattle.load_gen.specs.Walk.{next_random as next_random_lem, edge as edge_lem, edges as edges_lem};
@@ -20,7 +20,7 @@ const NO_EDGE: u32 = 0xffff_ffff;
 /// A breadth-first walk. In a task x10 is its node, x11 the address of the distance table and x13 its timestamp.
 #[tactic(auto, unfolding(crate::specs::Programs::breadth_first_walk))]
 fn breadth_first_words() -> [u32; 24]
-    ensures decodes { map decoded result ≡ map Some breadth_first_walk }
+    ensures decodes { map instr_of_word result ≡ map Some breadth_first_walk }
     ensures small { AllByRecursion (λ word. word < 2 ^ 32) result }
 {
     [

@@ -7,31 +7,31 @@ use Rattle.std.proofs.lemmas.List.{length-append, length-map}
 use Rattle.std.proofs.lemmas.List.Sorted.{length_permutation}
 use Rattle.guest_image.specs.ImageValue.{ImageValue}
 use Rattle.place_policy.specs.Policy.{Policy}
-use Rattle.trace_tap.specs.Reading.{Reading}
+use Rattle.trace_tap.specs.TapValue.{TapValue}
 use Rattle.run_journal.specs.declared.closed.Closed.{Closed}
 use Rattle.run_journal.specs.declared.end.End.{End}
 use Rattle.run_journal.specs.declared.end.End.TheVariants as ends
 use Rattle.run_journal.specs.declared.journal.Entry.{Entry}
 use Rattle.serial_machine.specs.BagValue.{BagValue}
 use Rattle.serial_machine.specs.Run.{opening, Runs}
-use Rattle.serial_machine.specs.State.{State}
+use Rattle.serial_machine.specs.State.{SerialState}
 use Rattle.serial_machine.specs.Turn.{inner}
 use Rattle.serial_machine.specs.WholeRun.{IsRunOf}
 use Rattle.spec_state.specs.declared.pending.Pending.{Pending}
 use Rattle.spec_state.specs.declared.settings.Settings.{Settings}
-use Rattle.spec_state.specs.Pendings.{all_pending, pending_at, Leaves}
-use Rattle.book_event.specs.End.{HasEnd}
+use Rattle.spec_state.specs.Pendings.{all_pending, pending_at, RunLeaves}
+use Rattle.event_def.specs.End.{HasEnd}
 use Rattle.spec_state.specs.View.{View}
 use Rattle.machine_run.specs.declared.left.Ran.{Ran}
-use Rattle.machine_run.specs.Least.{IsLeastRun, run_of}
+use Rattle.machine_run.specs.Least.{IsLeastRun, run_of_closed}
 use Rattle.machine_run.specs.Stopping.{IsStoppedWith}
 
 -- a journal's runs from a state lead to one state
-runs_one : (image : ImageValue) (budget : ℕ) (s : State) (es : List Entry) (a b : State) → Runs image budget s es a → Runs image budget s es b → a ≡ b
+runs_one : (image : ImageValue) (budget : ℕ) (s : SerialState) (es : List Entry) (a b : SerialState) → Runs image budget s es a → Runs image budget s es b → a ≡ b
 runs_one image budget s [] a b first second = sym first ∙ second
 runs_one image budget s (e ∷ es) a b (mid, at, rest) (other, there, more) =
     let both : Some (mid, e) ≡ Some (other, e) = sym at ∙ there in
-    let same : mid ≡ other = ap (λ (o : Option (State × Entry)). (unwrap_or o (mid, e)).0) both in
+    let same : mid ≡ other = ap (λ (o : Option (SerialState × Entry)). (unwrap_or o (mid, e)).0) both in
     runs_one image budget other es a b (subst (λ m. Runs image budget m es a) same rest) more
 
 -- where no task pends no bag is left
@@ -51,23 +51,23 @@ some_left (suc n) some = omega arith
 
 -- where a run stands at the commit limit some task pends
 pub some_pend : (image : ImageValue) (commits budget : ℕ) (closed : Closed) (pendings : List Pending)
-    → IsRunOf image commits budget (run_of closed (Some ends.Limit))
-    → Leaves image budget closed.journal closed.memory closed.output pendings → 0 < length pendings
+    → IsRunOf image commits budget (run_of_closed closed (Some ends.Limit))
+    → RunLeaves image budget closed.journal closed.memory closed.output pendings → 0 < length pendings
 some_pend image commits budget closed pendings run left =
     some_left (length pendings) (λ none.
     let same = runs_one image budget (opening image) closed.journal left.state run.state left.run run.is_run in
     let as_long = length_permutation pendings (all_pending left.state.stack) left.pending.held in
     let empty = none_left left.state.stack (as_long ∙ none) in
-    run.end_is.0 (subst (λ (s : State). inner s.stack ≡ []) same empty))
+    run.end_is.0 (subst (λ (s : SerialState). inner s.stack ≡ []) same empty))
 
 -- what met its commit limit is stopped with these tasks
 pub stopped : (image : ImageValue) (commits budget : ℕ) (ran : Ran) (pendings : List Pending) → ran.end ≡ Some ends.Limit
-    → IsRunOf image commits budget (run_of ran.closed ran.end)
-    → Leaves image budget ran.closed.journal ran.closed.memory ran.closed.output pendings → IsStoppedWith image budget ran pendings
+    → IsRunOf image commits budget (run_of_closed ran.closed ran.end)
+    → RunLeaves image budget ran.closed.journal ran.closed.memory ran.closed.output pendings → IsStoppedWith image budget ran pendings
 stopped image commits budget ran pendings limit run left = record {
   end_is = limit;
   left = left;
-  some = some_pend image commits budget ran.closed pendings (subst (λ end. IsRunOf image commits budget (run_of ran.closed end)) limit run) left;
+  some = some_pend image commits budget ran.closed pendings (subst (λ end. IsRunOf image commits budget (run_of_closed ran.closed end)) limit run) left;
 }
 
 -- an end that is told is that of the book
@@ -76,10 +76,10 @@ told_has view end None has same = tt
 told_has view end (Some e) has same = subst (λ o. IfSome o (HasEnd view)) same has
 
 -- a run by events of the least tasks is one with another end, or none, where the book has that
-pub with_end : (N : Type 0) (image : ImageValue) (settings : Settings) (placers : List Policy) (taps : List Reading)
+pub with_end : (N : Type 0) (image : ImageValue) (settings : Settings) (placers : List Policy) (taps : List TapValue)
     (closed : Closed) (end told : Option End) → IfSome told (λ e. end ≡ Some e)
-    → IsLeastRun N image settings placers taps closed.steps (run_of closed end)
-    → IsLeastRun N image settings placers taps closed.steps (run_of closed told)
+    → IsLeastRun N image settings placers taps closed.steps (run_of_closed closed end)
+    → IsLeastRun N image settings placers taps closed.steps (run_of_closed closed told)
 with_end N image settings placers taps closed end told same run = record {
   opening = run.opening;
   is_opening = run.is_opening;

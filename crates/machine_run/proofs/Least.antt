@@ -7,26 +7,26 @@ use Rattle.guest_image.specs.declared.image.ImageTask.{ImageTask}
 use Rattle.guest_image.specs.declared.image.Kind.{Kind}
 use Rattle.guest_image.specs.ImageValue.{ImageValue, IsImage}
 use Rattle.place_policy.specs.Policy.{Policy}
-use Rattle.trace_tap.specs.Reading.{Reading}
+use Rattle.trace_tap.specs.TapValue.{TapValue}
 use Rattle.run_journal.specs.declared.closed.Closed.{Closed}
 use Rattle.spec_state.specs.declared.settings.Settings.{Settings}
 use Rattle.spec_state.specs.Settings.{IsValid}
 use Rattle.spec_state.specs.View.{View}
 use Rattle.spec_law.specs.Sound.{Sound}
-use Rattle.book_event.specs.declared.event.Halt.{Halt}
-use Rattle.book_event.specs.declared.event.Halt.TheVariants as halts
-use Rattle.book_event.specs.Book.{BookView, counted}
-use Rattle.book_event.specs.Opening.{IsOpening, PlacesAll, opened}
-use Rattle.book_event.specs.Advancing.{AdvanceAnswers, AdvancesBy}
-use Rattle.book_event.specs.Closing.{Closes}
-use Rattle.book_event.specs.End.{HasEnd}
-use Rattle.book_law.proofs.Proved.{all_kept, IsUntouched, least_events_are_few, none_touched, opening_is_sound, rest_is_there}
+use Rattle.event_def.specs.declared.event.Halt.{Halt}
+use Rattle.event_def.specs.declared.event.Halt.TheVariants as halts
+use Rattle.event_def.specs.Book.{BookView, next_count}
+use Rattle.event_def.specs.Opening.{IsOpening, PlacesAll, opening_book}
+use Rattle.event_def.specs.Advancing.{AdvanceAnswers, AdvancesBy}
+use Rattle.event_def.specs.Closing.{Closes}
+use Rattle.event_def.specs.End.{HasEnd}
+use Rattle.event_law.proofs.Proved.{all_kept, IsUntouched, least_events_are_few, none_touched, opening_is_sound, rest_is_there}
 use Rattle.conflict_book.specs.Halting.{RunsLeast, last_answer}
 use Rattle.tile_worker.specs.Halts.{HaltsAt}
-use Rattle.machine_run.specs.Least.{IsLeastRun, end_of, run_of}
+use Rattle.machine_run.specs.Least.{IsLeastRun, end_of_halt, run_of_closed}
 use Rattle.machine_run.proofs.Leaving.{run_left}
 
-one_more : (n m : ℕ) → m + suc n ≤ 1000000000000 → counted (m + n) ≡ m + suc n
+one_more : (n m : ℕ) → m + suc n ≤ 1000000000000 → next_count (m + n) ≡ m + suc n
 one_more n m h = omega arith
 
 -- each event is counted
@@ -34,7 +34,7 @@ counts : (N : Type 0) (image : ImageValue) (n : ℕ) (old new : BookView) → Ad
 counts N image zero old new h few = let same : new.steps ≡ old.steps = ap (λ (b : BookView). b.steps) (sym h) in omega (arith, same)
 counts N image (suc n) old new h few =
     let before : h.0.steps ≡ old.steps + n = counts N image n old h.0 h.2 (omega (arith, few)) in
-    h.3.happens.steps ∙ ap counted before ∙ one_more n old.steps few
+    h.3.happens.steps ∙ ap next_count before ∙ one_more n old.steps few
 
 -- so many events are few
 few_events : (n left commits budget : ℕ) → n + left ≤ (commits + 1) * (budget + 4) → commits ≤ 1000000 → budget ≤ 65536 → n ≤ 1000000000000
@@ -51,24 +51,25 @@ placed_steps kind (e ∷ es) old new h = placed_steps kind es h.0 new h.2 ∙ ap
 
 -- a run that halted at an end has it
 pub halted : (N : Type 0) (image : ImageValue) (book : BookView) (halt : Halt) → AdvanceAnswers N image book (last_answer halt) book
-    → IfSome (end_of halt) (HasEnd book.view)
+    → IfSome (end_of_halt halt) (HasEnd book.view)
 halted N image book (halts.Ended end) answers = answers.1
 halted N image book halts.Memory answers = tt
 
 -- so has one that workers left
-pub halted_there : (view : View) (halt : Halt) → HaltsAt view halt → IfSome (end_of halt) (HasEnd view)
+pub halted_there : (view : View) (halt : Halt) → HaltsAt view halt → IfSome (end_of_halt halt) (HasEnd view)
 halted_there view (halts.Ended end) there = there
 halted_there view halts.Memory there = tt
 
-module _ (image : ImageValue) (settings : Settings) (placers : List Policy) (taps : List Reading) (opening : BookView) (is_opening : IsOpening image settings placers taps opening) where
+module _ (image : ImageValue) (settings : Settings) (placers : List Policy) (taps : List TapValue) (opening : BookView) (is_opening : IsOpening image settings placers taps opening) where
   untouched : IsUntouched image settings opening.view
   untouched =
-      all_kept image settings image.kind (enumerate_from 0 image.tasks) (opened is_opening.empty placers taps) opening
+      all_kept image settings image.kind (enumerate_from 0 image.tasks)
+      (opening_book is_opening.empty placers taps) opening
       (none_touched image settings is_opening.empty is_opening.is_empty) is_opening.placed
 
   -- at the opening no event was made
   pub opening_steps : opening.steps ≡ 0
-  opening_steps = placed_steps image.kind (enumerate_from 0 image.tasks) (opened is_opening.empty placers taps) opening is_opening.placed
+  opening_steps = placed_steps image.kind (enumerate_from 0 image.tasks) (opening_book is_opening.empty placers taps) opening is_opening.placed
 
   -- and its settings are those with which it began
   pub opening_settings : opening.view.settings ≡ settings
@@ -79,7 +80,7 @@ module _ (image : ImageValue) (settings : Settings) (placers : List Policy) (tap
     events_are : (events : ℕ) → AdvancesBy N image events opening last → last.steps ≡ events
     events_are events advances =
         let few = least_events_are_few N image events opening last (opening_is_sound image settings placers taps opening within valid is_opening) advances in
-        let sound : Sound image last.view = few.now in
+        let sound : Sound image last.view = few.sound in
         let left = rest_is_there image last.view sound in
         let made : few.commits ≤ 1000000 =
         at_most few.commits (length opening.view.history) (length last.view.history) last.view.settings.commits few.longer sound.tasks.few sound.sizes.settings.commits.1 in
@@ -91,12 +92,12 @@ module _ (image : ImageValue) (settings : Settings) (placers : List Policy) (tap
 
     -- what a book leaves that was led so is a run by events of the least tasks, as many as were counted
     pub left_is_least_run : (closed : Closed) (halt : Halt) → RunsLeast N image opening halt last → Closes last closed
-        → IsLeastRun N image settings placers taps closed.steps (run_of closed (end_of halt))
+        → IsLeastRun N image settings placers taps closed.steps (run_of_closed closed (end_of_halt halt))
     left_is_least_run closed halt runs closes = record {
       opening = opening;
       is_opening = is_opening;
       last = last;
       advances = subst (λ n. AdvancesBy N image n opening last) (sym (closes.steps ∙ events_are runs.made runs.advances)) runs.advances;
-      leaves = run_left last closed closes (end_of halt);
+      leaves = run_left last closed closes (end_of_halt halt);
       end_is = halted N image last halt runs.halts;
     }

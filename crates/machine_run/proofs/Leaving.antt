@@ -11,28 +11,28 @@ use Rattle.spec_state.specs.View.{View}
 use Rattle.spec_state.specs.Aborts.{IsUndone}
 use Rattle.spec_law.specs.Sound.{Sound}
 use Rattle.spec_law.proofs.Proved.{undo_all_is_serial}
-use Rattle.book_event.specs.Book.{BookView}
-use Rattle.book_event.specs.Closing.{Closes}
+use Rattle.event_def.specs.Book.{BookView}
+use Rattle.event_def.specs.Closing.{Closes}
 use Rattle.machine_run.specs.Leaving.{LeavesRun}
-use Rattle.machine_run.specs.Least.{run_of}
+use Rattle.machine_run.specs.Least.{run_of_closed}
 use Rattle.machine_run.specs.Played.{StandsAt}
 use Rattle.machine_run.proofs.Standing.{stands_serially}
 
 module _ (last : BookView) (closed : Closed) (closes : Closes last closed) where
   -- the journal that is left is the book's history
   pub journal_left : closed.journal ≡ last.view.history
-  journal_left = closes.journal ∙ ap (λ (v : View). v.history) closes.undone.rest
+  journal_left = closes.journal ∙ ap (λ (v : View). v.history) closes.undone.frame
 
   -- the output is the book's
   pub output_left : closed.output ≡ last.view.output
-  output_left = closes.output ∙ ap (λ (v : View). v.output) closes.undone.rest
+  output_left = closes.output ∙ ap (λ (v : View). v.output) closes.undone.frame
 
   -- the memory is the book's where all uncommitted tasks are taken back
   memory_left : IsUndone last.view (λ id. true) closed.memory
   memory_left = subst (IsUndone last.view (λ id. true)) (sym closes.memory) closes.undone.memory
 
   -- and the count of events is the book's, whatever end is told
-  pub run_left : (end : Option End) → LeavesRun last closed.steps (run_of closed end)
+  pub run_left : (end : Option End) → LeavesRun last closed.steps (run_of_closed closed end)
   run_left end = record { journal_is = journal_left; output_is = output_left; memory_is = memory_left; events_are = closes.steps }
 
 if-some : {A : Type 0} (P Q : A → Type 0) (o : Option A) → ((a : A) → P a → Q a) → IfSome o P → IfSome o Q
@@ -42,7 +42,7 @@ if-some P Q (Some a) f h = f a h
 -- what a sound book leaves once it is closed is a run of the serial machine, with the limit and the budget of its settings, whose end is how
 -- the book stands
 pub left_is_run : (image : ImageValue) (last : BookView) (closed : Closed) (end : Option End) → IsImage image → Sound image last.view → Closes last closed
-    → IfSome end (StandsAt last.view) → IsRunOf image last.view.settings.commits last.view.settings.budget (run_of closed end)
+    → IfSome end (StandsAt last.view) → IsRunOf image last.view.settings.commits last.view.settings.budget (run_of_closed closed end)
 left_is_run image last closed end within sound closes stands =
     let commits = last.view.settings.commits in
     let budget = last.view.settings.budget in
@@ -59,15 +59,15 @@ left_is_run image last closed end within sound closes stands =
 
 -- with a memory that is as long as the image's data
 pub left_is_sized : (image : ImageValue) (closed : Closed) (end : Option End) (commits budget : ℕ) → IsImage image
-    → IsRunOf image commits budget (run_of closed end) → length closed.memory ≡ image.data_size
+    → IsRunOf image commits budget (run_of_closed closed end) → length closed.memory ≡ image.data_size
 left_is_sized image closed end commits budget within run =
     ap length run.memory_is ∙ run_sized image budget closed.journal run.state within run.is_run
 
 -- so too with a limit and a budget that are those of its settings
 pub left_is_run_of : (image : ImageValue) (commits budget : ℕ) (last : BookView) (closed : Closed) (end : Option End) → IsImage image → Sound image last.view
     → Closes last closed → IfSome end (StandsAt last.view) → last.view.settings.commits ≡ commits → last.view.settings.budget ≡ budget
-    → IsRunOf image commits budget (run_of closed end)
+    → IsRunOf image commits budget (run_of_closed closed end)
 left_is_run_of image commits budget last closed end within sound closes stands same_commits same_budget =
-    let run = run_of closed end in
+    let run = run_of_closed closed end in
     subst (λ c. IsRunOf image c budget run) same_commits
     (subst (λ b. IsRunOf image last.view.settings.commits b run) same_budget (left_is_run image last closed end within sound closes stands))

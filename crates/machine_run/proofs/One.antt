@@ -5,21 +5,21 @@ use Rattle.std.specs.List.{AllByRecursion}
 use Rattle.std.proofs.lemmas.List.Elements.{recursion_from_All}
 use Rattle.guest_image.specs.ImageValue.{ImageValue, IsImage}
 use Rattle.place_policy.specs.Policy.{Policy}
-use Rattle.trace_tap.specs.Reading.{Reading}
+use Rattle.trace_tap.specs.TapValue.{TapValue}
 use Rattle.run_journal.specs.declared.end.End.{End}
 use Rattle.run_journal.specs.declared.end.End.TheVariants as ends
 use Rattle.serial_machine.specs.declared.whole_run.SerialRun.{SerialRun}
 use Rattle.spec_state.specs.declared.settings.Settings.{Settings}
 use Rattle.spec_state.specs.Settings.{IsValid}
 use Rattle.spec_state.specs.View.{View}
-use Rattle.book_event.specs.Book.{BookView}
-use Rattle.book_event.specs.End.{HasEnd, IsOver}
-use Rattle.book_law.proofs.Ends.{end_is_one}
-use Rattle.book_law.proofs.Proved.{opening_is_sound}
+use Rattle.event_def.specs.Book.{BookView}
+use Rattle.event_def.specs.End.{HasEnd, IsOver}
+use Rattle.event_law.proofs.Ends.{end_is_one}
+use Rattle.event_law.proofs.Proved.{opening_is_sound}
 use Rattle.step_script.specs.declared.act.Act.{Act}
 use Rattle.step_script.specs.declared.saying.Said.{Said}
-use Rattle.step_script.specs.Ranges.{IsWithin}
-use Rattle.outcome_law.specs.Alike.{Renaming, turned, AreAlike}
+use Rattle.step_script.specs.Ranges.{ActIsInRange}
+use Rattle.outcome_law.specs.Alike.{Renaming, inverse_of, AreAlike}
 use Rattle.outcome_law.specs.Laws.{AreSameBooks}
 use Rattle.outcome_law.proofs.Proved.{alike_turned, end_is_alike, opening_is_one, over_too, play_is_one, undone_alike}
 use Rattle.machine_run.specs.Leaving.{LeavesRun}
@@ -41,7 +41,7 @@ module _ (r : Renaming) (a b : View) (alike : AreAlike r a b) (end other : End) 
       → ((other ≡ ends.Unfinished) × (IsOver b → ⊥)) ⊎ HasEnd b other → other ≡ end
   one_of (inl stands) (inl stands') = stands'.0 ∙ sym stands.0
   one_of (inl stands) (inr has') =
-      absurd (stands.1 (over_too (turned r) b a (alike_turned r a b alike) (other, has')))
+      absurd (stands.1 (over_too (inverse_of r) b a (alike_turned r a b alike) (other, has')))
   one_of (inr has) (inl stands') = absurd (stands'.1 (over_too r a b alike (end, has)))
   one_of (inr has) (inr has') = end_is_one b other end has' (end_is_alike r a b end alike has)
 
@@ -52,10 +52,10 @@ module _ (r : Renaming) (a b : View) (alike : AreAlike r a b) (end other : End) 
 module _ (a b : BookView) (same : AreSameBooks a b) (events other : ℕ) (run other_run : SerialRun)
     (one : LeavesRun a events run) (two : LeavesRun b other other_run) where
   journal_one : other_run.journal ≡ run.journal
-  journal_one = two.journal_is ∙ (ap (λ v. v.history) same.1.view.rest ∙ sym one.journal_is)
+  journal_one = two.journal_is ∙ (ap (λ v. v.history) same.1.view.frame ∙ sym one.journal_is)
 
   output_one : other_run.output ≡ run.output
-  output_one = two.output_is ∙ (ap (λ v. v.output) same.1.view.rest ∙ sym one.output_is)
+  output_one = two.output_is ∙ (ap (λ v. v.output) same.1.view.frame ∙ sym one.output_is)
 
   memory_one : other_run.memory ≡ run.memory
   memory_one =
@@ -69,15 +69,15 @@ module _ (a b : BookView) (same : AreSameBooks a b) (events other : ℕ) (run ot
   events_one = two.events_are ∙ (same.1.steps ∙ sym one.events_are)
 
 module _ (N : Type 0) (image : ImageValue) (settings : Settings) (script : List Act) (placers : List Policy)
-    (taps : List Reading) (said other_said : List Said) (events other_events : ℕ) (end other_end : End)
+    (taps : List TapValue) (said other_said : List Said) (events other_events : ℕ) (end other_end : End)
     (run other_run : SerialRun) (is_image : IsImage image) (valid : IsValid settings)
-    (within : All (IsWithin settings.tiles settings.cores) script)
+    (within : All (ActIsInRange settings.tiles settings.cores) script)
     (one : IsPlayedRun N image settings script placers taps said events end run)
     (two : IsPlayedRun N image settings script placers taps other_said other_events other_end other_run) where
-  inside : AllByRecursion (IsWithin one.opening.view.settings.tiles one.opening.view.settings.cores) script
+  inside : AllByRecursion (ActIsInRange one.opening.view.settings.tiles one.opening.view.settings.cores) script
   inside =
-      recursion_from_All (IsWithin one.opening.view.settings.tiles one.opening.view.settings.cores) script
-      (subst (λ (s : Settings). All (IsWithin s.tiles s.cores) script)
+      recursion_from_All (ActIsInRange one.opening.view.settings.tiles one.opening.view.settings.cores) script
+      (subst (λ (s : Settings). All (ActIsInRange s.tiles s.cores) script)
       (sym (opening_settings image settings placers taps one.opening one.is_opening)) within)
 
   both : (other_said ≡ said) × AreSameBooks one.last two.last
@@ -100,7 +100,7 @@ module _ (N : Type 0) (image : ImageValue) (settings : Settings) (script : List 
   }
 
   lists_one : tap_lists two.last ≡ tap_lists one.last
-  lists_one = ap (map (λ (reading : Reading). reading.list)) both.1.1.taps
+  lists_one = ap (map (λ (reading : TapValue). reading.list)) both.1.1.taps
 
 pub played_run_is_one : (N : Type 0) → PlayedRunIsOne N
 played_run_is_one N image settings script placers taps said other_said events other_events end other_end run other_run

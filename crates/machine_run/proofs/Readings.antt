@@ -2,7 +2,7 @@
 use Rattle.std.proofs.Common.{ℕ, zero, suc, ◌+◌, ◌≡◌, ◌<◌, ◌∙◌, List, [], ◌∷◌, ◌++◌, length, map, take, sym, ap, refl, Option, Some, None, option_map, option_and_then, slice_get, arith}
 use Rattle.std.proofs.lemmas.List.{map-append, take_all, take_more}
 use Rattle.std.proofs.lemmas.Option.{slice_get-map, slice_get-get_or, slice_get_within, get_or_from_slice_get}
-use Rattle.trace_tap.specs.Reading.{Reading}
+use Rattle.trace_tap.specs.TapValue.{TapValue}
 
 -- a list up to one place more
 next_taken : {X : Type 0} (xs : List X) (i : ℕ) (x : X) → slice_get xs i ≡ Some x → take (i + 1) xs ≡ take i xs ++ x ∷ []
@@ -15,18 +15,18 @@ all_taken (x ∷ xs) zero none = absurd (cc (none))
 all_taken (x ∷ xs) (suc i) none = ap (λ l. x ∷ l) (all_taken xs i none)
 
 -- the lists of these taps
-abbrev lists_of : List Reading → List (List ℕ)
+abbrev lists_of : List TapValue → List (List ℕ)
 lists_of taps = map (λ reading. reading.list) taps
 
-module _ (taps : List Reading) (tap : ℕ) where
+module _ (taps : List TapValue) (tap : ℕ) where
   mapped : slice_get (lists_of taps) tap ≡ option_map (λ reading. reading.list) (slice_get taps tap)
-  mapped = slice_get-map (λ (reading : Reading). reading.list) taps tap
+  mapped = slice_get-map (λ (reading : TapValue). reading.list) taps tap
 
   -- behind the last tap there is no list
   pub no_tap : None ≡ option_map (λ reading. length reading.list) (slice_get taps tap) → None ≡ slice_get (lists_of taps) tap
   no_tap none = by_tap (slice_get taps tap) none ∙ sym mapped
     where
-      by_tap : (found : Option Reading) → None ≡ option_map (λ reading. length reading.list) found → None ≡ option_map (λ reading. reading.list) found
+      by_tap : (found : Option TapValue) → None ≡ option_map (λ reading. length reading.list) found → None ≡ option_map (λ reading. reading.list) found
       by_tap None is = refl
       by_tap (Some reading) is = absurd (cc (is))
 
@@ -35,7 +35,7 @@ module _ (taps : List Reading) (tap : ℕ) where
       → None ≡ option_and_then (λ reading. slice_get reading.list place) (slice_get taps tap) → ⊥
   no_gap place len = by_tap (slice_get taps tap)
     where
-      by_tap : (found : Option Reading) → Some len ≡ option_map (λ reading. length reading.list) found → place < len
+      by_tap : (found : Option TapValue) → Some len ≡ option_map (λ reading. length reading.list) found → place < len
           → None ≡ option_and_then (λ reading. slice_get reading.list place) found → ⊥
       by_tap None long below none = cc
       by_tap (Some reading) long below none =
@@ -49,7 +49,7 @@ module _ (taps : List Reading) (tap : ℕ) where
   next_read list place number before after at is read more =
       more ∙ ap (λ l. l ++ number ∷ []) is ∙ sym (next_taken list place number (by_tap (slice_get taps tap) (sym mapped ∙ at) read))
     where
-      by_tap : (found : Option Reading) → option_map (λ reading. reading.list) found ≡ Some list
+      by_tap : (found : Option TapValue) → option_map (λ reading. reading.list) found ≡ Some list
           → Some number ≡ option_and_then (λ reading. slice_get reading.list place) found → slice_get list place ≡ Some number
       by_tap None here it = absurd (cc (here))
       by_tap (Some reading) here it =
@@ -61,7 +61,7 @@ module _ (taps : List Reading) (tap : ℕ) where
       → ((list : List ℕ) → slice_get (lists_of taps) tap ≡ Some list → items ≡ take len list) → Some items ≡ slice_get (lists_of taps) tap
   whole_read len items long is = by_tap (slice_get taps tap) mapped long
     where
-      by_tap : (found : Option Reading) → slice_get (lists_of taps) tap ≡ option_map (λ reading. reading.list) found
+      by_tap : (found : Option TapValue) → slice_get (lists_of taps) tap ≡ option_map (λ reading. reading.list) found
           → Some len ≡ option_map (λ reading. length reading.list) found → Some items ≡ slice_get (lists_of taps) tap
       by_tap None at long = absurd (cc (long))
       by_tap (Some reading) at long =

@@ -8,8 +8,8 @@ use Rattle.serial_machine.specs.Run.{IsEnd}
 use Rattle.spec_state.specs.View.{View}
 use Rattle.spec_state.specs.Least.{IsAllCommitted}
 use Rattle.spec_law.specs.Sound.{Sound}
-use Rattle.book_event.specs.End.{HasEnd, IsOver}
-use Rattle.book_law.proofs.Proved.{all_committed, end_is_serial}
+use Rattle.event_def.specs.End.{HasEnd, IsOver}
+use Rattle.event_law.proofs.Proved.{all_committed, end_is_serial}
 use Rattle.machine_run.specs.Played.{StandsAt}
 
 -- where the run isn't over some task is pending, and fewer took turns than may

@@ -2,7 +2,7 @@
 use Rattle.std.specs.Prelude.{◌≡◌, ℕ, true}
 use Rattle.serial_machine.specs.declared.whole_run.SerialRun.{SerialRun}
 use Rattle.spec_state.specs.Aborts.{IsUndone}
-use Rattle.book_event.specs.Book.{BookView}
+use Rattle.event_def.specs.Book.{BookView}
 
 -- the run has the journal and the output of the book, and the memory that is left where all its uncommitted tasks are
 -- taken back; and so many events were counted

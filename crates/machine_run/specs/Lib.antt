@@ -1,3 +1,4 @@
+-- Contracts mean all of these.
 pub mod Leaving
 pub mod Least
 pub mod Played

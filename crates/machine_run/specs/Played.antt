@@ -2,15 +2,15 @@
 use Rattle.std.specs.Prelude.{◌≡◌, ℕ, List, map, Some, None}
 use Rattle.guest_image.specs.ImageValue.{ImageValue}
 use Rattle.place_policy.specs.Policy.{Policy}
-use Rattle.trace_tap.specs.Reading.{Reading}
+use Rattle.trace_tap.specs.TapValue.{TapValue}
 use Rattle.run_journal.specs.declared.end.End.{End}
 use Rattle.run_journal.specs.declared.end.End.TheVariants as ends
 use Rattle.serial_machine.specs.declared.whole_run.SerialRun.{SerialRun}
 use Rattle.spec_state.specs.declared.settings.Settings.{Settings}
 use Rattle.spec_state.specs.View.{View}
-use Rattle.book_event.specs.Book.{BookView}
-use Rattle.book_event.specs.Opening.{IsOpening}
-use Rattle.book_event.specs.End.{HasEnd, IsOver}
+use Rattle.event_def.specs.Book.{BookView}
+use Rattle.event_def.specs.Opening.{IsOpening}
+use Rattle.event_def.specs.End.{HasEnd, IsOver}
 use Rattle.step_script.specs.declared.act.Act.{Act}
 use Rattle.step_script.specs.declared.saying.Said.{Said}
 use Rattle.step_script.specs.Playing.{Plays, PlaysSome}
@@ -24,7 +24,7 @@ StandsAt view end = HasEnd view end
 -- the script, played from an opening with these placers and taps, of which this is said, leads to a book that leaves
 -- this run and has counted so many events, and which stands at this end
 pub record IsPlayedRun (N : Type 0) (image : ImageValue) (settings : Settings) (script : List Act)
-    (placers : List Policy) (taps : List Reading) (said : List Said) (events : ℕ) (end : End)
+    (placers : List Policy) (taps : List TapValue) (said : List Said) (events : ℕ) (end : End)
     (run : SerialRun) : Type 0 where
   pub opening : BookView
   pub is_opening : IsOpening image settings placers taps opening
@@ -35,9 +35,10 @@ pub record IsPlayedRun (N : Type 0) (image : ImageValue) (settings : Settings) (
   pub end_is : run.end ≡ Some end
 
 -- memory ran out: some first acts of the script, or all, played from such an opening, lead to a book that leaves this
--- run and has counted so many events, and no end is told
+-- run and has counted so many events, and no end is told; how many acts isn't told, and a trace, whose lists come
+-- behind them, may have made all
 pub record IsPlayedInPart (N : Type 0) (image : ImageValue) (settings : Settings) (script : List Act)
-    (placers : List Policy) (taps : List Reading) (events : ℕ) (run : SerialRun) : Type 0 where
+    (placers : List Policy) (taps : List TapValue) (events : ℕ) (run : SerialRun) : Type 0 where
   pub opening : BookView
   pub is_opening : IsOpening image settings placers taps opening
   pub last : BookView
@@ -50,7 +51,7 @@ abbrev pub tap_lists : BookView → List (List ℕ)
 tap_lists book = map (λ reading. reading.list) book.taps
 
 -- the script, played from one book on, leads to another, whose taps have these lists
-pub record IsTold (N : Type 0) (image : ImageValue) (script : List Act) (old : BookView) (lists : List (List ℕ))
+pub record LeavesTapLists (N : Type 0) (image : ImageValue) (script : List Act) (old : BookView) (lists : List (List ℕ))
     (new : BookView) : Type 0 where
   pub said : List Said
   pub plays : Plays N image script old said new
@@ -58,7 +59,7 @@ pub record IsTold (N : Type 0) (image : ImageValue) (script : List Act) (old : B
 
 -- a script was played so, and its taps have these lists then
 pub record IsTracedRun (N : Type 0) (image : ImageValue) (settings : Settings) (script : List Act)
-    (placers : List Policy) (taps : List Reading) (lists : List (List ℕ)) (events : ℕ) (end : End)
+    (placers : List Policy) (taps : List TapValue) (lists : List (List ℕ)) (events : ℕ) (end : End)
     (run : SerialRun) : Type 0 where
   pub said : List Said
   pub played : IsPlayedRun N image settings script placers taps said events end run

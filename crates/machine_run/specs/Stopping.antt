@@ -3,11 +3,11 @@ use Rattle.std.specs.Prelude.{◌≡◌, ◌<◌, ℕ, List, length, Some}
 use Rattle.guest_image.specs.ImageValue.{ImageValue}
 use Rattle.run_journal.specs.declared.end.End.TheVariants as ends
 use Rattle.spec_state.specs.declared.pending.Pending.{Pending}
-use Rattle.spec_state.specs.Pendings.{Leaves}
+use Rattle.spec_state.specs.Pendings.{RunLeaves}
 use Rattle.machine_run.specs.declared.left.Ran.{Ran}
 
 -- the run met its commit limit, and these tasks pend after it
 pub record IsStoppedWith (image : ImageValue) (budget : ℕ) (ran : Ran) (pendings : List Pending) : Type 0 where
   pub end_is : ran.end ≡ Some ends.Limit
-  pub left : Leaves image budget ran.closed.journal ran.closed.memory ran.closed.output pendings
+  pub left : RunLeaves image budget ran.closed.journal ran.closed.memory ran.closed.output pendings
   pub some : 0 < length pendings

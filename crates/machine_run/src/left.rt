@@ -3,9 +3,9 @@
 ghost use Rattle.std.specs.Prelude.{◌≡◌, true, length, Some, IsSome, IfSome};
 ghost use Rattle.guest_image.specs.ImageValue.{IsImage};
 ghost use Rattle.serial_machine.specs.WholeRun.{IsRunOf};
-ghost use Rattle.book_event.specs.Closing.{Closes};
-ghost use Rattle.conflict_book.specs.Seen.{view_of};
-ghost use Rattle.machine_run.specs.Least.{run_of};
+ghost use Rattle.event_def.specs.Closing.{Closes};
+ghost use Rattle.conflict_book.specs.BookViews.{machine_view, view_of};
+ghost use Rattle.machine_run.specs.Least.{run_of_closed};
 ghost use Rattle.machine_run.specs.Played.{StandsAt};
 ghost use Rattle.machine_run.specs.Stopping.{IsStoppedWith};
 
@@ -30,10 +30,10 @@ pub struct Ran {
 /// ends so too.
 pub(crate) fn leave<N: Naming, P: Placer, T: Tap>(book: Book<N, P, T>, end: Option<End>) -> Ran
     requires fits { IsImage N.image }
-    requires stands { IfSome end (StandsAt (view_of P.policy T.reading book).view) }
-    ensures closes { Closes (view_of P.policy T.reading book) result.closed }
+    requires stands { IfSome end (StandsAt (machine_view book)) }
+    ensures closes { Closes (view_of P.policy T.notes book) result.closed }
     ensures end { result.end ≡ end }
-    ensures run { IsRunOf N.image N.commits N.budget (run_of result.closed result.end) }
+    ensures run { IsRunOf N.image N.commits N.budget (run_of_closed result.closed result.end) }
     ensures writable { length result.closed.memory ≡ N.image.data_size }
 {
     book.is_sound();
@@ -55,10 +55,10 @@ pub struct Stopped {
 /// Closes a book that met its commit limit, with the tasks that pend. Where memory runs out for these no end is told.
 fn freeze<N: Naming, P: Placer, T: Tap>(book: Book<N, P, T>) -> Stopped
     requires fits { IsImage N.image }
-    requires stands { StandsAt (view_of P.policy T.reading book).view End.Limit }
-    ensures closes { Closes (view_of P.policy T.reading book) result.ran.closed }
+    requires stands { StandsAt (machine_view book) End.Limit }
+    ensures closes { Closes (view_of P.policy T.notes book) result.ran.closed }
     ensures end { IfSome result.ran.end (λ end. Some End.Limit ≡ Some end) }
-    ensures run { IsRunOf N.image N.commits N.budget (run_of result.ran.closed result.ran.end) }
+    ensures run { IsRunOf N.image N.commits N.budget (run_of_closed result.ran.closed result.ran.end) }
     ensures writable { length result.ran.closed.memory ≡ N.image.data_size }
     ensures pending { IfSome result.pending (IsStoppedWith N.image N.budget result.ran) }
     ensures limit { result.ran.end ≡ Some End.Limit → IsSome result.pending }
@@ -87,10 +87,10 @@ pub(crate) fn stop<N: Naming, P: Placer, T: Tap>(
     goes_on: bool,
 ) -> Stopped
     requires fits { IsImage N.image }
-    requires stands { IfSome end (StandsAt (view_of P.policy T.reading book).view) }
-    ensures closes { Closes (view_of P.policy T.reading book) result.ran.closed }
+    requires stands { IfSome end (StandsAt (machine_view book)) }
+    ensures closes { Closes (view_of P.policy T.notes book) result.ran.closed }
     ensures end { IfSome result.ran.end (λ told. end ≡ Some told) }
-    ensures run { IsRunOf N.image N.commits N.budget (run_of result.ran.closed result.ran.end) }
+    ensures run { IsRunOf N.image N.commits N.budget (run_of_closed result.ran.closed result.ran.end) }
     ensures writable { length result.ran.closed.memory ≡ N.image.data_size }
     ensures pending { IfSome result.pending (IsStoppedWith N.image N.budget result.ran) }
     ensures limit { goes_on ≡ true → result.ran.end ≡ Some End.Limit → IsSome result.pending }

@@ -1,4 +1,4 @@
-//! An image is run on the machine of tiles, or a script is played on it: from the opening to what the closed book
+//! An image is run on the speculative machine, or a script is played on it: from the opening to what the closed book
 //! leaves. It stands on the book, on scripts and on workers; the program calls it. What it costs beside its events
 //! is an opening and a close.
 #![tactic(auto)]

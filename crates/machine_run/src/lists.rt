@@ -1,7 +1,7 @@
 //! What the taps of a book saw.
 
 ghost use Rattle.std.specs.Prelude.{◌≡◌, map, option_map, slice_get, IfOk};
-ghost use Rattle.conflict_book.specs.Seen.{view_of};
+ghost use Rattle.conflict_book.specs.BookViews.{view_of};
 ghost use Rattle.machine_run.specs.Played.{tap_lists};
 
 use conflict_book::Book;
@@ -16,7 +16,7 @@ fn list_of<N: Naming, P: Placer, T: Tap>(
     book: &Book<N, P, T>,
     tap: usize,
 ) -> Result<Option<Vec<u64>>, AllocError>
-    ensures { let lists = tap_lists (view_of P.policy T.reading book.now) in
+    ensures { let lists = tap_lists (view_of P.policy T.notes book.now) in
         IfOk result (λ found. option_map (λ list. list.items) found ≡ slice_get lists tap) }
 {
     let Some(len) = book.tap_len(tap) else {
@@ -37,7 +37,7 @@ pub(crate) fn lists_of<N: Naming, P: Placer, T: Tap>(
     alloc: Global,
     book: &Book<N, P, T>,
 ) -> Result<Vec<Vec<u64>>, AllocError>
-    ensures { let lists = tap_lists (view_of P.policy T.reading book.now) in
+    ensures { let lists = tap_lists (view_of P.policy T.notes book.now) in
         IfOk result (λ told. map (λ list. list.items) told.items ≡ lists) }
 {
     let mut told = Vec::new(alloc);

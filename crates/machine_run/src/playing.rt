@@ -3,17 +3,17 @@
 ghost use Rattle.std.specs.Prelude.{◌≡◌, All, List, length, map, IfOk, IfSome, IsSomeAnd, None, OnErr};
 ghost use Rattle.guest_image.specs.ImageValue.{IsImage};
 ghost use Rattle.place_policy.specs.Policy.{Policy};
-ghost use Rattle.trace_tap.specs.Reading.{Reading};
+ghost use Rattle.trace_tap.specs.TapValue.{TapValue};
 ghost use Rattle.serial_machine.specs.WholeRun.{IsRunOf};
 ghost use Rattle.spec_state.specs.declared.settings.Settings.{Settings};
-ghost use Rattle.spec_state.specs.Settings.{IsValid};
-ghost use Rattle.book_event.specs.Closing.{Closes};
-ghost use Rattle.book_event.specs.Opening.{IsOpening};
-ghost use Rattle.conflict_book.specs.Seen.{view_of};
+ghost use Rattle.spec_state.specs.Settings.{IsNamed, IsValid};
+ghost use Rattle.event_def.specs.Closing.{Closes};
+ghost use Rattle.event_def.specs.Opening.{IsOpening};
+ghost use Rattle.conflict_book.specs.BookViews.{machine_view, view_of};
 ghost use Rattle.step_script.specs.Playing.{PlaysSome};
-ghost use Rattle.step_script.specs.Ranges.{IsWithin};
-ghost use Rattle.machine_run.specs.Least.{run_of};
-ghost use Rattle.machine_run.specs.Played.{IsPlayedInPart, IsPlayedRun, IsTold, IsTracedRun, StandsAt};
+ghost use Rattle.step_script.specs.Ranges.{ActIsInRange};
+ghost use Rattle.machine_run.specs.Least.{run_of_closed};
+ghost use Rattle.machine_run.specs.Played.{IsPlayedInPart, IsPlayedRun, LeavesTapLists, IsTracedRun, StandsAt};
 
 use crate::left::{Ran, leave};
 use crate::lists::lists_of;
@@ -58,20 +58,18 @@ pub fn play_script<N: Naming, P: Placer, T: Tap>(
 ) -> Result<Played, AllocError>
     requires fits { IsImage image.now }
     requires valid { IsValid settings }
-    requires image { image.now ≡ N.image }
-    requires budget { settings.budget ≡ N.budget }
-    requires commits { settings.commits ≡ N.commits }
-    requires within { All (IsWithin settings.tiles settings.cores) script.now }
+    requires named { IsNamed image.now settings N.image N.budget N.commits }
+    requires within { All (ActIsInRange settings.tiles settings.cores) script.now }
     ensures played { let serving = map P.policy placers.items in
-        let noting = map T.reading taps.items in
+        let noting = map T.notes taps.items in
         IfOk result (λ p. IfSome p.ran.end (λ end. IsPlayedRun N image.now settings script.now serving noting
-        p.said.items p.ran.closed.steps end (run_of p.ran.closed p.ran.end))) }
+        p.said.items p.ran.closed.steps end (run_of_closed p.ran.closed p.ran.end))) }
     ensures part { let serving = map P.policy placers.items in
-        let noting = map T.reading taps.items in
+        let noting = map T.notes taps.items in
         IfOk result (λ p. p.ran.end ≡ None → IsPlayedInPart N image.now settings script.now serving noting
-        p.ran.closed.steps (run_of p.ran.closed p.ran.end)) }
+        p.ran.closed.steps (run_of_closed p.ran.closed p.ran.end)) }
     ensures run { IfOk result (λ p.
-        IsRunOf image.now settings.commits settings.budget (run_of p.ran.closed p.ran.end)) }
+        IsRunOf image.now settings.commits settings.budget (run_of_closed p.ran.closed p.ran.end)) }
     ensures writable { IfOk result (λ p. length p.ran.closed.memory ≡ image.now.data_size) }
 {
     let book = Book::<N, P, T>::begin(alloc, image, settings, placers, taps)?;
@@ -87,19 +85,19 @@ fn play_begun<N: Naming, P: Placer, T: Tap>(
 ) -> Played
     requires fits { IsImage N.image }
     requires image { image.now ≡ N.image }
-    requires within { let settings = (view_of P.policy T.reading book).view.settings in
-        All (IsWithin settings.tiles settings.cores) script.now }
-    ensures played { let opening = view_of P.policy T.reading book in
-        (settings : Settings) (placers : List Policy) (taps : List Reading)
+    requires within { let settings = (machine_view book).settings in
+        All (ActIsInRange settings.tiles settings.cores) script.now }
+    ensures played { let opening = view_of P.policy T.notes book in
+        (settings : Settings) (placers : List Policy) (taps : List TapValue)
         → IsOpening N.image settings placers taps opening
         → IfSome result.ran.end (λ end. IsPlayedRun N N.image settings script.now placers taps
-        result.said.items result.ran.closed.steps end (run_of result.ran.closed result.ran.end)) }
-    ensures part { let opening = view_of P.policy T.reading book in
-        (settings : Settings) (placers : List Policy) (taps : List Reading)
+        result.said.items result.ran.closed.steps end (run_of_closed result.ran.closed result.ran.end)) }
+    ensures part { let opening = view_of P.policy T.notes book in
+        (settings : Settings) (placers : List Policy) (taps : List TapValue)
         → IsOpening N.image settings placers taps opening
         → result.ran.end ≡ None → IsPlayedInPart N N.image settings script.now placers taps
-        result.ran.closed.steps (run_of result.ran.closed result.ran.end) }
-    ensures run { IsRunOf N.image N.commits N.budget (run_of result.ran.closed result.ran.end) }
+        result.ran.closed.steps (run_of_closed result.ran.closed result.ran.end) }
+    ensures run { IsRunOf N.image N.commits N.budget (run_of_closed result.ran.closed result.ran.end) }
     ensures writable { length result.ran.closed.memory ≡ N.image.data_size }
 {
     let mut book = book;
@@ -126,20 +124,18 @@ pub fn trace_script<N: Naming, P: Placer, T: Tap>(
 ) -> Result<Traced, AllocError>
     requires fits { IsImage image.now }
     requires valid { IsValid settings }
-    requires image { image.now ≡ N.image }
-    requires budget { settings.budget ≡ N.budget }
-    requires commits { settings.commits ≡ N.commits }
-    requires within { All (IsWithin settings.tiles settings.cores) script.now }
+    requires named { IsNamed image.now settings N.image N.budget N.commits }
+    requires within { All (ActIsInRange settings.tiles settings.cores) script.now }
     ensures traced { let serving = map P.policy placers.items in
-        let noting = map T.reading taps.items in
+        let noting = map T.notes taps.items in
         IfOk result (λ t. IfSome t.ran.end (λ end. IsTracedRun N image.now settings script.now serving noting
-        (map (λ list. list.items) t.lists.items) t.ran.closed.steps end (run_of t.ran.closed t.ran.end))) }
+        (map (λ list. list.items) t.lists.items) t.ran.closed.steps end (run_of_closed t.ran.closed t.ran.end))) }
     ensures part { let serving = map P.policy placers.items in
-        let noting = map T.reading taps.items in
+        let noting = map T.notes taps.items in
         IfOk result (λ t. t.ran.end ≡ None → IsPlayedInPart N image.now settings script.now serving noting
-        t.ran.closed.steps (run_of t.ran.closed t.ran.end)) }
+        t.ran.closed.steps (run_of_closed t.ran.closed t.ran.end)) }
     ensures run { IfOk result (λ t.
-        IsRunOf image.now settings.commits settings.budget (run_of t.ran.closed t.ran.end)) }
+        IsRunOf image.now settings.commits settings.budget (run_of_closed t.ran.closed t.ran.end)) }
     ensures writable { IfOk result (λ t. length t.ran.closed.memory ≡ image.now.data_size) }
 {
     let book = Book::<N, P, T>::begin(alloc, image, settings, placers, taps)?;
@@ -156,20 +152,20 @@ fn trace_begun<N: Naming, P: Placer, T: Tap>(
 ) -> Traced
     requires fits { IsImage N.image }
     requires image { image.now ≡ N.image }
-    requires within { let settings = (view_of P.policy T.reading book).view.settings in
-        All (IsWithin settings.tiles settings.cores) script.now }
-    ensures traced { let opening = view_of P.policy T.reading book in
-        (settings : Settings) (placers : List Policy) (taps : List Reading)
+    requires within { let settings = (machine_view book).settings in
+        All (ActIsInRange settings.tiles settings.cores) script.now }
+    ensures traced { let opening = view_of P.policy T.notes book in
+        (settings : Settings) (placers : List Policy) (taps : List TapValue)
         → IsOpening N.image settings placers taps opening
         → IfSome result.ran.end (λ end. IsTracedRun N N.image settings script.now placers taps
         (map (λ list. list.items) result.lists.items) result.ran.closed.steps end
-        (run_of result.ran.closed result.ran.end)) }
-    ensures part { let opening = view_of P.policy T.reading book in
-        (settings : Settings) (placers : List Policy) (taps : List Reading)
+        (run_of_closed result.ran.closed result.ran.end)) }
+    ensures part { let opening = view_of P.policy T.notes book in
+        (settings : Settings) (placers : List Policy) (taps : List TapValue)
         → IsOpening N.image settings placers taps opening
         → result.ran.end ≡ None → IsPlayedInPart N N.image settings script.now placers taps
-        result.ran.closed.steps (run_of result.ran.closed result.ran.end) }
-    ensures run { IsRunOf N.image N.commits N.budget (run_of result.ran.closed result.ran.end) }
+        result.ran.closed.steps (run_of_closed result.ran.closed result.ran.end) }
+    ensures run { IsRunOf N.image N.commits N.budget (run_of_closed result.ran.closed result.ran.end) }
     ensures writable { length result.ran.closed.memory ≡ N.image.data_size }
 {
     let mut book = book;
@@ -194,13 +190,13 @@ fn play_and_tell<N: Naming, P: Placer, T: Tap>(
     script: &[Act],
 ) -> Result<Vec<Vec<u64>>, AllocError>
     requires image { image.now ≡ N.image }
-    requires within { let settings = (view_of P.policy T.reading book.old).view.settings in
-        All (IsWithin settings.tiles settings.cores) script.now }
-    ensures told { let old = view_of P.policy T.reading book.old in
-        let new = view_of P.policy T.reading book.new in
-        IfOk result (λ lists. IsTold N N.image script.now old (map (λ list. list.items) lists.items) new) }
-    ensures out_of_memory { let old = view_of P.policy T.reading book.old in
-        let new = view_of P.policy T.reading book.new in
+    requires within { let settings = (machine_view book.old).settings in
+        All (ActIsInRange settings.tiles settings.cores) script.now }
+    ensures told { let old = view_of P.policy T.notes book.old in
+        let new = view_of P.policy T.notes book.new in
+        IfOk result (λ lists. LeavesTapLists N N.image script.now old (map (λ list. list.items) lists.items) new) }
+    ensures out_of_memory { let old = view_of P.policy T.notes book.old in
+        let new = view_of P.policy T.notes book.new in
         OnErr result (PlaysSome N N.image script.now old new) }
 {
     play(alloc, image, book, script)?;
@@ -210,10 +206,10 @@ fn play_and_tell<N: Naming, P: Placer, T: Tap>(
 /// Closes a book, at the end of its run or, where that isn't over, as unfinished.
 fn leave_standing<N: Naming, P: Placer, T: Tap>(book: Book<N, P, T>) -> Ran
     requires fits { IsImage N.image }
-    ensures closes { Closes (view_of P.policy T.reading book) result.closed }
-    ensures stands { let view = (view_of P.policy T.reading book).view in
+    ensures closes { Closes (view_of P.policy T.notes book) result.closed }
+    ensures stands { let view = machine_view book in
         IsSomeAnd result.end (StandsAt view) }
-    ensures run { IsRunOf N.image N.commits N.budget (run_of result.closed result.end) }
+    ensures run { IsRunOf N.image N.commits N.budget (run_of_closed result.closed result.end) }
     ensures writable { length result.closed.memory ≡ N.image.data_size }
 {
     let end = stand(&book);
@@ -222,7 +218,7 @@ fn leave_standing<N: Naming, P: Placer, T: Tap>(book: Book<N, P, T>) -> Ran
 
 /// How the run of a book stands: its end, or unfinished where it isn't over.
 fn stand<N: Naming, P: Placer, T: Tap>(book: &Book<N, P, T>) -> End
-    ensures { StandsAt (view_of P.policy T.reading book.now).view result }
+    ensures { StandsAt (machine_view book.now) result }
 {
     match book.end() {
         Some(end) => end,

@@ -3,13 +3,13 @@
 ghost use Rattle.std.specs.Prelude.{◌≡◌, ◌≢◌, ◌≤◌, ◌^◌, true, List, length, map, IfOk, Some, IsSome, IfSome};
 ghost use Rattle.guest_image.specs.ImageValue.{IsImage};
 ghost use Rattle.place_policy.specs.Policy.{Policy};
-ghost use Rattle.trace_tap.specs.Reading.{Reading};
+ghost use Rattle.trace_tap.specs.TapValue.{TapValue};
 ghost use Rattle.serial_machine.specs.WholeRun.{IsRunOf};
 ghost use Rattle.spec_state.specs.declared.settings.Settings.{Settings};
-ghost use Rattle.spec_state.specs.Settings.{IsValid};
-ghost use Rattle.book_event.specs.Opening.{IsOpening};
-ghost use Rattle.conflict_book.specs.Seen.{view_of};
-ghost use Rattle.machine_run.specs.Least.{IsLeastRun, end_of, run_of};
+ghost use Rattle.spec_state.specs.Settings.{IsNamed, IsValid};
+ghost use Rattle.event_def.specs.Opening.{IsOpening};
+ghost use Rattle.conflict_book.specs.BookViews.{events_made, view_of};
+ghost use Rattle.machine_run.specs.Least.{IsLeastRun, end_of_halt, run_of_closed};
 ghost use Rattle.machine_run.specs.Stopping.{IsStoppedWith};
 
 use crate::left::{Ran, Stopped, stop};
@@ -45,15 +45,13 @@ pub fn run<
 ) -> Result<Ran, AllocError>
     requires fits { IsImage image.now }
     requires valid { IsValid settings }
-    requires image { image.now ≡ N.image }
-    requires budget { settings.budget ≡ N.budget }
-    requires commits { settings.commits ≡ N.commits }
+    requires named { IsNamed image.now settings N.image N.budget N.commits }
     ensures least { let serving = map P.policy placers.items in
-        let noting = map T.reading taps.items in
+        let noting = map T.notes taps.items in
         settings.workers ≡ 0 → IfOk result (λ ran.
-        IsLeastRun N image.now settings serving noting ran.closed.steps (run_of ran.closed ran.end)) }
+        IsLeastRun N image.now settings serving noting ran.closed.steps (run_of_closed ran.closed ran.end)) }
     ensures run { IfOk result (λ ran.
-        IsRunOf image.now settings.commits settings.budget (run_of ran.closed ran.end)) }
+        IsRunOf image.now settings.commits settings.budget (run_of_closed ran.closed ran.end)) }
     ensures writable { IfOk result (λ ran. length ran.closed.memory ≡ image.now.data_size) }
     ensures over { IfOk result (λ ran. ran.end ≢ Some End.Unfinished) }
 {
@@ -81,15 +79,13 @@ pub fn run_to_save<
 ) -> Result<Stopped, AllocError>
     requires fits { IsImage image.now }
     requires valid { IsValid settings }
-    requires image { image.now ≡ N.image }
-    requires budget { settings.budget ≡ N.budget }
-    requires commits { settings.commits ≡ N.commits }
+    requires named { IsNamed image.now settings N.image N.budget N.commits }
     ensures least { let serving = map P.policy placers.items in
-        let noting = map T.reading taps.items in
+        let noting = map T.notes taps.items in
         settings.workers ≡ 0 → IfOk result (λ stopped. let ran = stopped.ran in
-        IsLeastRun N image.now settings serving noting ran.closed.steps (run_of ran.closed ran.end)) }
+        IsLeastRun N image.now settings serving noting ran.closed.steps (run_of_closed ran.closed ran.end)) }
     ensures run { IfOk result (λ stopped. let ran = stopped.ran in
-        IsRunOf image.now settings.commits settings.budget (run_of ran.closed ran.end)) }
+        IsRunOf image.now settings.commits settings.budget (run_of_closed ran.closed ran.end)) }
     ensures writable { IfOk result (λ stopped. length stopped.ran.closed.memory ≡ image.now.data_size) }
     ensures over { IfOk result (λ stopped. stopped.ran.end ≢ Some End.Unfinished) }
     ensures pending { IfOk result (λ stopped.
@@ -118,15 +114,13 @@ fn run_as<
 ) -> Result<Stopped, AllocError>
     requires fits { IsImage image.now }
     requires valid { IsValid settings }
-    requires image { image.now ≡ N.image }
-    requires budget { settings.budget ≡ N.budget }
-    requires commits { settings.commits ≡ N.commits }
+    requires named { IsNamed image.now settings N.image N.budget N.commits }
     ensures least { let serving = map P.policy placers.items in
-        let noting = map T.reading taps.items in
+        let noting = map T.notes taps.items in
         settings.workers ≡ 0 → IfOk result (λ stopped. let ran = stopped.ran in
-        IsLeastRun N image.now settings serving noting ran.closed.steps (run_of ran.closed ran.end)) }
+        IsLeastRun N image.now settings serving noting ran.closed.steps (run_of_closed ran.closed ran.end)) }
     ensures run { IfOk result (λ stopped. let ran = stopped.ran in
-        IsRunOf image.now settings.commits settings.budget (run_of ran.closed ran.end)) }
+        IsRunOf image.now settings.commits settings.budget (run_of_closed ran.closed ran.end)) }
     ensures writable { IfOk result (λ stopped. length stopped.ran.closed.memory ≡ image.now.data_size) }
     ensures over { IfOk result (λ stopped. stopped.ran.end ≢ Some End.Unfinished) }
     ensures pending { IfOk result (λ stopped.
@@ -151,12 +145,12 @@ fn run_alone<N: Naming, P: Placer, T: Tap>(
 ) -> Stopped
     requires fits { IsImage N.image }
     requires image { image.now ≡ N.image }
-    ensures least { let opening = view_of P.policy T.reading book in
-        (settings : Settings) (placers : List Policy) (taps : List Reading) → IsValid settings
+    ensures least { let opening = view_of P.policy T.notes book in
+        (settings : Settings) (placers : List Policy) (taps : List TapValue) → IsValid settings
         → IsOpening N.image settings placers taps opening
         → IsLeastRun N N.image settings placers taps result.ran.closed.steps
-        (run_of result.ran.closed result.ran.end) }
-    ensures run { IsRunOf N.image N.commits N.budget (run_of result.ran.closed result.ran.end) }
+        (run_of_closed result.ran.closed result.ran.end) }
+    ensures run { IsRunOf N.image N.commits N.budget (run_of_closed result.ran.closed result.ran.end) }
     ensures writable { length result.ran.closed.memory ≡ N.image.data_size }
     ensures over { result.ran.end ≢ Some End.Unfinished }
     ensures pending { IfSome result.pending (IsStoppedWith N.image N.budget result.ran) }
@@ -178,8 +172,8 @@ fn run_by_workers<
     requires fits { IsImage N.image }
     requires image { image.now ≡ N.image }
     requires workers { (1 ≤ workers) × (workers ≤ 16) }
-    requires steps { (view_of P.policy T.reading book).steps ≤ 2 ^ 63 }
-    ensures run { IsRunOf N.image N.commits N.budget (run_of result.ran.closed result.ran.end) }
+    requires steps { events_made book ≤ 2 ^ 63 }
+    ensures run { IsRunOf N.image N.commits N.budget (run_of_closed result.ran.closed result.ran.end) }
     ensures writable { length result.ran.closed.memory ≡ N.image.data_size }
     ensures over { result.ran.end ≢ Some End.Unfinished }
     ensures pending { IfSome result.pending (IsStoppedWith N.image N.budget result.ran) }
@@ -191,7 +185,7 @@ fn run_by_workers<
 
 /// The end of a run that halted so; None where memory ran out.
 fn end_of(halt: Halt) -> Option<End>
-    ensures { result ≡ end_of halt }
+    ensures { result ≡ end_of_halt halt }
 {
     match halt {
         Halt::Ended(end) => Some(end),

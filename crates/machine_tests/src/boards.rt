@@ -20,7 +20,7 @@ fn reading(commits: u32, output: u64) -> Reading
 }
 
 /// What a reader sees after a reading was told.
-fn seen<R: Wait>(
+fn reading_after<R: Wait>(
     rt: &R,
     board: &Board,
     writer: &mut Writer,
@@ -48,9 +48,9 @@ fn a_new_board_tells_that_nothing_is_committed(rt: HostRuntime) -> Result<(), Fa
 fn a_reader_sees_what_was_told_last(rt: HostRuntime) -> Result<(), Fail> {
     let (board, mut writer) = Board::new(rt.alloc())?;
     let mut reader = board.reader(&mut writer);
-    let first = seen(&rt, &board, &mut writer, &mut reader, reading(1, 1));
+    let first = reading_after(&rt, &board, &mut writer, &mut reader, reading(1, 1));
     assert_eq!(rt; first, reading(1, 1));
-    let second = seen(&rt, &board, &mut writer, &mut reader, reading(2, 1));
+    let second = reading_after(&rt, &board, &mut writer, &mut reader, reading(2, 1));
     assert_eq!(rt; second, reading(2, 1));
     assert_eq!(rt; writer.last(), reading(2, 1));
     Ok(())
@@ -82,7 +82,7 @@ fn a_reader_that_was_split_reads_on_after_the_first_was_joined(
     let (board, mut writer) = Board::new(rt.alloc())?;
     board.publish(&rt, &mut writer, greatest());
     let mut second = split_off(&rt, &board, &mut writer);
-    let last = seen(&rt, &board, &mut writer, &mut second, greatest());
+    let last = reading_after(&rt, &board, &mut writer, &mut second, greatest());
     assert_eq!(rt; last, greatest());
     board.join(&rt, &mut writer, second);
     assert_eq!(rt; writer.last(), greatest());

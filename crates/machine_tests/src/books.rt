@@ -3,10 +3,10 @@
 ghost use Rattle.std.specs.Prelude.{◌≡◌, All, IsTrue};
 ghost use Rattle.spec_state.specs.Settings.{IsValid};
 ghost use Rattle.conflict_book.specs.Ranges.{IsInRange};
-ghost use Rattle.conflict_book.specs.Seen.{view_of};
+ghost use Rattle.conflict_book.specs.BookViews.{machine_view};
 
 use crate::machines::{
-    ENDERS, FOUR_CORES, Hinted, TWO_TILES, image_of, is_normal, one_tap, opened,
+    ENDERS, FOUR_CORES, Hinted, TWO_TILES, image_of, is_normal, one_tap, opening_book,
 };
 use conflict_book::{Applied, Book, Event, Halt, Reply};
 use guest_image::Image;
@@ -30,7 +30,7 @@ fn book_is_sent<N: Naming + Send>(book: &Book<N>) {
     is_sent(book);
 }
 
-/// What a schedule does in a tile; it steps the first core.
+/// What a schedule does in a tile; a step is one of the first core.
 #[derive(Clone, Copy)]
 enum Act {
     Dispatch(u32),
@@ -93,7 +93,7 @@ static FULL_QUEUE: [(Act, Applied); 7] = [
 
 /// Whether the event's tile and core are there.
 fn may_take<N: Naming, P: Placer, T: Tap>(book: &Book<N, P, T>, event: &Event<N>) -> bool
-    ensures { let view = (view_of P.policy T.reading book.now).view in
+    ensures { let view = machine_view book.now in
         IsTrue result → IsInRange view.settings event.now }
 {
     let settings = book.settings();
@@ -109,7 +109,7 @@ fn may_take<N: Naming, P: Placer, T: Tap>(book: &Book<N, P, T>, event: &Event<N>
 
 /// Whether the tile and the core of each event are there.
 fn may_take_all<N: Naming, P: Placer, T: Tap>(book: &Book<N, P, T>, events: &[Event<N>]) -> bool
-    ensures { let view = (view_of P.policy T.reading book.now).view in
+    ensures { let view = machine_view book.now in
         IsTrue result → All (IsInRange view.settings) events.now }
 {
     for event in events {
@@ -152,14 +152,18 @@ fn is_answered<N: Naming>(image: &Image, book: &mut Hinted<N>, act: Act, answer:
 }
 
 /// A book of these settings with one tap.
-fn begun<N: Naming>(alloc: Global, image: &Image, settings: Settings) -> Result<Hinted<N>, Fail>
+fn book_with_tap<N: Naming>(
+    alloc: Global,
+    image: &Image,
+    settings: Settings,
+) -> Result<Hinted<N>, Fail>
     requires valid { IsValid settings }
     requires image { image.now ≡ N.image }
     requires budget { settings.budget ≡ N.budget }
     requires commits { settings.commits ≡ N.commits }
 {
     let taps = one_tap(alloc)?;
-    Ok(opened(alloc, image, settings, taps)?)
+    Ok(opening_book(alloc, image, settings, taps)?)
 }
 
 /// Adds an event, if there is one.
@@ -218,7 +222,7 @@ fn is_whole<N: Naming>(rt: &impl Abort, book: Hinted<N>) {
 }
 
 /// A book on which the events of a schedule were made one after another.
-fn made<N: Naming>(
+fn book_after<N: Naming>(
     rt: &impl Abort,
     alloc: Global,
     image: &Image,
@@ -230,7 +234,7 @@ fn made<N: Naming>(
     requires budget { settings.budget ≡ N.budget }
     requires commits { settings.commits ≡ N.commits }
 {
-    let mut book = begun::<N>(alloc, image, settings)?;
+    let mut book = book_with_tap::<N>(alloc, image, settings)?;
     let _events = events_of(rt, alloc, image, &mut book, schedule)?;
     Ok(book)
 }
@@ -247,7 +251,10 @@ fn made_one_by_one<N: Naming>(
     requires budget { settings.budget ≡ N.budget }
     requires commits { settings.commits ≡ N.commits }
 {
-    is_whole(rt, made::<N>(rt, alloc, image, settings, &LATE_WRITER)?);
+    is_whole(
+        rt,
+        book_after::<N>(rt, alloc, image, settings, &LATE_WRITER)?,
+    );
     Ok(())
 }
 
@@ -270,7 +277,7 @@ fn events_to_make<N: Naming>(
     requires budget { settings.budget ≡ N.budget }
     requires commits { settings.commits ≡ N.commits }
 {
-    let mut book = begun::<N>(alloc, image, settings)?;
+    let mut book = book_with_tap::<N>(alloc, image, settings)?;
     Ok(events_of(rt, alloc, image, &mut book, schedule)?)
 }
 
@@ -309,7 +316,7 @@ fn made_at_once<N: Naming>(
     requires commits { settings.commits ≡ N.commits }
 {
     let events = events_to_make::<N>(rt, alloc, image, settings, &LATE_WRITER)?;
-    let book = begun::<N>(alloc, image, settings)?;
+    let book = book_with_tap::<N>(alloc, image, settings)?;
     is_whole(rt, made_as_list(rt, book, events, &LATE_WRITER)?);
     Ok(())
 }
@@ -340,7 +347,7 @@ fn stalls_at_once<N: Naming>(
     requires commits { settings.commits ≡ N.commits }
 {
     let events = events_to_make::<N>(rt, alloc, image, settings, &FULL_QUEUE)?;
-    let book = begun::<N>(alloc, image, settings)?;
+    let book = book_with_tap::<N>(alloc, image, settings)?;
     is_full(rt, &made_as_list(rt, book, events, &FULL_QUEUE)?);
     Ok(())
 }
@@ -380,7 +387,7 @@ fn least_run<N: Naming>(
     requires budget { settings.budget ≡ N.budget }
     requires commits { settings.commits ≡ N.commits }
 {
-    let mut book = begun::<N>(alloc, image, settings)?;
+    let mut book = book_with_tap::<N>(alloc, image, settings)?;
     ends_by_the_least(rt, &mut book, image);
     makes_no_more(rt, &mut book, image);
     Ok(())
@@ -424,7 +431,7 @@ fn is_ready_by_turns<N: Naming>(
     requires budget { settings.budget ≡ N.budget }
     requires commits { settings.commits ≡ N.commits }
 {
-    let mut book = begun::<N>(alloc, image, settings)?;
+    let mut book = book_with_tap::<N>(alloc, image, settings)?;
     assert!(rt; is_ready(&book, 0));
     for (act, ready) in &TURNS_ON_ONE_CORE {
         assert!(rt; is_answered(image, &mut book, *act, &OK));
@@ -510,7 +517,7 @@ fn begins_anew<N: Naming>(
 {
     leaves_zero_and_65(
         rt,
-        made::<N>(rt, alloc, image, settings, &STACK_TAKEN_BACK)?,
+        book_after::<N>(rt, alloc, image, settings, &STACK_TAKEN_BACK)?,
     );
     Ok(())
 }

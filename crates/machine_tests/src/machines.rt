@@ -78,7 +78,7 @@ pub fn one_tap(alloc: Global) -> Result<Vec<LastN>, Fail> {
 }
 
 /// The book of an image before its first event, with these taps.
-pub fn opened<N: Naming>(
+pub fn opening_book<N: Naming>(
     alloc: Global,
     image: &Image,
     settings: Settings,

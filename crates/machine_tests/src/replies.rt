@@ -1,7 +1,7 @@
 //! Texts of what was said of acts and of what taps saw, and how they go out in pieces.
 
 use conflict_book::Reply;
-use play_text::{write_replies, write_trace};
+use script_text::{write_replies, write_trace};
 use sim_io::{Failed, MemSink};
 use std::alloc::{AllocError, Global};
 use std::test::Fail;

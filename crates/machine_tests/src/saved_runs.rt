@@ -6,7 +6,7 @@ ghost use Rattle.resume_image.specs.Saved.{IsSavedOf};
 ghost use Rattle.serial_machine.specs.WholeRun.{IsRunOf};
 ghost use Rattle.spec_state.specs.Settings.{IsValid};
 
-use crate::machines::{Hinted, TWO_TILES, image_in, image_of, is_normal, opened};
+use crate::machines::{Hinted, TWO_TILES, image_in, image_of, is_normal, opening_book};
 use conflict_book::{Frozen, Halt};
 use guest_image::{Image, write_image};
 use resume_image::{SaveFault, join_runs, runs_join, snapshot};
@@ -33,18 +33,22 @@ fn frozen_of<N: Naming>(book: Hinted<N>) -> Result<Frozen, Fail>
 }
 
 /// What is kept of an image before its first event.
-fn unstarted<N: Naming>(alloc: Global, image: &Image, settings: Settings) -> Result<Frozen, Fail>
+fn frozen_at_start<N: Naming>(
+    alloc: Global,
+    image: &Image,
+    settings: Settings,
+) -> Result<Frozen, Fail>
     requires valid { IsValid settings }
     requires image { image.now ≡ N.image }
     requires budget { settings.budget ≡ N.budget }
     requires commits { settings.commits ≡ N.commits }
     ensures { IfOk result (IsFrozenOf N.image N.budget) }
 {
-    frozen_of(opened::<N>(alloc, image, settings, Vec::new(alloc))?)
+    frozen_of(opening_book::<N>(alloc, image, settings, Vec::new(alloc))?)
 }
 
 /// What is kept of a run that met its commit limit.
-fn stopped<N: Naming>(
+fn frozen_at_limit<N: Naming>(
     rt: &impl Abort,
     alloc: Global,
     image: &Image,
@@ -56,7 +60,7 @@ fn stopped<N: Naming>(
     requires commits { settings.commits ≡ N.commits }
     ensures { IfOk result (IsFrozenOf N.image N.budget) }
 {
-    let mut book = opened::<N>(alloc, image, settings, Vec::new(alloc))?;
+    let mut book = opening_book::<N>(alloc, image, settings, Vec::new(alloc))?;
     assert!(rt; matches!(book.run_least(image), Halt::Ended(End::Limit)));
     frozen_of(book)
 }
@@ -74,7 +78,7 @@ fn saved_of(rt: &impl Abort, alloc: Global, image: &Image, frozen: &Frozen) -> R
 }
 
 /// A run, and one of its saved image, as one journal.
-fn joined(
+fn journal_of_both(
     rt: &impl Abort,
     alloc: Global,
     image: &Image,
@@ -281,13 +285,13 @@ fn joins(
 {
     let run = run_image(alloc, saved, 3, budget)?;
     runs_on(rt, &run, join);
-    let journal = joined(rt, alloc, image, budget, frozen, saved, &run)?;
+    let journal = journal_of_both(rt, alloc, image, budget, frozen, saved, &run)?;
     assert!(rt; are_turns(journal.as_slice(), join.joined), "{}", join.name);
     Ok(())
 }
 
 /// What is kept of a run before its first event, or at its commit limit.
-fn kept<N: Naming>(
+fn frozen_run<N: Naming>(
     rt: &impl Abort,
     alloc: Global,
     image: &Image,
@@ -300,9 +304,9 @@ fn kept<N: Naming>(
     ensures { IfOk result (IsFrozenOf N.image N.budget) }
 {
     if join.is_begun {
-        stopped::<N>(rt, alloc, image, join.settings)
+        frozen_at_limit::<N>(rt, alloc, image, join.settings)
     } else {
-        unstarted::<N>(alloc, image, join.settings)
+        frozen_at_start::<N>(alloc, image, join.settings)
     }
 }
 
@@ -318,7 +322,7 @@ fn goes_on<N: Naming>(
     requires budget { join.now.settings.budget ≡ N.budget }
     requires commits { join.now.settings.commits ≡ N.commits }
 {
-    let frozen = kept::<N>(rt, alloc, image, join)?;
+    let frozen = frozen_run::<N>(rt, alloc, image, join)?;
     is_kept(rt, &frozen, join);
     let saved = saved_of(rt, alloc, image, &frozen)?;
     is_written(rt, alloc, &saved, join)?;
@@ -414,7 +418,7 @@ fn stops_inside<N: Naming>(
     requires budget { settings.budget ≡ N.budget }
     requires commits { settings.commits ≡ N.commits }
 {
-    let frozen = stopped::<N>(rt, alloc, image, settings)?;
+    let frozen = frozen_at_limit::<N>(rt, alloc, image, settings)?;
     assert_eq!(rt; frozen.pending.as_slice(), IN_AND_OUT.as_slice());
     assert!(rt; is_nested(snapshot(alloc, image, &frozen), 2));
     Ok(())
@@ -483,7 +487,7 @@ fn keeps_the_spilled<N: Naming>(
     requires budget { settings.budget ≡ N.budget }
     requires commits { settings.commits ≡ N.commits }
 {
-    let mut book = opened::<N>(alloc, image, settings, Vec::new(alloc))?;
+    let mut book = opening_book::<N>(alloc, image, settings, Vec::new(alloc))?;
     assert!(rt; matches!(book.run_least(image), Halt::Ended(End::Limit)));
     assert_eq!(rt; book.loads().as_slice(), [1].as_slice());
     let frozen = frozen_of(book)?;
@@ -530,7 +534,7 @@ fn keeps_the_maker<N: Naming>(
     requires budget { settings.budget ≡ N.budget }
     requires commits { settings.commits ≡ N.commits }
 {
-    let mut book = opened::<N>(alloc, image, settings, Vec::new(alloc))?;
+    let mut book = opening_book::<N>(alloc, image, settings, Vec::new(alloc))?;
     make_children(&mut book, image);
     assert_eq!(rt; book.loads().as_slice(), [2].as_slice());
     let frozen = frozen_of(book)?;

@@ -3,7 +3,7 @@
 ghost use Rattle.std.specs.Prelude.{◌≡◌};
 ghost use Rattle.spec_state.specs.Settings.{IsValid};
 
-use crate::machines::{ENDERS, FOUR_CORES, Hinted, TWO_TILES, image_of, opened};
+use crate::machines::{ENDERS, FOUR_CORES, Hinted, TWO_TILES, image_of, opening_book};
 use conflict_book::Reply;
 use guest_image::Image;
 use rv_core::Naming;
@@ -343,7 +343,7 @@ fn plays_row<N: Naming>(
     requires budget { row.now.settings.budget ≡ N.budget }
     requires commits { row.now.settings.commits ≡ N.commits }
 {
-    let book = opened::<N>(alloc, image, row.settings, Vec::new(alloc))?;
+    let book = opening_book::<N>(alloc, image, row.settings, Vec::new(alloc))?;
     let said = said_of(rt, alloc, image, book, row.script)?;
     assert_eq!(rt; said.as_slice(), row.said, "{}", row.name);
     Ok(())

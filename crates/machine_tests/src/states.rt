@@ -1,7 +1,7 @@
 //! The state of the speculative machine: its settings, what it tells without a task and with one, and what it leaves.
 
 ghost use Rattle.std.specs.Prelude.{◌≡◌, ◌<◌, IsSome};
-ghost use Rattle.spec_state.specs.Opening.{IsOfImage};
+ghost use Rattle.spec_state.specs.Opening.{DescIsOfImage};
 ghost use Rattle.spec_state.specs.Settings.{IsValid};
 ghost use Rattle.spec_state.specs.View.{task_at};
 
@@ -177,12 +177,12 @@ fn tells_idle<N: Naming>(rt: &impl Abort, state: &State<N>, task: TaskId)
     assert_eq!(rt; state.tile_of(task), 3);
 }
 
-/// Adds a task of the image in a tile with a free entry.
+/// Adds a task of the image in a tile with a free place.
 fn added_to<N: Naming>(rt: &impl Abort, state: &mut State<N>, desc: &Desc, tile: u32) -> TaskId
-    requires { IsOfImage desc.now }
+    requires { DescIsOfImage desc.now }
     ensures { IsSome (task_at state.new.view result.0) }
 {
-    assert!(rt; tile < state.settings().tiles && state.has_free_entry(tile));
+    assert!(rt; tile < state.settings().tiles && state.queue_has_room(tile));
     state.add(desc, tile).unwrap()
 }
 

@@ -2,14 +2,14 @@
 //! for, and the task that is taken back for room.
 
 ghost use Rattle.std.specs.Prelude.{◌≡◌, ◌<◌, ℕ, IsTrue};
-ghost use Rattle.task_step.specs.declared.request.Request.TheVariants.{End, Trap};
+ghost use Rattle.task_request.specs.declared.request.Request.TheVariants.{End, Trap};
 ghost use Rattle.spec_state.specs.declared.numbers.TheConstants.{DISPATCH_NUMBERS};
 ghost use Rattle.spec_state.specs.declared.task.Status.TheVariants.{Running};
 ghost use Rattle.spec_state.specs.declared.task.Task.{Task};
 ghost use Rattle.spec_state.specs.declared.task.Where.TheVariants.{Finished};
 ghost use Rattle.spec_state.specs.Changes.{TakesLeg};
 ghost use Rattle.spec_state.specs.Least.{IsLeast};
-ghost use Rattle.spec_state.specs.Opening.{IsOfImage};
+ghost use Rattle.spec_state.specs.Opening.{DescIsOfImage};
 ghost use Rattle.spec_state.specs.Queries.{IsFreeCore, IsIdle, IsOnCore};
 ghost use Rattle.spec_state.specs.Room.{IsFull};
 ghost use Rattle.spec_state.specs.Settings.{IsValid};
@@ -20,7 +20,9 @@ use guest_image::Image;
 use rv_core::{Leg, Naming, Stop, run_leg};
 use sample_image::Program;
 use serial_machine::Entry;
-use spec_access::{asked, call_trap, dispatch, emit, finish, keep, make_sub, read, spawn, write};
+use spec_access::{
+    call_trap, dispatch, emit, finish, keep, make_sub, read, request_of_task, spawn, write,
+};
 use spec_commit::{commit, room_victim};
 use spec_dispatch::free_core;
 use spec_state::{DISPATCH_NUMBERS, Settings, State, Status, Task, TaskId, Where};
@@ -29,7 +31,7 @@ use std::marker::Brand;
 use std::process::Abort;
 use std::test::Fail;
 use task_desc::{Desc, Name};
-use task_step::Request;
+use task_request::Request;
 
 /// Two tiles of one core, with legs of at most two plain instructions.
 const SHORT_LEGS: Settings = Settings {
@@ -96,7 +98,7 @@ enum Act {
 
 /// A task of the image.
 fn image_task(entry: u32, ts: u32) -> Desc
-    ensures { IsOfImage result }
+    ensures { DescIsOfImage result }
 {
     Desc {
         name: Name {
@@ -112,9 +114,9 @@ fn image_task(entry: u32, ts: u32) -> Desc
     }
 }
 
-/// Adds a task of the image to a tile with a free entry.
+/// Adds a task of the image to a tile with a free place.
 fn add<N: Naming>(rt: &impl Abort, state: &mut State<N>, entry: u32, ts: u32, tile: u32) -> TaskId {
-    assert!(rt; tile < state.settings().tiles && state.has_free_entry(tile));
+    assert!(rt; tile < state.settings().tiles && state.queue_has_room(tile));
     state.add(&image_task(entry, ts), tile).unwrap()
 }
 
@@ -195,7 +197,7 @@ fn enqueue<N: Naming>(
 {
     state.has_limits();
     let last = state.settings().tiles - 1;
-    assert!(rt; state.has_free_entry(last));
+    assert!(rt; state.queue_has_room(last));
     spawn(state, id, leg, last)
 }
 
@@ -209,7 +211,7 @@ fn trap<N: Naming>(state: &mut State<N>, id: TaskId, leg: &Leg<N>, cause: u8)
     }
 }
 
-/// A task ends in a tile with a free entry in its commit queue.
+/// A task ends in a tile with a free place in its commit queue.
 fn end<N: Naming>(
     rt: &impl Abort,
     state: &mut State<N>,
@@ -238,7 +240,7 @@ fn make_request<N: Naming>(
     requires tile { tile < state.old.view.settings.tiles }
     requires takes { (task : Task) × TakesLeg state.old.view tile core leg.now id.0 task }
 {
-    match asked(state, id, leg) {
+    match request_of_task(state, id, leg) {
         Request::Load { .. } => return read(state, id, leg),
         Request::Store { .. } => return write(state, id, leg),
         Request::Enqueue(_) => return enqueue(rt, state, id, leg),
@@ -277,7 +279,7 @@ fn is_least_finished<N: Naming>(state: &State<N>) -> bool
 /// The least task commits.
 fn commit_least<N: Naming>(rt: &impl Abort, state: &mut State<N>) -> Result<Entry, AllocError> {
     assert!(rt; is_least_finished(state));
-    assert!(rt; state.committed() < state.settings().commits);
+    assert!(rt; state.commit_count() < state.settings().commits);
     commit(state)
 }
 
@@ -447,7 +449,7 @@ fn is_full<N: Naming>(state: &State<N>, tile: u32) -> bool
     requires tile { tile < state.now.view.settings.tiles }
     ensures { IsTrue result → IsFull state.now.view tile }
 {
-    !state.has_free_entry(tile)
+    !state.queue_has_room(tile)
 }
 
 /// The task that is taken back for room in the first tile, whose queue is full.

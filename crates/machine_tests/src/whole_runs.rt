@@ -2,7 +2,7 @@
 
 ghost use Rattle.std.specs.Prelude.{◌≡◌, All};
 ghost use Rattle.spec_state.specs.Settings.{IsValid};
-ghost use Rattle.step_script.specs.Ranges.{IsWithin};
+ghost use Rattle.step_script.specs.Ranges.{ActIsInRange};
 
 use crate::machines::{TWO_TILES, image_of, is_normal, one_tap};
 use conflict_book::Reply;
@@ -107,12 +107,12 @@ const EMPTY: Said = Said {
 static SAID: [Said; 6] = [OK, OK, OK, EMPTY, OK, TAKES_1];
 
 /// The script is played.
-fn played<N: Naming>(alloc: Global, image: &Image, settings: Settings) -> Result<Played, Fail>
+fn script_play<N: Naming>(alloc: Global, image: &Image, settings: Settings) -> Result<Played, Fail>
     requires valid { IsValid settings }
     requires image { image.now ≡ N.image }
     requires budget { settings.budget ≡ N.budget }
     requires commits { settings.commits ≡ N.commits }
-    requires within { All (IsWithin settings.tiles settings.cores) SCRIPT }
+    requires within { All (ActIsInRange settings.tiles settings.cores) SCRIPT }
 {
     let _tasks = image.tasks();
     let taps = one_tap(alloc)?;
@@ -136,19 +136,19 @@ fn leaves_zeros(rt: &impl Abort, ran: Ran) {
 #[test]
 fn a_script_is_played(rt: HostRuntime) -> Result<(), Fail> {
     let image = image_of(rt.alloc(), &READER_AND_WRITER)?;
-    let Played { ran, said } = played::<Brand>(rt.alloc(), &image, TWO_TILES)?;
+    let Played { ran, said } = script_play::<Brand>(rt.alloc(), &image, TWO_TILES)?;
     leaves_zeros(&rt, ran);
     assert_eq!(rt; said.as_slice(), SAID.as_slice());
     Ok(())
 }
 
 /// The script is played, and its taps are told.
-fn traced<N: Naming>(alloc: Global, image: &Image, settings: Settings) -> Result<Traced, Fail>
+fn script_trace<N: Naming>(alloc: Global, image: &Image, settings: Settings) -> Result<Traced, Fail>
     requires valid { IsValid settings }
     requires image { image.now ≡ N.image }
     requires budget { settings.budget ≡ N.budget }
     requires commits { settings.commits ≡ N.commits }
-    requires within { All (IsWithin settings.tiles settings.cores) SCRIPT }
+    requires within { All (ActIsInRange settings.tiles settings.cores) SCRIPT }
 {
     let _tasks = image.tasks();
     let taps = one_tap(alloc)?;
@@ -162,7 +162,7 @@ static RECORDS: [u64; 20] = [2, 0, 1, 0, 0, 2, 0, 1, 0, 0, 1, 1, 0, 0, 0, 2, 1, 
 #[test]
 fn a_tap_tells_of_a_script(rt: HostRuntime) -> Result<(), Fail> {
     let image = image_of(rt.alloc(), &READER_AND_WRITER)?;
-    let Traced { ran, lists } = traced::<Brand>(rt.alloc(), &image, TWO_TILES)?;
+    let Traced { ran, lists } = script_trace::<Brand>(rt.alloc(), &image, TWO_TILES)?;
     let Ran { closed: _, end } = ran;
     assert!(rt; is_unfinished(end));
     assert_eq!(rt; lists.len(), 1);

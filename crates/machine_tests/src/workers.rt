@@ -1,13 +1,13 @@
 //! Workers that run a book to its end: their shares, their gates, and a reader that follows them.
 
 ghost use Rattle.std.specs.Prelude.{◌≡◌, ◌≤◌, ◌^◌, ◌∷◌, [], IfOk};
-ghost use Rattle.progress_cell.specs.Readings.{last_of, opening};
+ghost use Rattle.progress_cell.specs.Readings.{last_of, opening_reading};
 ghost use Rattle.conflict_book.specs.Counts.{counts_of};
-ghost use Rattle.conflict_book.specs.Seen.{view_of};
+ghost use Rattle.conflict_book.specs.BookViews.{events_made, machine_view};
 ghost use Rattle.tile_worker.specs.Readings.{AreReadings};
 ghost use Rattle.spec_state.specs.Settings.{IsValid};
 
-use crate::machines::{ENDERS, Hinted, TWO_TILES, image_of, opened};
+use crate::machines::{ENDERS, Hinted, TWO_TILES, image_of, opening_book};
 use conflict_book::{Book, Halt};
 use guest_image::Image;
 use load_gen::{Load, make};
@@ -131,7 +131,7 @@ fn book_of<N: Naming>(alloc: Global, image: &Image, settings: Settings) -> Resul
     requires budget { settings.budget ≡ N.budget }
     requires commits { settings.commits ≡ N.commits }
 {
-    Ok(opened(alloc, image, settings, Vec::new(alloc))?)
+    Ok(opening_book(alloc, image, settings, Vec::new(alloc))?)
 }
 
 /// The sum of the workers' shares.
@@ -143,7 +143,7 @@ fn sum_of(shares: &[u64]) -> u64 {
     sum
 }
 
-/// The run ended with so many commits, and the workers' shares are the book's steps.
+/// The run ended with so many commits, and the workers' shares are the book's events.
 fn is_drained<N: Naming>(rt: &impl Abort, drained: &Drained<N, ByHint, LastN>, commits: usize) {
     assert!(rt; matches!(drained.halt, Halt::Ended(End::Normal)));
     assert_eq!(rt; drained.book.history().len(), commits);
@@ -239,10 +239,10 @@ fn watch<N: Naming + Send + Sync, P: Placer + Send, T: Tap + Send, R: Threads + 
 ) -> (Watched<N, P, T>, (Reader, Reading))
     requires image { image.now ≡ N.image }
     requires workers { (1 ≤ workers) × (workers ≤ 16) }
-    requires steps { (view_of P.policy T.reading book).steps ≤ 2 ^ 63 }
+    requires steps { events_made book ≤ 2 ^ 63 }
     requires belongs { writer.board ≡ board.now }
-    requires readings { AreReadings N.image N.budget (view_of P.policy T.reading book).view.history writer.told }
-    requires last { last_of writer.told ≡ counts_of (view_of P.policy T.reading book).view }
+    requires readings { AreReadings N.image N.budget (machine_view book).history writer.told }
+    requires last { last_of writer.told ≡ counts_of (machine_view book) }
     requires reader { reader.board ≡ board.now }
     ensures belongs { result.0.writer.board ≡ board.now }
     ensures reader { result.1.0.board ≡ board.now }
@@ -251,10 +251,10 @@ fn watch<N: Naming + Send + Sync, P: Placer + Send, T: Tap + Send, R: Threads + 
         rt,
         move || -> Watched<N, P, T>
             requires { (image.now ≡ N.image) × ((1 ≤ workers) × (workers ≤ 16))
-                × ((view_of P.policy T.reading book).steps ≤ 2 ^ 63)
+                × ((events_made book) ≤ 2 ^ 63)
                 × (writer.board ≡ board.now)
-                × AreReadings N.image N.budget (view_of P.policy T.reading book).view.history writer.told
-                × (last_of writer.told ≡ counts_of (view_of P.policy T.reading book).view) }
+                × AreReadings N.image N.budget (machine_view book).history writer.told
+                × (last_of writer.told ≡ counts_of (machine_view book)) }
             ensures { result.writer.board ≡ board.entry.now }
         { run_watched(rt, image, book, workers, gate, board, writer) },
         move || -> (Reader, Reading)
@@ -286,7 +286,7 @@ fn watch_by<N: Naming + Send + Sync>(
 ) -> (Writer, Reader)
     requires image { image.now ≡ N.image }
     requires workers { (1 ≤ workers) × (workers ≤ 16) }
-    requires told { writer.told ≡ opening ∷ [] }
+    requires told { writer.told ≡ opening_reading ∷ [] }
     requires belongs { writer.board ≡ board.now }
     requires reader { reader.board ≡ board.now }
     ensures belongs { result.0.board ≡ board.now }

@@ -3,13 +3,13 @@ use Rattle.std.proofs.Common.{◌≡◌, ℕ, ◌/◌, Bool, true, false, List, 
 use Rattle.undo_log.specs.declared.access.Access.{Access}
 use Rattle.undo_log.specs.Number.{IsAccessible}
 use Rattle.undo_log.specs.Undo.{undone}
-use Rattle.memory_law.specs.Accesses.{replayed, Replays}
+use Rattle.memory_law.specs.Accesses.{after_accesses, Replays}
 use Rattle.memory_law.proofs.Marks.{Marks, Clear, Untouched, UntouchedIfStore, all_of, kept_of, without, IsClosed}
 use Rattle.memory_law.proofs.Lines.{lines_apart}
 use Rattle.memory_law.proofs.Joins.{taken_back_closed}
-use Rattle.memory_law.specs.Tasks.{Logged, IsLineSize, IsNoted, AreNoted, IsWroteIfStore, log_of, logs, In, Earlier, Ascends, undone_set}
+use Rattle.memory_law.specs.Tasks.{Logged, IsLineSize, IsNoted, AreNotedInFilter, IsWroteIfStore, log_of, logs, In, Earlier, Ascends, undone_set}
 use Rattle.memory_law.specs.Chain.{IsReplay}
-use Rattle.memory_law.specs.Events.{HoldsLater, TakesBack}
+use Rattle.memory_law.specs.Events.{HoldsLater, TakesBackInLogs}
 
 -- the list without the members of the set
 abbrev pub kept : (ℕ → Bool) → List ℕ → List ℕ
@@ -21,14 +21,14 @@ abbrev pub NoMeeting : (ℕ → Bool) → (ℕ → Bool) → Type 0
 NoMeeting wrote touched = (at : ℕ) → wrote at ≡ true → touched at ≡ true → ⊥
 
 module _ (size line : ℕ) (sized : IsLineSize line) where
-  untouched_by_notes : (wrote touched wrote' : ℕ → Bool) → NoMeeting wrote touched → (o w : ℕ) → IsAccessible size o w → wrote (o / line) ≡ true → (later : List Access) → AreNoted size line touched wrote' later → Untouched o w later
+  untouched_by_notes : (wrote touched wrote' : ℕ → Bool) → NoMeeting wrote touched → (o w : ℕ) → IsAccessible size o w → wrote (o / line) ≡ true → (later : List Access) → AreNotedInFilter size line touched wrote' later → Untouched o w later
   untouched_by_notes wrote touched wrote' none o w accessible here [] noted = tt
   untouched_by_notes wrote touched wrote' none o w accessible here (a ∷ later) noted = (
     lines_apart size o w a.offset a.width line sized accessible noted.0 (λ same. none _ here (ap touched same ∙ noted.1)),
     untouched_by_notes wrote touched wrote' none o w accessible here later noted.3,
   )
 
-  clear_by_notes : (touched' wrote touched wrote' : ℕ → Bool) → NoMeeting wrote touched → (log later : List Access) → AreNoted size line touched' wrote log → AreNoted size line touched wrote' later → Clear log later
+  clear_by_notes : (touched' wrote touched wrote' : ℕ → Bool) → NoMeeting wrote touched → (log later : List Access) → AreNotedInFilter size line touched' wrote log → AreNotedInFilter size line touched wrote' later → Clear log later
   clear_by_notes touched' wrote touched wrote' none [] later noted noted' = tt
   clear_by_notes touched' wrote touched wrote' none (a ∷ log) later noted noted' =
       (by_store a.new noted.2, clear_by_notes touched' wrote touched wrote' none log later noted.3 noted')
@@ -81,7 +81,7 @@ Clear-nil (a ∷ log) = (by_store a.new, Clear-nil log)
     by_store None = tt
     by_store (Some v) = tt
 
-module _ (size line : ℕ) (sized : IsLineSize line) (set : ℕ → Bool) (tasks : ℕ → Option Logged) (noted : (id : ℕ) (task : Logged) → tasks id ≡ Some task → AreNoted size line task.touched task.wrote task.log) (holds : HoldsLater set tasks) where
+module _ (size line : ℕ) (sized : IsLineSize line) (set : ℕ → Bool) (tasks : ℕ → Option Logged) (noted : (id : ℕ) (task : Logged) → tasks id ≡ Some task → AreNotedInFilter size line task.touched task.wrote task.log) (holds : HoldsLater set tasks) where
   -- what a member wrote is clear of the later tasks that are no members
   clear_of_kept : (id : ℕ) (task : Logged) → tasks id ≡ Some task → task.dispatched ≡ true → set id ≡ true → (ids : List ℕ) → ((k : ℕ) (other : Logged) → In k ids → tasks k ≡ Some other → Earlier task other) → Ascends tasks ids → Clear task.log (kept_of (marks_of set tasks ids))
   clear_of_kept id task there runs member [] later ascends = Clear-nil task.log
@@ -108,7 +108,7 @@ module _ (size line : ℕ) (sized : IsLineSize line) (set : ℕ → Bool) (tasks
       )
       by_mark false is rest = rest
 
-module _ (set : ℕ → Bool) (old new : ℕ → Option Logged) (takes : TakesBack set old new) where
+module _ (set : ℕ → Bool) (old new : ℕ → Option Logged) (takes : TakesBackInLogs set old new) where
   In-kept : (id : ℕ) (ids : List ℕ) → set id ≡ false → In id ids → In id (kept set ids)
   In-kept id [] out at = at
   In-kept id (k ∷ ids) out at = by_mark (set k) refl (In-kept id ids out) at
@@ -151,15 +151,16 @@ module _ (set : ℕ → Bool) (old new : ℕ → Option Logged) (takes : TakesBa
       )
 
 -- members have empty logs, and the others their notes
-noted_back : (size line : ℕ) (set : ℕ → Bool) (old new : ℕ → Option Logged) → TakesBack set old new → ((id : ℕ) (task : Logged) → old id ≡ Some task → IsNoted size line task) → (id : ℕ) (task : Logged) → new id ≡ Some task → IsNoted size line task
+noted_back : (size line : ℕ) (set : ℕ → Bool) (old new : ℕ → Option Logged) → TakesBackInLogs set old new → ((id : ℕ) (task : Logged) → old id ≡ Some task → IsNoted size line task) → (id : ℕ) (task : Logged) → new id ≡ Some task → IsNoted size line task
 noted_back size line set old new takes noted id task there = by_set (set id) refl
   where
     by_set : (b : Bool) → set id ≡ b → IsNoted size line task
-    by_set true is = subst (AreNoted size line task.touched task.wrote) (sym (takes.members id task is there).1) tt
+    by_set true is =
+        subst (AreNotedInFilter size line task.touched task.wrote) (sym (takes.members id task is there).1) tt
     by_set false is = noted id task (sym (takes.others id is) ∙ there)
 
 -- a set that holds the later tasks it is to hold is taken back, latest first: the others still replay
-pub taken_back : (line : ℕ) (set : ℕ → Bool) (old new : ℕ → Option Logged) (serial memory : List ℕ) → IsLineSize line → HoldsLater set old → TakesBack set old new → (replay : IsReplay line old serial memory) → IsReplay line new serial (undone_set set old replay.ids memory)
+pub taken_back : (line : ℕ) (set : ℕ → Bool) (old new : ℕ → Option Logged) (serial memory : List ℕ) → IsLineSize line → HoldsLater set old → TakesBackInLogs set old new → (replay : IsReplay line old serial memory) → IsReplay line new serial (undone_set set old replay.ids memory)
 taken_back line set old new serial memory sized holds takes replay =
     let ids : List ℕ = replay.ids in
     let marks : Marks = marks_of set old ids in
@@ -167,7 +168,7 @@ taken_back line set old new serial memory sized holds takes replay =
     let chain : Replays serial (all_of marks) = subst (Replays serial) (sym (all_marks set old ids)) replay.replays in
     let back = taken_back_closed serial marks replay.bytes closed chain in
     let same : kept_of marks ≡ logs new (kept set ids) = kept_marks set old ids ∙ sym (logs_kept set old new takes ids) in
-    let before : memory ≡ replayed serial (all_of marks) = replay.memory_is ∙ ap (replayed serial) (sym (all_marks set old ids)) in
+    let before : memory ≡ after_accesses serial (all_of marks) = replay.memory_is ∙ ap (after_accesses serial) (sym (all_marks set old ids)) in
     record {
       ids = kept set ids;
       by_key = record {
@@ -175,7 +176,7 @@ taken_back line set old new serial memory sized holds takes replay =
         complete = λ id task there runs. by_set id task there runs (set id) refl;
       };
       replays = subst (Replays serial) same back.0;
-      memory_is = ap (undone_set set old ids) before ∙ sym (without_marks set old ids (replayed serial (all_of marks))) ∙ back.1 ∙ ap (replayed serial) same;
+      memory_is = ap (undone_set set old ids) before ∙ sym (without_marks set old ids (after_accesses serial (all_of marks))) ∙ back.1 ∙ ap (after_accesses serial) same;
       noted = noted_back (length serial) line set old new takes replay.noted;
       bytes = replay.bytes;
     }
@@ -192,8 +193,8 @@ all_back line tasks serial memory replay =
     let marks : Marks = marks_of all tasks ids in
     let chain : Replays serial (all_of marks) = subst (Replays serial) (sym (all_marks all tasks ids)) replay.replays in
     let back = taken_back_closed serial marks replay.bytes (all_closed ids) chain in
-    let before : memory ≡ replayed serial (all_of marks) = replay.memory_is ∙ ap (replayed serial) (sym (all_marks all tasks ids)) in
-    ap (undone_set all tasks ids) before ∙ sym (without_marks all tasks ids (replayed serial (all_of marks))) ∙ back.1 ∙ ap (replayed serial) (none_kept ids)
+    let before : memory ≡ after_accesses serial (all_of marks) = replay.memory_is ∙ ap (after_accesses serial) (sym (all_marks all tasks ids)) in
+    ap (undone_set all tasks ids) before ∙ sym (without_marks all tasks ids (after_accesses serial (all_of marks))) ∙ back.1 ∙ ap (after_accesses serial) (none_kept ids)
   where
     none_kept : (ids : List ℕ) → kept_of (marks_of (λ id. true) tasks ids) ≡ []
     none_kept [] = refl

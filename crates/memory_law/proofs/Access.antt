@@ -3,25 +3,25 @@ use Rattle.std.proofs.Common.{Less, ◌≡◌, ◌≢◌, ◌⊎◌, ℕ, ◌/�
 use Rattle.std.proofs.lemmas.Bool.{cases_eq}
 use Rattle.fractal_vt.specs.Levels.{levels_cmp}
 use Rattle.undo_log.specs.declared.access.Access.{Access}
-use Rattle.undo_log.specs.Number.{number_at, written, IsAccessible}
-use Rattle.memory_law.specs.Accesses.{replayed, Replays, Apart}
+use Rattle.undo_log.specs.Number.{number_at, after_write, IsAccessible}
+use Rattle.memory_law.specs.Accesses.{after_accesses, Replays, Apart}
 use Rattle.memory_law.proofs.Marks.{Untouched, Unwritten, ApartIfStore}
 use Rattle.memory_law.proofs.Lines.{lines_apart}
-use Rattle.memory_law.proofs.Joins.{load_joins, store_joins, length-replayed}
-use Rattle.memory_law.specs.Tasks.{Logged, IsLineSize, IsNoted, AreNoted, IsWroteIfStore, log_of, logs, In, Earlier, Ascends, IsByKey}
+use Rattle.memory_law.proofs.Joins.{load_joins, store_joins, length-after_accesses}
+use Rattle.memory_law.specs.Tasks.{Logged, IsLineSize, IsNoted, AreNotedInFilter, IsWroteIfStore, log_of, logs, In, Earlier, Ascends, IsByKey}
 use Rattle.memory_law.specs.Chain.{IsReplay}
-use Rattle.memory_law.specs.Events.{Accesses, NoLaterWrote, NoLaterTouched}
+use Rattle.memory_law.specs.Events.{AccessesInLogs, NoLaterWrote, NoLaterTouched}
 use Rattle.memory_law.proofs.Latest.{not_self}
 
 module _ (size line : ℕ) (sized : IsLineSize line) (o w : ℕ) (accessible : IsAccessible size o w) where
-  untouched_line : (touched wrote : ℕ → Bool) → touched (o / line) ≡ false → (log : List Access) → AreNoted size line touched wrote log → Untouched o w log
+  untouched_line : (touched wrote : ℕ → Bool) → touched (o / line) ≡ false → (log : List Access) → AreNotedInFilter size line touched wrote log → Untouched o w log
   untouched_line touched wrote none [] noted = tt
   untouched_line touched wrote none (a ∷ log) noted = (
     lines_apart size o w a.offset a.width line sized accessible noted.0 (λ same. absurd (cc (ap touched same, noted.1, none))),
     untouched_line touched wrote none log noted.3,
   )
 
-  unwritten_line : (touched wrote : ℕ → Bool) → wrote (o / line) ≡ false → (log : List Access) → AreNoted size line touched wrote log → Unwritten o w log
+  unwritten_line : (touched wrote : ℕ → Bool) → wrote (o / line) ≡ false → (log : List Access) → AreNotedInFilter size line touched wrote log → Unwritten o w log
   unwritten_line touched wrote none [] noted = tt
   unwritten_line touched wrote none (a ∷ log) noted = (by_store a.new noted.2, unwritten_line touched wrote none log noted.3)
     where
@@ -54,7 +54,7 @@ pub record Splits (old new : ℕ → Option Logged) (ids : List ℕ) (access : A
   pub after : logs new ids ≡ front ++ access ∷ back
   pub rest : Rest back
 
-module _ (line : ℕ) (memory : List ℕ) (old new : ℕ → Option Logged) (id : ℕ) (was now : Logged) (access : Access) (grows : Accesses line memory old new id was now access) where
+module _ (line : ℕ) (memory : List ℕ) (old new : ℕ → Option Logged) (id : ℕ) (was now : Logged) (access : Access) (grows : AccessesInLogs line memory old new id was now access) where
   -- the logs of later tasks are as they were
   logs_others : (ids : List ℕ) → (In id ids → ⊥) → logs new ids ≡ logs old ids
   logs_others [] out = refl
@@ -154,33 +154,33 @@ module _ (line : ℕ) (memory : List ℕ) (old new : ℕ → Option Logged) (id 
   -- no later task wrote the line: a load keeps the replay
   pub load_keeps : (serial : List ℕ) → IsLineSize line → access.new ≡ None → NoLaterWrote old was (access.offset / line) → IsReplay line old serial memory → IsReplay line new serial memory
   load_keeps serial sized is_load none replay =
-      let long : length memory ≡ length serial = ap length replay.memory_is ∙ length-replayed serial (logs old replay.ids) in
+      let long : length memory ≡ length serial = ap length replay.memory_is ∙ length-after_accesses serial (logs old replay.ids) in
       let accessible : IsAccessible (length serial) access.offset access.width = subst (λ n. IsAccessible n access.offset access.width) long grows.accessible in
       let split = splits (Unwritten access.offset access.width) tt (Unwritten-append access.offset access.width) (λ k y at runs later. unwritten_line (length serial) line sized access.offset access.width accessible y.touched y.wrote (none k y at runs later) y.log (replay.noted k y at)) replay.ids replay.by_key.ascends (replay.by_key.complete id was grows.there grows.runs) in
-      let is : memory ≡ replayed serial (split.front ++ split.back) = replay.memory_is ∙ ap (replayed serial) split.before in
+      let is : memory ≡ after_accesses serial (split.front ++ split.back) = replay.memory_is ∙ ap (after_accesses serial) split.before in
       let joined = load_joins serial split.front split.back access is_load accessible.within (grows.old_is ∙ ap (λ m. number_at m access.offset access.width) is) split.rest (subst (Replays serial) split.before replay.replays) in
       record {
         ids = replay.ids;
         by_key = IsByKey_grown replay.ids replay.by_key;
         replays = subst (Replays serial) (sym split.after) joined.0;
-        memory_is = is ∙ sym joined.1 ∙ ap (replayed serial) (sym split.after);
+        memory_is = is ∙ sym joined.1 ∙ ap (after_accesses serial) (sym split.after);
         noted = noted_grown serial long replay.noted;
         bytes = replay.bytes;
       }
 
   -- no later task touched the line: a store keeps the replay, with the number written
-  pub store_keeps : (serial : List ℕ) (v : ℕ) → IsLineSize line → access.new ≡ Some v → NoLaterTouched old was (access.offset / line) → IsReplay line old serial memory → IsReplay line new serial (written memory access.offset access.width v)
+  pub store_keeps : (serial : List ℕ) (v : ℕ) → IsLineSize line → access.new ≡ Some v → NoLaterTouched old was (access.offset / line) → IsReplay line old serial memory → IsReplay line new serial (after_write memory access.offset access.width v)
   store_keeps serial v sized is_store none replay =
-      let long : length memory ≡ length serial = ap length replay.memory_is ∙ length-replayed serial (logs old replay.ids) in
+      let long : length memory ≡ length serial = ap length replay.memory_is ∙ length-after_accesses serial (logs old replay.ids) in
       let accessible : IsAccessible (length serial) access.offset access.width = subst (λ n. IsAccessible n access.offset access.width) long grows.accessible in
       let split = splits (Untouched access.offset access.width) tt (Untouched-append access.offset access.width) (λ k y at runs later. untouched_line (length serial) line sized access.offset access.width accessible y.touched y.wrote (none k y at runs later) y.log (replay.noted k y at)) replay.ids replay.by_key.ascends (replay.by_key.complete id was grows.there grows.runs) in
-      let is : memory ≡ replayed serial (split.front ++ split.back) = replay.memory_is ∙ ap (replayed serial) split.before in
+      let is : memory ≡ after_accesses serial (split.front ++ split.back) = replay.memory_is ∙ ap (after_accesses serial) split.before in
       let joined = store_joins serial split.front split.back access v is_store accessible.within (grows.old_is ∙ ap (λ m. number_at m access.offset access.width) is) split.rest (Untouched-unwritten access.offset access.width split.back split.rest) (subst (Replays serial) split.before replay.replays) in
       record {
         ids = replay.ids;
         by_key = IsByKey_grown replay.ids replay.by_key;
         replays = subst (Replays serial) (sym split.after) joined.0;
-        memory_is = ap (λ m. written m access.offset access.width v) is ∙ sym joined.1 ∙ ap (replayed serial) (sym split.after);
+        memory_is = ap (λ m. after_write m access.offset access.width v) is ∙ sym joined.1 ∙ ap (after_accesses serial) (sym split.after);
         noted = noted_grown serial long replay.noted;
         bytes = replay.bytes;
       }

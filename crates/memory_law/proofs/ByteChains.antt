@@ -3,22 +3,22 @@ use Rattle.std.proofs.Common.{◌≡◌, ◌⊎◌, ℕ, zero, suc, ◌+◌, ◌
 use Rattle.std.proofs.lemmas.Bool.Decides.{nat_tests}
 use Rattle.std.proofs.lemmas.List.{get_or-set_same, length-set, ext_get_or}
 use Rattle.undo_log.specs.declared.access.Access.{Access}
-use Rattle.undo_log.specs.Number.{number_at, written, AreBytes}
-use Rattle.memory_law.specs.Accesses.{written_if, accessed, replayed, Fits, Replays, AllHaveRoom}
+use Rattle.undo_log.specs.Number.{number_at, after_write, AreBytes}
+use Rattle.memory_law.specs.Accesses.{written_if, after_access, after_accesses, FindsOldValue, Replays, AllLieIn}
 use Rattle.memory_law.specs.ByteChain.{digit, covers, new_digit, byte_events, IsByteChain}
 use Rattle.undo_log.proofs.Proved.{get_or-written_before, get_or-written_behind}
 use Rattle.memory_law.proofs.Bytes.{low_digit, number_at-below}
-use Rattle.memory_law.proofs.Replays.{length-accessed, AreBytes-accessed}
+use Rattle.memory_law.proofs.Replays.{length-after_access, AreBytes-after_access}
 
 -- a byte of a written word is its digit
-pub get_or-written_in : (m : List ℕ) (o w v i : ℕ) → i < w → o + w ≤ length m → get_or (written m o w v) (o + i) 0 ≡ digit v i
+pub get_or-written_in : (m : List ℕ) (o w v i : ℕ) → i < w → o + w ≤ length m → get_or (after_write m o w v) (o + i) 0 ≡ digit v i
 get_or-written_in m o zero v i below within = absurd (omega arith)
 get_or-written_in m o (suc w) v zero below within =
-    ap (λ k. get_or (written (set m o (v % 256)) (o + 1) w (v / 256)) k 0) (let e : o + 0 ≡ o = omega arith in e)
+    ap (λ k. get_or (after_write (set m o (v % 256)) (o + 1) w (v / 256)) k 0) (let e : o + 0 ≡ o = omega arith in e)
     ∙ get_or-written_before (set m o (v % 256)) (o + 1) w (v / 256) o (omega arith)
     ∙ get_or-set_same m o (v % 256) 0 (omega arith)
 get_or-written_in m o (suc w) v (suc i) below within =
-    ap (λ k. get_or (written (set m o (v % 256)) (o + 1) w (v / 256)) k 0) (let e : o + suc i ≡ o + 1 + i = omega arith in e)
+    ap (λ k. get_or (after_write (set m o (v % 256)) (o + 1) w (v / 256)) k 0) (let e : o + suc i ≡ o + 1 + i = omega arith in e)
     ∙ get_or-written_in (set m o (v % 256)) (o + 1) w (v / 256) i (omega arith) (omega (arith, length-set m o (v % 256)))
 
 -- a byte of the memory is its digit of a word there
@@ -47,14 +47,14 @@ module _ (a : Access) (k : ℕ) where
   outside e = grind (arith, nat_tests)
 
 -- the byte after an access
-pub byte_after : (m : List ℕ) (a : Access) (k : ℕ) → a.offset + a.width ≤ length m → get_or (accessed m a) k 0 ≡ cond (covers a k) (unwrap_or (new_digit a.new (k - a.offset)) (get_or m k 0)) (get_or m k 0)
+pub byte_after : (m : List ℕ) (a : Access) (k : ℕ) → a.offset + a.width ≤ length m → get_or (after_access m a) k 0 ≡ cond (covers a k) (unwrap_or (new_digit a.new (k - a.offset)) (get_or m k 0)) (get_or m k 0)
 byte_after m a k within = by_new a.new
   where
-    by_cover : (v : ℕ) (b : Bool) → covers a k ≡ b → get_or (written m a.offset a.width v) k 0 ≡ cond b (digit v (k - a.offset)) (get_or m k 0)
+    by_cover : (v : ℕ) (b : Bool) → covers a k ≡ b → get_or (after_write m a.offset a.width v) k 0 ≡ cond b (digit v (k - a.offset)) (get_or m k 0)
     by_cover v true e =
         let in' = inside a k e in
         let at : k ≡ a.offset + (k - a.offset) = omega (arith, in'.0) in
-        ap (λ j. get_or (written m a.offset a.width v) j 0) at ∙ get_or-written_in m a.offset a.width v (k - a.offset) (omega (arith, in'.0, in'.1)) within
+        ap (λ j. get_or (after_write m a.offset a.width v) j 0) at ∙ get_or-written_in m a.offset a.width v (k - a.offset) (omega (arith, in'.0, in'.1)) within
     by_cover v false e = elim (outside a k e) [
       | inl before ↦ get_or-written_before m a.offset a.width v k before
       | inr after ↦ get_or-written_behind m a.offset a.width v k after
@@ -69,38 +69,41 @@ byte_after m a k within = by_new a.new
     by_new (Some v) = by_cover v (covers a k) refl
 
 -- a chain makes the chain of each byte
-pub bytes-of_replay : (m : List ℕ) (log : List Access) (k : ℕ) → AreBytes m → Replays m log → IsByteChain (get_or m k 0) (byte_events k log) (get_or (replayed m log) k 0)
+pub bytes-of_replay : (m : List ℕ) (log : List Access) (k : ℕ) → AreBytes m → Replays m log → IsByteChain (get_or m k 0) (byte_events k log) (get_or (after_accesses m log) k 0)
 bytes-of_replay m [] k bytes chain = refl
 bytes-of_replay m (a ∷ log) k bytes chain =
-    by_cover (covers a k) refl (bytes-of_replay (accessed m a) log k (AreBytes-accessed m a bytes) chain.1) (byte_after m a k chain.0.within)
+    by_cover (covers a k) refl (bytes-of_replay (after_access m a) log k (AreBytes-after_access m a bytes) chain.1) (byte_after m a k chain.0.within)
   where
-    by_cover : (b : Bool) → covers a k ≡ b → IsByteChain (get_or (accessed m a) k 0) (byte_events k log) (get_or (replayed (accessed m a) log) k 0) → get_or (accessed m a) k 0 ≡ cond b (unwrap_or (new_digit a.new (k - a.offset)) (get_or m k 0)) (get_or m k 0) → IsByteChain (get_or m k 0) (cond b ((digit a.old (k - a.offset), new_digit a.new (k - a.offset)) ∷ byte_events k log) (byte_events k log)) (get_or (replayed (accessed m a) log) k 0)
+    by_cover : (b : Bool) → covers a k ≡ b → IsByteChain (get_or (after_access m a) k 0) (byte_events k log) (get_or (after_accesses (after_access m a) log) k 0) → get_or (after_access m a) k 0 ≡ cond b (unwrap_or (new_digit a.new (k - a.offset)) (get_or m k 0)) (get_or m k 0) → IsByteChain (get_or m k 0) (cond b ((digit a.old (k - a.offset), new_digit a.new (k - a.offset)) ∷ byte_events k log) (byte_events k log)) (get_or (after_accesses (after_access m a) log) k 0)
     by_cover true e rest after =
         let in' = inside a k e in
         let at : k ≡ a.offset + (k - a.offset) = omega (arith, in'.0) in
         let old : get_or m k 0 ≡ digit a.old (k - a.offset) =
         ap (λ j. get_or m j 0) at ∙ sym (digit-number_at m a.offset a.width (k - a.offset) bytes (omega (arith, in'.0, in'.1))) ∙ ap (λ v. digit v (k - a.offset)) (sym chain.0.old_is)
-        in
-        (old, subst (λ b. IsByteChain b (byte_events k log) (get_or (replayed (accessed m a) log) k 0)) after rest)
-    by_cover false e rest after = subst (λ b. IsByteChain b (byte_events k log) (get_or (replayed (accessed m a) log) k 0)) after rest
+        in (
+          old,
+          subst
+              (λ b. IsByteChain b (byte_events k log) (get_or (after_accesses (after_access m a) log) k 0)) after rest,
+        )
+    by_cover false e rest after = subst (λ b. IsByteChain b (byte_events k log) (get_or (after_accesses (after_access m a) log) k 0)) after rest
 
 -- the accesses of a replay have room
-pub room-of_replay : (m : List ℕ) (log : List Access) → AreBytes m → Replays m log → AllHaveRoom (length m) log
+pub room-of_replay : (m : List ℕ) (log : List Access) → AreBytes m → Replays m log → AllLieIn (length m) log
 room-of_replay m [] bytes replays = tt
 room-of_replay m (a ∷ log) bytes replays = (
   record { within = replays.0.within; small = subst (λ v. v < 256 ^ a.width) (sym replays.0.old_is) (number_at-below m a.offset a.width bytes) },
-  subst (λ n. AllHaveRoom n log) (length-accessed m a) (room-of_replay (accessed m a) log (AreBytes-accessed m a bytes) replays.1),
+  subst (λ n. AllLieIn n log) (length-after_access m a) (room-of_replay (after_access m a) log (AreBytes-after_access m a bytes) replays.1),
 )
 
 -- the chains of all bytes make a chain, and the memory that it makes
-pub replay-of_bytes : (m now : List ℕ) (log : List Access) → AreBytes m → AllHaveRoom (length m) log → length now ≡ length m → ((k : ℕ) → IsByteChain (get_or m k 0) (byte_events k log) (get_or now k 0)) → Replays m log × (now ≡ replayed m log)
+pub replay-of_bytes : (m now : List ℕ) (log : List Access) → AreBytes m → AllLieIn (length m) log → length now ≡ length m → ((k : ℕ) → IsByteChain (get_or m k 0) (byte_events k log) (get_or now k 0)) → Replays m log × (now ≡ after_accesses m log)
 replay-of_bytes m now [] bytes room size each = (tt, ext_get_or 0 now m size (λ k below. sym (each k)))
 replay-of_bytes m now (a ∷ log) bytes room size each =
     let word : number_at m a.offset a.width ≡ a.old =
     number_at-digits m a.offset a.width a.old room.0.small (λ i below. old_digit (a.offset + i) i refl below (each (a.offset + i)))
     in
-    let fits : Fits m a = record { within = room.0.within; old_is = sym word } in
-    let rest = replay-of_bytes (accessed m a) now log (AreBytes-accessed m a bytes) (subst (λ n. AllHaveRoom n log) (sym (length-accessed m a)) room.1) (size ∙ sym (length-accessed m a)) (λ k. by_cover k (covers a k) refl (each k) (byte_after m a k room.0.within)) in
+    let fits : FindsOldValue m a = record { within = room.0.within; old_is = sym word } in
+    let rest = replay-of_bytes (after_access m a) now log (AreBytes-after_access m a bytes) (subst (λ n. AllLieIn n log) (sym (length-after_access m a)) room.1) (size ∙ sym (length-after_access m a)) (λ k. by_cover k (covers a k) refl (each k) (byte_after m a k room.0.within)) in
     ((fits, rest.0), rest.1)
   where
     covered : (k i : ℕ) → k ≡ a.offset + i → i < a.width → covers a k ≡ true
@@ -115,16 +118,16 @@ replay-of_bytes m now (a ∷ log) bytes room size each =
         let place : k - a.offset ≡ i = omega arith in
         sym (ap (λ j. get_or m j 0) (sym at) ∙ open'.0 ∙ ap (digit a.old) place)
 
-    by_cover : (k : ℕ) (b : Bool) → covers a k ≡ b → IsByteChain (get_or m k 0) (byte_events k (a ∷ log)) (get_or now k 0) → get_or (accessed m a) k 0 ≡ cond (covers a k) (unwrap_or (new_digit a.new (k - a.offset)) (get_or m k 0)) (get_or m k 0) → IsByteChain (get_or (accessed m a) k 0) (byte_events k log) (get_or now k 0)
+    by_cover : (k : ℕ) (b : Bool) → covers a k ≡ b → IsByteChain (get_or m k 0) (byte_events k (a ∷ log)) (get_or now k 0) → get_or (after_access m a) k 0 ≡ cond (covers a k) (unwrap_or (new_digit a.new (k - a.offset)) (get_or m k 0)) (get_or m k 0) → IsByteChain (get_or (after_access m a) k 0) (byte_events k log) (get_or now k 0)
     by_cover k true e chain after =
         let chain' : IsByteChain (get_or m k 0) ((digit a.old (k - a.offset), new_digit a.new (k - a.offset)) ∷ byte_events k log) (get_or now k 0) =
         subst (λ b. IsByteChain (get_or m k 0) (cond b ((digit a.old (k - a.offset), new_digit a.new (k - a.offset)) ∷ byte_events k log) (byte_events k log)) (get_or now k 0)) e chain
         in
-        let after' : get_or (accessed m a) k 0 ≡ unwrap_or (new_digit a.new (k - a.offset)) (get_or m k 0) = after ∙ ap (λ b. cond b (unwrap_or (new_digit a.new (k - a.offset)) (get_or m k 0)) (get_or m k 0)) e in
+        let after' : get_or (after_access m a) k 0 ≡ unwrap_or (new_digit a.new (k - a.offset)) (get_or m k 0) = after ∙ ap (λ b. cond b (unwrap_or (new_digit a.new (k - a.offset)) (get_or m k 0)) (get_or m k 0)) e in
         subst (λ x. IsByteChain x (byte_events k log) (get_or now k 0)) (sym after') chain'.1
     by_cover k false e chain after =
         let chain' : IsByteChain (get_or m k 0) (byte_events k log) (get_or now k 0) =
         subst (λ b. IsByteChain (get_or m k 0) (cond b ((digit a.old (k - a.offset), new_digit a.new (k - a.offset)) ∷ byte_events k log) (byte_events k log)) (get_or now k 0)) e chain
         in
-        let after' : get_or (accessed m a) k 0 ≡ get_or m k 0 = after ∙ ap (λ b. cond b (unwrap_or (new_digit a.new (k - a.offset)) (get_or m k 0)) (get_or m k 0)) e in
+        let after' : get_or (after_access m a) k 0 ≡ get_or m k 0 = after ∙ ap (λ b. cond b (unwrap_or (new_digit a.new (k - a.offset)) (get_or m k 0)) (get_or m k 0)) e in
         subst (λ x. IsByteChain x (byte_events k log) (get_or now k 0)) (sym after') chain'

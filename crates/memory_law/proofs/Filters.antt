@@ -6,7 +6,7 @@ use Rattle.line_table.specs.Note.{Note, touched_in, wrote_in}
 use Rattle.undo_log.specs.declared.access.Access.{Access}
 use Rattle.undo_log.specs.Number.{IsAccessible}
 use Rattle.undo_log.specs.Undo.{AllAccessible}
-use Rattle.memory_law.specs.Tasks.{AreNoted, IsWroteIfStore}
+use Rattle.memory_law.specs.Tasks.{AreNotedInFilter, IsWroteIfStore}
 use Rattle.memory_law.specs.Notes.{notes_of}
 
 -- the answers name each line that the notes name
@@ -34,7 +34,7 @@ rest_too touched wrote note notes all =
       wrote_too = λ at is. all.wrote_too at (wrote_rest note notes at is);
     }
 
-pub noted_all : (size line : ℕ) (touched wrote : ℕ → Bool) (log : List Access) → AllAccessible size log → NameAll touched wrote (notes_of line log) → AreNoted size line touched wrote log
+pub noted_all : (size line : ℕ) (touched wrote : ℕ → Bool) (log : List Access) → AllAccessible size log → NameAll touched wrote (notes_of line log) → AreNotedInFilter size line touched wrote log
 noted_all size line touched wrote [] within all = tt
 noted_all size line touched wrote (access ∷ log) within all = (
   All-head (λ a. IsAccessible size a.offset a.width) access log within,

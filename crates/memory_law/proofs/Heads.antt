@@ -3,12 +3,12 @@ use Rattle.std.proofs.Common.{◌≡◌, ◌≢◌, ◌⊎◌, ℕ, false, List,
 use Rattle.std.proofs.lemmas.Bool.{cases_eq}
 use Rattle.fractal_vt.specs.Levels.{level_cmp}
 use Rattle.fractal_vt.proofs.Proved.{level_cmp_total, levels_cmp_total, not_both}
-use Rattle.memory_law.specs.Accesses.{replayed, Replays}
-use Rattle.memory_law.proofs.Replays.{replayed-append, Replays-front, Replays-back}
-use Rattle.memory_law.proofs.Joins.{AreBytes-replayed, length-replayed}
-use Rattle.memory_law.specs.Tasks.{Logged, IsNoted, AreNoted, log_of, logs, In, Earlier, Ascends}
+use Rattle.memory_law.specs.Accesses.{after_accesses, Replays}
+use Rattle.memory_law.proofs.Replays.{after_accesses-append, Replays-front, Replays-back}
+use Rattle.memory_law.proofs.Joins.{AreBytes-after_accesses, length-after_accesses}
+use Rattle.memory_law.specs.Tasks.{Logged, IsNoted, AreNotedInFilter, log_of, logs, In, Earlier, Ascends}
 use Rattle.memory_law.specs.Chain.{IsReplay}
-use Rattle.memory_law.specs.Events.{Dispatches, Commits}
+use Rattle.memory_law.specs.Events.{DispatchesInLogs, CommitsInLogs}
 use Rattle.memory_law.proofs.Latest.{not_self, member_runs}
 
 pub record Inserts (old new : ℕ → Option Logged) (id : ℕ) (ids : List ℕ) : Type 0 where
@@ -19,7 +19,7 @@ pub record Inserts (old new : ℕ → Option Logged) (id : ℕ) (ids : List ℕ)
   pub holds : (k : ℕ) → In k ids → In k longer
   pub only : (k : ℕ) → In k longer → (k ≡ id) ⊎ In k ids
 
-module _ (old new : ℕ → Option Logged) (id : ℕ) (now : Logged) (starts : Dispatches old new id now) where
+module _ (old new : ℕ → Option Logged) (id : ℕ) (now : Logged) (starts : DispatchesInLogs old new id now) where
   -- no listed task is the one that starts
   listed_other : (k : ℕ) (ids : List ℕ) → Ascends old ids → In k ids → k ≢ id
   listed_other k ids up at here =
@@ -121,17 +121,17 @@ module _ (old new : ℕ → Option Logged) (id : ℕ) (now : Logged) (starts : D
           ];
         };
         replays = subst (Replays serial) (sym ins.same_logs) replay.replays;
-        memory_is = replay.memory_is ∙ ap (replayed serial) (sym ins.same_logs);
+        memory_is = replay.memory_is ∙ ap (after_accesses serial) (sym ins.same_logs);
         noted = λ k task at. elim (cases_eq k id) [
           | inl here ↦
               let same : now ≡ task = is_now k task here at in
-              subst (AreNoted (length serial) line task.touched task.wrote) (sym (ap (λ t. t.log) (sym same) ∙ starts.log)) tt
+              subst (AreNotedInFilter (length serial) line task.touched task.wrote) (sym (ap (λ t. t.log) (sym same) ∙ starts.log)) tt
           | inr other ↦ replay.noted k task (sym (starts.others k other) ∙ at)
         ];
         bytes = replay.bytes;
       }
 
-module _ (old new : ℕ → Option Logged) (id : ℕ) (task : Logged) (leaves : Commits old new id task) where
+module _ (old new : ℕ → Option Logged) (id : ℕ) (task : Logged) (leaves : CommitsInLogs old new id task) where
   rest_line : (ids : List ℕ) → Ascends old ids → (In id ids → ⊥) → Ascends new ids × (logs new ids ≡ logs old ids)
   rest_line [] up out = (tt, refl)
   rest_line (k ∷ ids) up out =
@@ -142,14 +142,15 @@ module _ (old new : ℕ → Option Logged) (id : ℕ) (task : Logged) (leaves : 
         (let r = rest.1 in cc),
       )
 
-  pub commit_keeps : (line : ℕ) (serial memory : List ℕ) → IsReplay line old serial memory → Replays serial task.log × IsReplay line new (replayed serial task.log) memory
+  pub commit_keeps : (line : ℕ) (serial memory : List ℕ) → IsReplay line old serial memory → Replays serial task.log × IsReplay line new (after_accesses serial task.log) memory
   commit_keeps line serial memory replay = by_line replay.ids refl replay.by_key.ascends (replay.by_key.complete id task leaves.there leaves.dispatched)
     where
-      by_line : (ids : List ℕ) → replay.ids ≡ ids → Ascends old ids → In id ids → Replays serial task.log × IsReplay line new (replayed serial task.log) memory
+      by_line : (ids : List ℕ) → replay.ids ≡ ids → Ascends old ids → In id ids → Replays serial task.log × IsReplay line new (after_accesses serial task.log) memory
       by_line [] is up at = absurd at
       by_line (k ∷ ids) is up at = by_head (cases_eq k id)
         where
-          by_head : (k ≡ id) ⊎ (k ≢ id) → Replays serial task.log × IsReplay line new (replayed serial task.log) memory
+          by_head : (k ≡ id) ⊎ (k ≢ id)
+              → Replays serial task.log × IsReplay line new (after_accesses serial task.log) memory
           by_head (inr other) =
               let in_rest : In id ids = elim at [ inl here ↦ absurd (other (sym here)) | inr later ↦ later ] in
               absurd (not_both level_cmp level_cmp_total task.levels up.0.levels (leaves.least k up.0 other up.1 up.2) (up.3 id task in_rest leaves.there))
@@ -172,12 +173,12 @@ module _ (old new : ℕ → Option Logged) (id : ℕ) (task : Logged) (leaves : 
                           elim was [ inl e ↦ absurd (differs (e ∙ here)) | inr later ↦ later ]
                     ];
                   };
-                  replays = subst (Replays (replayed serial task.log)) (sym rest.1) (Replays-back serial task.log (logs old ids) chain);
-                  memory_is = replay.memory_is ∙ ap (replayed serial) all ∙ replayed-append serial task.log (logs old ids) ∙ ap (replayed (replayed serial task.log)) (sym rest.1);
+                  replays = subst (Replays (after_accesses serial task.log)) (sym rest.1) (Replays-back serial task.log (logs old ids) chain);
+                  memory_is = replay.memory_is ∙ ap (after_accesses serial) all ∙ after_accesses-append serial task.log (logs old ids) ∙ ap (after_accesses (after_accesses serial task.log)) (sym rest.1);
                   noted = λ j x there. elim (cases_eq j id) [
                     | inl gone ↦ absurd (cc (leaves.gone, ap new gone, there))
-                    | inr differs ↦ subst (λ n. IsNoted n line x) (sym (length-replayed serial task.log)) (replay.noted j x (sym (leaves.others j differs) ∙ there))
+                    | inr differs ↦ subst (λ n. IsNoted n line x) (sym (length-after_accesses serial task.log)) (replay.noted j x (sym (leaves.others j differs) ∙ there))
                   ];
-                  bytes = AreBytes-replayed serial task.log replay.bytes;
+                  bytes = AreBytes-after_accesses serial task.log replay.bytes;
                 },
               )

@@ -1,15 +1,15 @@
 -- Idle tasks change nothing of the replay, and where all are idle it is empty.
 use Rattle.std.proofs.Common.{◌≡◌, ℕ, Bool, true, false, List, [], ◌∷◌, length, Option, Some, refl, sym, ap, subst, ◌∙◌}
 use Rattle.undo_log.specs.Number.{AreBytes}
-use Rattle.memory_law.specs.Accesses.{replayed, Replays}
-use Rattle.memory_law.specs.Tasks.{Logged, IsNoted, AreNoted, logs, In, Ascends}
+use Rattle.memory_law.specs.Accesses.{after_accesses, Replays}
+use Rattle.memory_law.specs.Tasks.{Logged, IsNoted, AreNotedInFilter, logs, In, Ascends}
 use Rattle.memory_law.specs.Chain.{IsReplay}
 use Rattle.memory_law.specs.Events.{KeepsDispatched}
 use Rattle.memory_law.proofs.Latest.{member_runs}
 
 -- an empty log is noted by any filter
 pub noted_empty : (size line : ℕ) (task : Logged) → task.log ≡ [] → IsNoted size line task
-noted_empty size line task empty = subst (AreNoted size line task.touched task.wrote) (sym empty) tt
+noted_empty size line task empty = subst (AreNotedInFilter size line task.touched task.wrote) (sym empty) tt
 
 module _ (old new : ℕ → Option Logged) (keeps : KeepsDispatched old new) where
   stays_there : (id : ℕ) (ids : List ℕ) → Ascends old ids → In id ids → (task : Logged) × (old id ≡ Some task) × (new id ≡ Some task)
@@ -49,7 +49,7 @@ module _ (old new : ℕ → Option Logged) (keeps : KeepsDispatched old new) whe
           complete = λ id task there runs. replay.by_key.complete id task ((keeps.stay id task runs).1 there) runs;
         };
         replays = subst (Replays serial) (sym same) replay.replays;
-        memory_is = replay.memory_is ∙ ap (replayed serial) (sym same);
+        memory_is = replay.memory_is ∙ ap (after_accesses serial) (sym same);
         noted = λ id task there. by_place id task there task.dispatched refl;
         bytes = replay.bytes;
       }

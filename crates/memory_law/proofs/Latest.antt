@@ -2,7 +2,7 @@
 use Rattle.std.proofs.Common.{arith, ◌≡◌, ◌≢◌, ◌⊎◌, ℕ, Bool, true, false, List, [], ◌∷◌, Option, Some, refl, sym, ap, subst, ◌∙◌, inl, inr, cond}
 use Rattle.std.proofs.lemmas.Bool.{cases_eq}
 use Rattle.std.proofs.lemmas.Bool.Decides.{nat_tests}
-use Rattle.memory_law.specs.Events.{IsLatest, without_one}
+use Rattle.memory_law.specs.Events.{IsLatestInLogs, without_one}
 use Rattle.undo_log.specs.Undo.{undone}
 use Rattle.memory_law.specs.Tasks.{Logged, log_of, In, Earlier, Ascends, undone_set}
 use Rattle.fractal_vt.specs.Levels.{level_cmp}
@@ -31,7 +31,7 @@ other_one id k set differs = grind (arith, nat_tests)
 that_one : (id k : ℕ) (set : ℕ → Bool) → k ≡ id → without_one id set k ≡ false
 that_one id k set same = grind (arith, nat_tests)
 
-module _ (set : ℕ → Bool) (tasks : ℕ → Option Logged) (id : ℕ) (task : Logged) (latest : IsLatest set tasks id task) where
+module _ (set : ℕ → Bool) (tasks : ℕ → Option Logged) (id : ℕ) (task : Logged) (latest : IsLatestInLogs set tasks id task) where
   -- the set's latest member is taken back first
   pub latest_first : (ids memory : List ℕ) → Ascends tasks ids → In id ids → undone_set set tasks ids memory ≡ undone_set (without_one id set) tasks ids (undone task.log memory)
   latest_first [] memory up at = absurd at

@@ -2,11 +2,11 @@
 use Rattle.std.proofs.Common.{Bool, ◌≡◌, ℕ, true, refl, List, length, Option, sym, ap, subst, ◌∙◌, false, Some}
 use Rattle.std.specs.Prelude.{slice_index}
 use Rattle.memory_law.specs.ByteChain.{byte_events, IsByteChain}
-use Rattle.memory_law.specs.Accesses.{replayed}
+use Rattle.memory_law.specs.Accesses.{after_accesses}
 use Rattle.memory_law.specs.Tasks.{Logged, logs, undone_set}
 use Rattle.memory_law.specs.Chain.{IsChained, IsReplay}
-use Rattle.memory_law.specs.Laws.{ChainIsReplay, LoadKeepsChain, StoreKeepsChain, AbortKeepsChain, DispatchKeepsChain, CommitKeepsChain, AllUndoneIsSerial, OrderIsOne, UndispatchedIsChained, IdleTasksKeepChain, LatestFirst, LinesShareNoByte, NoConflictIsLeft}
-use Rattle.memory_law.proofs.Joins.{length-replayed}
+use Rattle.memory_law.specs.Laws.{ChainIsReplay, LoadKeepsChain, StoreKeepsChain, AbortKeepsChain, DispatchKeepsChain, CommitKeepsChain, AllLogsUndoneIsSerial, KeyOrderIsOne, UndispatchedIsChained, IdleTasksKeepChain, LatestFirst, LinesShareNoByte, NoConflictIsLeft}
+use Rattle.memory_law.proofs.Joins.{length-after_accesses}
 use Rattle.memory_law.proofs.ByteChains.{room-of_replay, bytes-of_replay, replay-of_bytes}
 use Rattle.memory_law.proofs.Orders.{one_order}
 use Rattle.memory_law.proofs.Aborts.{taken_back, all_back}
@@ -28,7 +28,7 @@ module _ (line : ℕ) (tasks : ℕ → Option Logged) (serial memory : List ℕ)
         ids = r.ids;
         by_key = r.by_key;
         room = room-of_replay serial (logs tasks r.ids) r.bytes r.replays;
-        size = ap length r.memory_is ∙ length-replayed serial (logs tasks r.ids);
+        size = ap length r.memory_is ∙ length-after_accesses serial (logs tasks r.ids);
         chain = λ k. subst (λ m. IsByteChain (slice_index serial k) (byte_events k (logs tasks r.ids)) (slice_index m k)) (sym r.memory_is) (bytes-of_replay serial (logs tasks r.ids) k r.bytes r.replays);
         noted = r.noted;
         bytes = r.bytes;
@@ -58,15 +58,15 @@ dispatch_keeps_chain line old new id now serial memory dispatches chained =
 pub commit_keeps_chain : CommitKeepsChain
 commit_keeps_chain line old new id task serial memory commits chained =
     let both = commit_keeps old new id task commits line serial memory (to_replay line old serial memory chained) in
-    (both.0, to_chain line new (replayed serial task.log) memory both.1)
+    (both.0, to_chain line new (after_accesses serial task.log) memory both.1)
 
-pub all_undone_is_serial : AllUndoneIsSerial
+pub all_undone_is_serial : AllLogsUndoneIsSerial
 all_undone_is_serial line tasks ids serial memory by_key chained =
     let replay = to_replay line tasks serial memory chained in
     let same : replay.ids ≡ ids = one_order tasks replay.ids ids replay.by_key by_key in
     subst (λ order. undone_set (λ id. true) tasks order memory ≡ serial) same (all_back line tasks serial memory replay)
 
-pub order_is_one : OrderIsOne
+pub order_is_one : KeyOrderIsOne
 order_is_one tasks ids others one two = one_order tasks ids others one two
 
 pub undispatched_is_chained : UndispatchedIsChained

@@ -1,7 +1,7 @@
 -- The chain of accesses, byte by byte, and as one replay.
 use Rattle.std.specs.Prelude.{◌≡◌, ℕ, List, length, Option, Some, slice_index}
 use Rattle.undo_log.specs.Number.{AreBytes}
-use Rattle.memory_law.specs.Accesses.{replayed, Replays, AllHaveRoom}
+use Rattle.memory_law.specs.Accesses.{after_accesses, Replays, AllLieIn}
 use Rattle.memory_law.specs.ByteChain.{byte_events, IsByteChain}
 use Rattle.memory_law.specs.Tasks.{Logged, IsNoted, logs, IsByKey}
 
@@ -10,7 +10,7 @@ use Rattle.memory_law.specs.Tasks.{Logged, IsNoted, logs, IsByKey}
 pub record IsChained (line : ℕ) (tasks : ℕ → Option Logged) (serial memory : List ℕ) : Type 0 where
   pub ids : List ℕ
   pub by_key : IsByKey tasks ids
-  pub room : AllHaveRoom (length serial) (logs tasks ids)
+  pub room : AllLieIn (length serial) (logs tasks ids)
   pub size : length memory ≡ length serial
   pub chain : (k : ℕ) → IsByteChain (slice_index serial k) (byte_events k (logs tasks ids)) (slice_index memory k)
   pub noted : (id : ℕ) (task : Logged) → tasks id ≡ Some task → IsNoted (length serial) line task
@@ -21,6 +21,6 @@ pub record IsReplay (line : ℕ) (tasks : ℕ → Option Logged) (serial memory 
   pub ids : List ℕ
   pub by_key : IsByKey tasks ids
   pub replays : Replays serial (logs tasks ids)
-  pub memory_is : memory ≡ replayed serial (logs tasks ids)
+  pub memory_is : memory ≡ after_accesses serial (logs tasks ids)
   pub noted : (id : ℕ) (task : Logged) → tasks id ≡ Some task → IsNoted (length serial) line task
   pub bytes : AreBytes serial

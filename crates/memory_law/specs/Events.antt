@@ -6,7 +6,7 @@ use Rattle.undo_log.specs.Number.{number_at, IsAccessible}
 use Rattle.memory_law.specs.Tasks.{Logged, IsNoted, Earlier}
 
 -- a dispatched task's log grows by an access to the memory, which its filter notes, and all other tasks stay
-pub record Accesses (line : ℕ) (memory : List ℕ) (old new : ℕ → Option Logged) (id : ℕ) (was now : Logged)
+pub record AccessesInLogs (line : ℕ) (memory : List ℕ) (old new : ℕ → Option Logged) (id : ℕ) (was now : Logged)
     (access : Access) : Type 0 where
   pub there : old id ≡ Some was
   pub changed : new id ≡ Some now
@@ -49,13 +49,13 @@ HoldsLater set tasks =
     → set a ≡ true → Earlier x y → x.wrote at ≡ true → y.touched at ≡ true → set b ≡ true
 
 -- each member of the set leaves, or is idle with an empty log, and all other tasks stay
-pub record TakesBack (set : ℕ → Bool) (old new : ℕ → Option Logged) : Type 0 where
+pub record TakesBackInLogs (set : ℕ → Bool) (old new : ℕ → Option Logged) : Type 0 where
   pub members : (id : ℕ) (task : Logged) → set id ≡ true → new id ≡ Some task
       → (task.dispatched ≡ false) × (task.log ≡ [])
   pub others : (id : ℕ) → set id ≡ false → new id ≡ old id
 
 -- an idle task is dispatched with an empty log, its key ties with that of no dispatched task, and all other tasks stay
-pub record Dispatches (old new : ℕ → Option Logged) (id : ℕ) (now : Logged) : Type 0 where
+pub record DispatchesInLogs (old new : ℕ → Option Logged) (id : ℕ) (now : Logged) : Type 0 where
   pub idle : (was : Logged) → old id ≡ Some was → was.dispatched ≡ false
   pub changed : new id ≡ Some now
   pub others : (k : ℕ) → k ≢ id → new k ≡ old k
@@ -65,7 +65,7 @@ pub record Dispatches (old new : ℕ → Option Logged) (id : ℕ) (now : Logged
       → Earlier other now ⊎ Earlier now other
 
 -- the least task leaves, which is dispatched and earlier than all other dispatched tasks, and all of them stay
-pub record Commits (old new : ℕ → Option Logged) (id : ℕ) (task : Logged) : Type 0 where
+pub record CommitsInLogs (old new : ℕ → Option Logged) (id : ℕ) (task : Logged) : Type 0 where
   pub there : old id ≡ Some task
   pub dispatched : task.dispatched ≡ true
   pub least : (k : ℕ) (other : Logged) → k ≢ id → old k ≡ Some other → other.dispatched ≡ true → Earlier task other
@@ -78,7 +78,7 @@ pub record KeepsDispatched (old new : ℕ → Option Logged) : Type 0 where
   pub idle : (id : ℕ) (task : Logged) → new id ≡ Some task → task.dispatched ≡ false → task.log ≡ []
 
 -- the member is the latest dispatched one of the set
-pub record IsLatest (set : ℕ → Bool) (tasks : ℕ → Option Logged) (id : ℕ) (task : Logged) : Type 0 where
+pub record IsLatestInLogs (set : ℕ → Bool) (tasks : ℕ → Option Logged) (id : ℕ) (task : Logged) : Type 0 where
   pub there : tasks id ≡ Some task
   pub dispatched : task.dispatched ≡ true
   pub member : set id ≡ true

@@ -1,13 +1,14 @@
 -- The laws of memory.
 use Rattle.std.specs.Prelude.{◌≡◌, ◌≢◌, ◌↔◌, ℕ, ◌/◌, Bool, true, false, List, [], Option, Some, None}
 use Rattle.undo_log.specs.declared.access.Access.{Access}
-use Rattle.undo_log.specs.Number.{written, AreBytes, IsAccessible}
+use Rattle.undo_log.specs.Number.{after_write, AreBytes, IsAccessible}
 use Rattle.undo_log.specs.Undo.{undone}
-use Rattle.memory_law.specs.Accesses.{replayed, Replays, Apart}
+use Rattle.memory_law.specs.Accesses.{after_accesses, Replays, Apart}
 use Rattle.memory_law.specs.Tasks.{Logged, IsLineSize, IsByKey, undone_set}
 use Rattle.memory_law.specs.Chain.{IsChained, IsReplay}
-use Rattle.memory_law.specs.Events.{Accesses, NoLaterWrote, NoLaterTouched, HoldsLaterWriters, HoldsLaterTouchers}
-use Rattle.memory_law.specs.Events.{HoldsLater, TakesBack, Dispatches, Commits, KeepsDispatched, IsLatest}
+use Rattle.memory_law.specs.Events.{AccessesInLogs, NoLaterWrote, NoLaterTouched, HoldsLaterWriters, HoldsLaterTouchers}
+use Rattle.memory_law.specs.Events.{HoldsLater, TakesBackInLogs, DispatchesInLogs, CommitsInLogs, KeepsDispatched}
+use Rattle.memory_law.specs.Events.{IsLatestInLogs}
 use Rattle.memory_law.specs.Events.{without_one}
 
 -- the accesses chain in each byte exactly where the logs, replayed by rising key, make the memory
@@ -20,7 +21,7 @@ ChainIsReplay =
 abbrev pub LoadKeepsChain : Type 0
 LoadKeepsChain =
     (line : ℕ) (old new : ℕ → Option Logged) (id : ℕ) (was now : Logged) (access : Access) (serial memory : List ℕ)
-    → IsLineSize line → Accesses line memory old new id was now access → access.new ≡ None
+    → IsLineSize line → AccessesInLogs line memory old new id was now access → access.new ≡ None
     → NoLaterWrote old was (access.offset / line)
     → IsChained line old serial memory → IsChained line new serial memory
 
@@ -29,22 +30,22 @@ abbrev pub StoreKeepsChain : Type 0
 StoreKeepsChain =
     (line : ℕ) (old new : ℕ → Option Logged) (id : ℕ) (was now : Logged) (access : Access) (value : ℕ)
     (serial memory : List ℕ)
-    → IsLineSize line → Accesses line memory old new id was now access → access.new ≡ Some value
+    → IsLineSize line → AccessesInLogs line memory old new id was now access → access.new ≡ Some value
     → NoLaterTouched old was (access.offset / line)
-    → IsChained line old serial memory → IsChained line new serial (written memory access.offset access.width value)
+    → IsChained line old serial memory → IsChained line new serial (after_write memory access.offset access.width value)
 
 -- a closed set of tasks that is taken back, the latest first, leaves the chain of the others
 abbrev pub AbortKeepsChain : Type 0
 AbortKeepsChain =
     (line : ℕ) (set : ℕ → Bool) (old new : ℕ → Option Logged) (ids serial memory : List ℕ)
-    → IsLineSize line → HoldsLater set old → TakesBack set old new → IsByKey old ids
+    → IsLineSize line → HoldsLater set old → TakesBackInLogs set old new → IsByKey old ids
     → IsChained line old serial memory → IsChained line new serial (undone_set set old ids memory)
 
 -- where the later tasks that conflict with an access are taken back, none is left that conflicts with it
 abbrev pub NoConflictIsLeft : Type 0
 NoConflictIsLeft =
     (set : ℕ → Bool) (old new : ℕ → Option Logged) (task : Logged) (at : ℕ)
-    → TakesBack set old new
+    → TakesBackInLogs set old new
     → (HoldsLaterWriters set old task at → NoLaterWrote new task at)
     × (HoldsLaterTouchers set old task at → NoLaterTouched new task at)
 
@@ -52,25 +53,26 @@ NoConflictIsLeft =
 abbrev pub DispatchKeepsChain : Type 0
 DispatchKeepsChain =
     (line : ℕ) (old new : ℕ → Option Logged) (id : ℕ) (now : Logged) (serial memory : List ℕ)
-    → Dispatches old new id now → IsChained line old serial memory → IsChained line new serial memory
+    → DispatchesInLogs old new id now → IsChained line old serial memory → IsChained line new serial memory
 
 -- at the commit of the least task its log replays on the serial memory, and the others chain from the memory that
 -- it makes
 abbrev pub CommitKeepsChain : Type 0
 CommitKeepsChain =
     (line : ℕ) (old new : ℕ → Option Logged) (id : ℕ) (task : Logged) (serial memory : List ℕ)
-    → Commits old new id task → IsChained line old serial memory
-    → Replays serial task.log × IsChained line new (replayed serial task.log) memory
+    → CommitsInLogs old new id task → IsChained line old serial memory
+    → Replays serial task.log × IsChained line new (after_accesses serial task.log) memory
 
 -- all tasks taken back, the latest first, leave the serial memory
-abbrev pub AllUndoneIsSerial : Type 0
-AllUndoneIsSerial =
+abbrev pub AllLogsUndoneIsSerial : Type 0
+AllLogsUndoneIsSerial =
     (line : ℕ) (tasks : ℕ → Option Logged) (ids serial memory : List ℕ)
     → IsByKey tasks ids → IsChained line tasks serial memory → undone_set (λ id. true) tasks ids memory ≡ serial
 
 -- the dispatched tasks stand by rising key in one order alone
-abbrev pub OrderIsOne : Type 0
-OrderIsOne = (tasks : ℕ → Option Logged) (ids others : List ℕ) → IsByKey tasks ids → IsByKey tasks others → ids ≡ others
+abbrev pub KeyOrderIsOne : Type 0
+KeyOrderIsOne = (tasks : ℕ → Option Logged) (ids others : List ℕ) → IsByKey tasks ids → IsByKey tasks others
+    → ids ≡ others
 
 -- where no task is dispatched the serial memory chains to itself
 abbrev pub UndispatchedIsChained : Type 0
@@ -89,7 +91,7 @@ IdleTasksKeepChain =
 abbrev pub LatestFirst : Type 0
 LatestFirst =
     (set : ℕ → Bool) (tasks : ℕ → Option Logged) (id : ℕ) (task : Logged) (ids memory : List ℕ)
-    → IsByKey tasks ids → IsLatest set tasks id task
+    → IsByKey tasks ids → IsLatestInLogs set tasks id task
     → undone_set set tasks ids memory ≡ undone_set (without_one id set) tasks ids (undone task.log memory)
 
 -- aligned accesses to two lines share no byte

@@ -1,3 +1,4 @@
+-- Contracts mean all of these.
 pub mod Accesses
 pub mod ByteChain
 pub mod Tasks

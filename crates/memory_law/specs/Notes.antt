@@ -3,7 +3,7 @@ use Rattle.std.specs.Prelude.{ℕ, ◌/◌, Bool, List, [], ◌∷◌, is_some}
 use Rattle.line_table.specs.Note.{Note}
 use Rattle.undo_log.specs.declared.access.Access.{Access}
 use Rattle.undo_log.specs.Undo.{AllAccessible}
-use Rattle.memory_law.specs.Tasks.{AreNoted}
+use Rattle.memory_law.specs.Tasks.{AreNotedInFilter}
 
 -- the line of each access of the log, and whether it is a store
 abbrev pub notes_of : ℕ → List Access → List Note
@@ -15,4 +15,4 @@ abbrev pub LeavesNoneOut : {F : Type 0} → (F → List Note → Type 0) → (F 
 LeavesNoneOut {F} notes_are touched wrote =
     (filter : F) (size line : ℕ) (log : List Access)
     → AllAccessible size log → notes_are filter (notes_of line log)
-    → AreNoted size line (touched filter) (wrote filter) log
+    → AreNotedInFilter size line (touched filter) (wrote filter) log

@@ -26,17 +26,17 @@ IsWroteIfStore wrote at None = Unit {0}
 IsWroteIfStore wrote at (Some value) = wrote at ≡ true
 
 -- each access lies aligned within so many bytes, its line is touched, and the line of a store is wrote
-abbrev pub AreNoted : ℕ → ℕ → (ℕ → Bool) → (ℕ → Bool) → List Access → Type 0
-AreNoted size line touched wrote [] = Unit {0}
-AreNoted size line touched wrote (access ∷ log) =
+abbrev pub AreNotedInFilter : ℕ → ℕ → (ℕ → Bool) → (ℕ → Bool) → List Access → Type 0
+AreNotedInFilter size line touched wrote [] = Unit {0}
+AreNotedInFilter size line touched wrote (access ∷ log) =
     IsAccessible size access.offset access.width
     × (touched (access.offset / line) ≡ true)
     × IsWroteIfStore wrote (access.offset / line) access.new
-    × AreNoted size line touched wrote log
+    × AreNotedInFilter size line touched wrote log
 
 -- the task's filter leaves out no access of its log
 abbrev pub IsNoted : ℕ → ℕ → Logged → Type 0
-IsNoted size line task = AreNoted size line task.touched task.wrote task.log
+IsNoted size line task = AreNotedInFilter size line task.touched task.wrote task.log
 
 -- the log of the task, if there is one
 abbrev pub log_of : Option Logged → List Access

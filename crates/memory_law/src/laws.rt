@@ -1,8 +1,8 @@
-// The laws of memory.
+//! The laws of memory.
 
 ghost use Rattle.memory_law.specs.Notes.{LeavesNoneOut};
-ghost use Rattle.memory_law.specs.Laws.{ChainIsReplay, OrderIsOne, LoadKeepsChain, StoreKeepsChain};
-ghost use Rattle.memory_law.specs.Laws.{AbortKeepsChain, DispatchKeepsChain, CommitKeepsChain, AllUndoneIsSerial};
+ghost use Rattle.memory_law.specs.Laws.{ChainIsReplay, KeyOrderIsOne, LoadKeepsChain, StoreKeepsChain};
+ghost use Rattle.memory_law.specs.Laws.{AbortKeepsChain, DispatchKeepsChain, CommitKeepsChain, AllLogsUndoneIsSerial};
 ghost use Rattle.memory_law.specs.Laws.{UndispatchedIsChained, IdleTasksKeepChain, LatestFirst, LinesShareNoByte};
 ghost use Rattle.memory_law.specs.Laws.{NoConflictIsLeft};
 
@@ -15,8 +15,8 @@ pub fn chain_is_replay()
 {}
 
 /// Law: the dispatched tasks stand by rising key in one order alone.
-pub fn order_is_one()
-    ensures { OrderIsOne }
+pub fn key_order_is_one()
+    ensures { KeyOrderIsOne }
 {}
 
 /// Law: a load of a line that no later dispatched task wrote keeps the chain.
@@ -53,8 +53,8 @@ pub fn commit_keeps_chain()
 {}
 
 /// Law: all tasks taken back, the latest first, leave the serial memory.
-pub fn all_undone_is_serial()
-    ensures { AllUndoneIsSerial }
+pub fn all_logs_undone_is_serial()
+    ensures { AllLogsUndoneIsSerial }
 {}
 
 /// Law: where no task is dispatched, the serial memory chains to itself.

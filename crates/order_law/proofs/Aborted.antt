@@ -6,9 +6,9 @@ use Rattle.std.specs.declared.cmp.Ordering.TheVariants.{Less, Equal}
 use Rattle.std.specs.Cmp.Lexicographic.{slice_cmp}
 use Rattle.fractal_vt.specs.Levels.{Open, tie_cmp, level_cmp, levels_cmp}
 use Rattle.fractal_vt.specs.Paths.{OnPath}
-use Rattle.order_law.specs.Tasks.{Keyed, levels, HasNumber}
+use Rattle.order_law.specs.Tasks.{Keyed, levels_of, HasNumber}
 use Rattle.order_law.specs.Ordered.{LevelsBelow, HasCreator, IsShaped, IsOrdered}
-use Rattle.order_law.specs.Events.{reopened, Aborts}
+use Rattle.order_law.specs.Events.{with_open_level, AbortsInKeys}
 use Rattle.fractal_vt.proofs.Proved.{level_cmp_total, levels_cmp_total, same_front}
 
 pub nat_self : (n : ℕ) → nat_cmp n n ≡ Equal
@@ -24,12 +24,12 @@ rises ds l n closed =
     last = ap (λ o. ordering_then o (tie_cmp l.tb None)) (nat_self l.ts) ∙ ap (λ t. tie_cmp t None) closed
 
 -- what is below a task is below it once it is open again
-pub below_reopened : (xs : List Open) (task : Keyed) → levels_cmp xs (levels task) ≡ Less → levels_cmp xs (levels (reopened task)) ≡ Less
+pub below_reopened : (xs : List Open) (task : Keyed) → levels_cmp xs (levels_of task) ≡ Less → levels_cmp xs (levels_of (with_open_level task)) ≡ Less
 below_reopened xs task below = by_tie task.last.tb refl
   where
-    by_tie : (t : Option ℕ) → task.last.tb ≡ t → levels_cmp xs (levels (reopened task)) ≡ Less
+    by_tie : (t : Option ℕ) → task.last.tb ≡ t → levels_cmp xs (levels_of (with_open_level task)) ≡ Less
     by_tie None open' = sym (ap (λ t. levels_cmp xs (task.domain ++ record { ts = task.last.ts; tb = t } ∷ [])) open') ∙ below
-    by_tie (Some n) closed = levels_cmp_total.trans xs (levels task) (levels (reopened task)) below (rises task.domain task.last n closed)
+    by_tie (Some n) closed = levels_cmp_total.trans xs (levels_of task) (levels_of (with_open_level task)) below (rises task.domain task.last n closed)
 
 path_reopened : (path ds : List Open) (l : Open) → OnPath level_cmp path ds l → OnPath level_cmp path ds (record { ts = l.ts; tb = None })
 path_reopened [] [] l on = tt
@@ -41,16 +41,16 @@ path_reopened (p ∷ path) [] l on = by_tie l.tb refl
 path_reopened [] (d ∷ ds) l on = absurd on
 path_reopened (p ∷ path) (d ∷ ds) l on = (on.0, path_reopened path ds l on.1)
 
-module _ (set : ℕ → Bool) (old new : ℕ → Option Keyed) (path : List Open) (next : ℕ) (aborts : Aborts set old new) (ordered : IsOrdered old path next) where
+module _ (set : ℕ → Bool) (old new : ℕ → Option Keyed) (path : List Open) (next : ℕ) (aborts : AbortsInKeys set old new) (ordered : IsOrdered old path next) where
   -- what a task is now, it was before, or it is a member that stays
-  which : (k : ℕ) (x : Keyed) → new k ≡ Some x → ((set k ≡ false) × (old k ≡ Some x)) ⊎ ((y : Keyed) × (set k ≡ true) × (old k ≡ Some y) × (x ≡ reopened y) × ((c : ℕ) → y.creator ≡ Some c → set c ≡ false))
+  which : (k : ℕ) (x : Keyed) → new k ≡ Some x → ((set k ≡ false) × (old k ≡ Some x)) ⊎ ((y : Keyed) × (set k ≡ true) × (old k ≡ Some y) × (x ≡ with_open_level y) × ((c : ℕ) → y.creator ≡ Some c → set c ≡ false))
   which k x at = by_mark (set k) refl
     where
-      by_mark : (b : Bool) → set k ≡ b → ((set k ≡ false) × (old k ≡ Some x)) ⊎ ((y : Keyed) × (set k ≡ true) × (old k ≡ Some y) × (x ≡ reopened y) × ((c : ℕ) → y.creator ≡ Some c → set c ≡ false))
+      by_mark : (b : Bool) → set k ≡ b → ((set k ≡ false) × (old k ≡ Some x)) ⊎ ((y : Keyed) × (set k ≡ true) × (old k ≡ Some y) × (x ≡ with_open_level y) × ((c : ℕ) → y.creator ≡ Some c → set c ≡ false))
       by_mark true is = let m = aborts.members k x is at in inr (m.0, is, m.1, m.2, m.3)
       by_mark false is = inl (is, sym (aborts.others k is) ∙ at)
 
-  no_number : (x y : Keyed) (n : ℕ) → x ≡ reopened y → HasNumber x n → ⊥
+  no_number : (x y : Keyed) (n : ℕ) → x ≡ with_open_level y → HasNumber x n → ⊥
   no_number x y n is has = let off : None ≡ Some n = sym (ap (λ z. z.last.tb) is) ∙ has in cc
 
   kept_creator : (creator : ℕ) (child : Keyed) → set creator ≡ false → HasCreator old creator child → HasCreator new creator child
@@ -98,7 +98,7 @@ module _ (set : ℕ → Bool) (old new : ℕ → Option Keyed) (path : List Open
           | inr m ↦
               let parent' : m.0.creator ≡ Some c = sym (ap (λ z. z.creator) m.3) ∙ parent in
               let has = ordered.creators k m.0 c m.2 parent' in
-              let raised : HasCreator old c (reopened m.0) = record { task = has.task; there = has.there; number = has.number; dispatched = has.dispatched; below = below_reopened (levels has.task) m.0 has.below; kin = has.kin } in
+              let raised : HasCreator old c (with_open_level m.0) = record { task = has.task; there = has.there; number = has.number; dispatched = has.dispatched; below = below_reopened (levels_of has.task) m.0 has.below; kin = has.kin } in
               kept_creator c x (m.4 c parent') (subst (HasCreator old c) (sym m.3) raised)
         ];
         on_path = λ k x at parent. elim (which k x at) [
@@ -109,5 +109,5 @@ module _ (set : ℕ → Bool) (old new : ℕ → Option Keyed) (path : List Open
         ];
       }
 
-pub abort_law : (set : ℕ → Bool) (old new : ℕ → Option Keyed) (path : List Open) (next : ℕ) → Aborts set old new → IsOrdered old path next → IsOrdered new path next
+pub abort_law : (set : ℕ → Bool) (old new : ℕ → Option Keyed) (path : List Open) (next : ℕ) → AbortsInKeys set old new → IsOrdered old path next → IsOrdered new path next
 abort_law = abort_keeps_order

@@ -5,9 +5,9 @@ use Rattle.std.proofs.lemmas.Bool.{cases_eq}
 use Rattle.std.specs.declared.cmp.Ordering.TheVariants.{Less}
 use Rattle.fractal_vt.specs.Levels.{Open, level_cmp, levels_cmp}
 use Rattle.fractal_vt.specs.Paths.{OnPath, Below}
-use Rattle.order_law.specs.Tasks.{Keyed, levels, HasNumber, Kin}
+use Rattle.order_law.specs.Tasks.{Keyed, levels_of, HasNumber, Kin}
 use Rattle.order_law.specs.Ordered.{TieBelow, LevelsBelow, IsNumberOf, HasCreator, IsShaped, IsOrdered}
-use Rattle.order_law.specs.Events.{freed, Commits, IsLeast}
+use Rattle.order_law.specs.Events.{without_creator, CommitsInKeys, IsLeastInKeys}
 use Rattle.fractal_vt.proofs.Proved.{level_cmp_total, not_both, same_child_on_path, stays_on_path, sub_child_on_path, super_child_on_path}
 use Rattle.order_law.proofs.Least.{IsBelowAll, least_is_below}
 use Rattle.order_law.proofs.Numbers.{LevelsBelow-append, number_in, differ_more, domain_in_path, domain_differs}
@@ -16,18 +16,18 @@ same_option : (a : Option ℕ) (b : ℕ) → (a ≡ Some b) ⊎ (a ≢ Some b)
 same_option None b = inr (λ e. absurd (cc))
 same_option (Some a) b = elim (cases_eq a b) [ inl e ↦ inl (ap Some e) | inr differs ↦ inr (λ e. differs (cc)) ]
 
-module _ (old new : ℕ → Option Keyed) (path : List Open) (next id n : ℕ) (task : Keyed) (there : old id ≡ Some task) (number : HasNumber task n) (least : IsBelowAll old id task) (commits : Commits old new id) (ordered : IsOrdered old path next) where
+module _ (old new : ℕ → Option Keyed) (path : List Open) (next id n : ℕ) (task : Keyed) (there : old id ≡ Some task) (number : HasNumber task n) (least : IsBelowAll old id task) (commits : CommitsInKeys old new id) (ordered : IsOrdered old path next) where
   -- what a task is now, it was before, or it was a child
-  which : (k : ℕ) (x : Keyed) → new k ≡ Some x → ((k ≢ id) × (old k ≡ Some x) × (x.creator ≢ Some id)) ⊎ ((y : Keyed) × (k ≢ id) × (old k ≡ Some y) × (y.creator ≡ Some id) × (x ≡ freed y))
+  which : (k : ℕ) (x : Keyed) → new k ≡ Some x → ((k ≢ id) × (old k ≡ Some x) × (x.creator ≢ Some id)) ⊎ ((y : Keyed) × (k ≢ id) × (old k ≡ Some y) × (y.creator ≡ Some id) × (x ≡ without_creator y))
   which k x at = elim (cases_eq k id) [
     | inl here ↦ absurd (cc (commits.gone, ap new here, at))
     | inr other ↦ by_old (old k) refl other
   ]
     where
-      by_old : (o : Option Keyed) → old k ≡ o → k ≢ id → ((k ≢ id) × (old k ≡ Some x) × (x.creator ≢ Some id)) ⊎ ((y : Keyed) × (k ≢ id) × (old k ≡ Some y) × (y.creator ≡ Some id) × (x ≡ freed y))
+      by_old : (o : Option Keyed) → old k ≡ o → k ≢ id → ((k ≢ id) × (old k ≡ Some x) × (x.creator ≢ Some id)) ⊎ ((y : Keyed) × (k ≢ id) × (old k ≡ Some y) × (y.creator ≡ Some id) × (x ≡ without_creator y))
       by_old None was other = absurd (cc (commits.none k was, at))
       by_old (Some y) was other = elim (same_option y.creator id) [
-        | inl child ↦ let same : Some (freed y) ≡ Some x = sym (commits.children k y other was child) ∙ at in inr (y, other, was, child, cc)
+        | inl child ↦ let same : Some (without_creator y) ≡ Some x = sym (commits.children k y other was child) ∙ at in inr (y, other, was, child, cc)
         | inr free ↦
             let same : Some y ≡ Some x = sym (commits.others k y other was free) ∙ at in
             let eq : y ≡ x = cc in
@@ -46,26 +46,26 @@ module _ (old new : ℕ → Option Keyed) (path : List Open) (next id n : ℕ) (
             | inl here ↦
                 let same : Some has.task ≡ Some task = sym has.there ∙ ap old here ∙ there in
                 let eq : has.task ≡ task = cc in
-                let below : levels_cmp (levels task) (levels task) ≡ Less = ap (λ t. levels_cmp (levels t) (levels task)) (sym eq) ∙ has.below in
-                absurd (not_both level_cmp level_cmp_total (levels task) (levels task) below below)
-            | inr other ↦ absurd (not_both level_cmp level_cmp_total (levels task) (levels has.task) (least c has.task other has.there) has.below)
+                let below : levels_cmp (levels_of task) (levels_of task) ≡ Less = ap (λ t. levels_cmp (levels_of t) (levels_of task)) (sym eq) ∙ has.below in
+                absurd (not_both level_cmp level_cmp_total (levels_of task) (levels_of task) below below)
+            | inr other ↦ absurd (not_both level_cmp level_cmp_total (levels_of task) (levels_of has.task) (least c has.task other has.there) has.below)
           ]
 
   kept_creator : (creator : ℕ) (child : Keyed) → creator ≢ id → HasCreator old creator child → HasCreator new creator child
   kept_creator creator child other has = elim (same_option has.task.creator id) [
-    | inl parent ↦ record { task = freed has.task; there = commits.children creator has.task other has.there parent; number = has.number; dispatched = has.dispatched; below = has.below; kin = has.kin }
+    | inl parent ↦ record { task = without_creator has.task; there = commits.children creator has.task other has.there parent; number = has.number; dispatched = has.dispatched; below = has.below; kin = has.kin }
     | inr free ↦ record { task = has.task; there = commits.others creator has.task other has.there free; number = has.number; dispatched = has.dispatched; below = has.below; kin = has.kin }
   ]
 
-  child_on_path : (child : Keyed) → Kin task child → levels_cmp (levels task) (levels child) ≡ Less → OnPath level_cmp (levels task) child.domain child.last
+  child_on_path : (child : Keyed) → Kin task child → levels_cmp (levels_of task) (levels_of child) ≡ Less → OnPath level_cmp (levels_of task) child.domain child.last
   child_on_path child kin below = elim kin [
     | inl same ↦
-        let below' : Below level_cmp task.domain task.last task.domain child.last = ap (λ d. levels_cmp (levels task) (d ++ child.last ∷ [])) (sym same.0) ∙ below in
-        subst (λ d. OnPath level_cmp (levels task) d child.last) (sym same.0) (same_child_on_path level_cmp level_cmp_total task.domain task.last child.last below')
+        let below' : Below level_cmp task.domain task.last task.domain child.last = ap (λ d. levels_cmp (levels_of task) (d ++ child.last ∷ [])) (sym same.0) ∙ below in
+        subst (λ d. OnPath level_cmp (levels_of task) d child.last) (sym same.0) (same_child_on_path level_cmp level_cmp_total task.domain task.last child.last below')
     | inr later ↦ elim later [
-      | inl sub ↦ subst (λ d. OnPath level_cmp (levels task) d child.last) (sym sub.0) (sub_child_on_path level_cmp level_cmp_total (levels task) child.last)
+      | inl sub ↦ subst (λ d. OnPath level_cmp (levels_of task) d child.last) (sym sub.0) (sub_child_on_path level_cmp level_cmp_total (levels_of task) child.last)
       | inr super ↦
-          let below' : Below level_cmp (child.domain ++ super.0 ∷ []) task.last child.domain child.last = ap (λ d. levels_cmp (d ++ task.last ∷ []) (levels child)) (sym super.1.0) ∙ below in
+          let below' : Below level_cmp (child.domain ++ super.0 ∷ []) task.last child.domain child.last = ap (λ d. levels_cmp (d ++ task.last ∷ []) (levels_of child)) (sym super.1.0) ∙ below in
           subst (λ d. OnPath level_cmp (d ++ task.last ∷ []) child.domain child.last) (sym super.1.0) (super_child_on_path level_cmp level_cmp_total child.domain super.0 task.last child.last below')
     ]
   ]
@@ -74,13 +74,14 @@ module _ (old new : ℕ → Option Keyed) (path : List Open) (next id n : ℕ) (
   task_on_path = ordered.on_path id task there least_is_free
 
   -- the numbers of the new path are those of the old one, and the task's own
-  off_new_path : (k : ℕ) (x : Keyed) (m : ℕ) → k ≢ id → old k ≡ Some x → HasNumber x m → IsNumberOf m (levels task) → ⊥
+  off_new_path : (k : ℕ) (x : Keyed) (m : ℕ) → k ≢ id → old k ≡ Some x → HasNumber x m
+      → IsNumberOf m (levels_of task) → ⊥
   off_new_path k x m other at has on = elim (number_in task.domain task.last m on) [
     | inl inside ↦ ordered.off_path k x m at has (domain_in_path level_cmp path task.domain task.last m task_on_path inside)
     | inr last ↦ other (ordered.numbers_differ k id x task m at there has last)
   ]
 
-  pub commit_keeps_order : IsOrdered new (levels task) next
+  pub commit_keeps_order : IsOrdered new (levels_of task) next
   commit_keeps_order =
       record {
         path_short =
@@ -128,11 +129,11 @@ module _ (old new : ℕ → Option Keyed) (path : List Open) (next id n : ℕ) (
               let has = ordered.creators k child.0 id child.2 child.3 in
               let same : Some has.task ≡ Some task = sym has.there ∙ there in
               let eq : has.task ≡ task = cc in
-              subst (λ y. OnPath level_cmp (levels task) y.domain y.last) (sym child.4)
-              (child_on_path child.0 (subst (λ t. Kin t child.0) eq has.kin) (ap (λ t. levels_cmp (levels t) (levels child.0)) (sym eq) ∙ has.below))
+              subst (λ y. OnPath level_cmp (levels_of task) y.domain y.last) (sym child.4)
+              (child_on_path child.0 (subst (λ t. Kin t child.0) eq has.kin) (ap (λ t. levels_cmp (levels_of t) (levels_of child.0)) (sym eq) ∙ has.below))
         ];
       }
 
-pub commit_law : (old new : ℕ → Option Keyed) (path : List Open) (next id n : ℕ) (task : Keyed) → IsLeast old id task → HasNumber task n → Commits old new id → IsOrdered old path next → IsOrdered new (levels task) next
+pub commit_law : (old new : ℕ → Option Keyed) (path : List Open) (next id n : ℕ) (task : Keyed) → IsLeastInKeys old id task → HasNumber task n → CommitsInKeys old new id → IsOrdered old path next → IsOrdered new (levels_of task) next
 commit_law old new path next id n task least number commits ordered =
     commit_keeps_order old new path next id n task least.there number (least_is_below old path next id n task ordered least number) commits ordered

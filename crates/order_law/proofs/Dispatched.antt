@@ -7,9 +7,9 @@ use Rattle.std.specs.declared.cmp.Ordering.{Ordering}
 use Rattle.std.specs.Cmp.Lexicographic.{slice_cmp}
 use Rattle.fractal_vt.specs.Levels.{Open, tie_cmp, level_cmp, levels_cmp}
 use Rattle.fractal_vt.specs.Paths.{OnPath}
-use Rattle.order_law.specs.Tasks.{Keyed, levels}
+use Rattle.order_law.specs.Tasks.{Keyed, levels_of}
 use Rattle.order_law.specs.Ordered.{TieBelow, LevelsBelow, HasCreator, IsShaped, IsOrdered}
-use Rattle.order_law.specs.Events.{Changes, numbered, Dispatches}
+use Rattle.order_law.specs.Events.{Changes, with_dispatch_number, DispatchesInKeys}
 use Rattle.order_law.proofs.Numbers.{LevelsBelow-append, LevelsBelow-more, below_from}
 
 -- two last levels that each level of a list compares with alike
@@ -41,9 +41,10 @@ pub levels_alike : (ts next : ℕ) (xs : List Open) → LevelsBelow next xs → 
 levels_alike ts next [] below = tt
 levels_alike ts next (x ∷ xs) below = (next_alike ts next x below.0, levels_alike ts next xs below.1)
 
-module _ (old new : ℕ → Option Keyed) (path : List Open) (next id : ℕ) (task : Keyed) (there : old id ≡ Some task) (idle : task.last.tb ≡ None) (changes : Changes old new id (Some (numbered task next))) (ordered : IsOrdered old path next) where
+module _ (old new : ℕ → Option Keyed) (path : List Open) (next id : ℕ) (task : Keyed) (there : old id ≡ Some task) (idle : task.last.tb ≡ None) (changes : Changes old new id (Some (with_dispatch_number task next))) (ordered : IsOrdered old path next) where
   -- what a task is now, it was before, or it is the one with the new number
-  which : (k : ℕ) (x : Keyed) → new k ≡ Some x → ((k ≡ id) × (x ≡ numbered task next)) ⊎ ((k ≢ id) × (old k ≡ Some x))
+  which : (k : ℕ) (x : Keyed) → new k ≡ Some x
+      → ((k ≡ id) × (x ≡ with_dispatch_number task next)) ⊎ ((k ≢ id) × (old k ≡ Some x))
   which k x at = elim (cases_eq k id) [
     | inl here ↦ inl (here, cc (changes.changed, ap new here, at))
     | inr other ↦ inr (other, sym (changes.others k other) ∙ at)
@@ -59,21 +60,22 @@ module _ (old new : ℕ → Option Keyed) (path : List Open) (next id : ℕ) (ta
       record { task = has.task; there = changes.others creator other ∙ has.there; number = has.number; dispatched = has.dispatched; below = has.below; kin = has.kin }
 
   -- the levels of a creator have earlier numbers
-  creator_numbers : (creator : ℕ) (child : Keyed) (has : HasCreator old creator child) → LevelsBelow next (levels has.task)
+  creator_numbers : (creator : ℕ) (child : Keyed) (has : HasCreator old creator child) → LevelsBelow next (levels_of has.task)
   creator_numbers creator child has =
       let below : has.number < next = ordered.number_below creator has.task has.number has.there has.dispatched in
       let tie : TieBelow next has.task.last.tb = subst (TieBelow next) (sym has.dispatched) below in
       LevelsBelow-append next has.task.domain has.task.last (ordered.domain_numbers creator has.task has.there) tie
 
-  own_creator : (creator : ℕ) → HasCreator old creator task → HasCreator old creator (numbered task next)
+  own_creator : (creator : ℕ) → HasCreator old creator task → HasCreator old creator (with_dispatch_number task next)
   own_creator creator has =
-      let alike = cmp_alike level_cmp (record { ts = task.last.ts; tb = None }) (record { ts = task.last.ts; tb = Some next }) (levels has.task) task.domain (levels_alike task.last.ts next (levels has.task) (creator_numbers creator task has)) in
+      let alike = cmp_alike level_cmp (record { ts = task.last.ts; tb = None }) (record { ts = task.last.ts; tb = Some next }) (levels_of has.task) task.domain (levels_alike task.last.ts next (levels_of has.task) (creator_numbers creator task has)) in
       record {
         task = has.task;
         there = has.there;
         number = has.number;
         dispatched = has.dispatched;
-        below = sym alike ∙ sym (ap (λ l. levels_cmp (levels has.task) (task.domain ++ l ∷ [])) open_last) ∙ has.below;
+        below = sym alike ∙ sym (ap (λ l. levels_cmp (levels_of has.task) (task.domain ++ l ∷ [])) open_last)
+            ∙ has.below;
         kin = has.kin;
       }
 
@@ -123,7 +125,7 @@ module _ (old new : ℕ → Option Keyed) (path : List Open) (next id : ℕ) (ta
         ];
         creators = λ k x creator at parent. elim (which k x at) [
           | inl here ↦
-              let own : HasCreator old creator (numbered task next) = own_creator creator (ordered.creators id task creator there (sym (ap (λ y. y.creator) here.1) ∙ parent)) in
+              let own : HasCreator old creator (with_dispatch_number task next) = own_creator creator (ordered.creators id task creator there (sym (ap (λ y. y.creator) here.1) ∙ parent)) in
               kept_creator creator x (subst (HasCreator old creator) (sym here.1) own)
           | inr was ↦ kept_creator creator x (ordered.creators k x creator was.1 parent)
         ];
@@ -137,5 +139,5 @@ module _ (old new : ℕ → Option Keyed) (path : List Open) (next id : ℕ) (ta
         ];
       }
 
-pub dispatch_law : (old new : ℕ → Option Keyed) (path : List Open) (next : ℕ) → Dispatches old new next → IsOrdered old path next → IsOrdered new path (next + 1)
+pub dispatch_law : (old new : ℕ → Option Keyed) (path : List Open) (next : ℕ) → DispatchesInKeys old new next → IsOrdered old path next → IsOrdered new path (next + 1)
 dispatch_law old new path next d ordered = dispatch_keeps_order old new path next d.id d.task d.there d.idle d.changes ordered

@@ -7,7 +7,7 @@ use Rattle.std.specs.declared.cmp.Ordering.{Ordering}
 use Rattle.std.specs.declared.cmp.Ordering.TheVariants.{Less, Equal, Greater}
 use Rattle.fractal_vt.specs.Levels.{Open, level_cmp, levels_cmp}
 use Rattle.fractal_vt.proofs.Proved.{levels_cmp_total}
-use Rattle.order_law.specs.Tasks.{Keyed, levels, HasNumber, Kin}
+use Rattle.order_law.specs.Tasks.{Keyed, levels_of, HasNumber, Kin}
 use Rattle.order_law.specs.Ordered.{IsNumberOf, HasCreator, IsOrdered}
 use Rattle.order_law.specs.Laws.{DomainNumbersAreHeld}
 use Rattle.order_law.proofs.Numbers.{number_in, domain_in_path}
@@ -55,17 +55,17 @@ count_less one two implies k out has (suc n) low = elim (cases_eq k n) [
 -- whether a task stands there that is below this one
 abbrev is_below : Keyed → Option Keyed → Bool
 is_below task None = false
-is_below task (Some x) = is_lt (levels_cmp (levels x) (levels task))
+is_below task (Some x) = is_lt (levels_cmp (levels_of x) (levels_of task))
 
 lt_of : (o : Ordering) → is_lt o ≡ true → o ≡ Less
 lt_of Less is = refl
 lt_of Equal is = absurd (cc (is))
 lt_of Greater is = absurd (cc (is))
 
-below_more : (low task : Keyed) → levels_cmp (levels low) (levels task) ≡ Less → (o : Option Keyed) → is_below low o ≡ true → is_below task o ≡ true
+below_more : (low task : Keyed) → levels_cmp (levels_of low) (levels_of task) ≡ Less → (o : Option Keyed) → is_below low o ≡ true → is_below task o ≡ true
 below_more low task less None is = is
 below_more low task less (Some x) is =
-    ap is_lt (levels_cmp_total.trans (levels x) (levels low) (levels task) (lt_of (levels_cmp (levels x) (levels low)) is) less)
+    ap is_lt (levels_cmp_total.trans (levels_of x) (levels_of low) (levels_of task) (lt_of (levels_cmp (levels_of x) (levels_of low)) is) less)
 
 -- the last level of a domain aside, its numbers are those of the domain
 number_in_front : (xs : List Open) (l : Open) (n : ℕ) → IsNumberOf n xs → IsNumberOf n (xs ++ l ∷ [])
@@ -94,7 +94,7 @@ module _ (bound : ℕ) (tasks : ℕ → Option Keyed) (path : List Open) (next :
   creator_is_lower c child has =
       count_less (λ k. is_below has.task (tasks k)) (λ k. is_below child (tasks k))
       (λ k is. below_more has.task child has.below (tasks k) is) c
-      (ap (is_below has.task) has.there ∙ ap is_lt (tied_itself levels_cmp_total (levels has.task)))
+      (ap (is_below has.task) has.there ∙ ap is_lt (tied_itself levels_cmp_total (levels_of has.task)))
       (ap (is_below child) has.there ∙ ap is_lt has.below)
       bound (bounded c has.task has.there)
 

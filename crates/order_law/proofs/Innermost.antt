@@ -7,9 +7,9 @@ use Rattle.std.specs.declared.cmp.Ordering.TheVariants.{Less, Greater}
 use Rattle.fractal_vt.proofs.Proved.{deeper_is_less, level_cmp_total, levels_cmp_total, same_depth}
 use Rattle.fractal_vt.specs.Levels.{Open, tie_cmp, level_cmp, levels_cmp}
 use Rattle.fractal_vt.specs.Paths.{OnPath}
-use Rattle.order_law.specs.Tasks.{Keyed, levels}
+use Rattle.order_law.specs.Tasks.{Keyed, levels_of}
 use Rattle.order_law.specs.Ordered.{IsOrdered}
-use Rattle.order_law.specs.Events.{IsLeast}
+use Rattle.order_law.specs.Events.{IsLeastInKeys}
 use Rattle.order_law.specs.Innermost.{IsInnermost}
 
 -- what is less is not greater
@@ -19,7 +19,7 @@ turned a b less = levels_cmp_total.antisymm a b ∙ ap ordering_reverse less
 late_is_greater : (a b : ℕ) → b < a → nat_cmp a b ≡ Greater
 late_is_greater a b less = grind (arith, nat_tests)
 
-module _ (tasks : ℕ → Option Keyed) (path : List Open) (next id : ℕ) (task : Keyed) (ordered : IsOrdered tasks path next) (least : IsLeast tasks id task) where
+module _ (tasks : ℕ → Option Keyed) (path : List Open) (next id : ℕ) (task : Keyed) (ordered : IsOrdered tasks path next) (least : IsLeastInKeys tasks id task) where
   committed : task.creator ≡ None
   committed = by_creator task.creator refl
     where
@@ -27,14 +27,14 @@ module _ (tasks : ℕ → Option Keyed) (path : List Open) (next id : ℕ) (task
       by_creator None is = is
       by_creator (Some c) is =
           let has = ordered.creators id task c least.there is in
-          absurd (least.least c has.task has.there (turned (levels task) (levels has.task) has.below))
+          absurd (least.least c has.task has.there (turned (levels_of task) (levels_of has.task) has.below))
 
   pub innermost : IsInnermost tasks task
   innermost =
       record {
         committed = committed;
         deepest = λ k x at free. elim (cases_lt (length task.domain) (length x.domain)) [
-          | inl deeper ↦ absurd (least.least k x at (turned (levels task) (levels x)
+          | inl deeper ↦ absurd (least.least k x at (turned (levels_of task) (levels_of x)
               (deeper_is_less level_cmp level_cmp_total path task.domain x.domain task.last x.last (ordered.on_path id task least.there committed) (ordered.on_path k x at free) deeper)))
           | inr upto ↦ upto
         ];

@@ -6,9 +6,9 @@ use Rattle.std.specs.declared.cmp.Ordering.{Ordering}
 use Rattle.std.specs.declared.cmp.Ordering.TheVariants.{Less, Equal, Greater}
 use Rattle.std.specs.Cmp.Lexicographic.{slice_cmp}
 use Rattle.fractal_vt.specs.Levels.{Open, tie_cmp, level_cmp, levels_cmp}
-use Rattle.order_law.specs.Tasks.{Keyed, levels, HasNumber}
+use Rattle.order_law.specs.Tasks.{Keyed, levels_of, HasNumber}
 use Rattle.order_law.specs.Ordered.{IsOrdered}
-use Rattle.order_law.specs.Events.{IsLeast}
+use Rattle.order_law.specs.Events.{IsLeastInKeys}
 
 then_equal_first : (o p : Ordering) → ordering_then o p ≡ Equal → o ≡ Equal
 then_equal_first Less p e = absurd (cc)
@@ -35,7 +35,7 @@ ties_same None (Some n) e = absurd (cc)
 ties_same (Some m) None e = absurd (cc)
 ties_same (Some m) (Some n) e = ap Some (nat_cmp-IsAntisymmetric m n e)
 
-same_tie : (x y : Keyed) → levels_cmp (levels x) (levels y) ≡ Equal → x.last.tb ≡ y.last.tb
+same_tie : (x y : Keyed) → levels_cmp (levels_of x) (levels_of y) ≡ Equal → x.last.tb ≡ y.last.tb
 same_tie x y e = ties_same x.last.tb y.last.tb (then_equal_second (nat_cmp x.last.ts y.last.ts) (tie_cmp x.last.tb y.last.tb) (last_ties level_cmp x.domain y.domain x.last y.last e))
 
 by_order : (o : Ordering) → o ≢ Greater → o ≢ Equal → o ≡ Less
@@ -45,16 +45,17 @@ by_order Greater a b = absurd (a refl)
 
 -- the task is below each other one
 abbrev pub IsBelowAll : (ℕ → Option Keyed) → ℕ → Keyed → Type 0
-IsBelowAll tasks id task = (k : ℕ) (x : Keyed) → k ≢ id → tasks k ≡ Some x → levels_cmp (levels task) (levels x) ≡ Less
+IsBelowAll tasks id task = (k : ℕ) (x : Keyed) → k ≢ id → tasks k ≡ Some x
+    → levels_cmp (levels_of task) (levels_of x) ≡ Less
 
 -- two tasks that tie are both idle, or have one number
-pub least_is_below : (tasks : ℕ → Option Keyed) (path : List Open) (next id n : ℕ) (task : Keyed) → IsOrdered tasks path next → IsLeast tasks id task → HasNumber task n → IsBelowAll tasks id task
+pub least_is_below : (tasks : ℕ → Option Keyed) (path : List Open) (next id n : ℕ) (task : Keyed) → IsOrdered tasks path next → IsLeastInKeys tasks id task → HasNumber task n → IsBelowAll tasks id task
 least_is_below tasks path next id n task ordered least number k x other there =
-    by_order (levels_cmp (levels task) (levels x)) (least.least k x there)
+    by_order (levels_cmp (levels_of task) (levels_of x)) (least.least k x there)
     (λ e. other (ordered.numbers_differ k id x task n there least.there (sym (same_tie task x e) ∙ number) number))
 
 -- the least task is below each dispatched one, since those that tie have one tiebreaker
-pub below_dispatched : (tasks : ℕ → Option Keyed) (path : List Open) (next id k n : ℕ) (task x : Keyed) → IsOrdered tasks path next → IsLeast tasks id task → k ≢ id → tasks k ≡ Some x → HasNumber x n → levels_cmp (levels task) (levels x) ≡ Less
+pub below_dispatched : (tasks : ℕ → Option Keyed) (path : List Open) (next id k n : ℕ) (task x : Keyed) → IsOrdered tasks path next → IsLeastInKeys tasks id task → k ≢ id → tasks k ≡ Some x → HasNumber x n → levels_cmp (levels_of task) (levels_of x) ≡ Less
 below_dispatched tasks path next id k n task x ordered least other there number =
-    by_order (levels_cmp (levels task) (levels x)) (least.least k x there)
+    by_order (levels_cmp (levels_of task) (levels_of x)) (least.least k x there)
     (λ e. other (ordered.numbers_differ k id x task n there least.there number (same_tie task x e ∙ number)))

@@ -4,7 +4,7 @@ use Rattle.std.proofs.lemmas.Bool.Decides.{nat_tests}
 use Rattle.fractal_vt.specs.Levels.{Open}
 use Rattle.order_law.specs.Tasks.{Keyed, HasNumber}
 use Rattle.order_law.specs.Ordered.{IsOrdered}
-use Rattle.order_law.specs.Events.{IsLeast, beside, IsEntry, Moves}
+use Rattle.order_law.specs.Events.{IsLeastInKeys, beside, IsAmongSpilled, MovesInKeys}
 
 -- each task is one of before, and each dispatched one has kept its id
 pub record Renames (old new : ℕ → Option Keyed) : Type 0 where
@@ -35,23 +35,23 @@ high_test bound j = grind (arith, nat_tests)
 
 -- what is there is a task or an entry
 module _ (bound : ℕ) (tasks : ℕ → Option Keyed) (entries : List Keyed) where
-  which : (k : ℕ) (x : Keyed) → beside bound tasks entries k ≡ Some x → (tasks k ≡ Some x) ⊎ IsEntry x entries
+  which : (k : ℕ) (x : Keyed) → beside bound tasks entries k ≡ Some x → (tasks k ≡ Some x) ⊎ IsAmongSpilled x entries
   which k x at = by_test (nat_lt k bound) at
     where
-      by_test : (b : Bool) → (if b then tasks k else slice_get entries (k - bound)) ≡ Some x → (tasks k ≡ Some x) ⊎ IsEntry x entries
+      by_test : (b : Bool) → (if b then tasks k else slice_get entries (k - bound)) ≡ Some x → (tasks k ≡ Some x) ⊎ IsAmongSpilled x entries
       by_test true e = inl e
       by_test false e = inr (k - bound, e)
 
   task_there : (k : ℕ) (x : Keyed) → k < bound → tasks k ≡ Some x → beside bound tasks entries k ≡ Some x
   task_there k x low at = ap (λ b. if b then tasks k else slice_get entries (k - bound)) (low_test k bound low) ∙ at
 
-  entry_there : (x : Keyed) → IsEntry x entries → (j : ℕ) × (beside bound tasks entries j ≡ Some x)
+  entry_there : (x : Keyed) → IsAmongSpilled x entries → (j : ℕ) × (beside bound tasks entries j ≡ Some x)
   entry_there x is =
       let same : bound + is.0 - bound ≡ is.0 = omega arith in
       (bound + is.0, ap (λ b. if b then tasks (bound + is.0) else slice_get entries (bound + is.0 - bound)) (high_test bound is.0) ∙ ap (slice_get entries) same ∙ is.1)
 
 -- the tasks and the entries are the same ones, and the dispatched tasks have kept their ids
-pub moved_renames : (bound : ℕ) (old new : ℕ → Option Keyed) (before after : List Keyed) → Moves bound old new before after → Renames (beside bound old before) (beside bound new after)
+pub moved_renames : (bound : ℕ) (old new : ℕ → Option Keyed) (before after : List Keyed) → MovesInKeys bound old new before after → Renames (beside bound old before) (beside bound new after)
 moved_renames bound old new before after moves =
     record {
       from = λ k x at. elim (which bound new after k x at) [
@@ -74,11 +74,11 @@ moved_renames bound old new before after moves =
       ];
     }
 
-pub move_law : (bound : ℕ) (old new : ℕ → Option Keyed) (before after : List Keyed) (path : List Open) (next : ℕ) → Moves bound old new before after → IsOrdered (beside bound old before) path next → IsOrdered (beside bound new after) path next
+pub move_law : (bound : ℕ) (old new : ℕ → Option Keyed) (before after : List Keyed) (path : List Open) (next : ℕ) → MovesInKeys bound old new before after → IsOrdered (beside bound old before) path next → IsOrdered (beside bound new after) path next
 move_law bound old new before after path next moves ordered =
     rename_keeps_order (beside bound old before) (beside bound new after) path next (moved_renames bound old new before after moves) ordered
 
 -- the least task is the least one under its new id
-pub move_least : (bound : ℕ) (old new : ℕ → Option Keyed) (before after : List Keyed) (id now : ℕ) (task : Keyed) → Moves bound old new before after → IsLeast (beside bound old before) id task → beside bound new after now ≡ Some task → IsLeast (beside bound new after) now task
+pub move_least : (bound : ℕ) (old new : ℕ → Option Keyed) (before after : List Keyed) (id now : ℕ) (task : Keyed) → MovesInKeys bound old new before after → IsLeastInKeys (beside bound old before) id task → beside bound new after now ≡ Some task → IsLeastInKeys (beside bound new after) now task
 move_least bound old new before after id now task moves is there =
     record { there = there; least = λ k x at. (let from = (moved_renames bound old new before after moves).from k x at in is.least from.0 x from.1) }

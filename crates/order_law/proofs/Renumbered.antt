@@ -11,11 +11,11 @@ use Rattle.std.specs.Cmp.Lexicographic.{slice_cmp}
 use Rattle.fractal_vt.specs.Levels.{Open, tie_cmp, level_cmp, levels_cmp}
 use Rattle.fractal_vt.specs.Paths.{OnPath}
 use Rattle.fractal_vt.specs.declared.vt.TheConstants.{MAX_LEVELS}
-use Rattle.order_law.specs.Tasks.{Keyed, levels, HasNumber, IsTimely, Kin}
+use Rattle.order_law.specs.Tasks.{Keyed, levels_of, HasNumber, IsTimely, Kin}
 use Rattle.order_law.specs.Ordered.{TieBelow, LevelsBelow, IsNumberOf, NumbersDiffer, HasCreator, IsShaped, IsOrdered}
 use Rattle.fractal_vt.specs.Renumbered.{place_in, with_number}
 use Rattle.fractal_vt.proofs.Proved.{place_cmp, place_within}
-use Rattle.order_law.specs.Renumber.{new_task, renumbered, LevelsIn, IsTableOf}
+use Rattle.order_law.specs.Renumber.{new_task, renumbered_keyed_tasks, LevelsIn, IsTableOf}
 
 -- for any elements and any order
 module _ {X : Type 0} (R : X → X → Ordering) (g : X → X) (Ok : X → Type 0) (alike : (x y : X) → Ok x → Ok y → R (g x) (g y) ≡ R x y) where
@@ -72,7 +72,7 @@ module _ (used : ℕ → Type 0) (f : ℕ → ℕ) (next next' : ℕ) (keeps : K
   pub renumber_cmp : (xs ys : List Open) → LevelsIn used xs → LevelsIn used ys → levels_cmp (map (with_number f) xs) (map (with_number f) ys) ≡ levels_cmp xs ys
   renumber_cmp = cmp_map level_cmp (with_number f) (λ l. IfSome l.tb used) level_alike
 
-  levels_new : (task : Keyed) → levels (new_task f task) ≡ map (with_number f) (levels task)
+  levels_new : (task : Keyed) → levels_of (new_task f task) ≡ map (with_number f) (levels_of task)
   levels_new task = sym (map_append (with_number f) task.domain (task.last ∷ []))
 
   same_number : (a b : ℕ) → used a → used b → f a ≡ f b → a ≡ b
@@ -110,7 +110,7 @@ module _ (used : ℕ → Type 0) (f : ℕ → ℕ) (next next' : ℕ) (keeps : K
     all_differ xs each.1 differ.1,
   )
 
-  module _ (tasks : ℕ → Option Keyed) (path : List Open) (in_path : LevelsIn used path) (in_tasks : (id : ℕ) (task : Keyed) → tasks id ≡ Some task → LevelsIn used (levels task)) (ordered : IsOrdered tasks path next) where
+  module _ (tasks : ℕ → Option Keyed) (path : List Open) (in_path : LevelsIn used path) (in_tasks : (id : ℕ) (task : Keyed) → tasks id ≡ Some task → LevelsIn used (levels_of task)) (ordered : IsOrdered tasks path next) where
     in_domains : (id : ℕ) (task : Keyed) → tasks id ≡ Some task → LevelsIn used task.domain × IfSome task.last.tb used
     in_domains id task at = each_front (λ l. IfSome l.tb used) task.domain task.last (in_tasks id task at)
 
@@ -129,18 +129,18 @@ module _ (used : ℕ → Type 0) (f : ℕ → ℕ) (next next' : ℕ) (keeps : K
     new_kin c x (inr (inl sub)) = inr (inl (ap (map (with_number f)) sub.0 ∙ map_append (with_number f) c.domain (c.last ∷ []), sub.1))
     new_kin c x (inr (inr super)) = inr (inr (with_number f super.0, (ap (map (with_number f)) super.1.0 ∙ map_append (with_number f) x.domain (super.0 ∷ []), super.1.1)))
 
-    new_creator : (c : ℕ) (id : ℕ) (y : Keyed) → tasks id ≡ Some y → HasCreator tasks c y → HasCreator (renumbered f tasks) c (new_task f y)
+    new_creator : (c : ℕ) (id : ℕ) (y : Keyed) → tasks id ≡ Some y → HasCreator tasks c y → HasCreator (renumbered_keyed_tasks f tasks) c (new_task f y)
     new_creator c id y was has =
         record {
           task = new_task f has.task;
           there = ap (option_map (new_task f)) has.there;
           number = f has.number;
           dispatched = ap (option_map f) has.dispatched;
-          below = ap (λ ls. levels_cmp ls (levels (new_task f y))) (levels_new has.task) ∙ ap (levels_cmp (map (with_number f) (levels has.task))) (levels_new y) ∙ renumber_cmp (levels has.task) (levels y) (in_tasks c has.task has.there) (in_tasks id y was) ∙ has.below;
+          below = ap (λ ls. levels_cmp ls (levels_of (new_task f y))) (levels_new has.task) ∙ ap (levels_cmp (map (with_number f) (levels_of has.task))) (levels_new y) ∙ renumber_cmp (levels_of has.task) (levels_of y) (in_tasks c has.task has.there) (in_tasks id y was) ∙ has.below;
           kin = new_kin has.task y has.kin;
         }
 
-    pub renumber_keeps_order : IsOrdered (renumbered f tasks) (map (with_number f) path) next'
+    pub renumber_keeps_order : IsOrdered (renumbered_keyed_tasks f tasks) (map (with_number f) path) next'
     renumber_keeps_order =
         record {
           path_short = (let same = length_mapped (with_number f) path in let short = ordered.path_short in omega (arith, same, short));
@@ -167,7 +167,7 @@ module _ (used : ℕ → Type 0) (f : ℕ → ℕ) (next next' : ℕ) (keeps : K
               ordered.numbers_differ a b w.0 w'.0 m'.0 w.1 w'.1 (m.1 ∙ ap Some same) m'.1);
           creators = λ id x c at parent.
               (let w = which id x at in
-              subst (HasCreator (renumbered f tasks) c) (sym w.2) (new_creator c id w.0 w.1 (ordered.creators id w.0 c w.1 (sym (ap (λ z. z.creator) w.2) ∙ parent))));
+              subst (HasCreator (renumbered_keyed_tasks f tasks) c) (sym w.2) (new_creator c id w.0 w.1 (ordered.creators id w.0 c w.1 (sym (ap (λ z. z.creator) w.2) ∙ parent))));
           on_path = λ id x at parent.
               (let w = which id x at in
               subst (λ z. OnPath level_cmp (map (with_number f) path) z.domain z.last) (sym w.2)
@@ -178,6 +178,6 @@ module _ (used : ℕ → Type 0) (f : ℕ → ℕ) (next next' : ℕ) (keeps : K
 pub table_keeps_order : (table : List ℕ) → KeepsPlaces (Contains table) (place_in table) (length table)
 table_keeps_order table = record { alike = place_cmp table; below = place_within table }
 
-pub renumber_law : (table : List ℕ) (tasks : ℕ → Option Keyed) (path : List Open) (next : ℕ) → IsTableOf table tasks path → IsOrdered tasks path next → IsOrdered (renumbered (place_in table) tasks) (map (with_number (place_in table)) path) (length table)
+pub renumber_law : (table : List ℕ) (tasks : ℕ → Option Keyed) (path : List Open) (next : ℕ) → IsTableOf table tasks path → IsOrdered tasks path next → IsOrdered (renumbered_keyed_tasks (place_in table) tasks) (map (with_number (place_in table)) path) (length table)
 renumber_law table tasks path next is ordered =
     renumber_keeps_order (Contains table) (place_in table) next (length table) (table_keeps_order table) tasks path is.of_path is.of_tasks ordered

@@ -5,14 +5,14 @@ use Rattle.std.specs.declared.cmp.Ordering.TheVariants.{Less, Equal, Greater}
 use Rattle.std.specs.Cmp.Lexicographic.{slice_cmp}
 use Rattle.fractal_vt.specs.Levels.{Open, tie_cmp, level_cmp, levels_cmp}
 use Rattle.fractal_vt.specs.Paths.{Below}
-use Rattle.order_law.specs.Tasks.{Keyed, levels, HasNumber, IsTimely, IsSame, IsSub, IsSuper, Kin}
+use Rattle.order_law.specs.Tasks.{Keyed, levels_of, HasNumber, IsTimely, IsSame, IsSub, IsSuper, Kin}
 use Rattle.order_law.specs.Ordered.{TieBelow, LevelsBelow, HasCreator, IsShaped, IsOrdered}
 use Rattle.std.specs.List.{AllZip}
 use Rattle.std.specs.Ordering.{nat_cmp, ordering_then}
 use Rattle.std.proofs.lemmas.Bool.Decides.{nat_tests}
 use Rattle.fractal_vt.specs.declared.vt.TheConstants.{MAX_LEVELS}
 use Rattle.fractal_vt.proofs.Proved.{level_cmp_total, prefix_is_less, same_front}
-use Rattle.order_law.specs.Events.{Changes, IsAllowed, IsPlaced, Spawns}
+use Rattle.order_law.specs.Events.{Changes, IsAllowed, IsPlaced, EnqueuesInKeys}
 use Rattle.order_law.proofs.Numbers.{LevelsBelow-append}
 
 module _ (old new : ℕ → Option Keyed) (path : List Open) (next id : ℕ) (child : Keyed) (vacant : old id ≡ None) (changes : Changes old new id (Some child)) (open' : child.last.tb ≡ None) (low : LevelsBelow next child.domain) (good : IsShaped child) (creator : ℕ) (parent : child.creator ≡ Some creator) (has : HasCreator old creator child) (ordered : IsOrdered old path next) where
@@ -132,7 +132,7 @@ bound_holds child level allowed timely = by_kind child.ordered refl
 
 -- what a child has by its place
 pub record Stands (next : ℕ) (creator child : Keyed) : Type 0 where
-  pub below : levels_cmp (levels creator) (levels child) ≡ Less
+  pub below : levels_cmp (levels_of creator) (levels_of child) ≡ Less
   pub kin : Kin creator child
   pub numbers : LevelsBelow next child.domain
   pub good : IsShaped child
@@ -142,7 +142,7 @@ module _ (next n : ℕ) (creator child : Keyed) (number : HasNumber creator n) (
   same_stands is allowed =
       let late : creator.last.ts ≤ child.last.ts = bound_holds child creator.last allowed (subst (λ k. IsTimely k creator.last) (sym is.2) good.2) in
       record {
-        below = ap (λ ds. levels_cmp (levels creator) (ds ++ child.last ∷ [])) is.0 ∙ same_child_above creator.domain creator.last child.last n number idle late;
+        below = ap (λ ds. levels_cmp (levels_of creator) (ds ++ child.last ∷ [])) is.0 ∙ same_child_above creator.domain creator.last child.last n number idle late;
         kin = inl is;
         numbers = subst (LevelsBelow next) (sym is.0) numbers;
         good = (
@@ -155,7 +155,7 @@ module _ (next n : ℕ) (creator child : Keyed) (number : HasNumber creator n) (
   sub_stands : IsSub creator child → IsTimely child.ordered child.last → length child.domain < MAX_LEVELS → Stands next creator child
   sub_stands is timely deep =
       record {
-        below = ap (λ ds. levels_cmp (levels creator) (ds ++ child.last ∷ [])) is.0 ∙ sub_child_above creator.domain creator.last child.last;
+        below = ap (λ ds. levels_cmp (levels_of creator) (ds ++ child.last ∷ [])) is.0 ∙ sub_child_above creator.domain creator.last child.last;
         kin = inr (inl is);
         numbers = subst (LevelsBelow next) (sym is.0) (LevelsBelow-append next creator.domain creator.last numbers (subst (TieBelow next) (sym number) low));
         good = (
@@ -174,7 +174,7 @@ module _ (next n : ℕ) (creator child : Keyed) (number : HasNumber creator n) (
       let shorter : length child.domain < length creator.domain = subst (λ ds. length child.domain < length ds) (sym is.0) (length_front child.domain level) in
       let deep : length creator.domain < MAX_LEVELS = good.0 in
       record {
-        below = ap (λ ds. levels_cmp (ds ++ creator.last ∷ []) (levels child)) is.0 ∙ super_child_above child.domain level creator.last child.last tie.0 tie.1 idle late;
+        below = ap (λ ds. levels_cmp (ds ++ creator.last ∷ []) (levels_of child)) is.0 ∙ super_child_above child.domain level creator.last child.last tie.0 tie.1 idle late;
         kin = inr (inr (level, is));
         numbers = parts.0;
         good = (omega (arith, shorter, deep), fits.0, allowed.timely);
@@ -186,11 +186,11 @@ module _ (next n : ℕ) (creator child : Keyed) (number : HasNumber creator n) (
   stands (inr (inr super)) = super_stands super.0 super.1 super.2
 
 -- a new child has its creator
-pub spawned_creator : (old new : ℕ → Option Keyed) (path : List Open) (next : ℕ) (s : Spawns old new) → IsOrdered old path next → Stands next s.task s.child
+pub spawned_creator : (old new : ℕ → Option Keyed) (path : List Open) (next : ℕ) (s : EnqueuesInKeys old new) → IsOrdered old path next → Stands next s.task s.child
 spawned_creator old new path next s ordered =
     stands next s.number s.task s.child s.dispatched (ordered.number_below s.creator s.task s.number s.there s.dispatched) (ordered.domain_numbers s.creator s.task s.there) (ordered.shaped s.creator s.task s.there) s.idle s.placed
 
-pub spawn_law : (old new : ℕ → Option Keyed) (path : List Open) (next : ℕ) → Spawns old new → IsOrdered old path next → IsOrdered new path next
+pub spawn_law : (old new : ℕ → Option Keyed) (path : List Open) (next : ℕ) → EnqueuesInKeys old new → IsOrdered old path next → IsOrdered new path next
 spawn_law old new path next s ordered =
     let is = spawned_creator old new path next s ordered in
     spawn_keeps_order old new path next s.id s.child s.vacant s.changes s.idle is.numbers is.good s.creator s.made_by

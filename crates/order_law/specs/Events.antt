@@ -5,7 +5,7 @@ use Rattle.std.specs.Prelude.{slice_get, Option, Some, None, if◌then◌else◌
 use Rattle.std.specs.declared.cmp.Ordering.TheVariants.{Greater}
 use Rattle.fractal_vt.specs.Levels.{Open, levels_cmp}
 use Rattle.fractal_vt.specs.declared.vt.TheConstants.{MAX_LEVELS}
-use Rattle.order_law.specs.Tasks.{Keyed, levels, HasNumber, IsTimely, IsSame, IsSub, IsSuper}
+use Rattle.order_law.specs.Tasks.{Keyed, levels_of, HasNumber, IsTimely, IsSame, IsSub, IsSuper}
 
 -- what stands under this id now, and all others stay
 pub record Changes (old new : ℕ → Option Keyed) (id : ℕ) (now : Option Keyed) : Type 0 where
@@ -13,32 +13,32 @@ pub record Changes (old new : ℕ → Option Keyed) (id : ℕ) (now : Option Key
   pub others : (k : ℕ) → k ≢ id → new k ≡ old k
 
 -- the task with this dispatch number
-abbrev pub numbered : Keyed → ℕ → Keyed
-numbered task number = record task { last = record { ts = task.last.ts; tb = Some number } }
+abbrev pub with_dispatch_number : Keyed → ℕ → Keyed
+with_dispatch_number task number = record task { last = record { ts = task.last.ts; tb = Some number } }
 
 -- the task without its dispatch number
-abbrev pub reopened : Keyed → Keyed
-reopened task = record task { last = record { ts = task.last.ts; tb = None } }
+abbrev pub with_open_level : Keyed → Keyed
+with_open_level task = record task { last = record { ts = task.last.ts; tb = None } }
 
 -- the task without its creator, once that one is committed
-abbrev pub freed : Keyed → Keyed
-freed task = record task { creator = None }
+abbrev pub without_creator : Keyed → Keyed
+without_creator task = record task { creator = None }
 
 -- a dispatch: an idle task gets the next number
-pub record Dispatches (old new : ℕ → Option Keyed) (next : ℕ) : Type 0 where
+pub record DispatchesInKeys (old new : ℕ → Option Keyed) (next : ℕ) : Type 0 where
   pub id : ℕ
   pub task : Keyed
   pub there : old id ≡ Some task
   pub idle : task.last.tb ≡ None
-  pub changes : Changes old new id (Some (numbered task next))
+  pub changes : Changes old new id (Some (with_dispatch_number task next))
 
 -- an abort of a set that holds the children of its members: a member that stays is idle again and has no member for
--- its creator, all other tasks stay
-pub record Aborts (set : ℕ → Bool) (old new : ℕ → Option Keyed) : Type 0 where
+-- its creator, all other tasks stay; any member may be gone, since the order needs no more
+pub record AbortsInKeys (set : ℕ → Bool) (old new : ℕ → Option Keyed) : Type 0 where
   pub holds_children : (k c : ℕ) (x : Keyed) → old k ≡ Some x → x.creator ≡ Some c → set c ≡ true → set k ≡ true
   pub others : (k : ℕ) → set k ≡ false → new k ≡ old k
   pub members : (k : ℕ) (x : Keyed) → set k ≡ true → new k ≡ Some x
-      → (y : Keyed) × (old k ≡ Some y) × (x ≡ reopened y) × ((c : ℕ) → y.creator ≡ Some c → set c ≡ false)
+      → (y : Keyed) × (old k ≡ Some y) × (x ≡ with_open_level y) × ((c : ℕ) → y.creator ≡ Some c → set c ≡ false)
 
 -- in an ordered domain the timestamp is not below the bound, and in an unordered one it is 0
 pub record IsAllowed (child : Keyed) (bound : ℕ) : Type 0 where
@@ -55,7 +55,7 @@ IsPlaced creator child =
     ⊎ ((level : Open) × IsSuper creator child level × IsAllowed child level.ts)
 
 -- an enqueue: a dispatched task makes an idle child under an id that was vacant
-pub record Spawns (old new : ℕ → Option Keyed) : Type 0 where
+pub record EnqueuesInKeys (old new : ℕ → Option Keyed) : Type 0 where
   pub creator : ℕ
   pub task : Keyed
   pub there : old creator ≡ Some task
@@ -70,34 +70,35 @@ pub record Spawns (old new : ℕ → Option Keyed) : Type 0 where
   pub changes : Changes old new id (Some child)
 
 -- no task is less
-pub record IsLeast (tasks : ℕ → Option Keyed) (id : ℕ) (task : Keyed) : Type 0 where
+pub record IsLeastInKeys (tasks : ℕ → Option Keyed) (id : ℕ) (task : Keyed) : Type 0 where
   pub there : tasks id ≡ Some task
-  pub least : (k : ℕ) (x : Keyed) → tasks k ≡ Some x → levels_cmp (levels task) (levels x) ≢ Greater
+  pub least : (k : ℕ) (x : Keyed) → tasks k ≡ Some x → levels_cmp (levels_of task) (levels_of x) ≢ Greater
 
 -- a commit: the task goes, its children have a committed creator, and all others stay
-pub record Commits (old new : ℕ → Option Keyed) (id : ℕ) : Type 0 where
+pub record CommitsInKeys (old new : ℕ → Option Keyed) (id : ℕ) : Type 0 where
   pub gone : new id ≡ None
-  pub children : (k : ℕ) (x : Keyed) → k ≢ id → old k ≡ Some x → x.creator ≡ Some id → new k ≡ Some (freed x)
+  pub children : (k : ℕ) (x : Keyed) → k ≢ id → old k ≡ Some x → x.creator ≡ Some id → new k ≡ Some (without_creator x)
   pub others : (k : ℕ) (x : Keyed) → k ≢ id → old k ≡ Some x → x.creator ≢ Some id → new k ≡ Some x
   pub none : (k : ℕ) → old k ≡ None → new k ≡ None
 
--- the tasks of the queues by id, all below the bound, and behind them the entries of all blocks in any order
+-- the tasks of the queues by id, all below the bound, and behind them the spilled ones of all blocks in any order; a
+-- child of the heir has that for its creator there, and any other entry has none
 abbrev pub beside : ℕ → (ℕ → Option Keyed) → List Keyed → ℕ → Option Keyed
 beside bound queued spilled k = if nat_lt k bound then queued k else slice_get spilled (k - bound)
 
--- the task is one of the entries
-abbrev pub IsEntry : Keyed → List Keyed → Type 0
-IsEntry task spilled = (place : ℕ) × (slice_get spilled place ≡ Some task)
+-- the task is one of the spilled ones
+abbrev pub IsAmongSpilled : Keyed → List Keyed → Type 0
+IsAmongSpilled task spilled = (place : ℕ) × (slice_get spilled place ≡ Some task)
 
--- a queue of tasks below the bound, and entries that are all idle
-pub record IsKept (bound : ℕ) (queued : ℕ → Option Keyed) (spilled : List Keyed) : Type 0 where
+-- a queue of tasks below the bound, and spilled ones that are all idle
+pub record StandBeside (bound : ℕ) (queued : ℕ → Option Keyed) (spilled : List Keyed) : Type 0 where
   pub bounded : (k : ℕ) (x : Keyed) → queued k ≡ Some x → k < bound
-  pub idle : (x : Keyed) → IsEntry x spilled → x.last.tb ≡ None
+  pub idle : (x : Keyed) → IsAmongSpilled x spilled → x.last.tb ≡ None
 
 -- a spill or its return, of one task or of several: each task was queued or spilled before, and dispatched tasks stay
-pub record Moves (bound : ℕ) (old new : ℕ → Option Keyed) (before after : List Keyed) : Type 0 where
-  pub kept_before : IsKept bound old before
-  pub kept_after : IsKept bound new after
-  pub queued : (k : ℕ) (x : Keyed) → new k ≡ Some x → (old k ≡ Some x) ⊎ IsEntry x before
-  pub spilled : (x : Keyed) → IsEntry x after → IsEntry x before ⊎ ((k : ℕ) × (old k ≡ Some x))
+pub record MovesInKeys (bound : ℕ) (old new : ℕ → Option Keyed) (before after : List Keyed) : Type 0 where
+  pub kept_before : StandBeside bound old before
+  pub kept_after : StandBeside bound new after
+  pub queued : (k : ℕ) (x : Keyed) → new k ≡ Some x → (old k ≡ Some x) ⊎ IsAmongSpilled x before
+  pub spilled : (x : Keyed) → IsAmongSpilled x after → IsAmongSpilled x before ⊎ ((k : ℕ) × (old k ≡ Some x))
   pub dispatched : (k n : ℕ) (x : Keyed) → HasNumber x n → (old k ≡ Some x) ↔ (new k ≡ Some x)

@@ -2,14 +2,15 @@
 use Rattle.std.specs.Prelude.{◌≡◌, ◌≢◌, ◌⊎◌, ◌<◌, ℕ, ◌+◌, Bool, false, List, [], length, map, Option, Some}
 use Rattle.std.specs.declared.cmp.Ordering.TheVariants.{Less}
 use Rattle.fractal_vt.specs.Levels.{Open, levels_cmp}
-use Rattle.order_law.specs.Tasks.{Keyed, levels, HasNumber}
+use Rattle.order_law.specs.Tasks.{Keyed, levels_of, HasNumber}
 use Rattle.order_law.specs.Ordered.{IsNumberOf, IsOrdered}
-use Rattle.order_law.specs.Events.{numbered, Dispatches, Aborts, Spawns, IsLeast, Commits, beside, Moves}
+use Rattle.order_law.specs.Events.{with_dispatch_number, DispatchesInKeys, AbortsInKeys, EnqueuesInKeys, IsLeastInKeys}
+use Rattle.order_law.specs.Events.{CommitsInKeys, beside, MovesInKeys}
 use Rattle.abort_cascade.specs.Cascade.{Marked, IsLeastClosed}
-use Rattle.order_law.specs.Heir.{IsHeir, IsAbove, PullsLater}
+use Rattle.order_law.specs.Heir.{IsHeirInKeys, IsAbove, PullsLater}
 use Rattle.order_law.specs.Opening.{IsRoot}
 use Rattle.fractal_vt.specs.Renumbered.{place_in, with_number}
-use Rattle.order_law.specs.Renumber.{renumbered, IsTableOf}
+use Rattle.order_law.specs.Renumber.{renumbered_keyed_tasks, IsTableOf}
 use Rattle.order_law.specs.Innermost.{IsInnermost}
 
 -- before the first event, with idle tasks of the outermost domain alone, the order holds
@@ -20,33 +21,33 @@ OpeningIsOrdered =
 -- a dispatch keeps the order, and the next number is one higher
 abbrev pub DispatchKeepsOrder : Type 0
 DispatchKeepsOrder =
-    (old new : ℕ → Option Keyed) (path : List Open) (next : ℕ) → Dispatches old new next → IsOrdered old path next
+    (old new : ℕ → Option Keyed) (path : List Open) (next : ℕ) → DispatchesInKeys old new next → IsOrdered old path next
     → IsOrdered new path (next + 1)
 
 -- a new child, in any of the three places, keeps the order
-abbrev pub SpawnKeepsOrder : Type 0
-SpawnKeepsOrder =
-    (old new : ℕ → Option Keyed) (path : List Open) (next : ℕ) → Spawns old new → IsOrdered old path next
+abbrev pub EnqueueKeepsOrder : Type 0
+EnqueueKeepsOrder =
+    (old new : ℕ → Option Keyed) (path : List Open) (next : ℕ) → EnqueuesInKeys old new → IsOrdered old path next
     → IsOrdered new path next
 
 -- an abort keeps the order
 abbrev pub AbortKeepsOrder : Type 0
 AbortKeepsOrder =
-    (set : ℕ → Bool) (old new : ℕ → Option Keyed) (path : List Open) (next : ℕ) → Aborts set old new
+    (set : ℕ → Bool) (old new : ℕ → Option Keyed) (path : List Open) (next : ℕ) → AbortsInKeys set old new
     → IsOrdered old path next → IsOrdered new path next
 
 -- a commit of a dispatched least task keeps the order, and the levels of its key are the new path
 abbrev pub CommitKeepsOrder : Type 0
 CommitKeepsOrder =
     (old new : ℕ → Option Keyed) (path : List Open) (next id number : ℕ) (task : Keyed)
-    → IsLeast old id task → HasNumber task number → Commits old new id → IsOrdered old path next
-    → IsOrdered new (levels task) next
+    → IsLeastInKeys old id task → HasNumber task number → CommitsInKeys old new id → IsOrdered old path next
+    → IsOrdered new (levels_of task) next
 
 -- a spill and its return keep the order
 abbrev pub SpillKeepsOrder : Type 0
 SpillKeepsOrder =
     (bound : ℕ) (old new : ℕ → Option Keyed) (before after : List Keyed) (path : List Open) (next : ℕ)
-    → Moves bound old new before after → IsOrdered (beside bound old before) path next
+    → MovesInKeys bound old new before after → IsOrdered (beside bound old before) path next
     → IsOrdered (beside bound new after) path next
 
 -- each number replaced by its place in a rising table of those in use keeps the order, and the table's length is
@@ -55,7 +56,7 @@ abbrev pub RenumberingKeepsOrder : Type 0
 RenumberingKeepsOrder =
     (table : List ℕ) (tasks : ℕ → Option Keyed) (path : List Open) (next : ℕ)
     → IsTableOf table tasks path → IsOrdered tasks path next
-    → IsOrdered (renumbered (place_in table) tasks) (map (with_number (place_in table)) path) (length table)
+    → IsOrdered (renumbered_keyed_tasks (place_in table) tasks) (map (with_number (place_in table)) path) (length table)
 
 -- each number of a domain is one of the path or that of a dispatched task
 abbrev pub DomainNumbersAreHeld : Type 0
@@ -69,60 +70,62 @@ DomainNumbersAreHeld =
 abbrev pub LeastIsInnermost : Type 0
 LeastIsInnermost =
     (tasks : ℕ → Option Keyed) (path : List Open) (next id : ℕ) (task : Keyed) → IsOrdered tasks path next
-    → IsLeast tasks id task → IsInnermost tasks task
+    → IsLeastInKeys tasks id task → IsInnermost tasks task
 
 -- each dispatched task but the least is above it, ties or not
 abbrev pub DispatchedAreAboveLeast : Type 0
 DispatchedAreAboveLeast =
     (tasks : ℕ → Option Keyed) (path : List Open) (next id k number : ℕ) (task x : Keyed)
-    → IsOrdered tasks path next → IsLeast tasks id task → k ≢ id → tasks k ≡ Some x → HasNumber x number
-    → levels_cmp (levels task) (levels x) ≡ Less
+    → IsOrdered tasks path next → IsLeastInKeys tasks id task → k ≢ id → tasks k ≡ Some x → HasNumber x number
+    → levels_cmp (levels_of task) (levels_of x) ≡ Less
 
 -- a least task that has been dispatched is below all others
 abbrev pub LeastIsHeir : Type 0
 LeastIsHeir =
     (tasks : ℕ → Option Keyed) (path : List Open) (next id number : ℕ) (task : Keyed)
-    → IsOrdered tasks path next → IsLeast tasks id task → HasNumber task number → IsHeir tasks id task
+    → IsOrdered tasks path next → IsLeastInKeys tasks id task → HasNumber task number → IsHeirInKeys tasks id task
 
 -- a least task is below all others once it is dispatched
 abbrev pub DispatchMakesHeir : Type 0
 DispatchMakesHeir =
-    (old new : ℕ → Option Keyed) (next : ℕ) (dispatch : Dispatches old new next)
-    → IsLeast old dispatch.id dispatch.task → IsHeir new dispatch.id (numbered dispatch.task next)
+    (old new : ℕ → Option Keyed) (next : ℕ) (dispatch : DispatchesInKeys old new next)
+    → IsLeastInKeys old dispatch.id dispatch.task
+    → IsHeirInKeys new dispatch.id (with_dispatch_number dispatch.task next)
 
 -- a dispatch of another task leaves the heir the heir
 abbrev pub DispatchKeepsHeir : Type 0
 DispatchKeepsHeir =
     (old new : ℕ → Option Keyed) (path : List Open) (next heir : ℕ) (task : Keyed)
-    → Dispatches old new next → IsOrdered old path next → IsHeir old heir task → IsHeir new heir task
+    → DispatchesInKeys old new next → IsOrdered old path next → IsHeirInKeys old heir task → IsHeirInKeys new heir task
 
 -- a new child leaves the heir the heir
-abbrev pub SpawnKeepsHeir : Type 0
-SpawnKeepsHeir =
+abbrev pub EnqueueKeepsHeir : Type 0
+EnqueueKeepsHeir =
     (old new : ℕ → Option Keyed) (path : List Open) (next heir : ℕ) (task : Keyed)
-    → Spawns old new → IsOrdered old path next → IsHeir old heir task → IsHeir new heir task
+    → EnqueuesInKeys old new → IsOrdered old path next → IsHeirInKeys old heir task → IsHeirInKeys new heir task
 
 -- an abort of a set without the heir leaves it the heir
 abbrev pub AbortKeepsHeir : Type 0
 AbortKeepsHeir =
     (set : ℕ → Bool) (old new : ℕ → Option Keyed) (path : List Open) (next heir : ℕ) (task : Keyed)
-    → Aborts set old new → set heir ≡ false → IsOrdered old path next → IsHeir old heir task → IsHeir new heir task
+    → AbortsInKeys set old new → set heir ≡ false → IsOrdered old path next → IsHeirInKeys old heir task
+    → IsHeirInKeys new heir task
 
 -- a spill and its return leave the heir the heir
 abbrev pub SpillKeepsHeir : Type 0
 SpillKeepsHeir =
     (bound : ℕ) (old new : ℕ → Option Keyed) (before after : List Keyed) (path : List Open) (next heir : ℕ)
     (task : Keyed)
-    → Moves bound old new before after → IsOrdered (beside bound old before) path next
-    → IsHeir (beside bound old before) heir task → IsHeir (beside bound new after) heir task
+    → MovesInKeys bound old new before after → IsOrdered (beside bound old before) path next
+    → IsHeirInKeys (beside bound old before) heir task → IsHeirInKeys (beside bound new after) heir task
 
 -- a least task is still the least once it is spilled or has returned
 abbrev pub SpillKeepsLeast : Type 0
 SpillKeepsLeast =
     (bound : ℕ) (old new : ℕ → Option Keyed) (before after : List Keyed) (id now : ℕ) (task : Keyed)
-    → Moves bound old new before after → IsLeast (beside bound old before) id task
+    → MovesInKeys bound old new before after → IsLeastInKeys (beside bound old before) id task
     → beside bound new after now ≡ Some task
-    → IsLeast (beside bound new after) now task
+    → IsLeastInKeys (beside bound new after) now task
 
 -- where a task pulls no other than its children and tasks above it, a cascade lies above what its first tasks lie above
 abbrev pub CascadeLiesAbove : Type 0
@@ -138,4 +141,4 @@ CascadeSparesLower =
     (tasks : ℕ → Option Keyed) (path : List Open) (next count : ℕ) (pull : ℕ → ℕ → Bool) (firsts marks : List Bool)
     (id : ℕ) (task : Keyed)
     → IsOrdered tasks path next → PullsLater tasks pull → IsLeastClosed count pull (Marked firsts) marks
-    → tasks id ≡ Some task → ((k : ℕ) → Marked firsts k → IsAbove tasks (levels task) k) → Marked marks id → ⊥
+    → tasks id ≡ Some task → ((k : ℕ) → Marked firsts k → IsAbove tasks (levels_of task) k) → Marked marks id → ⊥

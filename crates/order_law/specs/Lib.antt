@@ -1,3 +1,4 @@
+-- Contracts mean all of these.
 pub mod Tasks
 pub mod Ordered
 pub mod Events

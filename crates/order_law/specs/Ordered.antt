@@ -6,7 +6,7 @@ use Rattle.std.specs.declared.cmp.Ordering.TheVariants.{Less}
 use Rattle.fractal_vt.specs.Levels.{Open, level_cmp, levels_cmp}
 use Rattle.fractal_vt.specs.Paths.{OnPath}
 use Rattle.fractal_vt.specs.declared.vt.TheConstants.{MAX_LEVELS}
-use Rattle.order_law.specs.Tasks.{Keyed, levels, HasNumber, IsTimely, Kin}
+use Rattle.order_law.specs.Tasks.{Keyed, levels_of, HasNumber, IsTimely, Kin}
 
 -- the tiebreaker is a number below this one
 abbrev pub TieBelow : ℕ → Option ℕ → Type 0
@@ -34,10 +34,11 @@ pub record HasCreator (tasks : ℕ → Option Keyed) (creator : ℕ) (child : Ke
   pub there : tasks creator ≡ Some task
   pub number : ℕ
   pub dispatched : HasNumber task number
-  pub below : levels_cmp (levels task) (levels child) ≡ Less
+  pub below : levels_cmp (levels_of task) (levels_of child) ≡ Less
   pub kin : Kin task child
 
--- the key is no deeper than a key may be, and each of its timestamps is one that its domain has
+-- the key is no deeper than a key may be (the laws hold of any bound), and each of its timestamps is
+-- one that its domain has
 abbrev pub IsShaped : Keyed → Type 0
 IsShaped task = (length task.domain < MAX_LEVELS) × AllZip IsTimely task.kinds task.domain
     × IsTimely task.ordered task.last

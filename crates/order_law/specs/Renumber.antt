@@ -4,7 +4,7 @@ use Rattle.std.specs.List.{AllByRecursion}
 use Rattle.std.specs.List.Sorted.{IsStrictlyIncreasing}
 use Rattle.fractal_vt.specs.Levels.{Open}
 use Rattle.fractal_vt.specs.Renumbered.{with_number}
-use Rattle.order_law.specs.Tasks.{Keyed, levels}
+use Rattle.order_law.specs.Tasks.{Keyed, levels_of}
 
 -- the task with other numbers in all its levels
 abbrev pub new_task : (ℕ → ℕ) → Keyed → Keyed
@@ -14,8 +14,8 @@ new_task number task = record task {
 }
 
 -- all tasks with other numbers
-abbrev pub renumbered : (ℕ → ℕ) → (ℕ → Option Keyed) → ℕ → Option Keyed
-renumbered number tasks id = option_map (new_task number) (tasks id)
+abbrev pub renumbered_keyed_tasks : (ℕ → ℕ) → (ℕ → Option Keyed) → ℕ → Option Keyed
+renumbered_keyed_tasks number tasks id = option_map (new_task number) (tasks id)
 
 -- each level is open or has a number in use
 abbrev pub LevelsIn : (ℕ → Type 0) → List Open → Type 0
@@ -25,4 +25,4 @@ LevelsIn used = AllByRecursion (λ level. IfSome level.tb used)
 pub record IsTableOf (table : List ℕ) (tasks : ℕ → Option Keyed) (path : List Open) : Type 0 where
   pub rising : IsStrictlyIncreasing table
   pub of_path : LevelsIn (Contains table) path
-  pub of_tasks : (id : ℕ) (task : Keyed) → tasks id ≡ Some task → LevelsIn (Contains table) (levels task)
+  pub of_tasks : (id : ℕ) (task : Keyed) → tasks id ≡ Some task → LevelsIn (Contains table) (levels_of task)

@@ -12,8 +12,8 @@ pub record Keyed : Type 0 where
   pub creator : Option ℕ
 
 -- all levels of the task's key
-abbrev pub levels : Keyed → List Open
-levels task = task.domain ++ task.last ∷ []
+abbrev pub levels_of : Keyed → List Open
+levels_of task = task.domain ++ task.last ∷ []
 
 -- the task is dispatched, under this number
 abbrev pub HasNumber : Keyed → ℕ → Type 0
@@ -30,7 +30,7 @@ IsSame creator child = (child.domain ≡ creator.domain) × (child.kinds ≡ cre
 
 -- a child in the subdomain that its creator made, whose domain is the creator's whole key
 abbrev pub IsSub : Keyed → Keyed → Type 0
-IsSub creator child = (child.domain ≡ levels creator) × (child.kinds ≡ creator.kinds ++ creator.ordered ∷ [])
+IsSub creator child = (child.domain ≡ levels_of creator) × (child.kinds ≡ creator.kinds ++ creator.ordered ∷ [])
 
 -- a child one domain further out than its creator, where this level of the creator lies
 abbrev pub IsSuper : Keyed → Keyed → Open → Type 0

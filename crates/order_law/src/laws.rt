@@ -4,7 +4,7 @@ ghost use Rattle.order_law.specs.Laws.{AbortKeepsHeir, AbortKeepsOrder, CascadeL
 ghost use Rattle.order_law.specs.Laws.{CommitKeepsOrder, DispatchKeepsHeir};
 ghost use Rattle.order_law.specs.Laws.{DomainNumbersAreHeld, DispatchKeepsOrder, DispatchMakesHeir};
 ghost use Rattle.order_law.specs.Laws.{DispatchedAreAboveLeast, LeastIsHeir, LeastIsInnermost, OpeningIsOrdered};
-ghost use Rattle.order_law.specs.Laws.{RenumberingKeepsOrder, SpawnKeepsHeir, SpawnKeepsOrder, SpillKeepsHeir};
+ghost use Rattle.order_law.specs.Laws.{RenumberingKeepsOrder, EnqueueKeepsHeir, EnqueueKeepsOrder, SpillKeepsHeir};
 ghost use Rattle.order_law.specs.Laws.{SpillKeepsLeast, SpillKeepsOrder};
 
 /// Law: before the first event the order of the tasks holds.
@@ -18,8 +18,8 @@ pub fn dispatch_keeps_order()
 {}
 
 /// Law: a new child in its creator's domain, in the subdomain or in the superdomain keeps the order of the tasks.
-pub fn spawn_keeps_order()
-    ensures { SpawnKeepsOrder }
+pub fn enqueue_keeps_order()
+    ensures { EnqueueKeepsOrder }
 {}
 
 /// Law: an abort, which takes tasks back to idle and discards others, keeps the order of the tasks.
@@ -75,8 +75,8 @@ pub fn dispatch_keeps_heir()
 {}
 
 /// Law: a new child leaves the heir below all others.
-pub fn spawn_keeps_heir()
-    ensures { SpawnKeepsHeir }
+pub fn enqueue_keeps_heir()
+    ensures { EnqueueKeepsHeir }
 {}
 
 /// Law: an abort that does not take the heir leaves it below all others.

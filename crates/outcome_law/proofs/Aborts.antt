@@ -1,12 +1,12 @@
 -- What is taken back with some tasks is one set, in views that are alike.
 use Rattle.std.proofs.Common.{◌≡◌, ◌≢◌, ◌≤◌, ◌<◌, ℕ, Bool, true, false, List, [], ◌∷◌, map, length, Option, Some, None, option_map, is_some, refl, sym, ap, subst, ◌∙◌, inl, inr, ◌⊎◌, arith, cond}
 use Rattle.std.specs.Prelude.{slice_get, slice_index_or, Contains, filter, not, count_by, if◌then◌else◌}
-use Rattle.abort_cascade.specs.Cascade.{Reached, start, step, IsLeastClosed, Only}
+use Rattle.abort_cascade.specs.Cascade.{Reached, start, step, IsLeastClosed, OnlyNode}
 use Rattle.line_table.specs.Note.{Meet}
 use Rattle.fractal_vt.specs.Keys.{levels}
 use Rattle.memory_law.specs.Tasks.{Logged, In, Ascends, IsByKey, Earlier, log_of, undone_set}
 use Rattle.memory_law.proofs.WholeChains.{order_is_one}
-use Rattle.turn_law.specs.Room.{Waiting, queue_after}
+use Rattle.task_law.specs.Room.{RoomTask, queue_after}
 use Rattle.undo_log.specs.Undo.{undone}
 use Rattle.spec_state.specs.declared.task.Creator.{Creator}
 use Rattle.spec_state.specs.declared.task.Creator.TheVariants.{Committed, Live}
@@ -14,10 +14,10 @@ use Rattle.spec_state.specs.declared.task.Task.{Task}
 use Rattle.spec_state.specs.View.{View, task_at, queue_at, finished_at, cores_at}
 use Rattle.spec_state.specs.Tasks.{is_dispatched, idle_again}
 use Rattle.spec_state.specs.Filters.{has_touched, has_written}
-use Rattle.spec_state.specs.Groups.{logged, logged_task, waiting, waiting_task, live_creator}
-use Rattle.spec_state.specs.Aborts.{IsChildOf, ReadsFrom, Pulls, is_marked, IsCascade, IsUndone, is_marked_creator, taken_back, freed_core, Aborts}
+use Rattle.spec_state.specs.Groups.{logged_tasks, logged_task, room_tasks, room_task, live_creator}
+use Rattle.spec_state.specs.Aborts.{IsChildOf, ReadsFrom, PullsInView, is_marked, IsCascade, IsUndone, is_marked_creator, taken_back, freed_core, Aborts}
 use Rattle.spec_law.proofs.Proved.{id_below}
-use Rattle.outcome_law.specs.Alike.{Renaming, turned, renamed_creator, IsAlikeTask, IsAlikeAt, AreAlike}
+use Rattle.outcome_law.specs.Alike.{Renaming, inverse_of, renamed_creator, IsAlikeTask, IsAlikeAt, AreAlike}
 use Rattle.outcome_law.proofs.Alike.{Partner, partner, none_there, alike_turned}
 use Rattle.outcome_law.proofs.Lists.{map_same, filter_mapped, left_mapped, same_bool, count_upto}
 use Rattle.outcome_law.proofs.Queries.{Too, later_too}
@@ -34,7 +34,7 @@ module _ (r : Renaming) (a b : View) (alike : AreAlike r a b) where
       record {
         child = p.y;
         there = p.there;
-        made_by = ap (λ t. live_creator t.creator) p.alike.is ∙ (live_renamed r.to is.child.creator ∙ ap (option_map r.to) is.made_by);
+        made_by = ap (λ t. live_creator t.creator) p.alike.other_is ∙ (live_renamed r.to is.child.creator ∙ ap (option_map r.to) is.made_by);
       }
 
   reads_too : (k j : ℕ) → ReadsFrom a k j → ReadsFrom b (r.to k) (r.to j)
@@ -44,18 +44,18 @@ module _ (r : Renaming) (a b : View) (alike : AreAlike r a b) where
       record {
         writer = w.y;
         there = w.there;
-        dispatched = ap is_dispatched w.alike.is ∙ is.dispatched;
+        dispatched = ap is_dispatched w.alike.other_is ∙ is.dispatched;
         reader = l.y;
         later = l.is;
         meets = subst (λ f. Meet f (has_touched l.y)) (λ i line. sym (w.alike.written line) i) (subst (λ f. Meet (has_written is.writer) f) (λ i line. sym (l.alike.touched line) i) is.meets);
       }
 
-  pub pulls_too : (k j : ℕ) → Pulls a k j → Pulls b (r.to k) (r.to j)
+  pub pulls_too : (k j : ℕ) → PullsInView a k j → PullsInView b (r.to k) (r.to j)
   pulls_too k j (inl is) = inl (child_too k j is)
   pulls_too k j (inr is) = inr (reads_too k j is)
 
 -- what is pulled is a task
-pulled_there : (view : View) (k j : ℕ) → Pulls view k j → (x : Task) × (task_at view j ≡ Some x)
+pulled_there : (view : View) (k j : ℕ) → PullsInView view k j → (x : Task) × (task_at view j ≡ Some x)
 pulled_there view k j (inl child) = (child.child, child.there)
 pulled_there view k j (inr reads) = (reads.reader, reads.later.there)
 
@@ -100,13 +100,13 @@ pub record AreMarkedAlike (r : Renaming) (ma mb : List Bool) : Type 0 where
   pub count : count_by (λ m. m) mb ≡ count_by (λ m. m) ma
 
 module _ (r : Renaming) (a b : View) (alike : AreAlike r a b) (firsts firsts' : ℕ → Type 0)
-    (are : AreFirsts r a firsts firsts') (are' : AreFirsts (turned r) b firsts' firsts) (ma mb : List Bool)
+    (are : AreFirsts r a firsts firsts') (are' : AreFirsts (inverse_of r) b firsts' firsts) (ma mb : List Bool)
     (one : IsCascade a firsts ma) (two : IsCascade b firsts' mb) where
   on : (k : ℕ) → is_marked ma k ≡ true → is_marked mb (r.to k) ≡ true
   on = mark_too r a b alike firsts firsts' are ma mb one two
 
   off : (k : ℕ) → is_marked mb k ≡ true → is_marked ma (r.from k) ≡ true
-  off = mark_too (turned r) b a (alike_turned r a b alike) firsts' firsts are' mb ma two one
+  off = mark_too (inverse_of r) b a (alike_turned r a b alike) firsts' firsts are' mb ma two one
 
   pub marked_alike : AreMarkedAlike r ma mb
   marked_alike =
@@ -122,9 +122,9 @@ module _ (r : Renaming) (a b : View) (alike : AreAlike r a b) (firsts firsts' : 
 logged_same : (to : ℕ → ℕ) (s t : Option Task) → IsAlikeAt to s t → option_map logged_task t ≡ option_map logged_task s
 logged_same to None None alike = refl
 logged_same to (Some x) (Some y) alike = λ i. Some (record {
-  levels = levels (alike.is i).key;
-  dispatched = is_dispatched (alike.is i);
-  log = (alike.is i).log;
+  levels = levels (alike.other_is i).key;
+  dispatched = is_dispatched (alike.other_is i);
+  log = (alike.other_is i).log;
   touched = λ line. alike.touched line i;
   wrote = λ line. alike.written line i;
 })
@@ -161,22 +161,22 @@ module _ (r : Renaming) (ta tb : ℕ → Option Logged) (same : (k : ℕ) → tb
       λ i. cond (such id i) (undone (log_of (same id i)) (undone_too sa sb such ids memory i)) (undone_too sa sb such ids memory i)
 
 module _ (r : Renaming) (a b : View) (alike : AreAlike r a b) where
-  pub logged_too : (k : ℕ) → logged b (r.to k) ≡ logged a k
+  pub logged_too : (k : ℕ) → logged_tasks b (r.to k) ≡ logged_tasks a k
   logged_too k = logged_same r.to (task_at a k) (task_at b (r.to k)) (alike.tasks k)
 
   -- what is left where the stores of some tasks are taken back is one memory
   pub undone_alike : (sa sb : ℕ → Bool) → ((k : ℕ) → sb (r.to k) ≡ sa k) → (m m' : List ℕ) → IsUndone a sa m → IsUndone b sb m' → m' ≡ m
   undone_alike sa sb such m m' one two =
-      let ids : two.ids ≡ map r.to one.ids = order_is_one (logged b) two.ids (map r.to one.ids) two.by_key (by_key_too r (logged a) (logged b) logged_too one.ids one.by_key) in
-      let memory : b.memory ≡ a.memory = ap (λ v. v.memory) alike.rest in
-      two.is ∙ ((λ i. undone_set sb (logged b) (ids i) (memory i)) ∙ (undone_too r (logged a) (logged b) logged_too sa sb such one.ids a.memory ∙ sym one.is))
+      let ids : two.ids ≡ map r.to one.ids = order_is_one (logged_tasks b) two.ids (map r.to one.ids) two.by_key (by_key_too r (logged_tasks a) (logged_tasks b) logged_too one.ids one.by_key) in
+      let memory : b.memory ≡ a.memory = ap (λ v. v.memory) alike.frame in
+      two.memory_is ∙ ((λ i. undone_set sb (logged_tasks b) (ids i) (memory i)) ∙ (undone_too r (logged_tasks a) (logged_tasks b) logged_too sa sb such one.ids a.memory ∙ sym one.memory_is))
 
 -- ---- tasks, queues, commit queues and cores
 
 module _ (r : Renaming) (ma mb : List Bool) (marks : AreMarkedAlike r ma mb) where
   idle_alike : (version : ℕ) (x y : Task) → IsAlikeTask r.to x y → IsAlikeTask r.to (idle_again version x) (idle_again version y)
   idle_alike version x y alike = record {
-    is = ap {A = Task} (idle_again version) alike.is;
+    other_is = ap {A = Task} (idle_again version) alike.other_is;
     touched = λ line. refl;
     written = λ line. refl;
   }
@@ -195,7 +195,7 @@ module _ (r : Renaming) (ma mb : List Bool) (marks : AreMarkedAlike r ma mb) whe
   taken_too version k None None alike = tt
   taken_too version k (Some x) (Some y) alike =
       let creators : is_marked_creator mb (live_creator y.creator) ≡ is_marked_creator ma (live_creator x.creator) =
-      ap (λ t. is_marked_creator mb (live_creator t.creator)) alike.is ∙ (ap (is_marked_creator mb) (live_renamed r.to x.creator) ∙ mark_of_creator (live_creator x.creator)) in
+      ap (λ t. is_marked_creator mb (live_creator t.creator)) alike.other_is ∙ (ap (is_marked_creator mb) (live_renamed r.to x.creator) ∙ mark_of_creator (live_creator x.creator)) in
       subst (λ p. IsAlikeAt r.to (taken_back version ma k (Some x)) (if p then (if is_marked_creator mb (live_creator y.creator) then None else Some (idle_again version y)) else Some y)) (sym (marks.same k))
       (subst (λ q. IsAlikeAt r.to (taken_back version ma k (Some x)) (if is_marked ma k then (if q then None else Some (idle_again version y)) else Some y)) (sym creators)
       (by_marks version x y alike (is_marked ma k) (is_marked_creator ma (live_creator x.creator))))
@@ -217,7 +217,7 @@ module _ (r : Renaming) (ma mb : List Bool) (marks : AreMarkedAlike r ma mb) whe
   kept_too = filter_mapped r.to (λ id. not (is_marked ma id)) (λ id. not (is_marked mb id)) (λ id. ap not (marks.same id))
 
 -- an id is that of a task in both
-pub waiting_same : (to : ℕ → ℕ) (s t : Option Task) → IsAlikeAt to s t → is_some (option_map waiting_task t) ≡ is_some (option_map waiting_task s)
+pub waiting_same : (to : ℕ → ℕ) (s t : Option Task) → IsAlikeAt to s t → is_some (option_map room_task t) ≡ is_some (option_map room_task s)
 waiting_same to None None alike = refl
 waiting_same to (Some x) (Some y) alike = refl
 waiting_same to None (Some y) alike = absurd alike
@@ -229,14 +229,14 @@ pub record AbortAlike (r : Renaming) (n m : ℕ) (new new' : View) : Type 0 wher
   pub alike : AreAlike r new new'
 
 module _ (r : Renaming) (a b : View) (alike : AreAlike r a b) (firsts firsts' : ℕ → Type 0)
-    (are : AreFirsts r a firsts firsts') (are' : AreFirsts (turned r) b firsts' firsts) (n m : ℕ) (new new' : View)
+    (are : AreFirsts r a firsts firsts') (are' : AreFirsts (inverse_of r) b firsts' firsts) (n m : ℕ) (new new' : View)
     (one : Aborts firsts a n new) (two : Aborts firsts' b m new') where
   marks : AreMarkedAlike r one.marks two.marks
   marks = marked_alike r a b alike firsts firsts' are are' one.marks two.marks one.cascade two.cascade
 
   tasks_alike : (k : ℕ) → IsAlikeAt r.to (task_at new k) (task_at new' (r.to k))
   tasks_alike k =
-      let version : b.version ≡ a.version = ap (λ v. v.version) alike.rest in
+      let version : b.version ≡ a.version = ap (λ v. v.version) alike.frame in
       subst (λ s. IsAlikeAt r.to s (task_at new' (r.to k))) (sym (one.each k))
       (subst (λ s. IsAlikeAt r.to (taken_back a.version one.marks k (task_at a k)) s) (sym (two.each (r.to k)))
       (subst (λ v. IsAlikeAt r.to (taken_back a.version one.marks k (task_at a k)) (taken_back v two.marks (r.to k) (task_at b (r.to k)))) (sym version)
@@ -247,8 +247,8 @@ module _ (r : Renaming) (a b : View) (alike : AreAlike r a b) (firsts firsts' : 
     aborted = two.counted ∙ (marks.count ∙ sym one.counted);
     alike = record {
       tasks = tasks_alike;
-      queues = two.queues ∙ (ap (map (queue_after (waiting new'))) alike.queues
-          ∙ (map_same (queue_after (waiting new')) (map r.to) (map r.to) (queue_after (waiting new)) (left_mapped r.to (waiting new) (waiting new') (λ k. waiting_same r.to (task_at new k) (task_at new' (r.to k)) (tasks_alike k))) a.queues
+      queues = two.queues ∙ (ap (map (queue_after (room_tasks new'))) alike.queues
+          ∙ (map_same (queue_after (room_tasks new')) (map r.to) (map r.to) (queue_after (room_tasks new)) (left_mapped r.to (room_tasks new) (room_tasks new') (λ k. waiting_same r.to (task_at new k) (task_at new' (r.to k)) (tasks_alike k))) a.queues
           ∙ ap (map (map r.to)) (sym one.queues)));
       finished = two.finished ∙ (ap (map (filter (λ id. not (is_marked two.marks id)))) alike.finished
           ∙ (map_same (filter (λ id. not (is_marked two.marks id))) (map r.to) (map r.to) (filter (λ id. not (is_marked one.marks id))) (kept_too r one.marks two.marks marks) a.finished
@@ -256,11 +256,11 @@ module _ (r : Renaming) (a b : View) (alike : AreAlike r a b) (firsts firsts' : 
       cores = two.cores ∙ (ap (map (map (freed_core two.marks))) alike.cores
           ∙ (map_same (map (freed_core two.marks)) (map (option_map r.to)) (map (option_map r.to)) (map (freed_core one.marks)) (held_too r one.marks two.marks marks) a.cores
           ∙ ap (map (map (option_map r.to))) (sym one.cores)));
-      rest =
+      frame =
           (let memory : new'.memory ≡ new.memory = undone_alike r a b alike (is_marked one.marks) (is_marked two.marks) marks.same new.memory new'.memory one.memory two.memory in
-          two.rest
-          ∙ (ap {A = View} (λ v. record v { tasks = new'.tasks; memory = new'.memory; queues = new'.queues; finished = new'.finished; cores = new'.cores }) alike.rest
+          two.frame
+          ∙ (ap {A = View} (λ v. record v { tasks = new'.tasks; memory = new'.memory; queues = new'.queues; finished = new'.finished; cores = new'.cores }) alike.frame
           ∙ (ap {A = List ℕ} (λ mem. record a { tasks = new'.tasks; memory = mem; queues = new'.queues; finished = new'.finished; cores = new'.cores }) memory
-          ∙ ap {A = View} (λ v. record v { tasks = new'.tasks; queues = new'.queues; finished = new'.finished; cores = new'.cores }) (sym one.rest))));
+          ∙ ap {A = View} (λ v. record v { tasks = new'.tasks; queues = new'.queues; finished = new'.finished; cores = new'.cores }) (sym one.frame))));
     };
   }

@@ -5,7 +5,7 @@ use Rattle.spec_state.specs.declared.task.Creator.{Creator}
 use Rattle.spec_state.specs.declared.task.Creator.TheVariants.{Committed, Live}
 use Rattle.spec_state.specs.declared.task.Task.{Task}
 use Rattle.spec_state.specs.View.{View, task_at, queue_at, finished_at, cores_at}
-use Rattle.outcome_law.specs.Alike.{Renaming, turned, renamed_creator, IsAlikeTask, IsAlikeAt, AreAlike}
+use Rattle.outcome_law.specs.Alike.{Renaming, inverse_of, renamed_creator, IsAlikeTask, IsAlikeAt, AreAlike}
 
 -- a task has a partner under the other id
 pub record Partner (r : Renaming) (b : View) (k : ℕ) (x : Task) : Type 0 where
@@ -36,8 +36,8 @@ creator_back r (Live task index) = λ i. Live (record { 0 = r.back task.0 i }) i
 
 pub task_turned : (r : Renaming) (x y : Task) → IsAlikeTask r.to x y → IsAlikeTask r.from y x
 task_turned r x y alike = record {
-  is = (let back : renamed_creator r.from y.creator ≡ x.creator = ap (λ t. renamed_creator r.from t.creator) alike.is ∙ creator_back r x.creator in
-      let same : record y { creator = x.creator; lines = x.lines } ≡ x = ap {A = Task} (λ t. record t { creator = x.creator; lines = x.lines }) alike.is in
+  other_is = (let back : renamed_creator r.from y.creator ≡ x.creator = ap (λ t. renamed_creator r.from t.creator) alike.other_is ∙ creator_back r x.creator in
+      let same : record y { creator = x.creator; lines = x.lines } ≡ x = ap {A = Task} (λ t. record t { creator = x.creator; lines = x.lines }) alike.other_is in
       let own : record y { creator = renamed_creator r.from y.creator; lines = x.lines } ≡ record y { creator = x.creator; lines = x.lines } = ap {A = Creator} (λ c. record y { creator = c; lines = x.lines }) back in
       sym (own ∙ same));
   touched = λ line. sym (alike.touched line);
@@ -59,11 +59,11 @@ module _ {X : Type 0} (f g : X → X) (back : (x : X) → g (f x) ≡ x) where
   option_back None = refl
   option_back (Some x) = ap Some (back x)
 
-pub alike_turned : (r : Renaming) (a b : View) → AreAlike r a b → AreAlike (turned r) b a
+pub alike_turned : (r : Renaming) (a b : View) → AreAlike r a b → AreAlike (inverse_of r) b a
 alike_turned r a b alike = record {
   tasks = λ k. subst (λ j. IsAlikeAt r.from (task_at b j) (task_at a (r.from k))) (r.forth k) (at_turned r (task_at a (r.from k)) (task_at b (r.to (r.from k))) (alike.tasks (r.from k)));
   queues = sym (ap (map (map r.from)) alike.queues ∙ map_back (map r.to) (map r.from) (map_back r.to r.from r.back) a.queues);
   finished = sym (ap (map (map r.from)) alike.finished ∙ map_back (map r.to) (map r.from) (map_back r.to r.from r.back) a.finished);
   cores = sym (ap (map (map (option_map r.from))) alike.cores ∙ map_back (map (option_map r.to)) (map (option_map r.from)) (map_back (option_map r.to) (option_map r.from) (option_back r.to r.from r.back)) a.cores);
-  rest = sym (ap {A = View} (λ v. record v { tasks = a.tasks; queues = a.queues; finished = a.finished; cores = a.cores }) alike.rest);
+  frame = sym (ap {A = View} (λ v. record v { tasks = a.tasks; queues = a.queues; finished = a.finished; cores = a.cores }) alike.frame);
 }

@@ -12,7 +12,7 @@ use Rattle.spec_state.specs.declared.task.Creator.{Creator}
 use Rattle.spec_state.specs.declared.task.Creator.TheVariants.{Committed, Live}
 use Rattle.spec_state.specs.declared.task.Task.{Task}
 use Rattle.spec_state.specs.View.{View, task_at, queue_at, finished_at, cores_at, ChangesTask}
-use Rattle.outcome_law.specs.Alike.{Renaming, turned, renamed_creator, IsAlikeTask, IsAlikeAt, AreAlike}
+use Rattle.outcome_law.specs.Alike.{Renaming, inverse_of, renamed_creator, IsAlikeTask, IsAlikeAt, AreAlike}
 use Rattle.outcome_law.proofs.Alike.{Partner, partner, none_there, alike_turned}
 
 -- ---- two names change places
@@ -96,7 +96,7 @@ module _ (r : Renaming) (a b : View) (alike : AreAlike r a b) (holds : HoldsTask
 
   alike_named : (k : ℕ) (x y : Task) → task_at a k ≡ Some x → IsAlikeTask r.to x y → IsAlikeTask anew.to x y
   alike_named k x y there same = record {
-    is = same.is ∙ ap {A = Creator} (λ c. record x { creator = c; lines = y.lines }) (sym (creator_named k x there x.creator refl));
+    other_is = same.other_is ∙ ap {A = Creator} (λ c. record x { creator = c; lines = y.lines }) (sym (creator_named k x there x.creator refl));
     touched = same.touched;
     written = same.written;
   }
@@ -134,5 +134,5 @@ module _ (r : Renaming) (a b : View) (alike : AreAlike r a b) (holds : HoldsTask
     finished = alike.finished ∙ ids_named a.finished holds.ended;
     cores = alike.cores ∙ maps_alike (map (option_map r.to)) (map (option_map anew.to)) a.cores (λ tile cs at. maps_alike (option_map r.to) (option_map anew.to) cs (λ core c at'. held_named c (λ k is. holds.held tile core k
         (ap (λ (q : List (Option ℕ)). slice_get q core) (get_or_from_slice_get a.cores tile cs [] at) ∙ (at' ∙ ap Some is)))));
-    rest = alike.rest;
+    frame = alike.frame;
   }

@@ -3,7 +3,7 @@ use Rattle.std.proofs.Common.{◌≡◌, ◌≢◌, ◌≤◌, ◌<◌, ◌+◌,
 use Rattle.std.proofs.lemmas.List.{length-map}
 use Rattle.rv_core.specs.LegValue.{LegValue}
 use Rattle.task_desc.specs.declared.desc.Spawn.{Spawn}
-use Rattle.task_step.specs.Requests.{request_at}
+use Rattle.task_request.specs.Requests.{request_at}
 use Rattle.spec_state.specs.declared.task.Status.TheVariants.{Finished}
 use Rattle.spec_state.specs.declared.task.Task.{Task}
 use Rattle.spec_state.specs.View.{View, task_at, queue_at, finished_at, block_at}
@@ -12,14 +12,15 @@ use Rattle.spec_state.specs.Least.{IsLeastTask, IsTheLeast, IsLeastSpilled}
 use Rattle.spec_state.specs.Queries.{IsIdle, IsDispatched, IsFinished, IsLater, IsLatestDispatched}
 use Rattle.spec_state.specs.Changes.{TakesLeg, request_of}
 use Rattle.spec_state.specs.Room.{Enqueuer, IsMovable, IsFull, NoneMoves, Stalls}
-use Rattle.book_event.specs.Book.{BookView, picked}
-use Rattle.book_event.specs.Causes.{AllCoresHeld, IsBusy, IsStale, StallsAtEnqueue, IsCommitFull, StallsAtEnd, LatestIsLeast, StallsAtSplit, Cause, IsRefused, IsGranted, rank}
-use Rattle.book_event.specs.End.{IsOver}
-use Rattle.book_event.specs.declared.event.Event.{Event}
-use Rattle.book_event.specs.declared.event.Event.TheVariants as event
-use Rattle.book_event.specs.declared.event.Reply.{Reply}
-use Rattle.book_event.specs.declared.event.Reply.TheVariants as reply
-use Rattle.outcome_law.specs.Alike.{Renaming, turned, renamed_creator, IsAlikeTask, IsAlikeAt, AreAlike, AreAlikeBooks}
+use Rattle.event_def.specs.Book.{BookView, picked_tile}
+use Rattle.event_def.specs.Causes.{AllCoresHeld, IsBusy, IsStale, StallsAtEnqueue, IsCommitFull, StallsAtEnd, LatestIsLeast, StallsAtSplit, Cause, IsRefused, IsGranted, refusal_rank}
+use Rattle.event_def.specs.End.{IsOver}
+use Rattle.event_def.specs.declared.event.Event.{Event}
+use Rattle.event_def.specs.declared.event.Event.TheVariants as event
+use Rattle.event_def.specs.declared.event.Reply.{Reply}
+use Rattle.event_def.specs.declared.event.Reply.TheVariants as reply
+use Rattle.outcome_law.specs.Alike.{Renaming, inverse_of, renamed_creator, IsAlikeTask, IsAlikeAt, AreAlike}
+use Rattle.outcome_law.specs.Alike.{AreAlikeBooks}
 use Rattle.outcome_law.proofs.Alike.{Partner, partner, none_there, alike_turned, task_turned}
 use Rattle.outcome_law.proofs.Changes.{version_same}
 use Rattle.outcome_law.proofs.Leasts.{least_too, the_least_too, spilled_too, over_too, block_too, finished_too}
@@ -29,7 +30,7 @@ use Rattle.outcome_law.proofs.Queries.{Too, idle_too, least_idle_too, running_to
 use Rattle.outcome_law.proofs.Rooms.{full_too, none_moves_too, asks_too}
 use Rattle.outcome_law.proofs.Events.{lengths_same, picked_alike}
 
-pub books_turned : (r : Renaming) (a b : BookView) → AreAlikeBooks r a b → AreAlikeBooks (turned r) b a
+pub books_turned : (r : Renaming) (a b : BookView) → AreAlikeBooks r a b → AreAlikeBooks (inverse_of r) b a
 books_turned r a b alike = record {
   view = alike_turned r a.view b.view alike.view;
   placers = sym alike.placers;
@@ -42,15 +43,20 @@ module _ (r : Renaming) (a b : View) (alike : AreAlike r a b) where
   pub takes_too : (tile core : ℕ) (leg : LegValue) (id : ℕ) (task : Task) → TakesLeg a tile core leg id task → Too r.to (TakesLeg b tile core leg) id task
   takes_too tile core leg id task is =
       let t = running_too r a b alike tile core id task is.runs in
-      record { y = t.y; is = record { runs = t.is; from = ap (λ t. t.core) t.alike.is ∙ is.from }; alike = t.alike }
+      record {
+        y = t.y;
+        is =
+            record { runs = t.is; from = ap (λ t. t.core) t.alike.other_is ∙ is.from };
+        alike = t.alike;
+      }
 
   pub request_too : (task task' : Task) → IsAlikeTask r.to task task' → (leg : LegValue) → request_of b task' leg ≡ request_of a task leg
-  request_too task task' like leg = λ i. request_at (context_of (version_same r a b alike i) (like.is i)) leg.to leg.stop
+  request_too task task' like leg = λ i. request_at (context_of (version_same r a b alike i) (like.other_is i)) leg.to leg.stop
 
   pub commit_full_too : (tile : ℕ) → IsCommitFull a tile → IsCommitFull b tile
   commit_full_too tile full =
       let size : length (finished_at b tile) ≡ length (finished_at a tile) = ap length (finished_too r a b alike tile) ∙ length-map (finished_at a tile) r.to in
-      let room : b.settings.commit_queue ≡ a.settings.commit_queue = ap (λ v. v.settings.commit_queue) alike.rest in
+      let room : b.settings.commit_queue ≡ a.settings.commit_queue = ap (λ v. v.settings.commit_queue) alike.frame in
       omega arith
 
 module _ (r : Renaming) (old other : BookView) (alike : AreAlikeBooks r old other) where
@@ -63,31 +69,31 @@ module _ (r : Renaming) (old other : BookView) (alike : AreAlikeBooks r old othe
   views : AreAlike r old.view other.view
   views = alike.view
 
-  back : AreAlike (turned r) other.view old.view
+  back : AreAlike (inverse_of r) other.view old.view
   back = alike_turned r old.view other.view alike.view
 
   dispatch_empty : (tile : ℕ) → ((id : ℕ) (task : Task) → IsIdle a tile id task → ⊥) → (id : ℕ) (task : Task) → IsIdle b tile id task → ⊥
-  dispatch_empty tile none id task is = let t = idle_too (turned r) b a back tile id task is in none (r.from id) t.y t.is
+  dispatch_empty tile none id task is = let t = idle_too (inverse_of r) b a back tile id task is in none (r.from id) t.y t.is
 
   dispatch_busy : (tile : ℕ) → IsBusy a tile → IsBusy b tile
   dispatch_busy tile busy =
       let t = least_idle_too r a b views tile busy.id busy.task busy.idle in
       record {
-        held = λ core free. busy.held core (free_core_too (turned r) b a back tile core free);
+        held = λ core free. busy.held core (free_core_too (inverse_of r) b a back tile core free);
         id = r.to busy.id;
         task = t.y;
         idle = t.is;
-        not_least = λ least. busy.not_least (subst (IsTheLeast a) (r.back busy.id) (the_least_too (turned r) b a back (r.to busy.id) least));
+        not_least = λ least. busy.not_least (subst (IsTheLeast a) (r.back busy.id) (the_least_too (inverse_of r) b a back (r.to busy.id) least));
       }
 
   step_stale : (tile core : ℕ) (leg : LegValue) → IsStale a tile core leg → IsStale b tile core leg
-  step_stale tile core leg none id task is = let t = takes_too (turned r) b a back tile core leg id task is in none (r.from id) t.y t.is
+  step_stale tile core leg none id task is = let t = takes_too (inverse_of r) b a back tile core leg id task is in none (r.from id) t.y t.is
 
   stalls_too : (tile id : ℕ) → Stalls a tile (Enqueuer id) → Stalls b tile (Enqueuer (r.to id))
   stalls_too tile id is = record {
     full = full_too r a b views tile is.full;
     none_moves = none_moves_too r a b views tile (Enqueuer id) is.none_moves;
-    not_least = λ least. is.not_least (subst (IsTheLeast a) (r.back id) (the_least_too (turned r) b a back (r.to id) least));
+    not_least = λ least. is.not_least (subst (IsTheLeast a) (r.back id) (the_least_too (inverse_of r) b a back (r.to id) least));
   }
 
   step_stall : (tile core : ℕ) (leg : LegValue) → StallsAtEnqueue old tile core leg ⊎ StallsAtEnd a tile core leg → StallsAtEnqueue other tile core leg ⊎ StallsAtEnd b tile core leg
@@ -99,7 +105,7 @@ module _ (r : Renaming) (old other : BookView) (alike : AreAlikeBooks r old othe
         takes = t.is;
         spawn = is.spawn;
         asks = request_too r a b views is.task t.y t.alike leg ∙ is.asks;
-        stalls = subst (λ (to : ℕ). Stalls b to (Enqueuer (r.to is.id))) (sym (picked_alike r old other alike is.spawn.hint)) (stalls_too (picked old is.spawn.hint) is.id is.stalls);
+        stalls = subst (λ (to : ℕ). Stalls b to (Enqueuer (r.to is.id))) (sym (picked_alike r old other alike is.spawn.hint)) (stalls_too (picked_tile old is.spawn.hint) is.id is.stalls);
       })
   step_stall tile core leg (inr is) =
       let t = takes_too r a b views tile core leg is.id is.task is.takes in
@@ -109,27 +115,28 @@ module _ (r : Renaming) (old other : BookView) (alike : AreAlikeBooks r old othe
         takes = t.is;
         asks = request_too r a b views is.task t.y t.alike leg ∙ is.asks;
         full = commit_full_too r a b views tile is.full;
-        none_later = λ k x done later. (let f = is_finished_too (turned r) b a back tile k x done in
-            let l = later_too (turned r) b a back t.y is.task (task_turned r is.task t.y t.alike) k x later in
+        none_later = λ k x done later. (let f = is_finished_too (inverse_of r) b a back tile k x done in
+            let l = later_too (inverse_of r) b a back t.y is.task (task_turned r is.task t.y t.alike) k x later in
             let same : l.y ≡ f.y = task_one a (r.from k) (r.from k) l.y f.y refl l.is.there f.is.there in
             is.none_later (r.from k) f.y f.is (subst (λ z. IsLater a is.task (r.from k) z) same l.is));
       })
 
   abort_empty : (tile : ℕ) → ((id : ℕ) (task : Task) → IsDispatched a tile id task → ⊥) → (id : ℕ) (task : Task) → IsDispatched b tile id task → ⊥
-  abort_empty tile none id task is = let t = dispatched_too (turned r) b a back tile id task is in none (r.from id) t.y t.is
+  abort_empty tile none id task is = let t = dispatched_too (inverse_of r) b a back tile id task is in none (r.from id) t.y t.is
 
   abort_firm : (tile : ℕ) → LatestIsLeast a tile → LatestIsLeast b tile
   abort_firm tile is =
-      let t = latest_too r (IsDispatched a tile) (IsDispatched b tile) (dispatched_too r a b views tile) (dispatched_too (turned r) b a back tile) is.id is.task is.latest in
+      let t = latest_too r (IsDispatched a tile) (IsDispatched b tile) (dispatched_too r a b views tile) (dispatched_too (inverse_of r) b a back tile) is.id is.task is.latest in
       let l = least_too r a b views is.id is.task is.least in
-      let same : l.y ≡ t.y = task_one b (r.to is.id) (r.to is.id) l.y t.y refl l.least.at.there t.is.this.there in
+      let same : l.y
+      ≡ t.y = task_one b (r.to is.id) (r.to is.id) l.y t.y refl l.least.queued_at.there t.is.of_kind.there in
       record { id = r.to is.id; task = t.y; latest = t.is; least = subst (λ z. IsLeastTask b (r.to is.id) z) same l.least }
 
   commit_empty : ((id : ℕ) (task : Task) → IsLeastTask a id task → task.status ≢ Finished) → (id : ℕ) (task : Task) → IsLeastTask b id task → task.status ≢ Finished
-  commit_empty none id task least done = let l = least_too (turned r) b a back id task least in none (r.from id) l.y l.least (ap (λ t. t.status) l.alike.is ∙ done)
+  commit_empty none id task least done = let l = least_too (inverse_of r) b a back id task least in none (r.from id) l.y l.least (ap (λ t. t.status) l.alike.other_is ∙ done)
 
   coalesce_empty : (tile : ℕ) → ((id : ℕ) → IsMovable a tile id → ⊥) → (id : ℕ) → IsMovable b tile id → ⊥
-  coalesce_empty tile none id is = none (r.from id) (movable_too (turned r) b a back tile id is)
+  coalesce_empty tile none id is = none (r.from id) (movable_too (inverse_of r) b a back tile id is)
 
   split_empty : (tile : ℕ) → block_at a tile ≡ [] → block_at b tile ≡ []
   split_empty tile none = block_too r a b views tile ∙ none
@@ -138,7 +145,7 @@ module _ (r : Renaming) (old other : BookView) (alike : AreAlikeBooks r old othe
   split_stall tile is = record {
     some = λ none. is.some (sym (block_too r a b views tile) ∙ none);
     full = full_too r a b views tile is.full;
-    not_least = λ least. is.not_least (spilled_too (turned r) b a back tile least);
+    not_least = λ least. is.not_least (spilled_too (inverse_of r) b a back tile least);
   }
 
   pub cause_too : {N : Type 0} (event : Event N) (answer : Reply) → Cause old event answer → Cause other event answer
@@ -193,10 +200,10 @@ module _ (r : Renaming) (old other : BookView) (alike : AreAlikeBooks r old othe
 
 module _ {N : Type 0} (r : Renaming) (old other : BookView) (alike : AreAlikeBooks r old other) (event : Event N) where
   pub granted_too : IsGranted old event → IsGranted other event
-  granted_too granted answer has = granted answer (cause_too (turned r) other old (books_turned r old other alike) event answer has)
+  granted_too granted answer has = granted answer (cause_too (inverse_of r) other old (books_turned r old other alike) event answer has)
 
   pub refused_too : (answer : Reply) → IsRefused old event answer → IsRefused other event answer
   refused_too answer is = record {
     cause = cause_too r old other alike event answer is.cause;
-    first = λ earlier before has. is.first earlier before (cause_too (turned r) other old (books_turned r old other alike) event earlier has);
+    first = λ earlier before has. is.first earlier before (cause_too (inverse_of r) other old (books_turned r old other alike) event earlier has);
   }

@@ -6,14 +6,14 @@ use Rattle.std.proofs.lemmas.List.{map-set, map-append}
 use Rattle.memory_law.specs.Notes.{notes_of}
 use Rattle.rv_core.specs.declared.state.Core.{Core}
 use Rattle.rv_core.specs.LegValue.{LegValue}
-use Rattle.undo_log.specs.Undo.{Call, access_of, after_call}
+use Rattle.undo_log.specs.Undo.{MemoryCall, access_of, after_call}
 use Rattle.spec_state.specs.declared.task.Status.TheVariants as status
 use Rattle.spec_state.specs.declared.task.Task.{Task}
 use Rattle.spec_state.specs.View.{View, task_at, queue_at, finished_at, cores_at, ChangesTask}
-use Rattle.spec_state.specs.Changes.{Dispatches, Keeps, Accesses, Finishes, Commits, creator_after, after_commit, with_core, passed}
+use Rattle.spec_state.specs.Changes.{Dispatches, Keeps, Accesses, Finishes, Commits, creator_after, after_commit, with_core, task_past_leg}
 use Rattle.spec_state.specs.Tasks.{start_core}
 use Rattle.spec_state.specs.Filters.{Lines, HasNotes}
-use Rattle.outcome_law.specs.Alike.{Renaming, turned, renamed_creator, IsAlikeTask, IsAlikeAt, AreAlike}
+use Rattle.outcome_law.specs.Alike.{Renaming, inverse_of, renamed_creator, IsAlikeTask, IsAlikeAt, AreAlike}
 use Rattle.outcome_law.proofs.Alike.{Partner, partner, none_there, alike_turned}
 use Rattle.outcome_law.proofs.Leasts.{index_mapped, queue_too, finished_too, cores_too, firm_too, precedes_too}
 use Rattle.outcome_law.proofs.Queries.{Too, least_idle_too, lowest_free_too}
@@ -32,22 +32,22 @@ changed_alike r a b a' b' alike id s t same one two k = elim (cases_eq k id) [
 
 module _ (r : Renaming) (a b : View) (alike : AreAlike r a b) where
   pub settings_same : b.settings ≡ a.settings
-  settings_same = ap (λ v. v.settings) alike.rest
+  settings_same = ap (λ v. v.settings) alike.frame
 
   pub version_same : b.version ≡ a.version
-  version_same = ap (λ v. v.version) alike.rest
+  version_same = ap (λ v. v.version) alike.frame
 
   pub memory_same : b.memory ≡ a.memory
-  memory_same = ap (λ v. v.memory) alike.rest
+  memory_same = ap (λ v. v.memory) alike.frame
 
   pub keeps_alike : (id : ℕ) (now now' : Task) → IsAlikeTask r.to now now' → (a' b' : View) → Keeps id now a a' → Keeps (r.to id) now' b b' → AreAlike r a' b'
   keeps_alike id now now' same a' b' one two = record {
     tasks = changed_alike r a b a' b' alike id (Some now) (Some now') same one.changes two.changes;
-    queues = ap (λ v. v.queues) two.rest ∙ (alike.queues ∙ ap (λ v. map (map r.to) v.queues) (sym one.rest));
-    finished = ap (λ v. v.finished) two.rest ∙ (alike.finished ∙ ap (λ v. map (map r.to) v.finished) (sym one.rest));
-    cores = ap (λ v. v.cores) two.rest ∙ (alike.cores ∙ ap (λ v. map (map (option_map r.to)) v.cores) (sym one.rest));
-    rest = two.rest ∙ (ap {A = View} (λ v. record v { tasks = b'.tasks }) alike.rest ∙ ap {A = View} (λ v. record v { tasks = b'.tasks; queues = b.queues; finished = b.finished; cores = b.cores }) (sym one.rest)
-        ∙ ap {A = View} (λ v. record a' { tasks = b'.tasks; queues = v.queues; finished = v.finished; cores = v.cores }) (sym two.rest));
+    queues = ap (λ v. v.queues) two.frame ∙ (alike.queues ∙ ap (λ v. map (map r.to) v.queues) (sym one.frame));
+    finished = ap (λ v. v.finished) two.frame ∙ (alike.finished ∙ ap (λ v. map (map r.to) v.finished) (sym one.frame));
+    cores = ap (λ v. v.cores) two.frame ∙ (alike.cores ∙ ap (λ v. map (map (option_map r.to)) v.cores) (sym one.frame));
+    frame = two.frame ∙ (ap {A = View} (λ v. record v { tasks = b'.tasks }) alike.frame ∙ ap {A = View} (λ v. record v { tasks = b'.tasks; queues = b.queues; finished = b.finished; cores = b.cores }) (sym one.frame)
+        ∙ ap {A = View} (λ v. record a' { tasks = b'.tasks; queues = v.queues; finished = v.finished; cores = v.cores }) (sym two.frame));
   }
 
   -- the cores with another holder
@@ -62,53 +62,54 @@ module _ (r : Renaming) (a b : View) (alike : AreAlike r a b) where
   dispatches_alike tile a' b' one two =
       let least = least_idle_too r a b alike tile one.id one.task one.least in
       let ids : two.id ≡ r.to one.id = least_idle_one b tile two.id (r.to one.id) two.task least.y two.least least.is in
-      let tasks : two.task ≡ least.y = task_one b two.id (r.to one.id) two.task least.y ids two.least.this.there least.is.this.there in
+      let tasks : two.task ≡ least.y = task_one b two.id (r.to one.id) two.task least.y ids two.least.idle.there least.is.idle.there in
       let core : two.core ≡ one.core = lowest_free_one b tile two.core one.core two.free (lowest_free_too r a b alike tile one.core one.free) in
-      let next : b.next ≡ a.next = ap (λ v. v.next) alike.rest in
+      let next : b.next ≡ a.next = ap (λ v. v.next) alike.frame in
       let now : Task = record one.task { key = record one.task.key { tb = Some a.next }; status = status.Running one.core; core = start_core a.version one.task } in
       let now' : Task = record two.task { key = record two.task.key { tb = Some b.next }; status = status.Running two.core; core = start_core b.version two.task } in
       let like : IsAlikeTask r.to one.task two.task = subst (λ t. IsAlikeTask r.to one.task t) (sym tasks) least.alike in
       let same : IsAlikeTask r.to now now' = record {
-        is = (λ i. record (like.is i) { key = record (like.is i).key { tb = Some (next i) }; status = status.Running (core i); core = start_core (version_same i) (like.is i) });
+        other_is = (λ i. record (like.other_is i) { key = record (like.other_is i).key { tb = Some (next i) }; status = status.Running (core i); core = start_core (version_same i) (like.other_is i) });
         touched = λ line. like.touched line;
         written = λ line. like.written line;
       } in
       record {
         tasks = changed_alike r a b a' b' alike one.id (Some now) (Some now') same one.changes (subst (λ k. ChangesTask b b' k (Some now')) ids two.changes);
-        queues = ap (λ v. v.queues) two.rest ∙ (alike.queues ∙ ap (λ v. map (map r.to) v.queues) (sym one.rest));
-        finished = ap (λ v. v.finished) two.rest ∙ (alike.finished ∙ ap (λ v. map (map r.to) v.finished) (sym one.rest));
+        queues = ap (λ v. v.queues) two.frame ∙ (alike.queues ∙ ap (λ v. map (map r.to) v.queues) (sym one.frame));
+        finished = ap (λ v. v.finished) two.frame ∙ (alike.finished ∙ ap (λ v. map (map r.to) v.finished) (sym one.frame));
         cores = two.cores ∙ ((λ i. with_core b tile (core i) (Some (ids i))) ∙ (with_core_alike tile one.core (Some one.id) ∙ ap (map (map (option_map r.to))) (sym one.cores)));
-        rest = (let nexts : b'.next ≡ a'.next = two.next ∙ (ap (λ n. n + 1) next ∙ sym one.next) in
-            two.rest ∙ (ap {A = View} (λ v. record v { tasks = b'.tasks; next = b'.next; cores = b'.cores }) alike.rest
+        frame = (let nexts : b'.next ≡ a'.next = two.next ∙ (ap (λ n. n + 1) next ∙ sym one.next) in
+            two.frame
+            ∙ (ap {A = View} (λ v. record v { tasks = b'.tasks; next = b'.next; cores = b'.cores }) alike.frame
             ∙ (ap {A = ℕ} (λ n. record a { tasks = b'.tasks; queues = b.queues; finished = b.finished; next = n; cores = b'.cores }) nexts
-            ∙ (ap {A = View} (λ v. record v { tasks = b'.tasks; queues = b.queues; finished = b.finished; cores = b'.cores }) (sym one.rest)
-            ∙ ap {A = View} (λ v. record a' { tasks = b'.tasks; queues = v.queues; finished = v.finished; cores = b'.cores }) (sym two.rest)))));
+            ∙ (ap {A = View} (λ v. record v { tasks = b'.tasks; queues = b.queues; finished = b.finished; cores = b'.cores }) (sym one.frame)
+            ∙ ap {A = View} (λ v. record a' { tasks = b'.tasks; queues = v.queues; finished = v.finished; cores = b'.cores }) (sym two.frame)))));
       }
 
   -- an access
-  pub accesses_alike : (id : ℕ) (task task' : Task) → IsAlikeTask r.to task task' → (call : Call) (core core' : Core) → core' ≡ core → (a' b' : View)
+  pub accesses_alike : (id : ℕ) (task task' : Task) → IsAlikeTask r.to task task' → (call : MemoryCall) (core core' : Core) → core' ≡ core → (a' b' : View)
       → Accesses id task call core a a' → Accesses (r.to id) task' call core' b b' → AreAlike r a' b'
   accesses_alike id task task' like call core core' cores a' b' one two =
-      let logs : task'.log ++ access_of b.memory call ∷ [] ≡ task.log ++ access_of a.memory call ∷ [] = λ i. (like.is i).log ++ access_of (memory_same i) call ∷ [] in
+      let logs : task'.log ++ access_of b.memory call ∷ [] ≡ task.log ++ access_of a.memory call ∷ [] = λ i. (like.other_is i).log ++ access_of (memory_same i) call ∷ [] in
       let notes : notes_of b.settings.line (task'.log ++ access_of b.memory call ∷ []) ≡ notes_of a.settings.line (task.log ++ access_of a.memory call ∷ []) = λ i. notes_of (settings_same i).line (logs i) in
       let noted : HasNotes two.lines (notes_of a.settings.line (task.log ++ access_of a.memory call ∷ [])) = subst (HasNotes two.lines) notes two.notes in
       let now : Task = record task { core = core; log = task.log ++ access_of a.memory call ∷ []; lines = one.lines } in
       let now' : Task = record task' { core = core'; log = task'.log ++ access_of b.memory call ∷ []; lines = two.lines } in
       let same : IsAlikeTask r.to now now' = record {
-        is = (λ i. record (like.is i) { core = cores i; log = logs i; lines = two.lines });
+        other_is = (λ i. record (like.other_is i) { core = cores i; log = logs i; lines = two.lines });
         touched = λ line. noted.touched_is line ∙ sym (one.notes.touched_is line);
         written = λ line. noted.wrote_is line ∙ sym (one.notes.wrote_is line);
       } in
       let memory : b'.memory ≡ a'.memory = two.memory ∙ (ap (λ m. after_call m call) memory_same ∙ sym one.memory) in
       record {
         tasks = changed_alike r a b a' b' alike id (Some now) (Some now') same one.changes two.changes;
-        queues = ap (λ v. v.queues) two.rest ∙ (alike.queues ∙ ap (λ v. map (map r.to) v.queues) (sym one.rest));
-        finished = ap (λ v. v.finished) two.rest ∙ (alike.finished ∙ ap (λ v. map (map r.to) v.finished) (sym one.rest));
-        cores = ap (λ v. v.cores) two.rest ∙ (alike.cores ∙ ap (λ v. map (map (option_map r.to)) v.cores) (sym one.rest));
-        rest = two.rest ∙ (ap {A = View} (λ v. record v { tasks = b'.tasks; memory = b'.memory }) alike.rest
+        queues = ap (λ v. v.queues) two.frame ∙ (alike.queues ∙ ap (λ v. map (map r.to) v.queues) (sym one.frame));
+        finished = ap (λ v. v.finished) two.frame ∙ (alike.finished ∙ ap (λ v. map (map r.to) v.finished) (sym one.frame));
+        cores = ap (λ v. v.cores) two.frame ∙ (alike.cores ∙ ap (λ v. map (map (option_map r.to)) v.cores) (sym one.frame));
+        frame = two.frame ∙ (ap {A = View} (λ v. record v { tasks = b'.tasks; memory = b'.memory }) alike.frame
             ∙ (ap {A = List ℕ} (λ m. record a { tasks = b'.tasks; queues = b.queues; finished = b.finished; cores = b.cores; memory = m }) memory
-            ∙ (ap {A = View} (λ v. record v { tasks = b'.tasks; queues = b.queues; finished = b.finished; cores = b.cores }) (sym one.rest)
-            ∙ ap {A = View} (λ v. record a' { tasks = b'.tasks; queues = v.queues; finished = v.finished; cores = v.cores }) (sym two.rest))));
+            ∙ (ap {A = View} (λ v. record v { tasks = b'.tasks; queues = b.queues; finished = b.finished; cores = b.cores }) (sym one.frame)
+            ∙ ap {A = View} (λ v. record a' { tasks = b'.tasks; queues = v.queues; finished = v.finished; cores = v.cores }) (sym two.frame))));
       }
 
   -- one id more at the end of one of several lists
@@ -124,19 +125,19 @@ module _ (r : Renaming) (a b : View) (alike : AreAlike r a b) where
   pub finishes_alike : (tile core id : ℕ) (task task' : Task) (leg : LegValue) → IsAlikeTask r.to task task' → (a' b' : View)
       → Finishes tile core id task leg a a' → Finishes tile core (r.to id) task' leg b b' → AreAlike r a' b'
   finishes_alike tile core id task task' leg like a' b' one two =
-      let now : Task = record (passed task leg) { status = status.Finished } in
-      let now' : Task = record (passed task' leg) { status = status.Finished } in
+      let now : Task = record (task_past_leg task leg) { status = status.Finished } in
+      let now' : Task = record (task_past_leg task' leg) { status = status.Finished } in
       let same : IsAlikeTask r.to now now' = record {
-        is = (λ i. record (passed (like.is i) leg) { status = status.Finished });
+        other_is = (λ i. record (task_past_leg (like.other_is i) leg) { status = status.Finished });
         touched = λ line. like.touched line;
         written = λ line. like.written line;
       } in
       record {
         tasks = changed_alike r a b a' b' alike id (Some now) (Some now') same one.changes two.changes;
-        queues = ap (λ v. v.queues) two.rest ∙ (alike.queues ∙ ap (λ v. map (map r.to) v.queues) (sym one.rest));
+        queues = ap (λ v. v.queues) two.frame ∙ (alike.queues ∙ ap (λ v. map (map r.to) v.queues) (sym one.frame));
         finished = two.finished ∙ (ended_alike a.finished b.finished alike.finished tile id ∙ ap (map (map r.to)) (sym one.finished));
         cores = two.cores ∙ (with_core_alike tile core None ∙ ap (map (map (option_map r.to))) (sym one.cores));
-        rest = two.rest ∙ (ap {A = View} (λ v. record v { tasks = b'.tasks; finished = b'.finished; cores = b'.cores }) alike.rest
-            ∙ (ap {A = View} (λ v. record v { tasks = b'.tasks; queues = b.queues; finished = b'.finished; cores = b'.cores }) (sym one.rest)
-            ∙ ap {A = View} (λ v. record a' { tasks = b'.tasks; queues = v.queues; finished = b'.finished; cores = b'.cores }) (sym two.rest)));
+        frame = two.frame ∙ (ap {A = View} (λ v. record v { tasks = b'.tasks; finished = b'.finished; cores = b'.cores }) alike.frame
+            ∙ (ap {A = View} (λ v. record v { tasks = b'.tasks; queues = b.queues; finished = b'.finished; cores = b'.cores }) (sym one.frame)
+            ∙ ap {A = View} (λ v. record a' { tasks = b'.tasks; queues = v.queues; finished = b'.finished; cores = b'.cores }) (sym two.frame)));
       }

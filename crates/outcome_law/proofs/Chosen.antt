@@ -8,10 +8,11 @@ use Rattle.fractal_vt.proofs.Proved.{AllPairs-head, AllPairs-tail, AllPairs-map}
 use Rattle.memory_law.specs.Tasks.{In}
 use Rattle.spec_law.proofs.Tasks.Places.{contains_get, get_contains}
 use Rattle.spec_state.specs.declared.task.Task.{Task}
+use Rattle.spec_state.specs.declared.reserving.TheConstants.{MAX_MOVED}
 use Rattle.spec_state.specs.View.{View, task_at, queue_at}
 use Rattle.spec_state.specs.Least.{Precedes}
-use Rattle.spec_state.specs.Room.{IsMovable, AreChosen, most_moved}
-use Rattle.outcome_law.specs.Alike.{Renaming, turned, renamed_creator, IsAlikeTask, IsAlikeAt, AreAlike}
+use Rattle.spec_state.specs.Room.{IsMovable, AreChosen}
+use Rattle.outcome_law.specs.Alike.{Renaming, inverse_of, renamed_creator, IsAlikeTask, IsAlikeAt, AreAlike}
 use Rattle.outcome_law.proofs.Alike.{Partner, partner, none_there, alike_turned}
 use Rattle.outcome_law.proofs.Leasts.{precedes_too}
 use Rattle.outcome_law.proofs.Queries.{Too, idle_firm_too}
@@ -172,9 +173,9 @@ module _ (M : ℕ → Type 0) (P : ℕ → ℕ → Type 0) (asym : (x y : ℕ) �
 
 module _ (view : View) (tile : ℕ) where
   movable_apart : (x y : ℕ) → IsMovable view tile x → IsMovable view tile y → Precedes view tile x y → Precedes view tile y x → ⊥
-  movable_apart x y one two before behind = not_both_ways view tile x y one.0 two.0 one.1.this.queued one.1.this.there two.1.this.queued two.1.this.there before behind
+  movable_apart x y one two before behind = not_both_ways view tile x y one.0 two.0 one.1.idle.queued one.1.idle.there two.1.idle.queued two.1.idle.there before behind
 
-  are_last : (ids : List ℕ) → AreChosen view tile ids → AreLast (IsMovable view tile) (Precedes view tile) movable_apart most_moved ids
+  are_last : (ids : List ℕ) → AreChosen view tile ids → AreLast (IsMovable view tile) (Precedes view tile) movable_apart MAX_MOVED ids
   are_last ids c = record {
     movable = λ x at. c.movable x (in_has ids x at);
     few = c.few;
@@ -184,4 +185,4 @@ module _ (view : View) (tile : ℕ) where
   }
 
   pub chosen_are_one : (ids others : List ℕ) → AreChosen view tile ids → AreChosen view tile others → ids ≡ others
-  chosen_are_one ids others one two = last_are_one (IsMovable view tile) (Precedes view tile) movable_apart most_moved ids others (are_last ids one) (are_last others two)
+  chosen_are_one ids others one two = last_are_one (IsMovable view tile) (Precedes view tile) movable_apart MAX_MOVED ids others (are_last ids one) (are_last others two)

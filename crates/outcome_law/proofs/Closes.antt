@@ -6,16 +6,16 @@ use Rattle.guest_image.specs.ImageValue.{ImageValue}
 use Rattle.run_journal.specs.declared.closed.Closed.{Closed}
 use Rattle.spec_state.specs.View.{View}
 use Rattle.spec_law.specs.Sound.{Sound}
-use Rattle.book_event.specs.declared.event.Applied.{Applied}
-use Rattle.book_event.specs.declared.event.Event.{Event}
-use Rattle.book_event.specs.declared.event.Reply.TheVariants as reply
-use Rattle.book_event.specs.Advancing.{AdvancesBy}
-use Rattle.book_event.specs.Book.{BookView}
-use Rattle.book_event.specs.Closing.{Closes}
-use Rattle.book_event.specs.Events.{IsGiven}
-use Rattle.book_event.specs.Happens.{Happens, HappenAll}
-use Rattle.book_law.proofs.Keeps.Events.{event_stays_sound, happens_keeps}
-use Rattle.book_law.proofs.Given.{next_event_is_given}
+use Rattle.event_def.specs.declared.event.Applied.{Applied}
+use Rattle.event_def.specs.declared.event.Event.{Event}
+use Rattle.event_def.specs.declared.event.Reply.TheVariants as reply
+use Rattle.event_def.specs.Advancing.{AdvancesBy}
+use Rattle.event_def.specs.Book.{BookView}
+use Rattle.event_def.specs.Closing.{Closes}
+use Rattle.event_def.specs.Events.{IsGiven}
+use Rattle.event_def.specs.Happens.{Happens, HappenAll}
+use Rattle.event_law.proofs.Keeps.Events.{event_stays_sound, happens_keeps}
+use Rattle.event_law.proofs.Given.{next_event_is_given}
 use Rattle.outcome_law.specs.Alike.{Renaming, AreAlike, AreAlikeBooks}
 use Rattle.outcome_law.specs.Laws.{AreSameBooks, IsSameOutcome, HasMemory, HistoryIsOne, LeastRunIsOne, CloseIsOne}
 use Rattle.outcome_law.proofs.Aborts.{undone_alike}
@@ -25,8 +25,8 @@ use Rattle.outcome_law.proofs.Outcomes.{outcome_is_one}
 pub close_is_one : CloseIsOne
 close_is_one old other closed other_closed same one two =
     let memory = undone_alike same.0 old.view other.view same.1.view (λ id. true) (λ id. true) (λ k. refl) one.left.memory two.left.memory one.undone.memory two.undone.memory in
-    let history : other_closed.journal ≡ closed.journal = two.journal ∙ (ap (λ v. v.history) two.undone.rest ∙ (ap (λ v. v.history) same.1.view.rest ∙ (sym (ap (λ v. v.history) one.undone.rest) ∙ sym one.journal))) in
-    let output : other_closed.output ≡ closed.output = two.output ∙ (ap (λ v. v.output) two.undone.rest ∙ (ap (λ v. v.output) same.1.view.rest ∙ (sym (ap (λ v. v.output) one.undone.rest) ∙ sym one.output))) in
+    let history : other_closed.journal ≡ closed.journal = two.journal ∙ (ap (λ v. v.history) two.undone.frame ∙ (ap (λ v. v.history) same.1.view.frame ∙ (sym (ap (λ v. v.history) one.undone.frame) ∙ sym one.journal))) in
+    let output : other_closed.output ≡ closed.output = two.output ∙ (ap (λ v. v.output) two.undone.frame ∙ (ap (λ v. v.output) same.1.view.frame ∙ (sym (ap (λ v. v.output) one.undone.frame) ∙ sym one.output))) in
     let memories : other_closed.memory ≡ closed.memory = two.memory ∙ (memory ∙ sym one.memory) in
     let steps : other_closed.steps ≡ closed.steps = two.steps ∙ (same.1.steps ∙ sym one.steps) in
     λ i. record { journal = history i; memory = memories i; output = output i; steps = steps i }
@@ -36,7 +36,7 @@ history_is_one N image old other new other_new [] [] [] sound sound' same given 
 history_is_one N image old other new other_new (e ∷ es) (x ∷ xs) (y ∷ ys) sound sound' same given has has' one two =
     let is = outcome_is_one N image old other one.0 two.0 e x.reply y.reply x.aborted y.aborted sound sound' same one.1 two.1 has.0 has'.0 in
     let kept = happens_keeps N image old one.0 e x.aborted given.0 sound x.reply one.1 in
-    let given' = subst (λ s. IsGiven image s e) (sym (ap (λ v. v.settings) same.1.view.rest)) given.0 in
+    let given' = subst (λ s. IsGiven image s e) (sym (ap (λ v. v.settings) same.1.view.frame)) given.0 in
     let kept' = happens_keeps N image other two.0 e y.aborted given' sound' y.reply two.1 in
     let rest = history_is_one N image one.0 two.0 new other_new es xs ys kept.now kept'.now is.books (subst (λ s. AllByRecursion (IsGiven image s) es) (sym kept.settings) given.1) has.1 has'.1 one.2 two.2 in
     ((λ i. record { reply = is.reply_is i; aborted = is.aborted_is i } ∷ rest.0 i), rest.1)

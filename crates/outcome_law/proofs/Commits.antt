@@ -4,7 +4,7 @@ use Rattle.std.specs.Prelude.{slice_get, slice_index_or, not, filter, if◌then�
 use Rattle.std.proofs.lemmas.Bool.{cases_eq}
 use Rattle.std.proofs.lemmas.Bool.Decides.{nat_tests}
 use Rattle.run_journal.specs.declared.journal.Entry.{Entry}
-use Rattle.tile_queues.specs.Queue.{without}
+use Rattle.tile_queues.specs.Queue.{ids_but}
 use Rattle.spec_state.specs.declared.task.Creator.{Creator}
 use Rattle.spec_state.specs.declared.task.Creator.TheVariants.{Committed, Live}
 use Rattle.spec_state.specs.declared.task.Task.{Task}
@@ -13,7 +13,7 @@ use Rattle.spec_state.specs.Tasks.{depth_of, own_level}
 use Rattle.spec_state.specs.Least.{Spot, Queued, IsLeastSpot, IsLeastTask}
 use Rattle.spec_state.specs.Changes.{creator_after, after_commit, Commits}
 use Rattle.spec_law.proofs.Tasks.Ranked.{least_is_one}
-use Rattle.outcome_law.specs.Alike.{Renaming, turned, renamed_creator, IsAlikeTask, IsAlikeAt, AreAlike}
+use Rattle.outcome_law.specs.Alike.{Renaming, inverse_of, renamed_creator, IsAlikeTask, IsAlikeAt, AreAlike}
 use Rattle.outcome_law.proofs.Alike.{Partner, partner, none_there, alike_turned}
 use Rattle.outcome_law.proofs.Aborts.{one_to}
 use Rattle.outcome_law.proofs.Leasts.{least_too, history_too}
@@ -26,7 +26,7 @@ least_one view k j x y one two =
     let spots = least_is_one view (Queued x.tile one.place) (Queued y.tile two.place) one.least two.least in
     let tiles : x.tile ≡ y.tile = cc in
     let places : one.place ≡ two.place = cc in
-    let ids : Some k ≡ Some j = sym one.at.queued ∙ ((λ i. slice_get (queue_at view (tiles i)) (places i)) ∙ two.at.queued) in
+    let ids : Some k ≡ Some j = sym one.queued_at.queued ∙ ((λ i. slice_get (queue_at view (tiles i)) (places i)) ∙ two.queued_at.queued) in
     cc
 
 -- names are tested as ids are
@@ -47,9 +47,10 @@ module _ (r : Renaming) (id n : ℕ) where
 
   left_alike : (x y : Task) → IsAlikeTask r.to x y → IsAlikeTask r.to (record x { creator = creator_after id n x.creator }) (record y { creator = creator_after (r.to id) n y.creator })
   left_alike x y same = record {
-    is = (let creators : creator_after (r.to id) n y.creator ≡ renamed_creator r.to (creator_after id n x.creator) =
-        ap (λ t. creator_after (r.to id) n t.creator) same.is ∙ creator_too x.creator in
-        λ i. record (same.is i) { creator = creators i; lines = y.lines });
+    other_is =
+        (let creators : creator_after (r.to id) n y.creator ≡ renamed_creator r.to (creator_after id n x.creator) =
+        ap (λ t. creator_after (r.to id) n t.creator) same.other_is ∙ creator_too x.creator in
+        λ i. record (same.other_is i) { creator = creators i; lines = y.lines });
     touched = same.touched;
     written = same.written;
   }
@@ -65,35 +66,35 @@ module _ (r : Renaming) (id n : ℕ) where
   after_too k None (Some y) same = absurd same
   after_too k (Some x) None same = absurd same
 
-  without_too : (ids : List ℕ) → without (r.to id) (map r.to ids) ≡ map r.to (without id ids)
+  without_too : (ids : List ℕ) → ids_but (r.to id) (map r.to ids) ≡ map r.to (ids_but id ids)
   without_too = filter_mapped r.to (λ k. not (k == id)) (λ k. not (k == r.to id)) (λ k. ap not (same_tested r k id))
 
-  all_without_too : (lists lists' : List (List ℕ)) → lists' ≡ map (map r.to) lists → map (without (r.to id)) lists' ≡ map (map r.to) (map (without id) lists)
-  all_without_too lists lists' same = ap (map (without (r.to id))) same ∙ map_same (without (r.to id)) (map r.to) (map r.to) (without id) without_too lists
+  all_without_too : (lists lists' : List (List ℕ)) → lists' ≡ map (map r.to) lists → map (ids_but (r.to id)) lists' ≡ map (map r.to) (map (ids_but id) lists)
+  all_without_too lists lists' same = ap (map (ids_but (r.to id))) same ∙ map_same (ids_but (r.to id)) (map r.to) (map r.to) (ids_but id) without_too lists
 
 module _ (r : Renaming) (a b : View) (alike : AreAlike r a b) where
   pub commits_alike : (a' b' : View) → Commits a a' → Commits b b' → AreAlike r a' b'
   commits_alike a' b' one two =
       let least = least_too r a b alike one.id one.task one.least in
       let ids : two.id ≡ r.to one.id = least_one b two.id (r.to one.id) two.task least.y two.least least.least in
-      let task : two.task ≡ least.y = task_one b two.id (r.to one.id) two.task least.y ids two.least.at.there least.least.at.there in
-      let like : two.task ≡ record one.task { creator = renamed_creator r.to one.task.creator; lines = least.y.lines } = task ∙ least.alike.is in
+      let task : two.task ≡ least.y = task_one b two.id (r.to one.id) two.task least.y ids two.least.queued_at.there least.least.queued_at.there in
+      let like : two.task ≡ record one.task { creator = renamed_creator r.to one.task.creator; lines = least.y.lines } = task ∙ least.alike.other_is in
       let made : Committed two.turn two.index ≡ Committed one.turn one.index = sym two.creator ∙ (ap (λ (t : Task). t.creator) like ∙ ap (renamed_creator r.to) one.creator) in
       let turn : two.turn ≡ one.turn = cc in
       let index : two.index ≡ one.index = cc in
       let old : b.history ≡ a.history = history_too r a b alike in
       let history : b'.history ≡ a'.history = two.history ∙ ((λ i. old i ++ record { name = record { creator = turn i; index = index i }; depth = depth_of (like i); ts = (like i).key.ts } ∷ []) ∙ sym one.history) in
-      let output : b'.output ≡ a'.output = two.output ∙ ((λ i. ap (λ v. v.output) alike.rest i ++ (like i).bytes) ∙ sym one.output) in
+      let output : b'.output ≡ a'.output = two.output ∙ ((λ i. ap (λ v. v.output) alike.frame i ++ (like i).bytes) ∙ sym one.output) in
       let path : b'.path ≡ a'.path = two.path ∙ ((λ i. (like i).key.domain ++ own_level (like i) ∷ []) ∙ sym one.path) in
       record {
         tasks = λ k. subst (λ s. IsAlikeAt r.to s (task_at b' (r.to k))) (sym (one.each k))
             (subst (λ t. IsAlikeAt r.to (after_commit one.id (length a.history + 1) k (task_at a k)) t) (sym (two.each (r.to k) ∙ (λ i. after_commit (ids i) (length (old i) + 1) (r.to k) (task_at b (r.to k)))))
             (after_too r one.id (length a.history + 1) k (task_at a k) (task_at b (r.to k)) (alike.tasks k)));
-        queues = two.queues ∙ (ap (λ id. map (without id) b.queues) ids ∙ (all_without_too r one.id 0 a.queues b.queues alike.queues ∙ ap (map (map r.to)) (sym one.queues)));
-        finished = two.finished ∙ (ap (λ id. map (without id) b.finished) ids ∙ (all_without_too r one.id 0 a.finished b.finished alike.finished ∙ ap (map (map r.to)) (sym one.finished)));
-        cores = ap (λ v. v.cores) two.rest ∙ (alike.cores ∙ ap (λ v. map (map (option_map r.to)) v.cores) (sym one.rest));
-        rest = two.rest ∙ (ap {A = View} (λ v. record v { tasks = b'.tasks; history = b'.history; output = b'.output; path = b'.path; queues = b'.queues; finished = b'.finished }) alike.rest
+        queues = two.queues ∙ (ap (λ id. map (ids_but id) b.queues) ids ∙ (all_without_too r one.id 0 a.queues b.queues alike.queues ∙ ap (map (map r.to)) (sym one.queues)));
+        finished = two.finished ∙ (ap (λ id. map (ids_but id) b.finished) ids ∙ (all_without_too r one.id 0 a.finished b.finished alike.finished ∙ ap (map (map r.to)) (sym one.finished)));
+        cores = ap (λ v. v.cores) two.frame ∙ (alike.cores ∙ ap (λ v. map (map (option_map r.to)) v.cores) (sym one.frame));
+        frame = two.frame ∙ (ap {A = View} (λ v. record v { tasks = b'.tasks; history = b'.history; output = b'.output; path = b'.path; queues = b'.queues; finished = b'.finished }) alike.frame
             ∙ ((λ i. record a { tasks = b'.tasks; queues = b'.queues; finished = b'.finished; cores = b.cores; history = history i; output = output i; path = path i })
-            ∙ (ap {A = View} (λ v. record v { tasks = b'.tasks; queues = b'.queues; finished = b'.finished; cores = b.cores }) (sym one.rest)
-            ∙ ap {A = View} (λ v. record a' { tasks = b'.tasks; queues = b'.queues; finished = b'.finished; cores = v.cores }) (sym two.rest))));
+            ∙ (ap {A = View} (λ v. record v { tasks = b'.tasks; queues = b'.queues; finished = b'.finished; cores = b.cores }) (sym one.frame)
+            ∙ ap {A = View} (λ v. record a' { tasks = b'.tasks; queues = b'.queues; finished = b'.finished; cores = v.cores }) (sym two.frame))));
       }

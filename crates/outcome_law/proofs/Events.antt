@@ -6,12 +6,12 @@ use Rattle.guest_image.specs.ImageValue.{ImageValue}
 use Rattle.place_policy.specs.Policy.{Policy}
 use Rattle.place_policy.specs.Serving.{serving_tile, first_placed}
 use Rattle.rv_core.specs.LegValue.{LegValue}
-use Rattle.rv_core.specs.Memory.{load_bytes}
+use Rattle.rv_core.specs.Memory.{load_width}
 use Rattle.rv_core.specs.Legs.{after_other_of, after_load_of}
 use Rattle.task_desc.specs.declared.desc.Spawn.{Spawn}
-use Rattle.task_step.specs.declared.request.Request.{Request}
-use Rattle.task_step.specs.declared.request.Request.TheVariants.{Continue, Load, Store, Enqueue, MakeSub, Emit, End, Trap}
-use Rattle.task_step.specs.Requests.{request_at}
+use Rattle.task_request.specs.declared.request.Request.{Request}
+use Rattle.task_request.specs.declared.request.Request.TheVariants.{Continue, Load, Store, Enqueue, MakeSub, Emit, End, Trap}
+use Rattle.task_request.specs.Requests.{request_at}
 use Rattle.undo_log.specs.Number.{number_at}
 use Rattle.undo_log.specs.Undo as undo
 use Rattle.spec_state.specs.declared.task.Status.{Status}
@@ -22,19 +22,21 @@ use Rattle.spec_state.specs.View.{View, task_at, queue_at, finished_at, cores_at
 use Rattle.spec_state.specs.Tasks.{is_dispatched, context_of}
 use Rattle.spec_state.specs.Least.{IsLeastTask, IsTheLeast, IsLeastSpilled}
 use Rattle.spec_state.specs.Queries.{IsOnCore, IsRunning, IsFinished, IsDispatched, Conflicts}
-use Rattle.spec_state.specs.Aborts.{Aborts, Only}
-use Rattle.spec_state.specs.Changes.{TakesLeg, request_of, passed, Enqueues}
+use Rattle.spec_state.specs.Aborts.{Aborts, OnlyNode}
+use Rattle.spec_state.specs.Changes.{TakesLeg, request_of, task_past_leg, Enqueues}
 use Rattle.std.proofs.lemmas.List.{length-map}
 use Rattle.rv_table.specs.declared.instr.LoadWidth.{LoadWidth}
 use Rattle.spec_state.specs.Room.{Enqueuer, Splitter, MakesRoom, asker_of}
+use Rattle.spec_state.specs.Stored.{HasCore}
 use Rattle.spec_law.specs.RoomLaws.{AsksAsLeast}
-use Rattle.spec_law.specs.Sound.{Sound, StandsAs, HoldsCore}
-use Rattle.book_event.specs.Book.{BookView, picked, placers_after_commit}
-use Rattle.book_event.specs.declared.event.Event.{Event}
-use Rattle.book_event.specs.declared.event.Event.TheVariants as event
-use Rattle.book_event.specs.Events.{DispatchEvent, LoadEvent, StoreEvent, EnqueueEvent, EndEvent, ComesTo, StepEvent, AbortEvent, SplitEvent, Makes}
-use Rattle.book_law.proofs.Proved.{running_is_dispatched, least_is_heir, room_follows, asker_is_there, spilled_asks, spilled_no_heir}
-use Rattle.outcome_law.specs.Alike.{Renaming, turned, renamed_creator, IsAlikeTask, IsAlikeAt, AreAlike, AreAlikeBooks}
+use Rattle.spec_law.specs.Sound.{Sound, StandsAs}
+use Rattle.event_def.specs.Book.{BookView, picked_tile, placers_after_commit}
+use Rattle.event_def.specs.declared.event.Event.{Event}
+use Rattle.event_def.specs.declared.event.Event.TheVariants as event
+use Rattle.event_def.specs.Events.{DispatchEvent, LoadEvent, StoreEvent, EnqueueEvent, EndEvent, ComesTo, StepEvent, AbortEvent, SplitEvent, Makes}
+use Rattle.event_law.proofs.Proved.{running_is_dispatched, least_is_heir, room_follows, asker_is_there, spilled_asks, spilled_no_heir}
+use Rattle.outcome_law.specs.Alike.{Renaming, inverse_of, renamed_creator, IsAlikeTask, IsAlikeAt, AreAlike}
+use Rattle.outcome_law.specs.Alike.{AreAlikeBooks}
 use Rattle.outcome_law.proofs.Alike.{Partner, partner, none_there, alike_turned, task_turned}
 use Rattle.outcome_law.proofs.Aborts.{AreFirsts, AbortAlike, aborts_alike, one_to}
 use Rattle.outcome_law.proofs.Anew.{HoldsTasks, holds_tasks}
@@ -50,7 +52,7 @@ use Rattle.outcome_law.proofs.Rooms.{cores_alike, commit_alike, latest_taken, ro
 -- ---- what stands on a core, or is finished, is dispatched
 
 module _ (image : ImageValue) (view : View) (sound : Sound image view) where
-  by_status : (k : ℕ) (x : Task) → task_at view k ≡ Some x → (core : ℕ) (s : Status) → x.status ≡ s → HoldsCore s core → is_dispatched x ≡ true
+  by_status : (k : ℕ) (x : Task) → task_at view k ≡ Some x → (core : ℕ) (s : Status) → x.status ≡ s → HasCore s core → is_dispatched x ≡ true
   by_status k x there core Idle is held = absurd held
   by_status k x there core (Running c) is held = running_is_dispatched image view sound k c x there is
   by_status k x there core (Trapped c cause) is held =
@@ -61,7 +63,7 @@ module _ (image : ImageValue) (view : View) (sound : Sound image view) where
   on_core_runs tile core k x is =
       let has = (sound.sizes.held_are tile core k).0 is.held in
       let same : has.0 ≡ x = task_one view k k has.0 x refl has.1 is.there in
-      by_status k x is.there core x.status refl (subst (λ (t : Task). HoldsCore t.status core) same has.3)
+      by_status k x is.there core x.status refl (subst (λ (t : Task). HasCore t.status core) same has.3)
 
   pub finished_runs : (tile k : ℕ) (x : Task) → IsFinished view tile k x → is_dispatched x ≡ true
   finished_runs tile k x is =
@@ -78,8 +80,8 @@ running_is_busy core s runs idle = (let no_way : Running core ≡ Idle = sym run
 module _ (image : ImageValue) (view : View) (sound : Sound image view) (tile core id : ℕ) (leg : LegValue) (task : Task) (takes : TakesLeg view tile core leg id task) where
   least_runs : (x : Task) → IsLeastTask view id x → is_dispatched x ≡ true
   least_runs x least =
-      let same : task ≡ x = task_one view id id task x refl takes.runs.on.there least.at.there in
-      running_is_dispatched image view sound id core x least.at.there (ap (λ t. t.status) (sym same) ∙ takes.runs.running)
+      let same : task ≡ x = task_one view id id task x refl takes.runs.on.there least.queued_at.there in
+      running_is_dispatched image view sound id core x least.queued_at.there (ap (λ t. t.status) (sym same) ∙ takes.runs.running)
 
   asks : (to : ℕ) → IsTheLeast view id → (low : Key) × AsksAsLeast view to (Enqueuer id) low
   asks to least = (least.0.key, (least.0, least.1, least_runs least.0 least.1, refl))
@@ -105,7 +107,7 @@ lengths_same to [] = refl
 lengths_same to (q ∷ qs) = λ i. length-map q to i ∷ lengths_same to qs i
 
 -- the tile that the serving placer picks is one
-pub picked_alike : (r : Renaming) (old other : BookView) → AreAlikeBooks r old other → (hint : ℕ) → picked other hint ≡ picked old hint
+pub picked_alike : (r : Renaming) (old other : BookView) → AreAlikeBooks r old other → (hint : ℕ) → picked_tile other hint ≡ picked_tile old hint
 picked_alike r old other alike hint =
     let lengths : loads other.view ≡ loads old.view = ap (map length) alike.view.queues ∙ lengths_same r.to old.view.queues in
     λ i. serving_tile (alike.placers i) hint (lengths i)
@@ -125,11 +127,11 @@ module _ (image : ImageValue) (r : Renaming) (a b : View) (sound : Sound image a
 
   abort_one : (tile n m : ℕ) (a' b' : View) → AbortEvent tile a n a' → AbortEvent tile b m b' → AbortAlike r n m a' b'
   abort_one tile n m a' b' one two =
-      latest_taken r a b alike sound'.heir sound'.order (IsDispatched a tile) (IsDispatched b tile) (dispatched_too r a b alike tile) (dispatched_too (turned r) b a (alike_turned r a b alike) tile)
+      latest_taken r a b alike sound'.heir sound'.order (IsDispatched a tile) (IsDispatched b tile) (dispatched_too r a b alike tile) (dispatched_too (inverse_of r) b a (alike_turned r a b alike) tile)
       (λ k z is. is.there) (λ k z is. (is.there, is.dispatched)) one.id two.id one.task two.task one.latest two.latest n m a' b' one.aborts two.aborts
 
   pub line_same : b.settings.line ≡ a.settings.line
-  line_same = ap (λ v. v.settings.line) alike.rest
+  line_same = ap (λ v. v.settings.line) alike.frame
 
   conflict_firsts : (task task' : Task) → IsAlikeTask r.to task task' → (offset : ℕ) (write : Bool)
       → AreFirsts r a (Conflicts a task (offset / a.settings.line) write) (Conflicts b task' (offset / b.settings.line) write)
@@ -151,7 +153,7 @@ module _ (image : ImageValue) (r : Renaming) (a b : View) (sound : Sound image a
       record { id_is = same; like = subst (λ z. IsAlikeTask r.to task z) (sym (task_one b id' (r.to id) task' t.y same two.runs.on.there t.is.on.there)) t.alike }
 
   pub request_same : (task task' : Task) → IsAlikeTask r.to task task' → (leg : LegValue) → request_of b task' leg ≡ request_of a task leg
-  request_same task task' like leg = λ i. request_at (context_of (version_same r a b alike i) (like.is i)) leg.to leg.stop
+  request_same task task' like leg = λ i. request_at (context_of (version_same r a b alike i) (like.other_is i)) leg.to leg.stop
 
 -- the firsts of conflicts, both ways
 module _ (image : ImageValue) (r : Renaming) (a b : View) (sound : Sound image a) (sound' : Sound image b) (alike : AreAlike r a b) where
@@ -160,7 +162,7 @@ module _ (image : ImageValue) (r : Renaming) (a b : View) (sound : Sound image a
   conflicts_alike task task' same offset write n m a' b' one two =
       aborts_alike r a b alike (Conflicts a task (offset / a.settings.line) write) (Conflicts b task' (offset / b.settings.line) write)
       (conflict_firsts image r a b sound sound' alike task task' same offset write)
-      (conflict_firsts image (turned r) b a sound' sound (alike_turned r a b alike) task' task (task_turned r task task' same) offset write)
+      (conflict_firsts image (inverse_of r) b a sound' sound (alike_turned r a b alike) task' task (task_turned r task task' same) offset write)
       n m a' b' one two
 
 module _ (image : ImageValue) (r : Renaming) (old other : BookView) (sound : Sound image old.view) (sound' : Sound image other.view) (alike : AreAlikeBooks r old other) where
@@ -174,7 +176,7 @@ module _ (image : ImageValue) (r : Renaming) (old other : BookView) (sound : Sou
       (takes : TakesLeg old.view tile core leg id task) (takes' : TakesLeg other.view tile core leg (r.to id) task') (n m : ℕ) (new new' : View) (p p' : List Policy) where
     enqueue_one : (spawn : Spawn) → EnqueueEvent tile core leg id task spawn old n new p → EnqueueEvent tile core leg (r.to id) task' spawn other m new' p' → OneMade n m new new' p p'
     enqueue_one spawn one two =
-        let to = picked old spawn.hint in
+        let to = picked_tile old spawn.hint in
         let same = picked_alike r old other alike spawn.hint in
         let forced : MakesRoom to (Enqueuer (r.to id)) other.view m two.mid = subst (λ t. MakesRoom t (Enqueuer (r.to id)) other.view m two.mid) same two.forced in
         let change = subst (λ t. Enqueues (r.to id) task' leg spawn t two.mid new') same two.change in
@@ -190,11 +192,11 @@ module _ (image : ImageValue) (r : Renaming) (old other : BookView) (sound : Sou
     load_one : (width : LoadWidth) (rd offset : ℕ) → LoadEvent tile core leg id task width rd offset old.view n new → LoadEvent tile core leg (r.to id) task' width rd offset other.view m new' → AbortAlike r n m new new'
     load_one width rd offset one two =
         let taken = conflicts_alike image r old.view other.view sound sound' alike.view task task' like offset false n m one.mid two.mid one.forced two.forced in
-        let cores = ap (λ mem. after_load_of leg.to width rd (number_at mem offset (load_bytes width))) (memory_same r one.mid two.mid taken.alike) in
+        let cores = ap (λ mem. after_load_of leg.to width rd (number_at mem offset (load_width width))) (memory_same r one.mid two.mid taken.alike) in
         record {
           aborted = taken.aborted;
-          alike = accesses_alike r one.mid two.mid taken.alike id task task' like (undo.Load offset (load_bytes width)) (after_load_of leg.to width rd (number_at one.mid.memory offset (load_bytes width)))
-              (after_load_of leg.to width rd (number_at two.mid.memory offset (load_bytes width))) cores new new' one.change two.change;
+          alike = accesses_alike r one.mid two.mid taken.alike id task task' like (undo.Load offset (load_width width)) (after_load_of leg.to width rd (number_at one.mid.memory offset (load_width width)))
+              (after_load_of leg.to width rd (number_at two.mid.memory offset (load_width width))) cores new new' one.change two.change;
         }
 
     store_one : (offset bytes value : ℕ) → StoreEvent tile core leg id task offset bytes value old.view n new → StoreEvent tile core leg (r.to id) task' offset bytes value other.view m new' → AbortAlike r n m new new'
@@ -212,19 +214,19 @@ module _ (image : ImageValue) (r : Renaming) (old other : BookView) (sound : Sou
 
     pub comes_one : (request : Request) → ComesTo tile core leg id task request old n new p → ComesTo tile core leg (r.to id) task' request other m new' p' → OneMade n m new new' p p'
     comes_one Continue one two = quietly n m new new' p p' one.1.none two.1.none one.1.same two.1.same
-        (keeps_alike r old.view other.view alike.view id (record task { core = leg.to }) (record task' { core = leg.to }) (record { is = λ i. record (like.is i) { core = leg.to }; touched = like.touched; written = like.written }) new new' one.0 two.0)
+        (keeps_alike r old.view other.view alike.view id (record task { core = leg.to }) (record task' { core = leg.to }) (record { other_is = λ i. record (like.other_is i) { core = leg.to }; touched = like.touched; written = like.written }) new new' one.0 two.0)
     comes_one (Load width rd offset) one two = by_abort n m new new' p p' one.1 two.1 (load_one width rd offset one.0 two.0)
     comes_one (Store offset bytes value) one two = by_abort n m new new' p p' one.1 two.1 (store_one offset bytes value one.0 two.0)
     comes_one (Enqueue spawn) one two = enqueue_one spawn one two
     comes_one (MakeSub kind) one two = quietly n m new new' p p' one.1.none two.1.none one.1.same two.1.same
-        (keeps_alike r old.view other.view alike.view id (record (passed task leg) { sub = Some kind }) (record (passed task' leg) { sub = Some kind }) (record { is = λ i. record (passed (like.is i) leg) { sub = Some kind }; touched = like.touched; written = like.written }) new new' one.0 two.0)
+        (keeps_alike r old.view other.view alike.view id (record (task_past_leg task leg) { sub = Some kind }) (record (task_past_leg task' leg) { sub = Some kind }) (record { other_is = λ i. record (task_past_leg (like.other_is i) leg) { sub = Some kind }; touched = like.touched; written = like.written }) new new' one.0 two.0)
     comes_one (Emit byte) one two = quietly n m new new' p p' one.1.none two.1.none one.1.same two.1.same
-        (keeps_alike r old.view other.view alike.view id (record (passed task leg) { bytes = task.bytes ++ byte ∷ [] }) (record (passed task' leg) { bytes = task'.bytes ++ byte ∷ [] })
-        (record { is = λ i. record (passed (like.is i) leg) { bytes = (like.is i).bytes ++ byte ∷ [] }; touched = like.touched; written = like.written }) new new' one.0 two.0)
+        (keeps_alike r old.view other.view alike.view id (record (task_past_leg task leg) { bytes = task.bytes ++ byte ∷ [] }) (record (task_past_leg task' leg) { bytes = task'.bytes ++ byte ∷ [] })
+        (record { other_is = λ i. record (task_past_leg (like.other_is i) leg) { bytes = (like.other_is i).bytes ++ byte ∷ [] }; touched = like.touched; written = like.written }) new new' one.0 two.0)
     comes_one End one two = by_abort n m new new' p p' one.1 two.1 (end_one one.0 two.0)
     comes_one (Trap cause) one two = quietly n m new new' p p' one.1.none two.1.none one.1.same two.1.same
         (keeps_alike r old.view other.view alike.view id (record task { core = leg.to; status = status.Trapped core cause }) (record task' { core = leg.to; status = status.Trapped core cause })
-        (record { is = λ i. record (like.is i) { core = leg.to; status = status.Trapped core cause }; touched = like.touched; written = like.written }) new new' one.0 two.0)
+        (record { other_is = λ i. record (like.other_is i) { core = leg.to; status = status.Trapped core cause }; touched = like.touched; written = like.written }) new new' one.0 two.0)
 
   step_one : (tile core : ℕ) (leg : LegValue) (n m : ℕ) (new new' : View) (p p' : List Policy) → StepEvent tile core leg old n new p → StepEvent tile core leg other m new' p' → OneMade n m new new' p p'
   step_one tile core leg n m new new' p p' one two =
@@ -246,7 +248,7 @@ module _ (image : ImageValue) (r : Renaming) (old other : BookView) (sound : Sou
   commit_one : (n m : ℕ) (new new' : View) (p p' : List Policy) → Makes {N = ℕ} old event.Commit n new p → Makes {N = ℕ} other event.Commit m new' p' → OneMade n m new new' p p'
   commit_one n m new new' p p' one two =
       let views = commits_alike r old.view other.view alike.view new new' one.0 two.0 in
-      let count : length new'.history ≡ length new.history = ap (λ v. length v.history) views.rest in
+      let count : length new'.history ≡ length new.history = ap (λ v. length v.history) views.frame in
       record {
         aborted = two.1 ∙ sym one.1;
         placers = two.2 ∙ ((λ i. placers_after_commit (settings_same r old.view other.view alike.view i).phase (count i) (alike.placers i)) ∙ sym one.2);

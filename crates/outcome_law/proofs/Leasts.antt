@@ -13,8 +13,8 @@ use Rattle.spec_state.specs.declared.task.Task.{Task}
 use Rattle.spec_state.specs.View.{View, task_at, queue_at, finished_at, cores_at, block_at}
 use Rattle.spec_state.specs.Tasks.{is_dispatched}
 use Rattle.spec_state.specs.Least.{Spot, Queued, Spilled_at, IsQueuedAt, HasKey, ranked_cmp, IsLeastSpot, IsLeastTask, IsTheLeast, IsLeastSpilled, IsAllCommitted, IsHeir, IsFirm, HasName, Precedes}
-use Rattle.book_event.specs.End.{HasEnd, IsOver, LeastIsTrapped}
-use Rattle.outcome_law.specs.Alike.{Renaming, turned, renamed_creator, IsAlikeTask, IsAlikeAt, AreAlike}
+use Rattle.event_def.specs.End.{HasEnd, IsOver, LeastIsTrapped}
+use Rattle.outcome_law.specs.Alike.{Renaming, inverse_of, renamed_creator, IsAlikeTask, IsAlikeAt, AreAlike}
 use Rattle.outcome_law.specs.Laws.{EndIsAlike}
 use Rattle.outcome_law.proofs.Alike.{Partner, partner, none_there, alike_turned}
 
@@ -47,10 +47,10 @@ module _ (r : Renaming) (a b : View) (alike : AreAlike r a b) where
   cores_too tile = ap (λ (qs : List (List (Option ℕ))). slice_index_or qs tile []) alike.cores ∙ index_mapped (map (option_map r.to)) a.cores tile []
 
   pub block_too : (tile : ℕ) → block_at b tile ≡ block_at a tile
-  block_too tile = ap (λ v. block_at v tile) alike.rest
+  block_too tile = ap (λ v. block_at v tile) alike.frame
 
   pub history_too : b.history ≡ a.history
-  history_too = ap (λ v. v.history) alike.rest
+  history_too = ap (λ v. v.history) alike.frame
 
   pub queued_too : (tile place k : ℕ) (x : Task) → IsQueuedAt a tile place k x → QueuedToo r b tile place k x
   queued_too tile place k x is =
@@ -67,7 +67,7 @@ module _ (r : Renaming) (a b : View) (alike : AreAlike r a b) where
   pub key_too : (spot : Spot) (key : Key) → HasKey a spot key → HasKey b spot key
   key_too (Queued tile place) key has =
       let q = queued_too tile place has.0 has.1 has.2 in
-      (r.to has.0, q.y, q.at, has.3 ∙ sym (ap (λ t. t.key) q.alike.is))
+      (r.to has.0, q.y, q.at, has.3 ∙ sym (ap (λ t. t.key) q.alike.other_is))
   key_too (Spilled_at tile place) key has = (has.0, ap (λ block. slice_get block place) (block_too tile) ∙ has.1, has.2)
 
 module _ (r : Renaming) (a b : View) (alike : AreAlike r a b) where
@@ -75,18 +75,18 @@ module _ (r : Renaming) (a b : View) (alike : AreAlike r a b) where
   spot_too spot is = record {
     key = is.key;
     has = key_too r a b alike spot is.key is.has;
-    least = λ other other_key has. is.least other other_key (key_too (turned r) b a (alike_turned r a b alike) other other_key has);
+    least = λ other other_key has. is.least other other_key (key_too (inverse_of r) b a (alike_turned r a b alike) other other_key has);
   }
 
   pub least_too : (id : ℕ) (x : Task) → IsLeastTask a id x → LeastToo r b id x
   least_too id x is =
-      let q = queued_too r a b alike x.tile is.place id x is.at in
-      let tile : x.tile ≡ q.y.tile = sym (ap (λ t. t.tile) q.alike.is) in
+      let q = queued_too r a b alike x.tile is.place id x is.queued_at in
+      let tile : x.tile ≡ q.y.tile = sym (ap (λ t. t.tile) q.alike.other_is) in
       record {
         y = q.y;
         least = record {
           place = is.place;
-          at = subst (λ t. IsQueuedAt b t is.place (r.to id) q.y) tile q.at;
+          queued_at = subst (λ t. IsQueuedAt b t is.place (r.to id) q.y) tile q.at;
           least = spot_too (Queued q.y.tile is.place) (subst (λ t. IsLeastSpot a (Queued t is.place)) tile is.least);
         };
         alike = q.alike;
@@ -99,14 +99,14 @@ module _ (r : Renaming) (a b : View) (alike : AreAlike r a b) where
   spilled_too tile is = record { place = is.place; least = spot_too (Spilled_at tile is.place) is.least }
 
   pub committed_too : IsAllCommitted a → IsAllCommitted b
-  committed_too all spot key has = all spot key (key_too (turned r) b a (alike_turned r a b alike) spot key has)
+  committed_too all spot key has = all spot key (key_too (inverse_of r) b a (alike_turned r a b alike) spot key has)
 
   pub heir_too : (id : ℕ) → IsHeir a (Some id) → IsHeir b (Some (r.to id))
-  heir_too id is = let l = least_too id is.0 is.1 in (l.y, l.least, ap is_dispatched l.alike.is ∙ is.2)
+  heir_too id is = let l = least_too id is.0 is.1 in (l.y, l.least, ap is_dispatched l.alike.other_is ∙ is.2)
 
   pub firm_too : (x y : Task) → IsAlikeTask r.to x y → IsFirm a x → IsFirm b y
-  firm_too x y same (inl is) = inl (is.0, is.1, ap (λ t. t.creator) same.is ∙ ap (renamed_creator r.to) is.2)
-  firm_too x y same (inr is) = inr (r.to is.0, is.1, ap (λ t. t.creator) same.is ∙ ap (renamed_creator r.to) is.2, heir_too is.0 is.3)
+  firm_too x y same (inl is) = inl (is.0, is.1, ap (λ t. t.creator) same.other_is ∙ ap (renamed_creator r.to) is.2)
+  firm_too x y same (inr is) = inr (r.to is.0, is.1, ap (λ t. t.creator) same.other_is ∙ ap (renamed_creator r.to) is.2, heir_too is.0 is.3)
 
   pub name_too : (creator : Creator) (name : Name) → HasName a creator name → HasName b (renamed_creator r.to creator) name
   name_too (Committed turn index) name has = (subst (λ h. turn ≤ length h) (sym (history_too r a b alike)) has.0, has.1)
@@ -120,22 +120,22 @@ module _ (r : Renaming) (a b : View) (alike : AreAlike r a b) where
         task = l.y;
         core = is.core;
         least = l.least;
-        trapped = ap (λ t. t.status) l.alike.is ∙ is.trapped;
-        named = ap (λ t. t.creator) l.alike.is ∙ ap (renamed_creator r.to) is.named;
-        at = ap (λ t. t.core.pc) l.alike.is ∙ is.at;
+        trapped = ap (λ t. t.status) l.alike.other_is ∙ is.trapped;
+        named = ap (λ t. t.creator) l.alike.other_is ∙ ap (renamed_creator r.to) is.named;
+        pc_is = ap (λ t. t.core.pc) l.alike.other_is ∙ is.pc_is;
       }
 
   pub length_too : length b.history ≡ length a.history
   length_too = ap length (history_too r a b alike)
 
   pub commits_too : b.settings.commits ≡ a.settings.commits
-  commits_too = ap (λ v. v.settings.commits) alike.rest
+  commits_too = ap (λ v. v.settings.commits) alike.frame
 
 module _ (r : Renaming) (a b : View) (alike : AreAlike r a b) where
   pub end_too : (end : End) → HasEnd a end → HasEnd b end
   end_too ends.Normal has = committed_too r a b alike has
   end_too ends.Limit has =
-      (λ all. has.0 (committed_too (turned r) b a (alike_turned r a b alike) all), length_too r a b alike ∙ has.1 ∙ sym (commits_too r a b alike))
+      (λ all. has.0 (committed_too (inverse_of r) b a (alike_turned r a b alike) all), length_too r a b alike ∙ has.1 ∙ sym (commits_too r a b alike))
   end_too (ends.Trap name cause pc) has =
       (λ full. has.0 (sym (length_too r a b alike) ∙ full ∙ commits_too r a b alike), trapped_too r a b alike name cause pc has.1)
   end_too ends.Unfinished has = absurd has
@@ -147,11 +147,12 @@ module _ (r : Renaming) (a b : View) (alike : AreAlike r a b) where
 pub precedes_too : (r : Renaming) (a b : View) → AreAlike r a b → (tile k j : ℕ) → Precedes a tile k j → Precedes b tile (r.to k) (r.to j)
 precedes_too r a b alike tile k j before p q x y first second =
     let back = alike_turned r a b alike in
-    let one = queued_too (turned r) b a back tile p (r.to k) x first in
-    let two = queued_too (turned r) b a back tile q (r.to j) y second in
+    let one = queued_too (inverse_of r) b a back tile p (r.to k) x first in
+    let two = queued_too (inverse_of r) b a back tile q (r.to j) y second in
     let less = before p q one.y two.y (subst (λ i. IsQueuedAt a tile p i one.y) (r.back k) one.at) (subst (λ i. IsQueuedAt a tile q i two.y) (r.back j) two.at) in
-    subst (λ key. ranked_cmp key (Queued tile p) y.key (Queued tile q) ≡ Less) (ap (λ t. t.key) one.alike.is)
-    (subst (λ key. ranked_cmp one.y.key (Queued tile p) key (Queued tile q) ≡ Less) (ap (λ t. t.key) two.alike.is) less)
+    subst (λ key. ranked_cmp key (Queued tile p) y.key (Queued tile q) ≡ Less) (ap (λ t. t.key) one.alike.other_is)
+    (subst (λ key. ranked_cmp one.y.key (Queued tile p) key (Queued tile q) ≡ Less)
+    (ap (λ t. t.key) two.alike.other_is) less)
 
 pub end_is_alike : EndIsAlike
 end_is_alike r a b end alike has = end_too r a b alike end has

@@ -3,7 +3,7 @@ use Rattle.std.proofs.Common.{◌≡◌, ◌≢◌, ◌≤◌, ◌+◌, zero, su
 use Rattle.std.specs.Prelude.{slice_get, slice_index_or, Contains, filter, count_by}
 use Rattle.std.proofs.lemmas.List.{get_or-set_other}
 use Rattle.std.proofs.lemmas.List.Sums.{sum_by-cons}
-use Rattle.turn_law.specs.Room.{Waiting, queue_after}
+use Rattle.task_law.specs.Room.{RoomTask, queue_after}
 use Rattle.spec_law.proofs.Tasks.Filtered.{get_mapped, queue_filtered}
 use Rattle.spec_law.proofs.Tasks.Places.{contains_get, get_contains}
 
@@ -26,7 +26,7 @@ filter_mapped f p q same (x ∷ xs) =
     by_test true = refl
     by_test false = refl
 
-pub left_mapped : (f : ℕ → ℕ) (old new : ℕ → Option Waiting) → ((k : ℕ) → is_some (new (f k)) ≡ is_some (old k)) → (ids : List ℕ) → queue_after new (map f ids) ≡ map f (queue_after old ids)
+pub left_mapped : (f : ℕ → ℕ) (old new : ℕ → Option RoomTask) → ((k : ℕ) → is_some (new (f k)) ≡ is_some (old k)) → (ids : List ℕ) → queue_after new (map f ids) ≡ map f (queue_after old ids)
 left_mapped f old new same ids =
     queue_filtered new (map f ids)
     ∙ (filter_mapped f (λ k. is_some (old k)) (λ k. is_some (new k)) same ids ∙ ap (map f) (sym (queue_filtered old ids)))

@@ -9,21 +9,22 @@ use Rattle.std.proofs.lemmas.List.Elements.{All-contains, All-contains_itself}
 use Rattle.fractal_vt.specs.Keys.{key_cmp}
 use Rattle.fractal_vt.specs.Least.{IsFirstLeast}
 use Rattle.fractal_vt.proofs.Proved.{AllPairs-map, key_cmp_total}
-use Rattle.spill_store.specs.Entries.{Entry as Spilled, open_key, IsLeastEntry, TakesLeast}
-use Rattle.spill_store.specs.Pushing.{all_pushed}
-use Rattle.turn_law.specs.Room.{Waiting, queue_after}
+use Rattle.spill_store.specs.SpilledTasks.{Spilled, open_key, IsLeastInBlock, TakesLeast}
+use Rattle.spill_store.specs.Pushing.{after_pushes}
+use Rattle.task_law.specs.Room.{RoomTask, queue_after}
 use Rattle.task_desc.specs.declared.desc.Name.{Name}
 use Rattle.memory_law.specs.Tasks.{In}
 use Rattle.spec_state.specs.declared.task.Creator.{Creator}
 use Rattle.spec_state.specs.declared.task.Creator.TheVariants.{Committed, Live}
 use Rattle.spec_state.specs.declared.task.Task.{Task}
+use Rattle.spec_state.specs.declared.reserving.TheConstants.{MAX_MOVED}
 use Rattle.spec_state.specs.View.{View, task_at, queue_at, block_at}
 use Rattle.spec_state.specs.Tasks.{descriptor_of, spilled_as}
-use Rattle.spec_state.specs.Groups.{waiting, waiting_task}
+use Rattle.spec_state.specs.Groups.{room_tasks, room_task}
 use Rattle.spec_state.specs.Least.{Queued, IsLeastTask, IsHeir, HasName, Precedes}
-use Rattle.spec_state.specs.Room.{IsMovable, AreChosen, most_moved, IsSpilledAs, Coalesces}
+use Rattle.spec_state.specs.Room.{IsMovable, AreChosen, IsSpilledAs, Coalesces}
 use Rattle.spec_law.proofs.Tasks.Places.{get_contains, contains_get}
-use Rattle.outcome_law.specs.Alike.{Renaming, turned, renamed_creator, IsAlikeTask, IsAlikeAt, AreAlike}
+use Rattle.outcome_law.specs.Alike.{Renaming, inverse_of, renamed_creator, IsAlikeTask, IsAlikeAt, AreAlike}
 use Rattle.outcome_law.proofs.Alike.{Partner, partner, none_there, alike_turned}
 use Rattle.outcome_law.proofs.Aborts.{was_in, in_renamed, one_to, waiting_same}
 use Rattle.outcome_law.proofs.Leasts.{block_too, precedes_too, name_too}
@@ -39,12 +40,12 @@ module _ (r : Renaming) (a b : View) (alike : AreAlike r a b) (tile : ℕ) where
 module _ (r : Renaming) (a b : View) (alike : AreAlike r a b) (tile : ℕ) where
   chosen_too : (ids : List ℕ) → AreChosen a tile ids → AreChosen b tile (map r.to ids)
   chosen_too ids c =
-      let way_back : (k : ℕ) → IsMovable b tile k → IsMovable a tile (r.from k) = movable_too (turned r) b a (alike_turned r a b alike) tile in
+      let way_back : (k : ℕ) → IsMovable b tile k → IsMovable a tile (r.from k) = movable_too (inverse_of r) b a (alike_turned r a b alike) tile in
       let forth : (k : ℕ) → Contains ids (r.from k) → Contains (map r.to ids) k = λ k has. subst (Contains (map r.to ids)) (r.forth k) (contains_mapped r.to ids (r.from k) has) in
       record {
         movable = λ k has. (let w = was_in r.to k ids (has_in (map r.to ids) k has) in subst (IsMovable b tile) (sym w.2) (movable_too r a b alike tile w.0 (c.movable w.0 (in_has ids w.0 w.1))));
-        few = subst (λ n. n ≤ most_moved) (sym (length-map ids r.to)) c.few;
-        all = λ less k movable. forth k (c.all (subst (λ n. n < most_moved) (length-map ids r.to) less) (r.from k) (way_back k movable));
+        few = subst (λ n. n ≤ MAX_MOVED) (sym (length-map ids r.to)) c.few;
+        all = λ less k movable. forth k (c.all (subst (λ n. n < MAX_MOVED) (length-map ids r.to) less) (r.from k) (way_back k movable));
         latest = λ stays k movable none has. (let w = was_in r.to k ids (has_in (map r.to ids) k has) in
             let before = precedes_too r a b alike tile (r.from stays) w.0 (c.latest (r.from stays) w.0 (way_back stays movable) (λ h. none (forth stays h)) (in_has ids w.0 w.1)) in
             subst (λ s. Precedes b tile s k) (r.forth stays) (subst (λ j. Precedes b tile (r.to (r.from stays)) j) (sym w.2) before));
@@ -61,10 +62,10 @@ module _ (r : Renaming) (a b : View) (alike : AreAlike r a b) where
   spilled_same id s s' one two =
       let p = partner r a b alike id one.task one.there in
       let task : two.task ≡ p.y = task_one b (r.to id) (r.to id) two.task p.y refl two.there p.there in
-      let like : two.task ≡ record one.task { creator = renamed_creator r.to one.task.creator; lines = p.y.lines } = task ∙ p.alike.is in
+      let like : two.task ≡ record one.task { creator = renamed_creator r.to one.task.creator; lines = p.y.lines } = task ∙ p.alike.other_is in
       let named : HasName b (renamed_creator r.to one.task.creator) two.name = subst (λ (t : Task). HasName b t.creator two.name) like two.named in
       let name : two.name ≡ one.name = name_one b (renamed_creator r.to one.task.creator) two.name one.name named (name_too r a b alike one.task.creator one.name one.named) in
-      two.is ∙ ((λ i. spilled_as (name i) (descriptor_of (like i))) ∙ sym one.is)
+      two.spilled_is ∙ ((λ i. spilled_as (name i) (descriptor_of (like i))) ∙ sym one.spilled_is)
 
   all_same : (ids : List ℕ) (ss ss' : List Spilled) → AllZip (IsSpilledAs a) ids ss → AllZip (IsSpilledAs b) (map r.to ids) ss' → ss' ≡ ss
   all_same [] [] [] one two = refl
@@ -86,16 +87,16 @@ module _ (r : Renaming) (a b : View) (alike : AreAlike r a b) where
             (subst (λ s. IsAlikeAt r.to (task_at a k) s) (sym (two.others (r.to k) (λ has. (let w = was_in r.to (r.to k) one.ids (subst (In (r.to k)) ids (has_in two.ids (r.to k) has)) in
             none (subst (λ j. In j one.ids) (sym (one_to r k w.0 w.2)) w.1))))) (alike.tasks k))
       ] in
-      let blocks : b'.blocks ≡ a'.blocks = two.blocks ∙ ((λ i. slice_set (ap (λ v. v.blocks) alike.rest i) tile (all_pushed (block_too r a b alike tile i) (moved i))) ∙ sym one.blocks) in
+      let blocks : b'.blocks ≡ a'.blocks = two.blocks ∙ ((λ i. slice_set (ap (λ v. v.blocks) alike.frame i) tile (after_pushes (block_too r a b alike tile i) (moved i))) ∙ sym one.blocks) in
       record {
         tasks = tasks;
-        queues = two.queues ∙ (ap (map (queue_after (waiting b'))) alike.queues
-            ∙ (map_same (queue_after (waiting b')) (map r.to) (map r.to) (queue_after (waiting a')) (left_mapped r.to (waiting a') (waiting b') (λ k. waiting_same r.to (task_at a' k) (task_at b' (r.to k)) (tasks k))) a.queues
+        queues = two.queues ∙ (ap (map (queue_after (room_tasks b'))) alike.queues
+            ∙ (map_same (queue_after (room_tasks b')) (map r.to) (map r.to) (queue_after (room_tasks a')) (left_mapped r.to (room_tasks a') (room_tasks b') (λ k. waiting_same r.to (task_at a' k) (task_at b' (r.to k)) (tasks k))) a.queues
             ∙ ap (map (map r.to)) (sym one.queues)));
-        finished = ap (λ v. v.finished) two.rest ∙ (alike.finished ∙ ap (λ v. map (map r.to) v.finished) (sym one.rest));
-        cores = ap (λ v. v.cores) two.rest ∙ (alike.cores ∙ ap (λ v. map (map (option_map r.to)) v.cores) (sym one.rest));
-        rest = two.rest ∙ (ap {A = View} (λ v. record v { tasks = b'.tasks; queues = b'.queues; blocks = b'.blocks }) alike.rest
+        finished = ap (λ v. v.finished) two.frame ∙ (alike.finished ∙ ap (λ v. map (map r.to) v.finished) (sym one.frame));
+        cores = ap (λ v. v.cores) two.frame ∙ (alike.cores ∙ ap (λ v. map (map (option_map r.to)) v.cores) (sym one.frame));
+        frame = two.frame ∙ (ap {A = View} (λ v. record v { tasks = b'.tasks; queues = b'.queues; blocks = b'.blocks }) alike.frame
             ∙ (ap {A = List (List Spilled)} (λ bs. record a { tasks = b'.tasks; queues = b'.queues; finished = b.finished; cores = b.cores; blocks = bs }) blocks
-            ∙ (ap {A = View} (λ v. record v { tasks = b'.tasks; queues = b'.queues; finished = b.finished; cores = b.cores }) (sym one.rest)
-            ∙ ap {A = View} (λ v. record a' { tasks = b'.tasks; queues = b'.queues; finished = v.finished; cores = v.cores }) (sym two.rest))));
+            ∙ (ap {A = View} (λ v. record v { tasks = b'.tasks; queues = b'.queues; finished = b.finished; cores = b.cores }) (sym one.frame)
+            ∙ ap {A = View} (λ v. record a' { tasks = b'.tasks; queues = b'.queues; finished = v.finished; cores = v.cores }) (sym two.frame))));
       }

@@ -10,7 +10,7 @@ use Rattle.fractal_vt.specs.Keys.{key_cmp}
 use Rattle.fractal_vt.specs.Least.{IsFirstLeast}
 use Rattle.fractal_vt.proofs.Proved.{key_cmp_total}
 use Rattle.rv_core.specs.LegValue.{LegValue}
-use Rattle.spill_store.specs.Entries.{Entry as Spilled, open_key, IsLeastEntry, TakesLeast}
+use Rattle.spill_store.specs.SpilledTasks.{Spilled, open_key, IsLeastInBlock, TakesLeast}
 use Rattle.task_desc.specs.declared.desc.Name.{Name}
 use Rattle.task_desc.specs.declared.desc.Spawn.{Spawn}
 use Rattle.spec_state.specs.declared.task.Creator.{Creator}
@@ -18,11 +18,11 @@ use Rattle.spec_state.specs.declared.task.Creator.TheVariants.{Committed, Live}
 use Rattle.spec_state.specs.declared.task.Task.{Task}
 use Rattle.spec_state.specs.View.{View, task_at, queue_at, block_at, queued_last, ChangesTask}
 use Rattle.spec_state.specs.Tasks.{Descriptor, idle_task, spilled_descriptor, child_descriptor}
-use Rattle.spec_state.specs.Changes.{Enqueues, passed}
+use Rattle.spec_state.specs.Changes.{Enqueues, task_past_leg}
 use Rattle.spec_state.specs.Least.{IsHeir, HasName}
 use Rattle.spec_state.specs.Room.{Splits}
 use Rattle.spec_law.proofs.Tasks.Places.{get_contains}
-use Rattle.outcome_law.specs.Alike.{Renaming, turned, renamed_creator, IsAlikeTask, IsAlikeAt, AreAlike}
+use Rattle.outcome_law.specs.Alike.{Renaming, inverse_of, renamed_creator, IsAlikeTask, IsAlikeAt, AreAlike}
 use Rattle.outcome_law.proofs.Alike.{Partner, partner, none_there, alike_turned}
 use Rattle.outcome_law.proofs.Aborts.{one_to}
 use Rattle.outcome_law.proofs.Anew.{with_new, named_so, HoldsTasks, alike_anew, keeps_name}
@@ -73,7 +73,7 @@ creator_one view (Live task index) (Live other index') name one two =
 
 -- an idle task, and the one that its creator makes under the other name
 pub idle_alike : (to : ℕ → ℕ) (version : ℕ) (d : Descriptor) (c : Creator) (tile : ℕ) → IsAlikeTask to (idle_task version d c tile) (idle_task version d (renamed_creator to c) tile)
-idle_alike to version d c tile = record { is = refl; touched = λ line. refl; written = λ line. refl }
+idle_alike to version d c tile = record { other_is = refl; touched = λ line. refl; written = λ line. refl }
 
 -- there is a renaming under which the views are alike
 abbrev pub AlikeSomehow : View → View → Type 0
@@ -86,30 +86,30 @@ module _ (r : Renaming) (a b : View) (alike : AreAlike r a b) (holds : HoldsTask
       let s = with_new r one.id two.id in
       let now = alike_anew r a b alike holds one.id two.id one.vacant two.vacant in
       let block : block_at b tile ≡ block_at a tile = block_too r a b alike tile in
-      let first : IsLeastEntry (block_at a tile) two.least.place two.s = subst (λ es. IsLeastEntry es two.least.place two.s) block two.least.least in
+      let first : IsLeastInBlock (block_at a tile) two.least.place two.spilled = subst (λ es. IsLeastInBlock es two.least.place two.spilled) block two.least.least in
       let place : two.least.place ≡ one.least.place = first_least_one (map open_key (block_at a tile)) two.least.place one.least.place first.least one.least.least.least in
-      let entries : Some two.s ≡ Some one.s = sym first.there ∙ (ap (slice_get (block_at a tile)) place ∙ one.least.least.there) in
-      let entry : two.s ≡ one.s = cc in
+      let entries : Some two.spilled ≡ Some one.spilled = sym first.there ∙ (ap (slice_get (block_at a tile)) place ∙ one.least.least.there) in
+      let entry : two.spilled ≡ one.spilled = cc in
       let blocks : two.block ≡ one.block = two.least.others ∙ ((λ i. remove (block i) (place i)) ∙ sym one.least.others) in
-      let creator : two.creator ≡ renamed_creator s.to one.creator = creator_one b two.creator (renamed_creator s.to one.creator) two.s.desc.name two.named
-      (subst (λ (e : Spilled). HasName b (renamed_creator s.to one.creator) e.desc.name) (sym entry) (name_too s a b now one.creator one.s.desc.name one.named)) in
-      let task : idle_task b.version (spilled_descriptor two.s) two.creator tile ≡ idle_task a.version (spilled_descriptor one.s) (renamed_creator s.to one.creator) tile =
+      let creator : two.creator ≡ renamed_creator s.to one.creator = creator_one b two.creator (renamed_creator s.to one.creator) two.spilled.desc.name two.named
+      (subst (λ (e : Spilled). HasName b (renamed_creator s.to one.creator) e.desc.name) (sym entry) (name_too s a b now one.creator one.spilled.desc.name one.named)) in
+      let task : idle_task b.version (spilled_descriptor two.spilled) two.creator tile ≡ idle_task a.version (spilled_descriptor one.spilled) (renamed_creator s.to one.creator) tile =
       (λ i. idle_task (version_same s a b now i) (spilled_descriptor (entry i)) (creator i) tile) in
-      let changes : ChangesTask b b' (s.to one.id) (Some (idle_task a.version (spilled_descriptor one.s) (renamed_creator s.to one.creator) tile)) =
-      subst (λ k. ChangesTask b b' k (Some (idle_task a.version (spilled_descriptor one.s) (renamed_creator s.to one.creator) tile))) (sym (named_so r one.id two.id))
+      let changes : ChangesTask b b' (s.to one.id) (Some (idle_task a.version (spilled_descriptor one.spilled) (renamed_creator s.to one.creator) tile)) =
+      subst (λ k. ChangesTask b b' k (Some (idle_task a.version (spilled_descriptor one.spilled) (renamed_creator s.to one.creator) tile))) (sym (named_so r one.id two.id))
       (subst (λ t. ChangesTask b b' two.id (Some t)) task two.changes) in
-      let all_blocks : b'.blocks ≡ a'.blocks = two.blocks ∙ ((λ i. slice_set (ap (λ v. v.blocks) alike.rest i) tile (blocks i)) ∙ sym one.blocks) in (
+      let all_blocks : b'.blocks ≡ a'.blocks = two.blocks ∙ ((λ i. slice_set (ap (λ v. v.blocks) alike.frame i) tile (blocks i)) ∙ sym one.blocks) in (
         s,
         record {
-          tasks = changed_alike s a b a' b' now one.id (Some (idle_task a.version (spilled_descriptor one.s) one.creator tile)) (Some (idle_task a.version (spilled_descriptor one.s) (renamed_creator s.to one.creator) tile))
-              (idle_alike s.to a.version (spilled_descriptor one.s) one.creator tile) one.changes changes;
+          tasks = changed_alike s a b a' b' now one.id (Some (idle_task a.version (spilled_descriptor one.spilled) one.creator tile)) (Some (idle_task a.version (spilled_descriptor one.spilled) (renamed_creator s.to one.creator) tile))
+              (idle_alike s.to a.version (spilled_descriptor one.spilled) one.creator tile) one.changes changes;
           queues = two.queues ∙ (ap (queued_last b tile) (sym (named_so r one.id two.id)) ∙ (ended_alike s a b now a.queues b.queues now.queues tile one.id ∙ ap (map (map s.to)) (sym one.queues)));
-          finished = ap (λ v. v.finished) two.rest ∙ (now.finished ∙ ap (λ v. map (map s.to) v.finished) (sym one.rest));
-          cores = ap (λ v. v.cores) two.rest ∙ (now.cores ∙ ap (λ v. map (map (option_map s.to)) v.cores) (sym one.rest));
-          rest = two.rest ∙ (ap {A = View} (λ v. record v { tasks = b'.tasks; queues = b'.queues; blocks = b'.blocks }) alike.rest
+          finished = ap (λ v. v.finished) two.frame ∙ (now.finished ∙ ap (λ v. map (map s.to) v.finished) (sym one.frame));
+          cores = ap (λ v. v.cores) two.frame ∙ (now.cores ∙ ap (λ v. map (map (option_map s.to)) v.cores) (sym one.frame));
+          frame = two.frame ∙ (ap {A = View} (λ v. record v { tasks = b'.tasks; queues = b'.queues; blocks = b'.blocks }) alike.frame
               ∙ (ap {A = List (List Spilled)} (λ bs. record a { tasks = b'.tasks; queues = b'.queues; finished = b.finished; cores = b.cores; blocks = bs }) all_blocks
-              ∙ (ap {A = View} (λ v. record v { tasks = b'.tasks; queues = b'.queues; finished = b.finished; cores = b.cores }) (sym one.rest)
-              ∙ ap {A = View} (λ v. record a' { tasks = b'.tasks; queues = b'.queues; finished = v.finished; cores = v.cores }) (sym two.rest))));
+              ∙ (ap {A = View} (λ v. record v { tasks = b'.tasks; queues = b'.queues; finished = b.finished; cores = b.cores }) (sym one.frame)
+              ∙ ap {A = View} (λ v. record a' { tasks = b'.tasks; queues = b'.queues; finished = v.finished; cores = v.cores }) (sym two.frame))));
         },
       )
 
@@ -124,17 +124,18 @@ module _ (r : Renaming) (a b : View) (alike : AreAlike r a b) (holds : HoldsTask
       let same : task' ≡ p.y = task_one b (r.to id) (s.to id) task' p.y (sym own) there' p.there in
       let like : IsAlikeTask s.to task task' = subst (λ t. IsAlikeTask s.to task t) (sym same) p.alike in
       let name : s.to one.child ≡ two.child = named_so r one.child two.child in
-      let passed_on : IsAlikeTask s.to (record (passed task leg) { spawns = task.spawns ++ spawn ∷ [] }) (record (passed task' leg) { spawns = task'.spawns ++ spawn ∷ [] }) = record {
-        is = (λ i. record (passed (like.is i) leg) { spawns = (like.is i).spawns ++ spawn ∷ [] });
+      let passed_on : IsAlikeTask s.to (record (task_past_leg task leg) { spawns = task.spawns ++ spawn ∷ [] }) (record (task_past_leg task' leg) { spawns = task'.spawns ++ spawn ∷ [] }) = record {
+        other_is =
+            (λ i. record (task_past_leg (like.other_is i) leg) { spawns = (like.other_is i).spawns ++ spawn ∷ [] });
         touched = λ line. like.touched line;
         written = λ line. like.written line;
       } in
       let child : idle_task b.version (child_descriptor task' spawn) (Live (record { 0 = r.to id }) (length task'.spawns)) tile
       ≡ idle_task a.version (child_descriptor task spawn) (Live (record { 0 = s.to id }) (length task.spawns)) tile =
-      (λ i. idle_task (version_same s a b now i) (child_descriptor (like.is i) spawn) (Live (record { 0 = sym own i }) (length (like.is i).spawns)) tile) in
+      (λ i. idle_task (version_same s a b now i) (child_descriptor (like.other_is i) spawn) (Live (record { 0 = sym own i }) (length (like.other_is i).spawns)) tile) in
       let tasks : (k : ℕ) → IsAlikeAt s.to (task_at a' k) (task_at b' (s.to k)) = λ k. elim (cases_eq k id) [
         | inl here ↦ subst (λ u. IsAlikeAt s.to u (task_at b' (s.to k))) (sym (ap (task_at a') here ∙ one.parent))
-            (subst (λ u. IsAlikeAt s.to (Some (record (passed task leg) { spawns = task.spawns ++ spawn ∷ [] })) u) (sym (ap (λ j. task_at b' (s.to j)) here ∙ (ap (task_at b') own ∙ two.parent))) passed_on)
+            (subst (λ u. IsAlikeAt s.to (Some (record (task_past_leg task leg) { spawns = task.spawns ++ spawn ∷ [] })) u) (sym (ap (λ j. task_at b' (s.to j)) here ∙ (ap (task_at b') own ∙ two.parent))) passed_on)
         | inr not_id ↦ elim (cases_eq k one.child) [
           | inl here ↦ subst (λ u. IsAlikeAt s.to u (task_at b' (s.to k))) (sym (ap (task_at a') here ∙ one.made))
               (subst (λ u. IsAlikeAt s.to (Some (idle_task a.version (child_descriptor task spawn) (Live (record { 0 = id }) (length task.spawns)) tile)) u)
@@ -148,10 +149,10 @@ module _ (r : Renaming) (a b : View) (alike : AreAlike r a b) (holds : HoldsTask
         record {
           tasks = tasks;
           queues = two.queues ∙ (ap (queued_last b tile) (sym name) ∙ (ended_alike s a b now a.queues b.queues now.queues tile one.child ∙ ap (map (map s.to)) (sym one.queues)));
-          finished = ap (λ v. v.finished) two.rest ∙ (now.finished ∙ ap (λ v. map (map s.to) v.finished) (sym one.rest));
-          cores = ap (λ v. v.cores) two.rest ∙ (now.cores ∙ ap (λ v. map (map (option_map s.to)) v.cores) (sym one.rest));
-          rest = two.rest ∙ (ap {A = View} (λ v. record v { tasks = b'.tasks; queues = b'.queues }) alike.rest
-              ∙ (ap {A = View} (λ v. record v { tasks = b'.tasks; queues = b'.queues; finished = b.finished; cores = b.cores }) (sym one.rest)
-              ∙ ap {A = View} (λ v. record a' { tasks = b'.tasks; queues = b'.queues; finished = v.finished; cores = v.cores }) (sym two.rest)));
+          finished = ap (λ v. v.finished) two.frame ∙ (now.finished ∙ ap (λ v. map (map s.to) v.finished) (sym one.frame));
+          cores = ap (λ v. v.cores) two.frame ∙ (now.cores ∙ ap (λ v. map (map (option_map s.to)) v.cores) (sym one.frame));
+          frame = two.frame ∙ (ap {A = View} (λ v. record v { tasks = b'.tasks; queues = b'.queues }) alike.frame
+              ∙ (ap {A = View} (λ v. record v { tasks = b'.tasks; queues = b'.queues; finished = b.finished; cores = b.cores }) (sym one.frame)
+              ∙ ap {A = View} (λ v. record a' { tasks = b'.tasks; queues = b'.queues; finished = v.finished; cores = v.cores }) (sym two.frame)));
         },
       )

@@ -8,20 +8,20 @@ use Rattle.guest_image.specs.declared.image.Kind.{Kind}
 use Rattle.guest_image.specs.ImageValue.{ImageValue}
 use Rattle.place_policy.specs.Serving.{first_placed}
 use Rattle.spec_state.specs.declared.settings.Settings.{Settings}
-use Rattle.turn_law.specs.Room.{queue_after}
+use Rattle.task_law.specs.Room.{queue_after}
 use Rattle.spec_state.specs.declared.task.Creator.TheVariants.{Committed, Live}
 use Rattle.spec_state.specs.declared.task.Task.{Task}
 use Rattle.spec_state.specs.View.{View, task_at, queue_at, finished_at, cores_at, queued_last, ChangesTask}
 use Rattle.spec_state.specs.Tasks.{idle_task}
-use Rattle.spec_state.specs.Groups.{waiting, waiting_task, live_creator}
+use Rattle.spec_state.specs.Groups.{room_tasks, room_task, live_creator}
 use Rattle.spec_state.specs.Opening.{IsEmptyView}
-use Rattle.spec_state.specs.Room.{HasFreeEntry, IsFull, Coalesces}
+use Rattle.spec_state.specs.Room.{QueueHasRoom, IsFull, Coalesces}
 use Rattle.spec_law.proofs.Tasks.Filtered.{queue_filtered, filter_is, filter_was}
-use Rattle.book_event.specs.Book.{BookView, picked}
-use Rattle.book_event.specs.Opening.{IsOpening, Places, PlacesAll, opened, image_descriptor}
-use Rattle.book_law.proofs.Openings.Queued.{kept_at, last_was}
-use Rattle.outcome_law.specs.Alike.{Renaming, turned, IsAlikeTask, IsAlikeAt, AreAlike, AreAlikeBooks}
-use Rattle.book_law.proofs.Openings.Opened.{opening_is_sound}
+use Rattle.event_def.specs.Book.{BookView, picked_tile}
+use Rattle.event_def.specs.Opening.{IsOpening, PlacesImageTask, PlacesAll, opening_book, image_descriptor}
+use Rattle.event_law.proofs.Openings.Queued.{kept_at, last_was}
+use Rattle.outcome_law.specs.Alike.{Renaming, inverse_of, IsAlikeTask, IsAlikeAt, AreAlike, AreAlikeBooks}
+use Rattle.event_law.proofs.Openings.Opened.{opening_is_sound}
 use Rattle.outcome_law.specs.Laws.{AreSameBooks, OpeningIsOne, ScriptIsOne}
 use Rattle.outcome_law.proofs.Closes.{close_is_one}
 use Rattle.outcome_law.proofs.Leasts.{end_is_alike}
@@ -72,9 +72,9 @@ not_in_none ids k none has = absurd (let low : has.0 < length ids = has.1 in let
 module _ (image : ImageValue) (settings : Settings) where
   empty_fresh : (view : View) → IsEmptyView image settings view → IsFresh view
   empty_fresh view is = record {
-    queued = λ tile k has. absurd (not_in_none (queue_at view tile) k (ap (λ v. queue_at v tile) is.rest ∙ none_stands settings.tiles tile) has);
-    ended = λ tile k has. not_in_none (finished_at view tile) k (ap (λ v. finished_at v tile) is.rest ∙ none_stands settings.tiles tile) has;
-    held = λ tile core k at. none_held settings.tiles settings.cores tile core k (sym (ap (λ v. slice_get (cores_at v tile) core) is.rest) ∙ at);
+    queued = λ tile k has. absurd (not_in_none (queue_at view tile) k (ap (λ v. queue_at v tile) is.frame ∙ none_stands settings.tiles tile) has);
+    ended = λ tile k has. not_in_none (finished_at view tile) k (ap (λ v. finished_at v tile) is.frame ∙ none_stands settings.tiles tile) has;
+    held = λ tile core k at. none_held settings.tiles settings.cores tile core k (sym (ap (λ v. slice_get (cores_at v tile) core) is.frame) ∙ at);
     rooted = λ k x there. absurd (let clash : None ≡ Some x = sym (is.none k) ∙ there in cc (clash));
   }
 
@@ -92,26 +92,26 @@ module _ (image : ImageValue) (settings : Settings) (a b : View) (one : IsEmptyV
   empty_alike : (r : Renaming) → r.to ≡ (λ k. k) → AreAlike r a b
   empty_alike r same = record {
     tasks = λ k. subst (λ (to : ℕ → ℕ). IsAlikeAt to (task_at a k) (task_at b (to k))) (sym same) (none_alike (task_at a k) (task_at b k) (one.none k) (two.none k));
-    queues = ap (λ v. v.queues) two.rest ∙ (sym (mapped_none (map r.to) settings.tiles [] refl) ∙ ap (λ v. map (map r.to) v.queues) (sym one.rest));
-    finished = ap (λ v. v.finished) two.rest ∙ (sym (mapped_none (map r.to) settings.tiles [] refl) ∙ ap (λ v. map (map r.to) v.finished) (sym one.rest));
-    cores = ap (λ v. v.cores) two.rest ∙ (sym (mapped_none (map (option_map r.to)) settings.tiles (replicate settings.cores None) (mapped_none (option_map r.to) settings.cores None refl)) ∙ ap (λ v. map (map (option_map r.to)) v.cores) (sym one.rest));
-    rest = two.rest ∙ (ap {A = View} (λ v. record v { tasks = b.tasks }) (sym one.rest) ∙ (ap {A = View} (λ v. record a { tasks = b.tasks; queues = v.queues; finished = v.finished; cores = v.cores }) one.rest ∙ ap {A = View} (λ v. record a { tasks = b.tasks; queues = v.queues; finished = v.finished; cores = v.cores }) (sym two.rest)));
+    queues = ap (λ v. v.queues) two.frame ∙ (sym (mapped_none (map r.to) settings.tiles [] refl) ∙ ap (λ v. map (map r.to) v.queues) (sym one.frame));
+    finished = ap (λ v. v.finished) two.frame ∙ (sym (mapped_none (map r.to) settings.tiles [] refl) ∙ ap (λ v. map (map r.to) v.finished) (sym one.frame));
+    cores = ap (λ v. v.cores) two.frame ∙ (sym (mapped_none (map (option_map r.to)) settings.tiles (replicate settings.cores None) (mapped_none (option_map r.to) settings.cores None refl)) ∙ ap (λ v. map (map (option_map r.to)) v.cores) (sym one.frame));
+    frame = two.frame ∙ (ap {A = View} (λ v. record v { tasks = b.tasks }) (sym one.frame) ∙ (ap {A = View} (λ v. record a { tasks = b.tasks; queues = v.queues; finished = v.finished; cores = v.cores }) one.frame ∙ ap {A = View} (λ v. record a { tasks = b.tasks; queues = v.queues; finished = v.finished; cores = v.cores }) (sym two.frame)));
   }
 
 -- ---- placing
 
-is_there : (s : Option Task) → is_some (option_map waiting_task s) ≡ true → (x : Task) × (s ≡ Some x)
+is_there : (s : Option Task) → is_some (option_map room_task s) ≡ true → (x : Task) × (s ≡ Some x)
 is_there None some = absurd (cc (some))
 is_there (Some x) some = (x, refl)
 
 coalesced_fresh : (tile : ℕ) (old new : View) → IsFresh old → Coalesces tile old new → IsFresh new
 coalesced_fresh tile old new is c = record {
   queued = λ t k has.
-      (let at : queue_at new t ≡ queue_after (waiting new) (queue_at old t) = ap (λ (qs : List (List ℕ)). slice_index_or qs t []) c.queues ∙ kept_at (waiting new) old.queues t in
-      let left = subst (λ (q : List ℕ). Contains q k) (at ∙ queue_filtered (waiting new) (queue_at old t)) has in
-      is_there (task_at new k) (filter_is (λ j. is_some (waiting new j)) (queue_at old t) k left));
-  ended = λ t k has. is.ended t k (subst (λ v. Contains (finished_at v t) k) c.rest has);
-  held = λ t core k at. is.held t core k (sym (ap (λ v. slice_get (cores_at v t) core) c.rest) ∙ at);
+      (let at : queue_at new t ≡ queue_after (room_tasks new) (queue_at old t) = ap (λ (qs : List (List ℕ)). slice_index_or qs t []) c.queues ∙ kept_at (room_tasks new) old.queues t in
+      let left = subst (λ (q : List ℕ). Contains q k) (at ∙ queue_filtered (room_tasks new) (queue_at old t)) has in
+      is_there (task_at new k) (filter_is (λ j. is_some (room_tasks new j)) (queue_at old t) k left));
+  ended = λ t k has. is.ended t k (subst (λ v. Contains (finished_at v t) k) c.frame has);
+  held = λ t core k at. is.held t core k (sym (ap (λ v. slice_get (cores_at v t) core) c.frame) ∙ at);
   rooted = λ k x there. elim (in_or_not k c.ids) [
     | inl moved ↦ absurd (let clash : None ≡ Some x = sym (c.gone k (in_has c.ids k moved)) ∙ there in cc (clash))
     | inr stays ↦ is.rooted k x (sym (c.others k (λ has. stays (has_in c.ids k has))) ∙ there)
@@ -119,52 +119,52 @@ coalesced_fresh tile old new is c = record {
 }
 
 module _ (kind : Kind) (index : ℕ) (task : ImageTask) where
-  mid_fresh : (old new : BookView) → IsFresh old.view → (p : Places kind index task old new) → IsFresh p.mid
+  mid_fresh : (old new : BookView) → IsFresh old.view → (p : PlacesImageTask kind index task old new) → IsFresh p.mid
   mid_fresh old new is p = elim p.room [
     | inl free ↦ subst IsFresh (sym free.1) is
-    | inr full ↦ coalesced_fresh (picked old index) old.view p.mid is full.1
+    | inr full ↦ coalesced_fresh (picked_tile old index) old.view p.mid is full.1
   ]
 
-  placed_fresh : (old new : BookView) → IsFresh old.view → Places kind index task old new → IsFresh new.view
+  placed_fresh : (old new : BookView) → IsFresh old.view → PlacesImageTask kind index task old new → IsFresh new.view
   placed_fresh old new is p =
       let mid = mid_fresh old new is p in
       record {
         queued = λ t k has. elim (cases_eq k p.id) [
-          | inl here ↦ subst (IsThere new.view) (sym here) (idle_task p.mid.version (image_descriptor kind index task) (Committed 0 index) (picked old index), p.changes.changed)
-          | inr other ↦ elim (last_was p.mid.queues (picked old index) p.id t k (subst (λ (qs : List (List ℕ)). Contains (slice_index_or qs t []) k) p.queues has)) [
+          | inl here ↦ subst (IsThere new.view) (sym here) (idle_task p.mid.version (image_descriptor kind index task) (Committed 0 index) (picked_tile old index), p.changes.changed)
+          | inr other ↦ elim (last_was p.mid.queues (picked_tile old index) p.id t k (subst (λ (qs : List (List ℕ)). Contains (slice_index_or qs t []) k) p.queues has)) [
             | inl was ↦ (let there = mid.queued t k was in (there.0, p.changes.others k other ∙ there.1))
             | inr last ↦ absurd (other last.1)
           ]
         ];
-        ended = λ t k has. mid.ended t k (subst (λ v. Contains (finished_at v t) k) p.rest has);
-        held = λ t core k at. mid.held t core k (sym (ap (λ v. slice_get (cores_at v t) core) p.rest) ∙ at);
+        ended = λ t k has. mid.ended t k (subst (λ v. Contains (finished_at v t) k) p.frame has);
+        held = λ t core k at. mid.held t core k (sym (ap (λ v. slice_get (cores_at v t) core) p.frame) ∙ at);
         rooted = λ k x there. elim (cases_eq k p.id) [
-          | inl here ↦ (let both : Some (idle_task p.mid.version (image_descriptor kind index task) (Committed 0 index) (picked old index)) ≡ Some x = sym p.changes.changed ∙ (ap (task_at new.view) (sym here) ∙ there) in
-              let same : idle_task p.mid.version (image_descriptor kind index task) (Committed 0 index) (picked old index) ≡ x = cc in
+          | inl here ↦ (let both : Some (idle_task p.mid.version (image_descriptor kind index task) (Committed 0 index) (picked_tile old index)) ≡ Some x = sym p.changes.changed ∙ (ap (task_at new.view) (sym here) ∙ there) in
+              let same : idle_task p.mid.version (image_descriptor kind index task) (Committed 0 index) (picked_tile old index) ≡ x = cc in
               sym (ap (λ (t : Task). live_creator t.creator) same))
           | inr other ↦ mid.rooted k x (sym (p.changes.others k other) ∙ there)
         ];
       }
 
-  room_alike : (r : Renaming) (a b mid mid' : View) (tile : ℕ) → AreAlike r a b → (HasFreeEntry a tile × (mid ≡ a)) ⊎ (IsFull a tile × Coalesces tile a mid)
-      → (HasFreeEntry b tile × (mid' ≡ b)) ⊎ (IsFull b tile × Coalesces tile b mid') → AreAlike r mid mid'
+  room_alike : (r : Renaming) (a b mid mid' : View) (tile : ℕ) → AreAlike r a b → (QueueHasRoom a tile × (mid ≡ a)) ⊎ (IsFull a tile × Coalesces tile a mid)
+      → (QueueHasRoom b tile × (mid' ≡ b)) ⊎ (IsFull b tile × Coalesces tile b mid') → AreAlike r mid mid'
   room_alike r a b mid mid' tile alike (inl free) (inl free') = subst (λ x. AreAlike r x mid') (sym free.1) (subst (λ y. AreAlike r a y) (sym free'.1) alike)
   room_alike r a b mid mid' tile alike (inl free) (inr full) = absurd (let low = free_entry_too r a b alike tile free.0 in let high = full.0 in omega arith)
   room_alike r a b mid mid' tile alike (inr full) (inl free) = absurd (let high = full_too r a b alike tile full.0 in let low = free.0 in omega arith)
   room_alike r a b mid mid' tile alike (inr full) (inr full') = coalesces_alike r a b alike tile mid mid' full.1 full'.1
 
-  placed_one : (r : Renaming) (old other new new' : BookView) → AreAlikeBooks r old other → IsFresh old.view → Places kind index task old new → Places kind index task other new' → AreSameBooks new new'
+  placed_one : (r : Renaming) (old other new new' : BookView) → AreAlikeBooks r old other → IsFresh old.view → PlacesImageTask kind index task old new → PlacesImageTask kind index task other new' → AreSameBooks new new'
   placed_one r old other new new' alike fresh one two =
-      let tile = picked old index in
+      let tile = picked_tile old index in
       let same = picked_alike r old other alike index in
-      let room' = subst (λ (t : ℕ). (HasFreeEntry other.view t × (two.mid ≡ other.view)) ⊎ (IsFull other.view t × Coalesces t other.view two.mid)) same two.room in
+      let room' = subst (λ (t : ℕ). (QueueHasRoom other.view t × (two.mid ≡ other.view)) ⊎ (IsFull other.view t × Coalesces t other.view two.mid)) same two.room in
       let mids = room_alike r old.view other.view one.mid two.mid tile alike.view one.room room' in
       let holds = fresh_holds one.mid (mid_fresh old new fresh one) in
       let s = with_new r one.id two.id in
       let now = alike_anew r one.mid two.mid mids holds one.id two.id one.vacant two.vacant in
       let name : s.to one.id ≡ two.id = named_so r one.id two.id in
       let placed : Task = idle_task one.mid.version (image_descriptor kind index task) (Committed 0 index) tile in
-      let tasks : idle_task two.mid.version (image_descriptor kind index task) (Committed 0 index) (picked other index) ≡ placed = λ i. idle_task (version_same s one.mid two.mid now i) (image_descriptor kind index task) (Committed 0 index) (same i) in
+      let tasks : idle_task two.mid.version (image_descriptor kind index task) (Committed 0 index) (picked_tile other index) ≡ placed = λ i. idle_task (version_same s one.mid two.mid now i) (image_descriptor kind index task) (Committed 0 index) (same i) in
       let changes : ChangesTask two.mid new'.view (s.to one.id) (Some placed) = subst (λ k. ChangesTask two.mid new'.view k (Some placed)) (sym name) (subst (λ t. ChangesTask two.mid new'.view two.id (Some t)) tasks two.changes) in
       let queues : new'.view.queues ≡ queued_last two.mid tile (s.to one.id) = two.queues ∙ (λ i. queued_last two.mid (same i) (sym name i)) in (
         s,
@@ -172,11 +172,11 @@ module _ (kind : Kind) (index : ℕ) (task : ImageTask) where
           view = record {
             tasks = changed_alike s one.mid two.mid new.view new'.view now one.id (Some placed) (Some placed) (idle_alike s.to one.mid.version (image_descriptor kind index task) (Committed 0 index) tile) one.changes changes;
             queues = queues ∙ (ended_alike s one.mid two.mid now one.mid.queues two.mid.queues now.queues tile one.id ∙ ap (map (map s.to)) (sym one.queues));
-            finished = ap (λ v. v.finished) two.rest ∙ (now.finished ∙ ap (λ v. map (map s.to) v.finished) (sym one.rest));
-            cores = ap (λ v. v.cores) two.rest ∙ (now.cores ∙ ap (λ v. map (map (option_map s.to)) v.cores) (sym one.rest));
-            rest = two.rest ∙ (ap {A = View} (λ v. record v { tasks = new'.view.tasks; queues = new'.view.queues }) mids.rest
-                ∙ (ap {A = View} (λ v. record v { tasks = new'.view.tasks; queues = new'.view.queues; finished = two.mid.finished; cores = two.mid.cores }) (sym one.rest)
-                ∙ ap {A = View} (λ v. record new.view { tasks = new'.view.tasks; queues = new'.view.queues; finished = v.finished; cores = v.cores }) (sym two.rest)));
+            finished = ap (λ v. v.finished) two.frame ∙ (now.finished ∙ ap (λ v. map (map s.to) v.finished) (sym one.frame));
+            cores = ap (λ v. v.cores) two.frame ∙ (now.cores ∙ ap (λ v. map (map (option_map s.to)) v.cores) (sym one.frame));
+            frame = two.frame ∙ (ap {A = View} (λ v. record v { tasks = new'.view.tasks; queues = new'.view.queues }) mids.frame
+                ∙ (ap {A = View} (λ v. record v { tasks = new'.view.tasks; queues = new'.view.queues; finished = two.mid.finished; cores = two.mid.cores }) (sym one.frame)
+                ∙ ap {A = View} (λ v. record new.view { tasks = new'.view.tasks; queues = new'.view.queues; finished = v.finished; cores = v.cores }) (sym two.frame)));
           };
           placers = two.told ∙ ((λ i. first_placed (alike.placers i) (same i)) ∙ sym one.told);
           taps = ap (λ (v : BookView). v.taps) two.same ∙ (alike.taps ∙ sym (ap (λ (v : BookView). v.taps) one.same));
@@ -194,7 +194,7 @@ pub opening_is_one : OpeningIsOne
 unfolding same_renaming
 opening_is_one image settings placers taps book other one two =
     let empty = empty_alike image settings one.empty two.empty one.is_empty two.is_empty same_renaming refl in
-    all_placed image.kind (enumerate_from 0 image.tasks) (opened one.empty placers taps) (opened two.empty placers taps) book other
+    all_placed image.kind (enumerate_from 0 image.tasks) (opening_book one.empty placers taps) (opening_book two.empty placers taps) book other
     (same_renaming, record { view = empty; placers = refl; taps = refl; steps = refl; stopped = refl })
     (empty_fresh image settings one.empty one.is_empty) one.placed two.placed
 

@@ -3,21 +3,21 @@ use Rattle.std.proofs.Common.{◌≡◌, ◌≢◌, ◌≤◌, ◌<◌, ◌+◌,
 use Rattle.guest_image.specs.ImageValue.{ImageValue}
 use Rattle.trace_tap.specs.declared.record.Record.{Record}
 use Rattle.trace_tap.specs.declared.record.Deed.TheVariants as deed
-use Rattle.trace_tap.specs.Reading.{noted}
+use Rattle.trace_tap.specs.TapValue.{after_note}
 use Rattle.spec_state.specs.declared.task.Task.{Task}
 use Rattle.spec_state.specs.View.{View, task_at}
 use Rattle.spec_state.specs.Changes.{TakesLeg, request_of}
 use Rattle.spec_law.specs.Sound.{Sound}
-use Rattle.book_event.specs.declared.event.Event.{Event}
-use Rattle.book_event.specs.declared.event.Event.TheVariants as event
-use Rattle.book_event.specs.declared.event.Reply.{Reply}
-use Rattle.book_event.specs.declared.event.Reply.TheVariants as reply
-use Rattle.book_event.specs.Book.{BookView, counted}
-use Rattle.book_event.specs.Causes.{IsRefused, IsGranted}
-use Rattle.book_event.specs.Happens.{Happens, IsMade, Refuses, IsUnchanged}
-use Rattle.book_event.specs.Trace.{IsRecord, record_of, deed_of, line_of}
-use Rattle.book_law.proofs.Replies.{reply_is_one, refusals_change_nothing}
-use Rattle.outcome_law.specs.Alike.{Renaming, turned, IsAlikeTask, AreAlike, AreAlikeBooks}
+use Rattle.event_def.specs.declared.event.Event.{Event}
+use Rattle.event_def.specs.declared.event.Event.TheVariants as event
+use Rattle.event_def.specs.declared.event.Reply.{Reply}
+use Rattle.event_def.specs.declared.event.Reply.TheVariants as reply
+use Rattle.event_def.specs.Book.{BookView, next_count}
+use Rattle.event_def.specs.Causes.{IsRefused, IsGranted}
+use Rattle.event_def.specs.Happens.{Happens, IsMade, Refuses, IsUnchanged}
+use Rattle.event_def.specs.Trace.{IsRecord, record_of, deed_of, line_of_request}
+use Rattle.event_law.proofs.Replies.{reply_is_one, refusals_change_nothing}
+use Rattle.outcome_law.specs.Alike.{Renaming, inverse_of, IsAlikeTask, AreAlike, AreAlikeBooks}
 use Rattle.outcome_law.specs.Laws.{AreSameBooks, IsSameOutcome, OutcomeIsOne}
 use Rattle.outcome_law.proofs.Alike.{alike_turned}
 use Rattle.outcome_law.proofs.Causes.{books_turned, refused_too}
@@ -35,12 +35,13 @@ module _ {N : Type 0} (image : ImageValue) (r : Renaming) (a b : View) (sound : 
   record_one (event.Step tile core leg) n m new new' seen seen' count commits one two =
       let same = takers image r a b sound sound' alike tile core leg one.0 two.0 one.1 two.1 one.2 two.2 in
       let request = request_same image r a b sound sound' alike one.1 two.1 same.like leg in
-      two.3 ∙ ((λ i. record { deed = deed_of (request i); tile = tile; line = line_of (settings_same r a b alike i).line (request i); aborted = count i; commits = commits i }) ∙ sym one.3)
+      two.3 ∙ ((λ i. record { deed = deed_of (request i); tile = tile; line = line_of_request (settings_same r a b alike i).line (request i); aborted = count i; commits = commits i }) ∙ sym one.3)
   record_one (event.Abort tile) n m new new' seen seen' count commits one two = two ∙ ((λ i. record { deed = deed.Abort; tile = tile; line = None; aborted = count i; commits = commits i }) ∙ sym one)
   record_one event.Commit n m new new' seen seen' count commits one two =
       let l = least_too r a b alike one.0 one.1 one.2 in
-      let task : two.1 ≡ l.y = task_one b two.0 (r.to one.0) two.1 l.y (least_one b two.0 (r.to one.0) two.1 l.y two.2 l.least) two.2.at.there l.least.at.there in
-      let tile : two.1.tile ≡ one.1.tile = ap (λ (t : Task). t.tile) task ∙ ap (λ (t : Task). t.tile) l.alike.is in
+      let task : two.1 ≡ l.y = task_one b two.0 (r.to one.0) two.1 l.y (least_one b two.0 (r.to one.0) two.1 l.y two.2 l.least) two.2.queued_at.there l.least.queued_at.there in
+      let tile : two.1.tile
+      ≡ one.1.tile = ap (λ (t : Task). t.tile) task ∙ ap (λ (t : Task). t.tile) l.alike.other_is in
       two.3 ∙ ((λ i. record { deed = deed.Commit; tile = tile i; line = None; aborted = count i; commits = commits i }) ∙ sym one.3)
   record_one (event.Coalesce tile) n m new new' seen seen' count commits one two = two ∙ ((λ i. record { deed = deed.Coalesce; tile = tile; line = None; aborted = count i; commits = commits i }) ∙ sym one)
   record_one (event.Split tile) n m new new' seen seen' count commits one two = two ∙ ((λ i. record { deed = deed.Split; tile = tile; line = None; aborted = count i; commits = commits i }) ∙ sym one)
@@ -51,7 +52,7 @@ module _ {N : Type 0} (image : ImageValue) (r : Renaming) (old other new other_n
   made_one : IsMade old event n new → IsMade other event m other_new → IsSameOutcome reply.Ok reply.Ok n m new other_new
   made_one one two =
       let made = makes_one image r old other sound sound' alike N event n m new.view other_new.view new.placers other_new.placers one.makes two.makes in
-      let commits : length other_new.view.history ≡ length new.view.history = ap (λ v. length v.history) made.alike.1.rest in
+      let commits : length other_new.view.history ≡ length new.view.history = ap (λ v. length v.history) made.alike.1.frame in
       let seen = record_one image r old.view other.view sound sound' alike.view event n m new.view other_new.view one.seen two.seen made.aborted commits one.is_record two.is_record in
       record {
         reply_is = refl;
@@ -61,8 +62,8 @@ module _ {N : Type 0} (image : ImageValue) (r : Renaming) (old other new other_n
           record {
             view = made.alike.1;
             placers = made.placers;
-            taps = two.noted_it ∙ ((λ i. map (noted (seen i)) (alike.taps i)) ∙ sym one.noted_it);
-            steps = two.steps ∙ (ap counted alike.steps ∙ sym one.steps);
+            taps = two.noted_it ∙ ((λ i. map (after_note (seen i)) (alike.taps i)) ∙ sym one.noted_it);
+            steps = two.steps ∙ (ap next_count alike.steps ∙ sym one.steps);
             stopped = two.stopped ∙ sym one.stopped;
           },
         );
@@ -113,7 +114,7 @@ module _ (N : Type 0) (image : ImageValue) (r : Renaming) (old other new other_n
   same_reply (inr refused) second =
       reply_is_one N other other_new other event answer' answer m 0 two (refusal_too r old other new event n alike answer refused has one) has' has
   same_reply (inl made) (inr refused) =
-      reply_is_one N old old new event answer' answer 0 n (refusal_too (turned r) other old other_new event m (books_turned r old other alike) answer' refused has' two) one has' has
+      reply_is_one N old old new event answer' answer 0 n (refusal_too (inverse_of r) other old other_new event m (books_turned r old other alike) answer' refused has' two) one has' has
 
   by_reply : (answer ≡ reply.Ok) ⊎ (answer ≢ reply.Ok) → answer' ≡ answer → IsSameOutcome answer answer' n m new other_new
   by_reply (inl made) same =

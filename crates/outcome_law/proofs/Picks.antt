@@ -33,8 +33,8 @@ not_both_ways view tile k j x y in_k there in_j there' before behind =
 pub least_idle_one : (view : View) (tile k j : ℕ) (x y : Task) → IsLeastIdle view tile k x → IsLeastIdle view tile j y → k ≡ j
 least_idle_one view tile k j x y one two = elim (cases_eq k j) [
   | inl same ↦ same
-  | inr other ↦ absurd (not_both_ways view tile k j x y one.this.queued one.this.there two.this.queued two.this.there
-      (one.least j y (λ e. other (sym e)) two.this) (two.least k x other one.this))
+  | inr other ↦ absurd (not_both_ways view tile k j x y one.idle.queued one.idle.there two.idle.queued two.idle.there
+      (one.least j y (λ e. other (sym e)) two.idle) (two.least k x other one.idle))
 ]
 
 pub lowest_free_one : (view : View) (tile p q : ℕ) → IsLowestFree view tile p → IsLowestFree view tile q → p ≡ q
@@ -49,10 +49,10 @@ pub latest_one : (view : View) (heir : Option ℕ) → SoundOrder view heir → 
     → (k j : ℕ) (x y : Task) → IsLatest kind k x → IsLatest kind j y → k ≡ j
 latest_one view heir order kind runs k j x y one two = elim (cases_eq k j) [
   | inl same ↦ same
-  | inr other ↦ (let a = runs k x one.this in
-      let b = runs j y two.this in
+  | inr other ↦ (let a = runs k x one.of_kind in
+      let b = runs j y two.of_kind in
       absurd (no_tie view heir order k j x y a.0 b.0 a.1 (λ e. other (sym e))
-      (not_greater_ties (key_cmp x.key y.key) (key_cmp y.key x.key) (key_cmp_total.antisymm x.key y.key) (two.latest k x one.this) (one.latest j y two.this))))
+      (not_greater_ties (key_cmp x.key y.key) (key_cmp y.key x.key) (key_cmp_total.antisymm x.key y.key) (two.latest k x one.of_kind) (one.latest j y two.of_kind))))
 ]
 
 -- a task of an id is one

@@ -10,7 +10,7 @@ use Rattle.spec_state.specs.Tasks.{is_dispatched}
 use Rattle.spec_state.specs.Filters.{has_touched, has_written}
 use Rattle.spec_state.specs.Least.{IsFirm, Precedes}
 use Rattle.spec_state.specs.Queries.{IsQueued, IsIdle, IsLeastIdle, IsIdleFirm, IsDispatched, IsOnCore, IsRunning, IsFinished, IsLatest, IsFreeCore, IsLowestFree, IsLater, HasLine, Conflicts}
-use Rattle.outcome_law.specs.Alike.{Renaming, turned, renamed_creator, IsAlikeTask, IsAlikeAt, AreAlike}
+use Rattle.outcome_law.specs.Alike.{Renaming, inverse_of, renamed_creator, IsAlikeTask, IsAlikeAt, AreAlike}
 use Rattle.outcome_law.proofs.Alike.{Partner, partner, none_there, alike_turned}
 use Rattle.outcome_law.proofs.Leasts.{index_mapped, queue_too, finished_too, cores_too, firm_too, precedes_too}
 use Rattle.outcome_law.proofs.Lists.{contains_mapped}
@@ -22,10 +22,10 @@ pub record Too (to : ℕ → ℕ) (kind : ℕ → Task → Type 0) (k : ℕ) (x 
   pub alike : IsAlikeTask to x y
 
 key_same : (to : ℕ → ℕ) (x y : Task) → IsAlikeTask to x y → y.key ≡ x.key
-key_same to x y alike = ap (λ t. t.key) alike.is
+key_same to x y alike = ap (λ t. t.key) alike.other_is
 
 pub dispatched_same : (to : ℕ → ℕ) (x y : Task) → IsAlikeTask to x y → is_dispatched y ≡ is_dispatched x
-dispatched_same to x y alike = ap is_dispatched alike.is
+dispatched_same to x y alike = ap is_dispatched alike.other_is
 
 module _ (r : Renaming) (a b : View) (alike : AreAlike r a b) where
   pub is_queued_too : (tile k : ℕ) → IsQueued a tile k → IsQueued b tile (r.to k)
@@ -34,12 +34,12 @@ module _ (r : Renaming) (a b : View) (alike : AreAlike r a b) where
   pub idle_too : (tile k : ℕ) (x : Task) → IsIdle a tile k x → Too r.to (IsIdle b tile) k x
   idle_too tile k x is =
       let p = partner r a b alike k x is.there in
-      record { y = p.y; is = record { queued = is_queued_too tile k is.queued; there = p.there; idle = ap (λ t. t.status) p.alike.is ∙ is.idle }; alike = p.alike }
+      record { y = p.y; is = record { queued = is_queued_too tile k is.queued; there = p.there; idle = ap (λ t. t.status) p.alike.other_is ∙ is.idle }; alike = p.alike }
 
   pub dispatched_too : (tile k : ℕ) (x : Task) → IsDispatched a tile k x → Too r.to (IsDispatched b tile) k x
   dispatched_too tile k x is =
       let p = partner r a b alike k x is.there in
-      record { y = p.y; is = record { queued = is_queued_too tile k is.queued; there = p.there; dispatched = ap is_dispatched p.alike.is ∙ is.dispatched }; alike = p.alike }
+      record { y = p.y; is = record { queued = is_queued_too tile k is.queued; there = p.there; dispatched = ap is_dispatched p.alike.other_is ∙ is.dispatched }; alike = p.alike }
 
   pub on_core_too : (tile core k : ℕ) (x : Task) → IsOnCore a tile core k x → Too r.to (IsOnCore b tile core) k x
   on_core_too tile core k x is =
@@ -56,7 +56,7 @@ module _ (r : Renaming) (a b : View) (alike : AreAlike r a b) where
   pub running_too : (tile core k : ℕ) (x : Task) → IsRunning a tile core k x → Too r.to (IsRunning b tile core) k x
   running_too tile core k x is =
       let o = on_core_too tile core k x is.on in
-      record { y = o.y; is = record { on = o.is; running = ap (λ t. t.status) o.alike.is ∙ is.running }; alike = o.alike }
+      record { y = o.y; is = record { on = o.is; running = ap (λ t. t.status) o.alike.other_is ∙ is.running }; alike = o.alike }
 
   pub is_finished_too : (tile k : ℕ) (x : Task) → IsFinished a tile k x → Too r.to (IsFinished b tile) k x
   is_finished_too tile k x is =
@@ -75,8 +75,8 @@ module _ (r : Renaming) (a b : View) (alike : AreAlike r a b) where
 
   pub idle_firm_too : (tile k : ℕ) (x : Task) → IsIdleFirm a tile k x → Too r.to (IsIdleFirm b tile) k x
   idle_firm_too tile k x is =
-      let i = idle_too tile k x is.this in
-      record { y = i.y; is = record { this = i.is; firm = firm_too r a b alike x i.y i.alike is.firm }; alike = i.alike }
+      let i = idle_too tile k x is.idle in
+      record { y = i.y; is = record { idle = i.is; firm = firm_too r a b alike x i.y i.alike is.firm }; alike = i.alike }
 
   pub later_too : (task task' : Task) → IsAlikeTask r.to task task' → (k : ℕ) (x : Task) → IsLater a task k x → Too r.to (IsLater b task') k x
   later_too task task' same k x is =
@@ -85,7 +85,7 @@ module _ (r : Renaming) (a b : View) (alike : AreAlike r a b) where
         y = p.y;
         is = record {
           there = p.there;
-          dispatched = ap is_dispatched p.alike.is ∙ is.dispatched;
+          dispatched = ap is_dispatched p.alike.other_is ∙ is.dispatched;
           later = (λ i. key_cmp (key_same r.to task task' same i) (key_same r.to x p.y p.alike i)) ∙ is.later;
         };
         alike = p.alike;
@@ -105,11 +105,11 @@ pub latest_too : (r : Renaming) (kind kind' : ℕ → Task → Type 0)
     → ((k : ℕ) (x : Task) → kind k x → Too r.to kind' k x) → ((k : ℕ) (x : Task) → kind' k x → Too r.from kind k x)
     → (k : ℕ) (x : Task) → IsLatest kind k x → Too r.to (IsLatest kind') k x
 latest_too r kind kind' on back k x is =
-    let t = on k x is.this in
+    let t = on k x is.of_kind in
     record {
       y = t.y;
       is = record {
-        this = t.is;
+        of_kind = t.is;
         latest = λ j z of. (let s = back j z of in
             subst (λ key. key_cmp z.key key ≢ Greater) (sym (key_same r.to x t.y t.alike))
             (subst (λ key. key_cmp key x.key ≢ Greater) (key_same r.from z s.y s.alike) (is.latest (r.from j) s.y s.is)));
@@ -119,17 +119,17 @@ latest_too r kind kind' on back k x is =
 
 module _ (r : Renaming) (a b : View) (alike : AreAlike r a b) where
   -- the way back
-  back : AreAlike (turned r) b a
+  back : AreAlike (inverse_of r) b a
   back = alike_turned r a b alike
 
   pub least_idle_too : (tile k : ℕ) (x : Task) → IsLeastIdle a tile k x → Too r.to (IsLeastIdle b tile) k x
   least_idle_too tile k x is =
-      let t = idle_too r a b alike tile k x is.this in
+      let t = idle_too r a b alike tile k x is.idle in
       record {
         y = t.y;
         is = record {
-          this = t.is;
-          least = λ j z other idle. (let s = idle_too (turned r) b a back tile j z idle in
+          idle = t.is;
+          least = λ j z other idle. (let s = idle_too (inverse_of r) b a back tile j z idle in
               let differs : r.from j ≢ k = λ e. other (sym (r.forth j) ∙ ap r.to e) in
               subst (λ i. Precedes b tile (r.to k) i) (r.forth j) (precedes_too r a b alike tile k (r.from j) (is.least (r.from j) s.y differs s.is)));
         };
@@ -139,5 +139,5 @@ module _ (r : Renaming) (a b : View) (alike : AreAlike r a b) where
   pub lowest_free_too : (tile core : ℕ) → IsLowestFree a tile core → IsLowestFree b tile core
   lowest_free_too tile core is = record {
     free = free_core_too r a b alike tile core is.free;
-    lowest = λ other low free. is.lowest other low (free_core_too (turned r) b a back tile other free);
+    lowest = λ other low free. is.lowest other low (free_core_too (inverse_of r) b a back tile other free);
   }

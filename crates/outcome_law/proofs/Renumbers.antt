@@ -2,13 +2,13 @@
 use Rattle.std.proofs.Common.{◌≡◌, ◌≢◌, ◌≤◌, ◌<◌, ◌+◌, zero, suc, ℕ, Bool, true, false, List, [], ◌∷◌, map, length, Option, Some, None, option_map, refl, sym, ap, subst, ◌∙◌, inl, inr, ◌⊎◌, arith}
 use Rattle.std.specs.Prelude.{slice_get, slice_index_or, Contains, AllPairs}
 use Rattle.std.proofs.lemmas.List.Kept.{AllPairs-from_increasing}
-use Rattle.spill_store.specs.Entries.{renumbered_entry}
-use Rattle.fractal_vt.specs.Renumbered.{renumbered, renumbered_key}
+use Rattle.spill_store.specs.SpilledTasks.{renumbered_spilled}
+use Rattle.fractal_vt.specs.Renumbered.{renumbered_levels, renumbered_key}
 use Rattle.spec_state.specs.declared.task.Task.{Task}
 use Rattle.spec_state.specs.View.{View, task_at, queue_at}
 use Rattle.spec_state.specs.Groups.{all_spilled}
 use Rattle.spec_state.specs.Numbers.{IsTieOf, IsInUse, on_path, in_domain, of_task, of_spilled, IsNumberTable, renumbered_task, Renumbers, FreesNumber, has_free, renumbers}
-use Rattle.outcome_law.specs.Alike.{Renaming, turned, renamed_creator, IsAlikeTask, IsAlikeAt, AreAlike}
+use Rattle.outcome_law.specs.Alike.{Renaming, inverse_of, renamed_creator, IsAlikeTask, IsAlikeAt, AreAlike}
 use Rattle.outcome_law.proofs.Alike.{Partner, partner, none_there, alike_turned}
 use Rattle.outcome_law.proofs.Leasts.{index_mapped}
 use Rattle.outcome_law.proofs.Chosen.{has_in, in_has, rises, one_order}
@@ -27,19 +27,19 @@ table_is_one view table other one two =
 
 module _ (r : Renaming) (a b : View) (alike : AreAlike r a b) where
   in_use_too : (number : ℕ) → IsInUse a number → IsInUse b number
-  in_use_too number (on_path is) = on_path (subst (λ p. IsTieOf p number) (sym (ap (λ v. v.path) alike.rest)) is)
+  in_use_too number (on_path is) = on_path (subst (λ p. IsTieOf p number) (sym (ap (λ v. v.path) alike.frame)) is)
   in_use_too number (in_domain id task there is) =
       let p = partner r a b alike id task there in
-      in_domain (r.to id) p.y p.there (subst (λ d. IsTieOf d number) (sym (ap (λ t. t.key.domain) p.alike.is)) is)
+      in_domain (r.to id) p.y p.there (subst (λ d. IsTieOf d number) (sym (ap (λ t. t.key.domain) p.alike.other_is)) is)
   in_use_too number (of_task id task there is) =
       let p = partner r a b alike id task there in
-      of_task (r.to id) p.y p.there (ap (λ t. t.key.tb) p.alike.is ∙ is)
-  in_use_too number (of_spilled s has is) = of_spilled s (subst (λ ss. Contains ss s) (sym (ap all_spilled alike.rest)) has) is
+      of_task (r.to id) p.y p.there (ap (λ t. t.key.tb) p.alike.other_is ∙ is)
+  in_use_too number (of_spilled s has is) = of_spilled s (subst (λ ss. Contains ss s) (sym (ap all_spilled alike.frame)) has) is
 
   renumbered_alike : (table : List ℕ) (s t : Option Task) → IsAlikeAt r.to s t → IsAlikeAt r.to (option_map (renumbered_task table) s) (option_map (renumbered_task table) t)
   renumbered_alike table None None same = tt
   renumbered_alike table (Some x) (Some y) same = record {
-    is = ap {A = Task} (renumbered_task table) same.is;
+    other_is = ap {A = Task} (renumbered_task table) same.other_is;
     touched = same.touched;
     written = same.written;
   }
@@ -55,32 +55,32 @@ module _ (r : Renaming) (a b : View) (alike : AreAlike r a b) where
     rising = is.rising;
     exact = λ n. (
       (λ has. in_use_too r a b alike n ((is.exact n).0 has)),
-      (λ used. (is.exact n).1 (in_use_too (turned r) b a (alike_turned r a b alike) n used)),
+      (λ used. (is.exact n).1 (in_use_too (inverse_of r) b a (alike_turned r a b alike) n used)),
     );
   }
 
   pub renumbers_alike : (a' b' : View) → Renumbers a a' → Renumbers b b' → AreAlike r a' b'
   renumbers_alike a' b' one two =
       let table : two.table ≡ one.table = table_is_one b two.table one.table two.is_table (table_too one.table one.is_table) in
-      let blocks : b'.blocks ≡ a'.blocks = two.blocks ∙ ((λ i. map (map (renumbered_entry (table i))) (ap (λ v. v.blocks) alike.rest i)) ∙ sym one.blocks) in
-      let path : b'.path ≡ a'.path = two.path ∙ ((λ i. renumbered (table i) (ap (λ v. v.path) alike.rest i)) ∙ sym one.path) in
+      let blocks : b'.blocks ≡ a'.blocks = two.blocks ∙ ((λ i. map (map (renumbered_spilled (table i))) (ap (λ v. v.blocks) alike.frame i)) ∙ sym one.blocks) in
+      let path : b'.path ≡ a'.path = two.path ∙ ((λ i. renumbered_levels (table i) (ap (λ v. v.path) alike.frame i)) ∙ sym one.path) in
       let next : b'.next ≡ a'.next = two.next ∙ (ap length table ∙ sym one.next) in
       record {
         tasks = λ k. subst (λ s. IsAlikeAt r.to s (task_at b' (r.to k))) (sym (renumbered_at a a' one.table one.tasks k))
             (subst (λ t. IsAlikeAt r.to (option_map (renumbered_task one.table) (task_at a k)) t) (sym (renumbered_at b b' two.table two.tasks (r.to k) ∙ ap (λ t. option_map (renumbered_task t) (task_at b (r.to k))) table))
             (renumbered_alike r a b alike one.table (task_at a k) (task_at b (r.to k)) (alike.tasks k)));
-        queues = ap (λ v. v.queues) two.rest ∙ (alike.queues ∙ ap (λ v. map (map r.to) v.queues) (sym one.rest));
-        finished = ap (λ v. v.finished) two.rest ∙ (alike.finished ∙ ap (λ v. map (map r.to) v.finished) (sym one.rest));
-        cores = ap (λ v. v.cores) two.rest ∙ (alike.cores ∙ ap (λ v. map (map (option_map r.to)) v.cores) (sym one.rest));
-        rest = two.rest ∙ (ap {A = View} (λ v. record v { tasks = b'.tasks; blocks = b'.blocks; path = b'.path; next = b'.next }) alike.rest
+        queues = ap (λ v. v.queues) two.frame ∙ (alike.queues ∙ ap (λ v. map (map r.to) v.queues) (sym one.frame));
+        finished = ap (λ v. v.finished) two.frame ∙ (alike.finished ∙ ap (λ v. map (map r.to) v.finished) (sym one.frame));
+        cores = ap (λ v. v.cores) two.frame ∙ (alike.cores ∙ ap (λ v. map (map (option_map r.to)) v.cores) (sym one.frame));
+        frame = two.frame ∙ (ap {A = View} (λ v. record v { tasks = b'.tasks; blocks = b'.blocks; path = b'.path; next = b'.next }) alike.frame
             ∙ ((λ i. record a { tasks = b'.tasks; queues = b.queues; finished = b.finished; cores = b.cores; blocks = blocks i; path = path i; next = next i })
-            ∙ (ap {A = View} (λ v. record v { tasks = b'.tasks; queues = b.queues; finished = b.finished; cores = b.cores }) (sym one.rest)
-            ∙ ap {A = View} (λ v. record a' { tasks = b'.tasks; queues = v.queues; finished = v.finished; cores = v.cores }) (sym two.rest))));
+            ∙ (ap {A = View} (λ v. record v { tasks = b'.tasks; queues = b.queues; finished = b.finished; cores = b.cores }) (sym one.frame)
+            ∙ ap {A = View} (λ v. record a' { tasks = b'.tasks; queues = v.queues; finished = v.finished; cores = v.cores }) (sym two.frame))));
       }
 
   -- a number is freed alike
   pub frees_number_alike : (a' b' : View) → FreesNumber a a' → FreesNumber b b' → AreAlike r a' b'
   frees_number_alike a' b' (has_free low) (has_free low') = alike
-  frees_number_alike a' b' (has_free low) (renumbers new full two) = absurd (let next : b.next ≡ a.next = ap (λ v. v.next) alike.rest in omega arith)
-  frees_number_alike a' b' (renumbers new full one) (has_free low) = absurd (let next : b.next ≡ a.next = ap (λ v. v.next) alike.rest in omega arith)
+  frees_number_alike a' b' (has_free low) (renumbers new full two) = absurd (let next : b.next ≡ a.next = ap (λ v. v.next) alike.frame in omega arith)
+  frees_number_alike a' b' (renumbers new full one) (has_free low) = absurd (let next : b.next ≡ a.next = ap (λ v. v.next) alike.frame in omega arith)
   frees_number_alike a' b' (renumbers new full one) (renumbers other full' two) = renumbers_alike a' b' one two

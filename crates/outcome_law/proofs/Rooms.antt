@@ -12,13 +12,13 @@ use Rattle.spec_state.specs.Tasks.{is_dispatched}
 use Rattle.spec_state.specs.Groups.{live_creator}
 use Rattle.spec_state.specs.Least.{IsFirm, Precedes}
 use Rattle.spec_state.specs.Queries.{IsQueued, IsDispatched, IsOnCore, IsFinished, IsFreeCore, IsLatest, IsLatestOnCore, IsLatestFinished, IsLatestDispatched, IsLater, Conflicts}
-use Rattle.spec_state.specs.Aborts.{Aborts, Only}
-use Rattle.spec_state.specs.Room.{Asker, Enqueuer, Splitter, IsLeastAsker, IsVictim, HasFreeEntry, IsFull, NoneMoves, IsMovable, Coalesces, MakesRoom, has_free_entry, coalesces, aborts_victim, aborts_creator}
-use Rattle.book_event.specs.Causes.{AllCoresHeld, IsCommitFull}
-use Rattle.book_event.specs.Events.{FreesCore, FreesCommit}
-use Rattle.book_event.specs.Events as ended
+use Rattle.spec_state.specs.Aborts.{Aborts, OnlyNode}
+use Rattle.spec_state.specs.Room.{Asker, Enqueuer, Splitter, IsLeastAsker, IsVictim, QueueHasRoom, IsFull, NoneMoves, IsMovable, Coalesces, MakesRoom, queue_has_room, coalesces, aborts_victim, aborts_creator}
+use Rattle.event_def.specs.Causes.{AllCoresHeld, IsCommitFull}
+use Rattle.event_def.specs.Events.{FreesCore, FreesCommit}
+use Rattle.event_def.specs.Events as ended
 use Rattle.spec_law.specs.Sound.{SoundOrder}
-use Rattle.outcome_law.specs.Alike.{Renaming, turned, renamed_creator, IsAlikeTask, IsAlikeAt, AreAlike}
+use Rattle.outcome_law.specs.Alike.{Renaming, inverse_of, renamed_creator, IsAlikeTask, IsAlikeAt, AreAlike}
 use Rattle.outcome_law.proofs.Alike.{Partner, partner, none_there, alike_turned, task_turned}
 use Rattle.outcome_law.proofs.Aborts.{AreFirsts, AbortAlike, aborts_alike, one_to, live_renamed}
 use Rattle.outcome_law.proofs.Anew.{HoldsTasks, IsThere}
@@ -34,17 +34,17 @@ asker_too to (Enqueuer id) = Enqueuer (to id)
 asker_too to Splitter = Splitter
 
 -- an abort of one task, and of its partner
-one_first : (r : Renaming) (a : View) (v w : ℕ) (x : Task) → task_at a v ≡ Some x → w ≡ r.to v → AreFirsts r a (Only v) (Only w)
+one_first : (r : Renaming) (a : View) (v w : ℕ) (x : Task) → task_at a v ≡ Some x → w ≡ r.to v → AreFirsts r a (OnlyNode v) (OnlyNode w)
 one_first r a v w x there same = record {
   there = λ k is. (x, ap (task_at a) is ∙ there);
   to = λ k is. ap r.to is ∙ sym same;
 }
 
 module _ (r : Renaming) (a b : View) (alike : AreAlike r a b) where
-  pub abort_of_one : (v w : ℕ) (x y : Task) → task_at a v ≡ Some x → task_at b w ≡ Some y → w ≡ r.to v → (n m : ℕ) (a' b' : View) → Aborts (Only v) a n a' → Aborts (Only w) b m b' → AbortAlike r n m a' b'
+  pub abort_of_one : (v w : ℕ) (x y : Task) → task_at a v ≡ Some x → task_at b w ≡ Some y → w ≡ r.to v → (n m : ℕ) (a' b' : View) → Aborts (OnlyNode v) a n a' → Aborts (OnlyNode w) b m b' → AbortAlike r n m a' b'
   abort_of_one v w x y there there' same n m a' b' one two =
-      aborts_alike r a b alike (Only v) (Only w) (one_first r a v w x there same)
-      (one_first (turned r) b w v y there' (sym (ap r.from same ∙ r.back v))) n m a' b' one two
+      aborts_alike r a b alike (OnlyNode v) (OnlyNode w) (one_first r a v w x there same)
+      (one_first (inverse_of r) b w v y there' (sym (ap r.from same ∙ r.back v))) n m a' b' one two
 
   -- nothing is taken back
   pub none_alike : AbortAlike r 0 0 a b
@@ -54,9 +54,9 @@ module _ (r : Renaming) (a b : View) (alike : AreAlike r a b) where
   queue_length tile = ap length (queue_too r a b alike tile) ∙ length-map (queue_at a tile) r.to
 
   pub room_is : b.settings.task_queue ≡ a.settings.task_queue
-  room_is = ap (λ v. v.settings.task_queue) alike.rest
+  room_is = ap (λ v. v.settings.task_queue) alike.frame
 
-  pub free_entry_too : (tile : ℕ) → HasFreeEntry a tile → HasFreeEntry b tile
+  pub free_entry_too : (tile : ℕ) → QueueHasRoom a tile → QueueHasRoom b tile
   free_entry_too tile free = let n = queue_length tile in let m = room_is in omega arith
 
   pub full_too : (tile : ℕ) → IsFull a tile → IsFull b tile
@@ -91,7 +91,8 @@ asker_is r Splitter k e = absurd (cc (e))
 
 module _ (r : Renaming) (a b : View) (alike : AreAlike r a b) (tile : ℕ) (asker : Asker) where
   pub none_moves_too : NoneMoves a tile → NoneMoves b tile
-  none_moves_too none k movable = none (r.from k) (movable_too (turned r) b a (alike_turned r a b alike) tile k movable)
+  none_moves_too none k movable =
+      none (r.from k) (movable_too (inverse_of r) b a (alike_turned r a b alike) tile k movable)
 
   victim_too : (v : ℕ) (x : Task) → IsVictim a tile asker v x → Too r.to (IsVictim b tile (asker_too r.to asker)) v x
   victim_too v x is =
@@ -103,7 +104,8 @@ module _ (r : Renaming) (a b : View) (alike : AreAlike r a b) (tile : ℕ) (aske
           there = p.there;
           other = λ e. is.other (asker_is r asker v e);
           last = λ k other not_asker queued. (let before = is.last (r.from k) (λ e. other (sym (r.forth k) ∙ ap r.to e))
-              (λ e. not_asker (named k e)) (is_queued_too (turned r) b a (alike_turned r a b alike) tile k queued) in
+              (λ e. not_asker (named k e))
+              (is_queued_too (inverse_of r) b a (alike_turned r a b alike) tile k queued) in
               subst (λ j. Precedes b tile j (r.to v)) (r.forth k) (precedes_too r a b alike tile (r.from k) v before));
         };
         alike = p.alike;
@@ -142,18 +144,18 @@ module _ (r : Renaming) (a b : View) (alike : AreAlike r a b) (tile : ℕ) (aske
       record { id = id; task = subst (λ z. IsAlikeTask r.to x z) (sym (task_one b w (r.to v) y t.y id two.there t.is.there)) t.alike }
 
   pub rooms_alike : HoldsTasks a → {n m : ℕ} {a' b' : View} → MakesRoom tile asker a n a' → MakesRoom tile (asker_too r.to asker) b m b' → AbortAlike r n m a' b'
-  rooms_alike holds (has_free_entry free) (has_free_entry free') = none_alike r a b alike
-  rooms_alike holds (has_free_entry free) (coalesces new full moves) = absurd (let is = free_entry_too r a b alike tile free in omega arith)
-  rooms_alike holds (has_free_entry free) (aborts_victim m v y mid new full none least victim firm aborts moves) = absurd (let is = free_entry_too r a b alike tile free in omega arith)
-  rooms_alike holds (has_free_entry free) (aborts_creator m v c y new full none least victim loose made aborts) = absurd (let is = free_entry_too r a b alike tile free in omega arith)
-  rooms_alike holds (coalesces new full moves) (has_free_entry free) = absurd (let is = full_too r a b alike tile full in omega arith)
+  rooms_alike holds (queue_has_room free) (queue_has_room free') = none_alike r a b alike
+  rooms_alike holds (queue_has_room free) (coalesces new full moves) = absurd (let is = free_entry_too r a b alike tile free in omega arith)
+  rooms_alike holds (queue_has_room free) (aborts_victim m v y mid new full none least victim firm aborts moves) = absurd (let is = free_entry_too r a b alike tile free in omega arith)
+  rooms_alike holds (queue_has_room free) (aborts_creator m v c y new full none least victim loose made aborts) = absurd (let is = free_entry_too r a b alike tile free in omega arith)
+  rooms_alike holds (coalesces new full moves) (queue_has_room free) = absurd (let is = full_too r a b alike tile full in omega arith)
   rooms_alike holds (coalesces new full moves) (coalesces new' full' moves') = record { aborted = refl; alike = coalesces_alike r a b alike tile new new' moves moves' }
   rooms_alike holds (coalesces new full moves) (aborts_victim m v y mid new' full' none least victim firm aborts moves') =
-      absurd (some_moves r a b alike tile new moves (none_moves_too (turned r) b a (alike_turned r a b alike) tile asker none))
+      absurd (some_moves r a b alike tile new moves (none_moves_too (inverse_of r) b a (alike_turned r a b alike) tile asker none))
   rooms_alike holds (coalesces new full moves) (aborts_creator m v c y new' full' none least victim loose made aborts) =
-      absurd (some_moves r a b alike tile new moves (none_moves_too (turned r) b a (alike_turned r a b alike) tile asker none))
-  rooms_alike holds (aborts_victim n v x mid new full none least victim firm aborts moves) (has_free_entry free) = absurd (let is = full_too r a b alike tile full in omega arith)
-  rooms_alike holds (aborts_victim n v x mid new full none least victim firm aborts moves) (coalesces new' full' moves') = absurd (some_moves (turned r) b a (alike_turned r a b alike) tile new' moves' (none_moves_too r a b alike tile asker none))
+      absurd (some_moves r a b alike tile new moves (none_moves_too (inverse_of r) b a (alike_turned r a b alike) tile asker none))
+  rooms_alike holds (aborts_victim n v x mid new full none least victim firm aborts moves) (queue_has_room free) = absurd (let is = full_too r a b alike tile full in omega arith)
+  rooms_alike holds (aborts_victim n v x mid new full none least victim firm aborts moves) (coalesces new' full' moves') = absurd (some_moves (inverse_of r) b a (alike_turned r a b alike) tile new' moves' (none_moves_too r a b alike tile asker none))
   rooms_alike holds (aborts_victim n v x mid new full none least victim firm aborts moves) (aborts_victim m w y mid' new' full' none' least' victim' firm' aborts' moves') =
       let same = victims v w x y victim victim' in
       let taken = abort_of_one r a b alike v w x y victim.there victim'.there same.id n m mid mid' aborts aborts' in
@@ -161,18 +163,18 @@ module _ (r : Renaming) (a b : View) (alike : AreAlike r a b) (tile : ℕ) (aske
   rooms_alike holds (aborts_victim n v x mid new full none least victim firm aborts moves) (aborts_creator m w c y new' full' none' least' victim' loose made aborts') =
       let same = victims v w x y victim victim' in
       absurd (loose (firm_too r a b alike x y same.task firm))
-  rooms_alike holds (aborts_creator n v c x new full none least victim loose made aborts) (has_free_entry free) = absurd (let is = full_too r a b alike tile full in omega arith)
-  rooms_alike holds (aborts_creator n v c x new full none least victim loose made aborts) (coalesces new' full' moves') = absurd (some_moves (turned r) b a (alike_turned r a b alike) tile new' moves' (none_moves_too r a b alike tile asker none))
+  rooms_alike holds (aborts_creator n v c x new full none least victim loose made aborts) (queue_has_room free) = absurd (let is = full_too r a b alike tile full in omega arith)
+  rooms_alike holds (aborts_creator n v c x new full none least victim loose made aborts) (coalesces new' full' moves') = absurd (some_moves (inverse_of r) b a (alike_turned r a b alike) tile new' moves' (none_moves_too r a b alike tile asker none))
   rooms_alike holds (aborts_creator n v c x new full none least victim loose made aborts) (aborts_victim m w y mid new' full' none' least' victim' firm aborts' moves') =
       let same = victims v w x y victim victim' in
-      absurd (loose (firm_too (turned r) b a (alike_turned r a b alike) y x (task_turned r x y same.task) firm))
+      absurd (loose (firm_too (inverse_of r) b a (alike_turned r a b alike) y x (task_turned r x y same.task) firm))
   rooms_alike holds (aborts_creator n v c x new full none least victim loose made aborts) (aborts_creator m w d y new' full' none' least' victim' loose' made' aborts') =
       let same = victims v w x y victim victim' in
-      let ids : Some d ≡ Some (r.to c) = sym made' ∙ (ap (λ t. live_creator t.creator) same.task.is ∙ (live_renamed r.to x.creator ∙ ap (option_map r.to) made)) in
+      let ids : Some d ≡ Some (r.to c) = sym made' ∙ (ap (λ t. live_creator t.creator) same.task.other_is ∙ (live_renamed r.to x.creator ∙ ap (option_map r.to) made)) in
       let id : d ≡ r.to c = cc in
       creator_taken c d id (creator_there a holds v x c victim.there made) n m new new' aborts aborts'
     where
-      creator_taken : (c d : ℕ) → d ≡ r.to c → IsThere a c → (n m : ℕ) (new new' : View) → Aborts (Only c) a n new → Aborts (Only d) b m new' → AbortAlike r n m new new'
+      creator_taken : (c d : ℕ) → d ≡ r.to c → IsThere a c → (n m : ℕ) (new new' : View) → Aborts (OnlyNode c) a n new → Aborts (OnlyNode d) b m new' → AbortAlike r n m new new'
       creator_taken c d id there n m new new' aborts aborts' = by_there there
         where
           by_there : IsThere a c → AbortAlike r n m new new'
@@ -186,17 +188,17 @@ module _ (r : Renaming) (a b : View) (alike : AreAlike r a b) (heir : Option ℕ
       → ((k : ℕ) (x : Task) → kind k x → Too r.to kind' k x) → ((k : ℕ) (x : Task) → kind' k x → Too r.from kind k x)
       → ((k : ℕ) (x : Task) → kind k x → task_at a k ≡ Some x)
       → ((k : ℕ) (x : Task) → kind' k x → (task_at b k ≡ Some x) × (is_dispatched x ≡ true))
-      → (v w : ℕ) (x y : Task) → IsLatest kind v x → IsLatest kind' w y → (n m : ℕ) (a' b' : View) → Aborts (Only v) a n a' → Aborts (Only w) b m b' → AbortAlike r n m a' b'
+      → (v w : ℕ) (x y : Task) → IsLatest kind v x → IsLatest kind' w y → (n m : ℕ) (a' b' : View) → Aborts (OnlyNode v) a n a' → Aborts (OnlyNode w) b m b' → AbortAlike r n m a' b'
   latest_taken kind kind' on back there runs v w x y one two n m a' b' aborts aborts' =
       let t = latest_too r kind kind' on back v x one in
       let same : w ≡ r.to v = latest_one b heir order kind' runs w (r.to v) y t.y two t.is in
-      abort_of_one r a b alike v w x y (there v x one.this) (runs w y two.this).0 same n m a' b' aborts aborts'
+      abort_of_one r a b alike v w x y (there v x one.of_kind) (runs w y two.of_kind).0 same n m a' b' aborts aborts'
 
   held_too : (tile core : ℕ) → AllCoresHeld b tile → IsFreeCore a tile core → ⊥
   held_too tile core held free = held core (free_core_too r a b alike tile core free)
 
   held_back : (tile core : ℕ) → AllCoresHeld a tile → IsFreeCore b tile core → ⊥
-  held_back tile core held free = held core (free_core_too (turned r) b a (alike_turned r a b alike) tile core free)
+  held_back tile core held free = held core (free_core_too (inverse_of r) b a (alike_turned r a b alike) tile core free)
 
   -- a core is freed alike
   pub cores_alike : (tile : ℕ) → ((core k : ℕ) (x : Task) → IsOnCore b tile core k x → is_dispatched x ≡ true) → {n m : ℕ} {a' b' : View} → FreesCore tile a n a' → FreesCore tile b m b' → AbortAlike r n m a' b'
@@ -206,7 +208,7 @@ module _ (r : Renaming) (a b : View) (alike : AreAlike r a b) (heir : Option ℕ
   cores_alike tile runs (ended.aborts_latest n v x new held latest aborts) (ended.aborts_latest m w y new' held' latest' aborts') =
       latest_taken (λ id task. (core : ℕ) × IsOnCore a tile core id task) (λ id task. (core : ℕ) × IsOnCore b tile core id task)
       (λ k z is. (let t = on_core_too r a b alike tile is.0 k z is.1 in record { y = t.y; is = (is.0, t.is); alike = t.alike }))
-      (λ k z is. (let t = on_core_too (turned r) b a (alike_turned r a b alike) tile is.0 k z is.1 in record { y = t.y; is = (is.0, t.is); alike = t.alike }))
+      (λ k z is. (let t = on_core_too (inverse_of r) b a (alike_turned r a b alike) tile is.0 k z is.1 in record { y = t.y; is = (is.0, t.is); alike = t.alike }))
       (λ k z is. is.1.there)
       (λ k z is. (is.1.there, runs is.0 k z is.1))
       v w x y latest latest' n m new new' aborts aborts'
@@ -218,9 +220,9 @@ module _ (r : Renaming) (a b : View) (alike : AreAlike r a b) (heir : Option ℕ
   pub commit_alike : (tile : ℕ) (task task' : Task) → ((k : ℕ) (x : Task) → IsFinished b tile k x → is_dispatched x ≡ true) → {n m : ℕ} {a' b' : View} → FreesCommit tile task a n a' → FreesCommit tile task' b m b' → AbortAlike r n m a' b'
   commit_alike tile task task' runs (ended.has_free free) (ended.has_free free') = none_alike r a b alike
   commit_alike tile task task' runs (ended.has_free free) (ended.aborts_latest m w y new full latest later aborts) =
-      absurd (let length_is = finished_length tile in let room : b.settings.commit_queue ≡ a.settings.commit_queue = ap (λ v. v.settings.commit_queue) alike.rest in omega arith)
+      absurd (let length_is = finished_length tile in let room : b.settings.commit_queue ≡ a.settings.commit_queue = ap (λ v. v.settings.commit_queue) alike.frame in omega arith)
   commit_alike tile task task' runs (ended.aborts_latest n v x new full latest later aborts) (ended.has_free free) =
-      absurd (let length_is = finished_length tile in let room : b.settings.commit_queue ≡ a.settings.commit_queue = ap (λ v. v.settings.commit_queue) alike.rest in omega arith)
+      absurd (let length_is = finished_length tile in let room : b.settings.commit_queue ≡ a.settings.commit_queue = ap (λ v. v.settings.commit_queue) alike.frame in omega arith)
   commit_alike tile task task' runs (ended.aborts_latest n v x new full latest later aborts) (ended.aborts_latest m w y new' full' latest' later' aborts') =
-      latest_taken (IsFinished a tile) (IsFinished b tile) (is_finished_too r a b alike tile) (is_finished_too (turned r) b a (alike_turned r a b alike) tile)
+      latest_taken (IsFinished a tile) (IsFinished b tile) (is_finished_too r a b alike tile) (is_finished_too (inverse_of r) b a (alike_turned r a b alike) tile)
       (λ k z is. is.there) (λ k z is. (is.there, runs k z is)) v w x y latest latest' n m new new' aborts aborts'

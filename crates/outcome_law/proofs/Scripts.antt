@@ -5,36 +5,36 @@ use Rattle.std.specs.List.{AllByRecursion}
 use Rattle.std.proofs.lemmas.Bool.{cases_eq}
 use Rattle.guest_image.specs.ImageValue.{ImageValue}
 use Rattle.rv_core.specs.declared.state.Stop.TheVariants as stop
-use Rattle.rv_core.specs.LegValue.{LegValue, IsRun}
-use Rattle.rv_core.specs.Legs.{IsInside, IsLeg}
-use Rattle.rv_core.proofs.Proved.{next_at-inside, PlainSteps-within}
+use Rattle.rv_core.specs.LegValue.{LegValue, IsLegOfImage}
+use Rattle.rv_core.specs.Legs.{StopIsInData, IsLeg}
+use Rattle.rv_core.proofs.Proved.{next_at-inside, PlainInstructions-within}
 use Rattle.spec_state.specs.declared.settings.Settings.{Settings}
 use Rattle.spec_state.specs.declared.task.Task.{Task}
 use Rattle.spec_state.specs.View.{View, task_at}
 use Rattle.spec_law.specs.Sound.{Sound}
-use Rattle.book_event.specs.declared.event.Advance.{Advance}
-use Rattle.book_event.specs.declared.event.Advance.TheVariants as answers
-use Rattle.book_event.specs.declared.event.Event.{Event}
-use Rattle.book_event.specs.declared.event.Event.TheVariants as event
-use Rattle.book_event.specs.declared.event.Reply.{Reply}
-use Rattle.book_event.specs.declared.event.Reply.TheVariants as reply
-use Rattle.book_event.specs.Advancing.{AdvanceAnswers, IsLegFrom, IsNoCommit, IsNextEvent}
-use Rattle.book_event.specs.Book.{BookView}
-use Rattle.book_event.specs.End.{IsOver}
-use Rattle.book_event.specs.Events.{IsGiven}
-use Rattle.book_event.specs.Happens.{Happens}
-use Rattle.book_law.proofs.Falls.Legs.{counted, stands}
-use Rattle.book_law.proofs.Given.{running_within, next_event_is_given}
-use Rattle.book_law.proofs.Keeps.Events.{happens_keeps}
-use Rattle.book_law.proofs.Keeps.Forced.{Follows}
+use Rattle.event_def.specs.declared.event.Advance.{Advance}
+use Rattle.event_def.specs.declared.event.Advance.TheVariants as answers
+use Rattle.event_def.specs.declared.event.Event.{Event}
+use Rattle.event_def.specs.declared.event.Event.TheVariants as event
+use Rattle.event_def.specs.declared.event.Reply.{Reply}
+use Rattle.event_def.specs.declared.event.Reply.TheVariants as reply
+use Rattle.event_def.specs.Advancing.{AdvanceAnswers, IsLegFrom, IsNoCommit, IsNextEvent}
+use Rattle.event_def.specs.Book.{BookView}
+use Rattle.event_def.specs.End.{IsOver}
+use Rattle.event_def.specs.Events.{IsGiven}
+use Rattle.event_def.specs.Happens.{Happens}
+use Rattle.event_law.proofs.Falls.Legs.{counted, stands}
+use Rattle.event_law.proofs.Given.{running_within, next_event_is_given}
+use Rattle.event_law.proofs.Keeps.Events.{happens_keeps}
+use Rattle.event_law.proofs.Keeps.Forced.{Follows}
 use Rattle.step_script.specs.declared.act.Act.{Act}
 use Rattle.step_script.specs.declared.act.Act.TheVariants as acts
 use Rattle.step_script.specs.declared.saying.Said.{Said}
 use Rattle.step_script.specs.declared.saying.Word.TheVariants as words
-use Rattle.step_script.specs.Playing.{HeldLeg, is_held_for, held_for, without, holding, Played, plainly, HandsIn, Makes, Stays, HasLegAt, NoneRuns, Steps, Takes, Gives, said_of, DoesAdvance, Does, DoesAll, Plays}
+use Rattle.step_script.specs.Playing.{HeldLeg, is_held_for, held_for, without_held_leg, holding, PlayState, plainly, HandsIn, MakesInPlay, Stays, HasLegAt, NoneRuns, Steps, Takes, Gives, said_of, DoesAdvance, Does, DoesAll, Plays}
 use Rattle.step_script.specs.Playing.{step_runs, step_ended, step_stale, take_holds, take_stale, give_hands, give_ended, give_stale}
-use Rattle.step_script.specs.Ranges.{IsWithin}
-use Rattle.outcome_law.specs.Alike.{Renaming, turned, IsAlikeTask, AreAlike, AreAlikeBooks}
+use Rattle.step_script.specs.Ranges.{ActIsInRange}
+use Rattle.outcome_law.specs.Alike.{Renaming, inverse_of, IsAlikeTask, AreAlike, AreAlikeBooks}
 use Rattle.outcome_law.specs.Laws.{AreSameBooks, IsSameOutcome, PlayIsOne}
 use Rattle.outcome_law.proofs.Alike.{alike_turned}
 use Rattle.outcome_law.proofs.Leasts.{over_too}
@@ -46,17 +46,17 @@ use Rattle.outcome_law.proofs.Queries.{Too, running_too}
 -- a leg from within the budget is a run
 leg_is_run : (image : ImageValue) (budget quantum : ℕ) (leg : LegValue)
     → IsLeg image image.data_size budget quantum leg.from leg.to leg.steps leg.stop → leg.from.used ≤ budget
-    → IsRun image budget leg
+    → IsLegOfImage image budget leg
 leg_is_run image budget quantum leg is low = record {
   run = is.run;
   next = stands image budget quantum leg is;
   inside = by_case (cases_eq leg.steps quantum);
   counted = counted image budget quantum leg is;
-  within = PlainSteps-within image image.data_size budget leg.steps leg.from leg.to is.run low;
+  within = PlainInstructions-within image image.data_size budget leg.steps leg.from leg.to is.run low;
 }
   where
-    by_case : (leg.steps ≡ quantum) ⊎ (leg.steps ≢ quantum) → IsInside image.data_size leg.stop
-    by_case (inl all) = subst (IsInside image.data_size) (sym (is.full all)) tt
+    by_case : (leg.steps ≡ quantum) ⊎ (leg.steps ≢ quantum) → StopIsInData image.data_size leg.stop
+    by_case (inl all) = subst (StopIsInData image.data_size) (sym (is.full all)) tt
     by_case (inr fewer) =
         let bound = is.bound in
         next_at-inside image image.data_size budget leg.to leg.stop (is.next (omega (arith, bound, fewer)))
@@ -64,31 +64,32 @@ leg_is_run image budget quantum leg is low = record {
 -- ---- legs that are held are runs
 
 abbrev pub AreRuns : ImageValue → Settings → List HeldLeg → Type 0
-AreRuns image settings held = AllByRecursion (λ (h : HeldLeg). IsRun image settings.budget h.leg) held
+AreRuns image settings held = AllByRecursion (λ (h : HeldLeg). IsLegOfImage image settings.budget h.leg) held
 
 module _ (image : ImageValue) (settings : Settings) (tile core : ℕ) where
-  held_runs : (held : List HeldLeg) (leg : LegValue) → AreRuns image settings held → held_for tile core held ≡ Some leg → IsRun image settings.budget leg
+  held_runs : (held : List HeldLeg) (leg : LegValue) → AreRuns image settings held → held_for tile core held ≡ Some leg → IsLegOfImage image settings.budget leg
   held_runs [] leg runs is = absurd (cc (is))
   held_runs (h ∷ held) leg runs is = by_test (is_held_for tile core h) is (held_runs held leg runs.1)
     where
-      by_test : (t : Bool) → (if t then Some h.leg else held_for tile core held) ≡ Some leg → (held_for tile core held ≡ Some leg → IsRun image settings.budget leg) → IsRun image settings.budget leg
-      by_test true found rest = let same : h.leg ≡ leg = cc in subst (IsRun image settings.budget) same runs.0
+      by_test : (t : Bool) → (if t then Some h.leg else held_for tile core held) ≡ Some leg → (held_for tile core held ≡ Some leg → IsLegOfImage image settings.budget leg) → IsLegOfImage image settings.budget leg
+      by_test true found rest = let same : h.leg ≡ leg = cc in subst (IsLegOfImage image settings.budget) same runs.0
       by_test false found rest = rest found
 
-  without_runs : (held : List HeldLeg) → AreRuns image settings held → AreRuns image settings (without tile core held)
+  without_runs : (held : List HeldLeg) → AreRuns image settings held
+      → AreRuns image settings (without_held_leg tile core held)
   without_runs [] runs = tt
   without_runs (h ∷ held) runs = by_test (not (is_held_for tile core h)) (without_runs held runs.1)
     where
-      by_test : (t : Bool) → AreRuns image settings (without tile core held) → AreRuns image settings (cond t (h ∷ without tile core held) (without tile core held))
+      by_test : (t : Bool) → AreRuns image settings (without_held_leg tile core held) → AreRuns image settings (cond t (h ∷ without_held_leg tile core held) (without_held_leg tile core held))
       by_test true rest = (runs.0, rest)
       by_test false rest = rest
 
-  ended_runs : (held : List HeldLeg) (h : HeldLeg) → AreRuns image settings held → IsRun image settings.budget h.leg → AreRuns image settings (held ++ h ∷ [])
+  ended_runs : (held : List HeldLeg) (h : HeldLeg) → AreRuns image settings held → IsLegOfImage image settings.budget h.leg → AreRuns image settings (held ++ h ∷ [])
   ended_runs [] h runs run = (run, tt)
   ended_runs (g ∷ held) h runs run = (runs.0, ended_runs held h runs.1 run)
 
 -- two plays that go alike so far
-pub record GoAlike (image : ImageValue) (settings : Settings) (p q : Played) : Type 0 where
+pub record GoAlike (image : ImageValue) (settings : Settings) (p q : PlayState) : Type 0 where
   pub books : AreSameBooks p.book q.book
   pub held : q.held ≡ p.held
   pub sound : Sound image p.book.view
@@ -96,22 +97,22 @@ pub record GoAlike (image : ImageValue) (settings : Settings) (p q : Played) : T
   pub settings_are : p.book.view.settings ≡ settings
   pub runs : AreRuns image settings p.held
 
-record SaysOne (image : ImageValue) (settings : Settings) (said said' : Said) (p q : Played) : Type 0 where
+record SaysOne (image : ImageValue) (settings : Settings) (said said' : Said) (p q : PlayState) : Type 0 where
   same : said' ≡ said
   go : GoAlike image settings p q
 
-module _ (N : Type 0) (image : ImageValue) (settings : Settings) (p q p' q' : Played) (said said' : Said) (go : GoAlike image settings p q) where
+module _ (N : Type 0) (image : ImageValue) (settings : Settings) (p q p' q' : PlayState) (said said' : Said) (go : GoAlike image settings p q) where
   r : Renaming
   r = go.books.0
 
   views : AreAlike go.books.0 p.book.view q.book.view
   views = go.books.1.view
 
-  back : AreAlike (turned go.books.0) q.book.view p.book.view
+  back : AreAlike (inverse_of go.books.0) q.book.view p.book.view
   back = alike_turned go.books.0 p.book.view q.book.view go.books.1.view
 
   other_settings : q.book.view.settings ≡ settings
-  other_settings = ap (λ v. v.settings) go.books.1.view.rest ∙ go.settings_are
+  other_settings = ap (λ v. v.settings) go.books.1.view.frame ∙ go.settings_are
 
   -- an event that is handed in
   hands_one : (e : Event N) → IsGiven image settings e → HandsIn e p.book said p'.book → HandsIn e q.book said' q'.book → q'.held ≡ p'.held → AreRuns image settings p'.held → SaysOne image settings said said' p' q'
@@ -125,7 +126,7 @@ module _ (N : Type 0) (image : ImageValue) (settings : Settings) (p q p' q' : Pl
         go = record { books = is.books; held = held; sound = kept.now; sound' = kept'.now; settings_are = kept.settings ∙ go.settings_are; runs = runs };
       }
 
-  makes_says : (e : Event N) → IsGiven image settings e → Makes e p said p' → Makes e q said' q' → SaysOne image settings said said' p' q'
+  makes_says : (e : Event N) → IsGiven image settings e → MakesInPlay e p said p' → MakesInPlay e q said' q' → SaysOne image settings said said' p' q'
   makes_says e given one two = hands_one e given one.hands_in two.hands_in (two.held ∙ (go.held ∙ sym one.held)) (subst (AreRuns image settings) (sym one.held) go.runs)
 
   stays_one : (answer : Reply) → Stays answer p said p' → Stays answer q said' q' → SaysOne image settings said said' p' q'
@@ -138,13 +139,13 @@ module _ (N : Type 0) (image : ImageValue) (settings : Settings) (p q p' q' : Pl
   over_there over = over_too go.books.0 p.book.view q.book.view go.books.1.view over
 
   over_here : IsOver q.book.view → IsOver p.book.view
-  over_here over = over_too (turned go.books.0) q.book.view p.book.view back over
+  over_here over = over_too (inverse_of go.books.0) q.book.view p.book.view back over
 
   none_there : (tile core : ℕ) (leg : LegValue) → HasLegAt image p.book.view tile core leg → NoneRuns q.book.view tile core → ⊥
   none_there tile core leg has none = let t = running_too go.books.0 p.book.view q.book.view go.books.1.view tile core has.id has.task has.runs in none (go.books.0.to has.id) t.y t.is
 
   none_here : (tile core : ℕ) (leg : LegValue) → HasLegAt image q.book.view tile core leg → NoneRuns p.book.view tile core → ⊥
-  none_here tile core leg has none = let t = running_too (turned go.books.0) q.book.view p.book.view back tile core has.id has.task has.runs in none (go.books.0.from has.id) t.y t.is
+  none_here tile core leg has none = let t = running_too (inverse_of go.books.0) q.book.view p.book.view back tile core has.id has.task has.runs in none (go.books.0.from has.id) t.y t.is
 
   -- the leg of the running task is one
   legs_one : (tile core : ℕ) (leg leg' : LegValue) → HasLegAt image p.book.view tile core leg → HasLegAt image q.book.view tile core leg' → leg' ≡ leg
@@ -153,19 +154,19 @@ module _ (N : Type 0) (image : ImageValue) (settings : Settings) (p q p' q' : Pl
       let ids : Some (Some two.id) ≡ Some (Some (go.books.0.to one.id)) = sym two.runs.on.held ∙ t.is.on.held in
       let id : two.id ≡ go.books.0.to one.id = cc in
       let task : two.task ≡ t.y = task_one q.book.view two.id (go.books.0.to one.id) two.task t.y id two.runs.on.there t.is.on.there in
-      let from : leg'.from ≡ leg.from = two.leg_from.from ∙ (ap (λ (x : Task). x.core) task ∙ (ap (λ (x : Task). x.core) t.alike.is ∙ sym one.leg_from.from)) in
+      let from : leg'.from ≡ leg.from = two.leg_from.from ∙ (ap (λ (x : Task). x.core) task ∙ (ap (λ (x : Task). x.core) t.alike.other_is ∙ sym one.leg_from.from)) in
       leg_one image image.data_size p.book.view.settings.budget p.book.view.settings.quantum leg leg' from one.leg_from.is_leg
-      (subst (λ s. IsLeg image image.data_size s.budget s.quantum leg'.from leg'.to leg'.steps leg'.stop) (ap (λ v. v.settings) go.books.1.view.rest) two.leg_from.is_leg)
+      (subst (λ s. IsLeg image image.data_size s.budget s.quantum leg'.from leg'.to leg'.steps leg'.stop) (ap (λ v. v.settings) go.books.1.view.frame) two.leg_from.is_leg)
 
-  leg_runs : (tile core : ℕ) (leg : LegValue) → HasLegAt image p.book.view tile core leg → IsRun image settings.budget leg
+  leg_runs : (tile core : ℕ) (leg : LegValue) → HasLegAt image p.book.view tile core leg → IsLegOfImage image settings.budget leg
   leg_runs tile core leg has =
       let low = subst (λ c. c.used ≤ p.book.view.settings.budget) (sym has.leg_from.from) (running_within image p.book.view go.sound has.id core has.task has.runs.on.there has.runs.running) in
-      subst (λ s. IsRun image s.budget leg) go.settings_are (leg_is_run image p.book.view.settings.budget p.book.view.settings.quantum leg has.leg_from.is_leg low)
+      subst (λ s. IsLegOfImage image s.budget leg) go.settings_are (leg_is_run image p.book.view.settings.budget p.book.view.settings.quantum leg has.leg_from.is_leg low)
 
   steps_one : (tile core : ℕ) → tile < settings.tiles → core < settings.cores → Steps N image tile core p said p' → Steps N image tile core q said' q' → SaysOne image settings said said' p' q'
   steps_one tile core in_tile in_core (step_runs leg on has makes) (step_runs leg' on' has' makes') =
       let same = legs_one tile core leg leg' has has' in
-      makes_says (event.Step tile core leg) (in_tile, in_core, leg_runs tile core leg has) makes (subst (λ l. Makes {N = N} (event.Step tile core l) q said' q') same makes')
+      makes_says (event.Step tile core leg) (in_tile, in_core, leg_runs tile core leg has) makes (subst (λ l. MakesInPlay {N = N} (event.Step tile core l) q said' q') same makes')
   steps_one tile core in_tile in_core (step_runs leg on has makes) (step_ended over stays) = absurd (on (over_here over))
   steps_one tile core in_tile in_core (step_runs leg on has makes) (step_stale on' none stays) = absurd (none_there tile core leg has none)
   steps_one tile core in_tile in_core (step_ended over stays) (step_runs leg on has makes) = absurd (on (over_there over))
@@ -188,18 +189,18 @@ module _ (N : Type 0) (image : ImageValue) (settings : Settings) (p q p' q' : Pl
       let same = legs_one tile core leg leg' has has' in
       let list : q' ≡ record q { held = holding tile core leg p.held } = now' ∙ (λ i. record q { held = holding tile core (same i) (go.held i) }) in
       holds_one reply.Ok (holding tile core leg p.held) word word' now list
-      (ended_runs image settings tile core (without tile core p.held) (record { tile = tile; core = core; leg = leg }) (without_runs image settings tile core p.held go.runs) (leg_runs tile core leg has))
+      (ended_runs image settings tile core (without_held_leg tile core p.held) (record { tile = tile; core = core; leg = leg }) (without_runs image settings tile core p.held go.runs) (leg_runs tile core leg has))
   takes_one tile core (take_holds leg has word now) (take_stale none word' now') = absurd (none_there tile core leg has none)
   takes_one tile core (take_stale none word now) (take_holds leg has word' now') = absurd (none_here tile core leg has none)
   takes_one tile core (take_stale none word now) (take_stale none' word' now') =
-      holds_one reply.Stale (without tile core p.held) word word' now (now' ∙ ap (λ l. record q { held = without tile core l }) go.held) (without_runs image settings tile core p.held go.runs)
+      holds_one reply.Stale (without_held_leg tile core p.held) word word' now (now' ∙ ap (λ l. record q { held = without_held_leg tile core l }) go.held) (without_runs image settings tile core p.held go.runs)
 
   gives_one : (tile core : ℕ) → tile < settings.tiles → core < settings.cores → Gives N tile core p said p' → Gives N tile core q said' q' → SaysOne image settings said said' p' q'
   gives_one tile core in_tile in_core (give_hands leg on is hands held) (give_hands leg' on' is' hands' held') =
       let both : Some leg' ≡ Some leg = sym is' ∙ (ap (held_for tile core) go.held ∙ is) in
       let same : leg' ≡ leg = cc in
       hands_one (event.Step tile core leg) (in_tile, in_core, held_runs image settings tile core p.held leg go.runs is) hands (subst (λ l. HandsIn {N = N} (event.Step tile core l) q.book said' q'.book) same hands')
-      (held' ∙ (ap (without tile core) go.held ∙ sym held)) (subst (AreRuns image settings) (sym held) (without_runs image settings tile core p.held go.runs))
+      (held' ∙ (ap (without_held_leg tile core) go.held ∙ sym held)) (subst (AreRuns image settings) (sym held) (without_runs image settings tile core p.held go.runs))
   gives_one tile core in_tile in_core (give_hands leg on is hands held) (give_ended over stays) = absurd (on (over_here over))
   gives_one tile core in_tile in_core (give_hands leg on is hands held) (give_stale on' none stays) = absurd (let clash : Some leg ≡ None = sym is ∙ (sym (ap (held_for tile core) go.held) ∙ none) in cc (clash))
   gives_one tile core in_tile in_core (give_ended over stays) (give_hands leg on is hands held) = absurd (on (over_there over))
@@ -248,7 +249,7 @@ module _ (N : Type 0) (image : ImageValue) (settings : Settings) (p q p' q' : Pl
   advances_one answers.Committed answers.Memory says says' one two held held' = absurd (cc (says'))
   advances_one (answers.Moved n) answers.Memory says says' one two held held' = absurd (cc (says'))
 
-  does_one : (act : Act) → IsWithin settings.tiles settings.cores act → Does N image act p said p' → Does N image act q said' q' → SaysOne image settings said said' p' q'
+  does_one : (act : Act) → ActIsInRange settings.tiles settings.cores act → Does N image act p said p' → Does N image act q said' q' → SaysOne image settings said said' p' q'
   does_one (acts.Dispatch tile) inside one two = makes_says (event.Dispatch tile) inside one two
   does_one (acts.Step tile core) inside one two = steps_one tile core inside.0 inside.1 one two
   does_one (acts.Take tile core) inside one two = takes_one tile core one two
@@ -259,8 +260,8 @@ module _ (N : Type 0) (image : ImageValue) (settings : Settings) (p q p' q' : Pl
   does_one (acts.Split tile) inside one two = makes_says (event.Split tile) inside one two
   does_one acts.Advance inside one two = advances_one one.answer two.answer one.says two.says one.answers two.answers one.held two.held
 
-pub all_one : (N : Type 0) (image : ImageValue) (settings : Settings) (script : List Act) (p q p' q' : Played) (said said' : List Said) → GoAlike image settings p q
-    → AllByRecursion (IsWithin settings.tiles settings.cores) script → DoesAll N image script p said p' → DoesAll N image script q said' q' → (said' ≡ said) × GoAlike image settings p' q'
+pub all_one : (N : Type 0) (image : ImageValue) (settings : Settings) (script : List Act) (p q p' q' : PlayState) (said said' : List Said) → GoAlike image settings p q
+    → AllByRecursion (ActIsInRange settings.tiles settings.cores) script → DoesAll N image script p said p' → DoesAll N image script q said' q' → (said' ≡ said) × GoAlike image settings p' q'
 all_one N image settings [] p q p' q' [] [] go inside one two = (refl, subst (λ x. GoAlike image settings x q') one (subst (λ y. GoAlike image settings p y) two go))
 all_one N image settings (act ∷ acts) p q p' q' (s ∷ said) (s' ∷ said') go inside one two =
     let first = does_one N image settings p q one.0 two.0 s s' go act inside.0 one.1 two.1 in

@@ -4,31 +4,31 @@ use Rattle.std.specs.List.{AllByRecursion}
 use Rattle.std.proofs.lemmas.List.{take-append-drop, take-take}
 use Rattle.guest_image.specs.ImageValue.{ImageValue, IsImage}
 use Rattle.place_policy.specs.Policy.{Policy}
-use Rattle.trace_tap.specs.Reading.{Reading}
+use Rattle.trace_tap.specs.TapValue.{TapValue}
 use Rattle.spec_state.specs.declared.settings.Settings.{Settings}
 use Rattle.spec_state.specs.Settings.{IsValid}
-use Rattle.book_event.specs.Book.{BookView}
-use Rattle.book_event.specs.Opening.{IsOpening}
-use Rattle.book_law.proofs.Openings.Opened.{opening_is_sound}
+use Rattle.event_def.specs.Book.{BookView}
+use Rattle.event_def.specs.Opening.{IsOpening}
+use Rattle.event_law.proofs.Openings.Opened.{opening_is_sound}
 use Rattle.step_script.specs.declared.act.Act.{Act}
 use Rattle.step_script.specs.declared.saying.Said.{Said}
-use Rattle.step_script.specs.Playing.{Played, DoesAll, Plays}
-use Rattle.step_script.specs.Ranges.{IsWithin}
-use Rattle.outcome_law.specs.Stops.{GoesOn, FrontIsOne, StopIsOne, StopsAreOne}
+use Rattle.step_script.specs.Playing.{PlayState, DoesAll, Plays}
+use Rattle.step_script.specs.Ranges.{ActIsInRange}
+use Rattle.outcome_law.specs.Stops.{PlaysOnBehind, FrontIsOne, StopIsOne, StopsAreOne}
 use Rattle.outcome_law.proofs.Opened.{opening_is_one}
 use Rattle.outcome_law.proofs.Scripts.{all_one}
 
 -- a play of acts in front and of others behind, parted between them
-record IsParted (N : Type 0) (image : ImageValue) (front behind : List Act) (p : Played) (said : List Said)
-    (q : Played) : Type 0 where
-  mid : Played
+record IsParted (N : Type 0) (image : ImageValue) (front behind : List Act) (p : PlayState) (said : List Said)
+    (q : PlayState) : Type 0 where
+  mid : PlayState
   first : List Said
   rest : List Said
   said_is : said ≡ first ++ rest
   plays : DoesAll N image front p first mid
   goes_on : DoesAll N image behind mid rest q
 
-part : (N : Type 0) (image : ImageValue) (front behind : List Act) (p q : Played) (said : List Said)
+part : (N : Type 0) (image : ImageValue) (front behind : List Act) (p q : PlayState) (said : List Said)
     → DoesAll N image (front ++ behind) p said q → IsParted N image front behind p said q
 part N image [] behind p q said does =
     record { mid = p; first = []; rest = said; said_is = refl; plays = refl; goes_on = does }
@@ -46,7 +46,7 @@ part N image (act ∷ acts) behind p q [] does = absurd does
 
 pub front_is_one : (N : Type 0) → FrontIsOne N
 front_is_one N image front behind old other new other_new said all_said sound sound' same inside one two =
-    let begun : Played = record { book = other; held = [] } in
+    let begun : PlayState = record { book = other; held = [] } in
     let parted = part N image front behind begun (record { book = other_new; held = two.0 }) all_said two.1 in
     let both =
     all_one N image old.view.settings front (record { book = old; held = [] }) begun
@@ -57,7 +57,7 @@ front_is_one N image front behind old other new other_new said all_said sound so
       mid = parted.mid;
       plays = subst (λ s. DoesAll N image front begun s parted.mid) both.0 parted.plays;
       books = both.1.books;
-      rest = parted.rest;
+      said_behind = parted.rest;
       said_is = parted.said_is ∙ ap (λ s. s ++ parted.rest) both.0;
       held = two.0;
       goes_on = parted.goes_on;
@@ -70,14 +70,14 @@ inside_front P zero script inside = tt
 inside_front P (suc n) [] inside = tt
 inside_front P (suc n) (act ∷ acts) inside = (inside.0, inside_front P n acts inside.1)
 
-module _ (N : Type 0) (image : ImageValue) (settings : Settings) (placers : List Policy) (taps : List Reading)
+module _ (N : Type 0) (image : ImageValue) (settings : Settings) (placers : List Policy) (taps : List TapValue)
     (opened other_opened new other_new : BookView) (is_image : IsImage image) (valid : IsValid settings)
     (one : IsOpening image settings placers taps opened)
     (two : IsOpening image settings placers taps other_opened) where
   from_openings : (front behind whole : List Act) (said other_said : List Said) → front ++ behind ≡ whole
-      → AllByRecursion (IsWithin opened.view.settings.tiles opened.view.settings.cores) front
+      → AllByRecursion (ActIsInRange opened.view.settings.tiles opened.view.settings.cores) front
       → Plays N image front opened said new → Plays N image whole other_opened other_said other_new
-      → GoesOn N image front behind said new other_opened other_said other_new
+      → PlaysOnBehind N image front behind said new other_opened other_said other_new
   from_openings front behind whole said other_said is inside plays plays' =
       front_is_one N image front behind opened other_opened new other_new said other_said
       (opening_is_sound image settings placers taps opened is_image valid one)

@@ -6,9 +6,10 @@ use Rattle.spec_state.specs.declared.task.Creator.TheVariants.{Committed, Live}
 use Rattle.spec_state.specs.declared.task.Task.{Task}
 use Rattle.spec_state.specs.Filters.{has_touched, has_written}
 use Rattle.spec_state.specs.View.{View, task_at}
-use Rattle.book_event.specs.Book.{BookView}
+use Rattle.event_def.specs.Book.{BookView}
 
--- each id has another name, and no two have the same one
+-- each id has another name, and no two have the same one: all ids, so that it maps lists of them, and a new task swaps
+-- two names
 pub record Renaming : Type 0 where
   pub to : ℕ → ℕ
   pub from : ℕ → ℕ
@@ -16,8 +17,8 @@ pub record Renaming : Type 0 where
   pub forth : (k : ℕ) → to (from k) ≡ k
 
 -- the names the other way round
-abbrev pub turned : Renaming → Renaming
-turned r = record { to = r.from; from = r.to; back = r.forth; forth = r.back }
+abbrev pub inverse_of : Renaming → Renaming
+inverse_of r = record { to = r.from; from = r.to; back = r.forth; forth = r.back }
 
 -- the creator under its other id
 abbrev pub renamed_creator : (ℕ → ℕ) → Creator → Creator
@@ -26,7 +27,7 @@ renamed_creator to (Live task index) = Live (record { 0 = to task.0 }) index
 
 -- the second task is the first one, its creator has the other id, and its filter answers alike
 pub record IsAlikeTask (to : ℕ → ℕ) (x y : Task) : Type 0 where
-  pub is : y ≡ record x { creator = renamed_creator to x.creator; lines = y.lines }
+  pub other_is : y ≡ record x { creator = renamed_creator to x.creator; lines = y.lines }
   pub touched : (line : ℕ) → has_touched y line ≡ has_touched x line
   pub written : (line : ℕ) → has_written y line ≡ has_written x line
 
@@ -43,7 +44,7 @@ pub record AreAlike (r : Renaming) (a b : View) : Type 0 where
   pub queues : b.queues ≡ map (map r.to) a.queues
   pub finished : b.finished ≡ map (map r.to) a.finished
   pub cores : b.cores ≡ map (map (option_map r.to)) a.cores
-  pub rest : b ≡ record a { tasks = b.tasks; queues = b.queues; finished = b.finished; cores = b.cores }
+  pub frame : b ≡ record a { tasks = b.tasks; queues = b.queues; finished = b.finished; cores = b.cores }
 
 -- books that are alike: their views are, and all else is the same
 pub record AreAlikeBooks (r : Renaming) (a b : BookView) : Type 0 where

@@ -5,26 +5,26 @@ use Rattle.spec_state.specs.Settings.{IsValid}
 use Rattle.std.specs.List.{AllByRecursion}
 use Rattle.run_journal.specs.declared.closed.Closed.{Closed}
 use Rattle.run_journal.specs.declared.end.End.{End}
-use Rattle.book_event.specs.Advancing.{AdvancesBy}
-use Rattle.book_event.specs.Closing.{Closes}
+use Rattle.event_def.specs.Advancing.{AdvancesBy}
+use Rattle.event_def.specs.Closing.{Closes}
 use Rattle.spec_state.specs.View.{View}
 use Rattle.place_policy.specs.Policy.{Policy}
-use Rattle.trace_tap.specs.Reading.{Reading}
+use Rattle.trace_tap.specs.TapValue.{TapValue}
 use Rattle.spec_state.specs.declared.settings.Settings.{Settings}
-use Rattle.book_event.specs.Opening.{IsOpening}
+use Rattle.event_def.specs.Opening.{IsOpening}
 use Rattle.spec_law.specs.Sound.{Sound}
-use Rattle.book_event.specs.declared.event.Applied.{Applied}
-use Rattle.book_event.specs.declared.event.Event.{Event}
-use Rattle.book_event.specs.declared.event.Reply.{Reply}
-use Rattle.book_event.specs.declared.event.Reply.TheVariants as reply
-use Rattle.book_event.specs.Book.{BookView}
-use Rattle.book_event.specs.End.{HasEnd}
-use Rattle.book_event.specs.Events.{IsGiven}
-use Rattle.book_event.specs.Happens.{Happens, HappenAll}
+use Rattle.event_def.specs.declared.event.Applied.{Applied}
+use Rattle.event_def.specs.declared.event.Event.{Event}
+use Rattle.event_def.specs.declared.event.Reply.{Reply}
+use Rattle.event_def.specs.declared.event.Reply.TheVariants as reply
+use Rattle.event_def.specs.Book.{BookView}
+use Rattle.event_def.specs.End.{HasEnd}
+use Rattle.event_def.specs.Events.{IsGiven}
+use Rattle.event_def.specs.Happens.{Happens, HappenAll}
 use Rattle.step_script.specs.declared.act.Act.{Act}
 use Rattle.step_script.specs.declared.saying.Said.{Said}
 use Rattle.step_script.specs.Playing.{Plays}
-use Rattle.step_script.specs.Ranges.{IsWithin}
+use Rattle.step_script.specs.Ranges.{ActIsInRange}
 use Rattle.outcome_law.specs.Alike.{Renaming, AreAlike, AreAlikeBooks}
 
 -- views that are alike have the same ends
@@ -86,14 +86,14 @@ abbrev pub PlayIsOne : Type 0 → Type 0
 PlayIsOne N =
     (image : ImageValue) (script : List Act) (old other_old new other_new : BookView) (said other_said : List Said)
     → Sound image old.view → Sound image other_old.view → AreSameBooks old other_old
-    → AllByRecursion (IsWithin old.view.settings.tiles old.view.settings.cores) script
+    → AllByRecursion (ActIsInRange old.view.settings.tiles old.view.settings.cores) script
     → Plays N image script old said new → Plays N image script other_old other_said other_new
     → (other_said ≡ said) × AreSameBooks new other_new
 
 -- two openings of an image with the same settings, placers and taps are alike
 abbrev pub OpeningIsOne : Type 0
 OpeningIsOne =
-    (image : ImageValue) (settings : Settings) (placers : List Policy) (taps : List Reading) (book other : BookView)
+    (image : ImageValue) (settings : Settings) (placers : List Policy) (taps : List TapValue) (book other : BookView)
     → IsOpening image settings placers taps book → IsOpening image settings placers taps other
     → AreSameBooks book other
 
@@ -101,11 +101,11 @@ OpeningIsOne =
 -- output, count of events and end, whatever ids the new tasks had
 abbrev pub ScriptIsOne : Type 0 → Type 0
 ScriptIsOne N =
-    (image : ImageValue) (settings : Settings) (placers : List Policy) (taps : List Reading) (script : List Act)
+    (image : ImageValue) (settings : Settings) (placers : List Policy) (taps : List TapValue) (script : List Act)
     (opened other_opened new other_new : BookView) (said other_said : List Said)
     → IsImage image → IsValid settings
     → IsOpening image settings placers taps opened → IsOpening image settings placers taps other_opened
-    → AllByRecursion (IsWithin opened.view.settings.tiles opened.view.settings.cores) script
+    → AllByRecursion (ActIsInRange opened.view.settings.tiles opened.view.settings.cores) script
     → Plays N image script opened said new → Plays N image script other_opened other_said other_new
     → (other_said ≡ said)
     × ((closed other : Closed) → Closes new closed → Closes other_new other → other ≡ closed)

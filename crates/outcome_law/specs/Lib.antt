@@ -1,3 +1,4 @@
+-- Contracts mean all of these.
 pub mod Alike
 pub mod Laws
 pub mod Stops

@@ -3,29 +3,30 @@ use Rattle.std.specs.Prelude.{◌≡◌, ◌≤◌, ◌++◌, List, [], take, dr
 use Rattle.std.specs.List.{AllByRecursion}
 use Rattle.guest_image.specs.ImageValue.{ImageValue, IsImage}
 use Rattle.place_policy.specs.Policy.{Policy}
-use Rattle.trace_tap.specs.Reading.{Reading}
+use Rattle.trace_tap.specs.TapValue.{TapValue}
 use Rattle.spec_state.specs.declared.settings.Settings.{Settings}
 use Rattle.spec_state.specs.Settings.{IsValid}
 use Rattle.spec_law.specs.Sound.{Sound}
-use Rattle.book_event.specs.Book.{BookView}
-use Rattle.book_event.specs.Opening.{IsOpening}
+use Rattle.event_def.specs.Book.{BookView}
+use Rattle.event_def.specs.Opening.{IsOpening}
 use Rattle.step_script.specs.declared.act.Act.{Act}
 use Rattle.step_script.specs.declared.saying.Said.{Said}
-use Rattle.step_script.specs.Playing.{HeldLeg, Played, DoesAll, Plays, PlaysSome}
-use Rattle.step_script.specs.Ranges.{IsWithin}
+use Rattle.step_script.specs.Playing.{HeldLeg, PlayState, DoesAll, Plays, PlaysSome}
+use Rattle.step_script.specs.Ranges.{ActIsInRange}
 use Rattle.outcome_law.specs.Laws.{AreSameBooks}
 
 -- a play of acts in front and of others behind: of those in front this is said, the book that they lead to is alike to
 -- this one, and from there it plays those behind
-pub record GoesOn (N : Type 0) (image : ImageValue) (front behind : List Act) (said : List Said) (left : BookView)
+pub record PlaysOnBehind (N : Type 0) (image : ImageValue) (front behind : List Act) (said : List Said)
+    (left : BookView)
     (old : BookView) (all_said : List Said) (new : BookView) : Type 0 where
-  pub mid : Played
+  pub mid : PlayState
   pub plays : DoesAll N image front (record { book = old; held = [] }) said mid
   pub books : AreSameBooks left mid.book
-  pub rest : List Said
-  pub said_is : all_said ≡ said ++ rest
+  pub said_behind : List Said
+  pub said_is : all_said ≡ said ++ said_behind
   pub held : List HeldLeg
-  pub goes_on : DoesAll N image behind mid rest (record { book = new; held = held })
+  pub goes_on : DoesAll N image behind mid said_behind (record { book = new; held = held })
 
 -- a play of some acts, and one of the same acts and others behind them, on sound books that are alike: the second one
 -- plays the first one's acts as the first does, and goes on from there
@@ -34,32 +35,32 @@ FrontIsOne N =
     (image : ImageValue) (front behind : List Act) (old other_old new other_new : BookView)
     (said other_said : List Said)
     → Sound image old.view → Sound image other_old.view → AreSameBooks old other_old
-    → AllByRecursion (IsWithin old.view.settings.tiles old.view.settings.cores) front
+    → AllByRecursion (ActIsInRange old.view.settings.tiles old.view.settings.cores) front
     → Plays N image front old said new → Plays N image (front ++ behind) other_old other_said other_new
-    → GoesOn N image front behind said new other_old other_said other_new
+    → PlaysOnBehind N image front behind said new other_old other_said other_new
 
 -- a script of which memory stopped one play, from an opening on, and of which another play, from another opening on,
 -- came to the end: the other plays the acts up to there as the first does, and goes on from there
 abbrev pub StopIsOne : Type 0 → Type 0
 StopIsOne N =
-    (image : ImageValue) (settings : Settings) (placers : List Policy) (taps : List Reading) (script : List Act)
+    (image : ImageValue) (settings : Settings) (placers : List Policy) (taps : List TapValue) (script : List Act)
     (opened other_opened new other_new : BookView) (other_said : List Said)
     → IsImage image → IsValid settings
     → IsOpening image settings placers taps opened → IsOpening image settings placers taps other_opened
-    → AllByRecursion (IsWithin opened.view.settings.tiles opened.view.settings.cores) script
+    → AllByRecursion (ActIsInRange opened.view.settings.tiles opened.view.settings.cores) script
     → (stopped : PlaysSome N image script opened new) → Plays N image script other_opened other_said other_new
-    → GoesOn N image (take stopped.count script) (drop stopped.count script) stopped.said new
+    → PlaysOnBehind N image (take stopped.count script) (drop stopped.count script) stopped.said new
     other_opened other_said other_new
 
 -- likewise where memory stopped both plays, the first one no later than the other
 abbrev pub StopsAreOne : Type 0 → Type 0
 StopsAreOne N =
-    (image : ImageValue) (settings : Settings) (placers : List Policy) (taps : List Reading) (script : List Act)
+    (image : ImageValue) (settings : Settings) (placers : List Policy) (taps : List TapValue) (script : List Act)
     (opened other_opened new other_new : BookView)
     → IsImage image → IsValid settings
     → IsOpening image settings placers taps opened → IsOpening image settings placers taps other_opened
-    → AllByRecursion (IsWithin opened.view.settings.tiles opened.view.settings.cores) script
+    → AllByRecursion (ActIsInRange opened.view.settings.tiles opened.view.settings.cores) script
     → (stopped : PlaysSome N image script opened new) → (other : PlaysSome N image script other_opened other_new)
     → stopped.count ≤ other.count
-    → GoesOn N image (take stopped.count script) (drop stopped.count (take other.count script)) stopped.said new
+    → PlaysOnBehind N image (take stopped.count script) (drop stopped.count (take other.count script)) stopped.said new
     other_opened other.said other_new

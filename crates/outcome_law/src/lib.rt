@@ -2,8 +2,8 @@
 //! the ids of their tasks (`AreSameBooks`) stay so after one event, after a list of events, after events for the least
 //! tasks and after a script that is played to its end; and what they leave when they are closed is the same. Where
 //! memory stops one of two plays of a script, the other one went the same way up to there. Each law is the contract of
-//! a function that does nothing. They stand on the laws of events (`book_law`) and on what the acts of a script do
-//! (`step_script`); no code that runs stands on them.
+//! a function that does nothing. They stand on the laws of events (`event_law`) and on what the acts of a script do
+//! (`step_script`); the laws of runs on the machine (`machine_run`) stand on them, and no code that runs.
 #![tactic(auto)]
 
 mod laws;

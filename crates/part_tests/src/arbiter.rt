@@ -11,7 +11,7 @@ fn the_deepest_key_of_a_path_is_least(rt: HostRuntime) -> Result<(), Fail> {
     let path = Vt::new(&[Level { ts: 5, tb: 0 }]).ok_or("one level fits")?;
     let outer = Key::root(5);
     let inner = Key {
-        domain: path.copied(),
+        domain: path.copy(),
         ts: 9,
         tb: None,
     };

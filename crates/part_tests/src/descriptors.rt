@@ -28,7 +28,7 @@ static FIELDS: [u8; 36] = [
 ];
 
 #[test]
-fn a_record_has_the_fields_in_their_places(rt: HostRuntime) {
+fn a_descriptor_has_its_fields_in_their_places(rt: HostRuntime) {
     is_sent(&SHALLOW);
     let record = put_desc(&SHALLOW);
     assert!(rt; record.starts_with(&FIELDS) && record.ends_with(&[0; 28]));

@@ -241,7 +241,7 @@ fn the_text_of_a_worked_image_is_read(rt: HostRuntime) -> Result<(), Fail> {
 }
 
 /// An image and its length, read from bytes in which a text follows it.
-fn followed(alloc: Global) -> Result<(Image, usize), Fail> {
+fn image_before_text(alloc: Global) -> Result<(Image, usize), Fail> {
     let mut bytes = TWO_TASKS.to_vec(alloc)?;
     bytes.extend_from_slice(b"fractal 1\n")?;
     match read_image(alloc, &bytes) {
@@ -252,7 +252,7 @@ fn followed(alloc: Global) -> Result<(Image, usize), Fail> {
 
 #[test]
 fn what_follows_an_image_is_not_read(rt: HostRuntime) -> Result<(), Fail> {
-    let (image, length) = followed(rt.alloc())?;
+    let (image, length) = image_before_text(rt.alloc())?;
     assert!(rt; length == 78 && has_header(&image, 1, Kind::Unordered, (4, 1)));
     Ok(())
 }

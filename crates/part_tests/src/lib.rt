@@ -36,13 +36,13 @@ mod reports;
 #[cfg(test)]
 mod requests;
 #[cfg(test)]
-mod rooms;
-#[cfg(test)]
 mod samples;
 #[cfg(test)]
 mod sending;
 #[cfg(test)]
 mod serial_runs;
+#[cfg(test)]
+mod spares;
 #[cfg(test)]
 mod streams;
 #[cfg(test)]

@@ -34,7 +34,7 @@ impl Placer for LastTile {
 }
 
 /// Such a placer, and what counts its tasks.
-fn counted(alloc: Global) -> Result<(Arc<AtomicU64>, Box<LastTile>), AllocError> {
+fn counting_placer(alloc: Global) -> Result<(Arc<AtomicU64>, Box<LastTile>), AllocError> {
     let placed = Arc::new(alloc, AtomicU64::new(0))?;
     let placer = LastTile {
         placed: Arc::try_clone(&placed)?,
@@ -83,7 +83,7 @@ fn with_no_placer_the_hint_picks(rt: HostRuntime) {
 #[test]
 fn the_first_of_the_boxed_placers_serves(rt: HostRuntime) -> Result<(), Fail> {
     let alloc = rt.alloc();
-    let (placed, last_tile) = counted(alloc)?;
+    let (placed, last_tile) = counting_placer(alloc)?;
     let mut placers: [Box<dyn Placer + Send>; 2] = [last_tile, Box::new(alloc, ByHint::new())?];
     assert_eq!(rt; place(&mut placers, 0, &[7]), 0);
     assert_eq!(rt; place(&mut placers, 0, &[0, 0, 9]), 2);
@@ -94,7 +94,7 @@ fn the_first_of_the_boxed_placers_serves(rt: HostRuntime) -> Result<(), Fail> {
 #[test]
 fn the_next_placer_serves_where_the_first_is_gone(rt: HostRuntime) -> Result<(), Fail> {
     let alloc = rt.alloc();
-    let (placed, last_tile) = counted(alloc)?;
+    let (placed, last_tile) = counting_placer(alloc)?;
     let mut placers: [Box<dyn Placer + Send>; 2] = [last_tile, Box::new(alloc, RoundRobin::new())?];
     assert_eq!(rt; place(&mut placers, 9, &[0, 0, 0]), 2);
     let [_gone, next] = placers;

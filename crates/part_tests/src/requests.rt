@@ -5,7 +5,7 @@ use rv_core::{Core, Stop};
 use rv_table::{LoadWidth, Reg, StoreWidth};
 use std::test::Fail;
 use task_desc::{Ctx, Place, Spawn};
-use task_step::{Request, request_of};
+use task_request::{Request, request_of};
 
 /// A task of an ordered domain at depth 2, at timestamp 5, that has made nothing.
 const CTX: Ctx = Ctx {
@@ -163,7 +163,7 @@ fn calls_ask_for_what_their_number_says(rt: HostRuntime) -> Result<(), Fail> {
 }
 
 /// A core at an instruction that isn't a call.
-fn stopped() -> Core {
+fn core_at_no_call() -> Core {
     Core::start(1, 0x0001_0000, 5, [0; 3])
 }
 
@@ -172,7 +172,7 @@ fn a_load_has_its_offset_in_the_data(rt: HostRuntime) -> Result<(), Fail> {
     let rd = Reg::new(6).ok_or("x6")?;
     let width = LoadWidth::H;
     let addr = DATA_START + 6;
-    let found = request_of(&CTX, &stopped(), &Stop::Load { width, rd, addr });
+    let found = request_of(&CTX, &core_at_no_call(), &Stop::Load { width, rd, addr });
     let offset = 6;
     assert!(rt; found == Request::Load { width, rd, offset });
     Ok(())
@@ -187,15 +187,15 @@ fn a_store_has_its_offset_in_the_data(rt: HostRuntime) {
     };
     let store = Request::Store {
         offset: 6,
-        bytes: 2,
+        width: 2,
         value: 0x1_2345,
     };
-    assert!(rt; request_of(&CTX, &stopped(), &stop) == store);
+    assert!(rt; request_of(&CTX, &core_at_no_call(), &stop) == store);
 }
 
 #[test]
 fn a_trap_and_a_full_leg_are_told_as_they_are(rt: HostRuntime) {
-    let core = stopped();
+    let core = core_at_no_call();
     let pc = core.pc;
     let trap = request_of(&CTX, &core, &Stop::Trap { cause: 17, pc });
     assert!(rt; asks_for(&trap, &Asked::Trap(17)));

@@ -1,4 +1,4 @@
-//! Taps and what they are told, by trace_tap.
+//! Taps and what they note, by trace_tap.
 
 use std::alloc::{AllocError, Global};
 use std::sync::Arc;
@@ -6,7 +6,7 @@ use std::sync::atomic::{AtomicU64, Ordering};
 use std::test::Fail;
 use trace_tap::{Deed, LastN, LineProfile, Record, Tap, note_all};
 
-/// Counts the steps that it is told, where the test sees the count, and keeps no list.
+/// Counts the events that it notes, where the test sees the count, and keeps no list.
 #[derive(Drop)]
 struct Counter {
     told: Arc<AtomicU64>,
@@ -15,7 +15,7 @@ struct Counter {
 impl Tap for Counter {
     ghost use Rattle.std.specs.Prelude.{[]};
 
-    ghost reading = { λ _. record { list = []; after = λ list seen. [] } };
+    ghost notes = { λ _. record { list = []; after = λ list seen. [] } };
 
     fn note(&mut self, _seen: &Record) {
         self.told.fetch_add(1, Ordering::SeqCst);
@@ -31,7 +31,7 @@ impl Tap for Counter {
 }
 
 /// Such a tap, and its count.
-fn counted(alloc: Global) -> Result<(Arc<AtomicU64>, Box<Counter>), AllocError> {
+fn counting_tap(alloc: Global) -> Result<(Arc<AtomicU64>, Box<Counter>), AllocError> {
     let told = Arc::new(alloc, AtomicU64::new(0))?;
     let tap = Counter {
         told: Arc::try_clone(&told)?,
@@ -70,7 +70,7 @@ fn record_of((deed, tile, line, aborted, commits): Step) -> Record {
     }
 }
 
-/// Tells the taps of all steps.
+/// The taps note all events.
 fn tell_all<T: Tap>(taps: &mut [T]) {
     for step in &STEPS {
         note_all(taps, &record_of(*step));
@@ -97,8 +97,8 @@ fn a_new_tap_has_counted_nothing(rt: HostRuntime) -> Result<(), Fail> {
 }
 
 #[test]
-fn the_last_steps_are_kept_and_each_step_is_told(rt: HostRuntime) -> Result<(), Fail> {
-    let (told, counter) = counted(rt.alloc())?;
+fn the_last_records_are_kept_and_each_is_noted(rt: HostRuntime) -> Result<(), Fail> {
+    let (told, counter) = counting_tap(rt.alloc())?;
     let mut taps: [Box<dyn Tap + Send>; 2] = [last_two(rt.alloc())?, counter];
     tell_all(&mut taps);
     assert!(rt; has_list(&taps[0], &[2, 1, 2, 5, 1, 6, 0, 0, 0, 2]));
@@ -115,7 +115,7 @@ fn accesses_count_what_they_took_back(rt: HostRuntime) -> Result<(), Fail> {
     Ok(())
 }
 
-/// The numbers of a step at the greatest line.
+/// The numbers of an event at the greatest line.
 static NUMBERS: [(u32, Option<u64>); 6] = [
     (0, Some(2)),
     (1, Some(3)),
@@ -126,7 +126,7 @@ static NUMBERS: [(u32, Option<u64>); 6] = [
 ];
 
 #[test]
-fn a_step_has_five_numbers(rt: HostRuntime) -> Result<(), Fail> {
+fn a_record_has_five_numbers(rt: HostRuntime) -> Result<(), Fail> {
     let mut tap = LastN::new(rt.alloc(), 4096)?;
     tap.note(&record_of((Deed::Access, 3, Some(u32::MAX), 4, 5)));
     assert_eq!(rt; tap.len(), 5);

@@ -20,7 +20,7 @@ const PLACES: [Level; 2] = [Level { ts: 5, tb: 1 }, Level { ts: 5, tb: 2 }];
 /// An open key in this domain.
 fn open_key(domain: &Vt, ts: u32) -> Key {
     Key {
-        domain: domain.copied(),
+        domain: domain.copy(),
         ts,
         tb: None,
     }

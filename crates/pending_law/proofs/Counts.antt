@@ -12,7 +12,7 @@ use Rattle.std.proofs.lemmas.List.Sums.{sum_by-cons}
 use Rattle.task_desc.specs.declared.desc.Name.{Name}
 use Rattle.serial_machine.specs.Names.{one}
 use Rattle.spec_state.specs.declared.pending.Pending.{Pending}
-use Rattle.spec_state.specs.Pendings.{is_before, IsBefore}
+use Rattle.spec_state.specs.Pendings.{pending_before, IsBefore}
 
 -- whether a task has a name
 abbrev pub named : Name → Pending → Bool
@@ -74,33 +74,33 @@ none_named name (q ∷ qs) none = go (named name q) refl none (none_named name q
     go false is zero_all rest = (is, rest (omega (arith, zero_all)))
 
 -- without its first a sorted list is sorted
-tail_sorted : (p : Pending) (ps : List Pending) → IsSortedBy is_before (p ∷ ps) → IsSortedBy is_before ps
+tail_sorted : (p : Pending) (ps : List Pending) → IsSortedBy pending_before (p ∷ ps) → IsSortedBy pending_before ps
 tail_sorted p ps sorted = λ k d low high.
     let next : suc k + 1 ≡ suc (k + 1) = omega arith in
-    subst (λ n. is_before (slice_index_or (p ∷ ps) n d) (slice_index_or ps k d) ≡ false) next (sorted (suc k) d (omega arith) (omega (arith, high)))
+    subst (λ n. pending_before (slice_index_or (p ∷ ps) n d) (slice_index_or ps k d) ≡ false) next (sorted (suc k) d (omega arith) (omega (arith, high)))
 
 -- none comes before the first of a sorted list
-none_before : (p : Pending) (ps : List Pending) → IsSortedBy is_before (p ∷ ps) → AllByRecursion (λ q. is_before q p ≡ false) ps
+none_before : (p : Pending) (ps : List Pending) → IsSortedBy pending_before (p ∷ ps) → AllByRecursion (λ q. pending_before q p ≡ false) ps
 none_before p [] sorted = tt
 none_before p (q ∷ qs) sorted = (first, further first qs (none_before q qs (tail_sorted p (q ∷ qs) sorted)))
   where
-    first : is_before q p ≡ false
+    first : pending_before q p ≡ false
     first = sorted zero p (omega arith) (omega arith)
 
-    further : is_before q p ≡ false → (rs : List Pending) → AllByRecursion (λ r. is_before r q ≡ false) rs → AllByRecursion (λ r. is_before r p ≡ false) rs
+    further : pending_before q p ≡ false → (rs : List Pending) → AllByRecursion (λ r. pending_before r q ≡ false) rs → AllByRecursion (λ r. pending_before r p ≡ false) rs
     further one_step [] each = tt
     further one_step (r ∷ rs) each = (over one_step each.0, further one_step rs each.1)
       where
-        over : is_before q p ≡ false → is_before r q ≡ false → is_before r p ≡ false
+        over : pending_before q p ≡ false → pending_before r q ≡ false → pending_before r p ≡ false
         over first_two last_two = grind (arith, nat_tests, common_steps)
 
 -- what isn't before another, nor has its name, is behind it
-behind_each : (p : Pending) (ps : List Pending) → AllByRecursion (λ q. is_before q p ≡ false) ps
+behind_each : (p : Pending) (ps : List Pending) → AllByRecursion (λ q. pending_before q p ≡ false) ps
     → AllByRecursion (λ q. named p.name q ≡ false) ps → AllByRecursion (IsBefore p) ps
 behind_each p [] order names = tt
 behind_each p (q ∷ qs) order names = (go order.0 names.0, behind_each p qs order.1 names.1)
   where
-    go : is_before q p ≡ false → named p.name q ≡ false → is_before p q ≡ true
+    go : pending_before q p ≡ false → named p.name q ≡ false → pending_before p q ≡ true
     go not_before other = grind (arith, nat_tests, common_steps)
 
 none_left : (p : Pending) (ps : List Pending) → AreApart (p ∷ ps) → count p.name ps ≡ 0
@@ -113,7 +113,7 @@ tail_apart : (p : Pending) (ps : List Pending) → AreApart (p ∷ ps) → AreAp
 tail_apart p ps few name = let upto = few name in omega (arith, upto)
 
 -- a sorted list in which no name stands twice is in strict order
-pub strictly : (ps : List Pending) → IsSortedBy is_before ps → AreApart ps → AllPairs IsBefore ps
+pub strictly : (ps : List Pending) → IsSortedBy pending_before ps → AreApart ps → AllPairs IsBefore ps
 strictly [] sorted few = λ i j d before inside. absurd (omega (arith, inside))
 strictly (p ∷ ps) sorted few =
     AllPairs-cons IsBefore p ps

@@ -7,11 +7,11 @@ use Rattle.task_desc.specs.declared.desc.Name.{Name}
 use Rattle.pending_list.specs.declared.task.PendingTask.{PendingTask}
 use Rattle.serial_machine.specs.BagValue.{BagValue}
 use Rattle.serial_machine.specs.Names.{one, times, times_in}
-use Rattle.spill_store.specs.Entries.{Entry as Spilled}
-use Rattle.turn_law.specs.Tasks as bags
-use Rattle.turn_law.specs.Tasks.{In, IsFree, IsSpilled, SpilledTask}
-use Rattle.turn_law.specs.Commit.{Stands}
-use Rattle.turn_law.specs.Sound.{AreSound, IsFresh, NamesDiffer}
+use Rattle.spill_store.specs.SpilledTasks.{Spilled}
+use Rattle.task_law.specs.Tasks as bags
+use Rattle.task_law.specs.Tasks.{In, IsFree, IsSpilled, SpilledBagTask}
+use Rattle.task_law.specs.Commit.{Stands}
+use Rattle.task_law.specs.Sound.{AreSound, IsFresh, NamesDiffer}
 use Rattle.spec_state.specs.declared.pending.Pending.{Pending}
 use Rattle.spec_state.specs.declared.task.Creator.{Creator}
 use Rattle.spec_state.specs.declared.task.Creator.TheVariants.{Committed, Live}
@@ -139,26 +139,27 @@ spilled_as d = record { name = d.name; depth = d.depth; entry = d.entry; ts = d.
 
 module _ (turns : ℕ) where
   pub held_spilled : (ss : List Spilled) (p : Pending) → Holds (spilled_pending turns ss) p
-      → (e : SpilledTask) × In e (map bag_spilled ss) × (e.task.name.creator ≤ turns) × (p ≡ pending_at e.depth e.task)
+      → (e : SpilledBagTask) × In e (map bag_spilled ss) × (e.task.name.creator ≤ turns)
+      × (p ≡ pending_at e.depth e.task)
   held_spilled [] p held = absurd held
   held_spilled (s ∷ ss) p held = go (nat_le s.desc.name.creator turns) refl held (held_spilled ss p)
     where
       go : (b : Bool) → nat_le s.desc.name.creator turns ≡ b → Holds (cons_option (if b then Some (spilled_as s.desc) else None) (spilled_pending turns ss)) p
-          → (Holds (spilled_pending turns ss) p → (e : SpilledTask) × In e (map bag_spilled ss) × (e.task.name.creator ≤ turns) × (p ≡ pending_at e.depth e.task))
-          → (e : SpilledTask) × In e (map bag_spilled (s ∷ ss)) × (e.task.name.creator ≤ turns) × (p ≡ pending_at e.depth e.task)
+          → (Holds (spilled_pending turns ss) p → (e : SpilledBagTask) × In e (map bag_spilled ss) × (e.task.name.creator ≤ turns) × (p ≡ pending_at e.depth e.task))
+          → (e : SpilledBagTask) × In e (map bag_spilled (s ∷ ss)) × (e.task.name.creator ≤ turns) × (p ≡ pending_at e.depth e.task)
       go true low (inl same) rest = (bag_spilled s, inl refl, grind (arith, nat_tests), sym same)
       go true low (inr other) rest = let found = rest other in (found.0, inr found.1, found.2, found.3)
       go false high other rest = let found = rest other in (found.0, inr found.1, found.2, found.3)
 
-  pub spilled_held : (ss : List Spilled) (e : SpilledTask) → In e (map bag_spilled ss) → e.task.name.creator ≤ turns
+  pub spilled_held : (ss : List Spilled) (e : SpilledBagTask) → In e (map bag_spilled ss) → e.task.name.creator ≤ turns
       → Holds (spilled_pending turns ss) (pending_at e.depth e.task)
   spilled_held [] e among low = absurd among
   spilled_held (s ∷ ss) e (inl same) low =
-      let creator : e.task.name.creator ≡ s.desc.name.creator = ap (λ (x : SpilledTask). x.task.name.creator) same in
+      let creator : e.task.name.creator ≡ s.desc.name.creator = ap (λ (x : SpilledBagTask). x.task.name.creator) same in
       let test : nat_le s.desc.name.creator turns ≡ true = grind (arith, nat_tests) in
       let here : Holds (cons_option (pending_spilled turns s.desc) (spilled_pending turns ss)) (spilled_as s.desc) =
       subst (λ b. Holds (cons_option (if b then Some (spilled_as s.desc) else None) (spilled_pending turns ss)) (spilled_as s.desc)) (sym test) (inl refl) in
-      subst (λ (x : SpilledTask). Holds (spilled_pending turns (s ∷ ss)) (pending_at x.depth x.task)) (sym same) here
+      subst (λ (x : SpilledBagTask). Holds (spilled_pending turns (s ∷ ss)) (pending_at x.depth x.task)) (sym same) here
   spilled_held (s ∷ ss) e (inr among) low =
       held_cons (pending_spilled turns s.desc) (spilled_pending turns ss) (pending_at e.depth e.task) (spilled_held ss e among low)
 
@@ -193,13 +194,13 @@ module _ (turns : ℕ) where
 
   -- the name is that of none of the spilled tasks, or of one of them
   pub some_spilled : (name : Name) (ss : List Spilled)
-      → (count name (spilled_pending turns ss) ≡ 0) ⊎ ((e : SpilledTask) × In e (map bag_spilled ss) × (e.task.name ≡ name))
+      → (count name (spilled_pending turns ss) ≡ 0) ⊎ ((e : SpilledBagTask) × In e (map bag_spilled ss) × (e.task.name ≡ name))
   some_spilled name [] = inl refl
   some_spilled name (s ∷ ss) = by (named name (spilled_as s.desc)) refl (some_spilled name ss)
     where
       by : (b : Bool) → named name (spilled_as s.desc) ≡ b
-          → (count name (spilled_pending turns ss) ≡ 0) ⊎ ((e : SpilledTask) × In e (map bag_spilled ss) × (e.task.name ≡ name))
-          → (count name (spilled_pending turns (s ∷ ss)) ≡ 0) ⊎ ((e : SpilledTask) × In e (map bag_spilled (s ∷ ss)) × (e.task.name ≡ name))
+          → (count name (spilled_pending turns ss) ≡ 0) ⊎ ((e : SpilledBagTask) × In e (map bag_spilled ss) × (e.task.name ≡ name))
+          → (count name (spilled_pending turns (s ∷ ss)) ≡ 0) ⊎ ((e : SpilledBagTask) × In e (map bag_spilled (s ∷ ss)) × (e.task.name ≡ name))
       by true same rest = inr (bag_spilled s, inl refl, named_so name (spilled_as s.desc) same)
       by false other (inr found) = inr (found.0, inr found.1, found.2)
       by false other (inl none) = inl (go (nat_le s.desc.name.creator turns))
@@ -228,7 +229,7 @@ module _ (view : View) (least : ℕ) (runs : Bool) (names : AreSound (length vie
           names.distinct i j (bag_task x) (bag_task y) (ap (option_map bag_task) first.0) (ap (option_map bag_task) second.0)
           (ap bag_creator (first.1 ∙ sym second.1))
 
-      other : (e : SpilledTask) → In e (bags_spilled view) → e.task.name ≡ name → (id : ℕ) (task : Task) → Made name view.tasks id task → ⊥
+      other : (e : SpilledBagTask) → In e (bags_spilled view) → e.task.name ≡ name → (id : ℕ) (task : Task) → Made name view.tasks id task → ⊥
       other e among same id task made =
           let there : bag_tasks view id ≡ Some (bag_task task) = ap (option_map bag_task) made.0 in
           let by : (bag_task task).creator ≡ bags.Committed name.creator name.index = ap bag_creator made.1 in
@@ -246,12 +247,12 @@ module _ (view : View) (least : ℕ) (runs : Bool) (names : AreSound (length vie
       (spilled_held (length view.history) (all_spilled view) (record { depth = depth; task = p }) s.0 s.1)
   free_is_held depth p (inl q) =
       let from = mapped_some bag_task (task_at view q.id) q.task q.there in
-      let made = committed from.0.creator (sym (ap (λ (t : bags.Task). t.creator) from.2) ∙ q.creator) in
+      let made = committed from.0.creator (sym (ap (λ (t : bags.BagTask). t.creator) from.2) ∙ q.creator) in
       let held = held_front (filter_map pending_queued view.tasks) (spilled_pending (length view.history) (all_spilled view)) (queued_as q.turn q.index from.0)
       (queued_held view.tasks q.id from.0 q.turn q.index from.1 made) in
-      let depth_is : depth_of from.0 ≡ depth = sym (ap (λ (t : bags.Task). t.depth) from.2) ∙ q.at in
+      let depth_is : depth_of from.0 ≡ depth = sym (ap (λ (t : bags.BagTask). t.depth) from.2) ∙ q.depth_is in
       let task_is : bags.pending q.turn q.index (bag_task from.0).body (bag_task from.0).ts ≡ p =
-      ap (λ (t : bags.Task). bags.pending q.turn q.index t.body t.ts) (sym from.2) ∙ sym q.is in
+      ap (λ (t : bags.BagTask). bags.pending q.turn q.index t.body t.ts) (sym from.2) ∙ sym q.pending_is in
       subst (Holds (pendings_in view)) (λ i. pending_at (depth_is i) (task_is i)) held
     where
       committed : (c : Creator) → bag_creator c ≡ bags.Committed q.turn q.index → c ≡ Committed q.turn q.index
@@ -275,8 +276,8 @@ module _ (view : View) (least : ℕ) (runs : Bool) (names : AreSound (length vie
             turn = q.turn;
             index = q.index;
             creator = ap bag_creator q.creator;
-            at = refl;
-            is = refl;
+            depth_is = refl;
+            pending_is = refl;
           }),
           q.is,
         )

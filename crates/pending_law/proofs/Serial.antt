@@ -8,7 +8,7 @@ use Rattle.serial_machine.specs.Names.{one, times_in}
 use Rattle.run_law.proofs.Counted.{AreNamed-run}
 use Rattle.spec_state.specs.declared.pending.Pending.{Pending}
 use Rattle.spec_state.specs.View.{View}
-use Rattle.spec_state.specs.Pendings.{all_pending, is_before, pendings_in, ArePendings}
+use Rattle.spec_state.specs.Pendings.{all_pending, pending_before, pendings_in, ArePendings}
 use Rattle.spec_law.specs.Sound.{Sound}
 use Rattle.pending_law.proofs.Counts.{AreApart, count, count-permutation, Holds, permuted, strictly}
 use Rattle.pending_law.proofs.Listed.{count_all, free_is_held, held_is_free, held_stands, pendings_apart, stands_is_held}
@@ -46,7 +46,7 @@ module _ (image : ImageValue) (view : View) (sound : Sound image view) where
       let few = at_most_one (nat_le name.creator sound.serial.count) in
       omega (arith, named, all, few)
 
-  pub pendings_are_serial : (pendings : List Pending) → IsPermutation (pendings_in view) pendings → IsSortedBy is_before pendings → ArePendings stack pendings
+  pub pendings_are_serial : (pendings : List Pending) → IsPermutation (pendings_in view) pendings → IsSortedBy pending_before pendings → ArePendings stack pendings
   pendings_are_serial pendings moved sorted = record {
     sorted = strictly pendings sorted few;
     held =

@@ -4,12 +4,12 @@ use Rattle.std.specs.List.Sorted.{IsSortedBy}
 use Rattle.guest_image.specs.ImageValue.{ImageValue}
 use Rattle.spec_state.specs.declared.pending.Pending.{Pending}
 use Rattle.spec_state.specs.View.{View}
-use Rattle.spec_state.specs.Pendings.{is_before, pendings_in, ArePendings}
+use Rattle.spec_state.specs.Pendings.{pending_before, pendings_in, ArePendings}
 use Rattle.spec_law.specs.Sound.{Sound}
 
 -- the tasks that pend in a sound view, sorted by their names, are those of the serial machine's bags
 abbrev pub PendingsAreSerial : Type 0
 PendingsAreSerial =
     (image : ImageValue) (view : View) (sound : Sound image view) (pendings : List Pending)
-    → IsPermutation (pendings_in view) pendings → IsSortedBy is_before pendings
+    → IsPermutation (pendings_in view) pendings → IsSortedBy pending_before pendings
     → ArePendings sound.serial.stack pendings

@@ -7,7 +7,7 @@ use Rattle.std.proofs.lemmas.List.{get_or_past}
 use Rattle.pending_list.specs.declared.task.PendingTask.{PendingTask}
 use Rattle.pending_list.specs.declared.slot.Slot.{Slot}
 use Rattle.pending_list.specs.Pending.{earlier, first_least}
-use Rattle.pending_list.specs.Slots.{present, slot_at, vacant, rank_of, IsIndexed}
+use Rattle.pending_list.specs.Slots.{present, slot_at, vacant, rank_of, AreRanked}
 use Rattle.pending_list.specs.Tournament.{no_rank, IsLeastOf}
 
 -- the slot at a place is there, those before it have greater timestamps, and those behind it none that is smaller
@@ -78,7 +78,7 @@ pub record HasFirst (xs : List Slot) (place : ℕ) : Type 0 where
   pub none : length xs ≤ place → first_least (present xs) ≡ None
 
 -- by ranks, a task comes first where its timestamp is smaller, or its place
-pub first_of_least : (xs : List Slot) (ranks : List ℕ) (room rank : ℕ) → IsIndexed xs ranks room → IsLeastOf ranks rank
+pub first_of_least : (xs : List Slot) (ranks : List ℕ) (room rank : ℕ) → AreRanked xs ranks room → IsLeastOf ranks rank
     → HasFirst xs (rank % 2 ^ 32)
 first_of_least xs ranks room rank is least = go least.stands where
   above : (k : ℕ) → k < length xs → (slot_at xs k).here ≡ true → rank ≤ (slot_at xs k).task.ts * 2 ^ 32 + k

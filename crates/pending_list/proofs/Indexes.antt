@@ -5,27 +5,27 @@ use Rattle.std.proofs.lemmas.Bool.{cases_eq, cases_lt}
 use Rattle.std.proofs.lemmas.List.{get_or_default, get_or_past, get_or_push, get_or_append_left, get_or-set_same, get_or-set_other, get_or-take, get_or-drop, length-set, length_push, take-append-drop, append-nil}
 use Rattle.task_desc.specs.declared.desc.Name.{Name}
 use Rattle.pending_list.specs.declared.slot.Slot.{Slot}
-use Rattle.pending_list.specs.Pending.{is_before, AllBefore}
-use Rattle.pending_list.specs.Slots.{present, slot_at, vacant, Rises, IsFirstNotBefore, IsPlaceOf, IsTrimmed, rank_of, IsIndexed}
+use Rattle.pending_list.specs.Pending.{name_before, AllBefore}
+use Rattle.pending_list.specs.Slots.{present, slot_at, vacant, NamesRise, IsFirstNotBefore, IsPlaceOfName, IsTrimmed, rank_of, AreRanked}
 use Rattle.pending_list.specs.Tournament.{no_rank}
 use Rattle.pending_list.proofs.Before.{before_trans}
 use Rattle.pending_list.proofs.Presents.{present-append, present-All, present-vacant}
 use Rattle.pending_list.proofs.Firsts.{rank_vacant}
 
 -- names that rise are parted by any name
-pub parted : (name : Name) (xs : List Slot) → Rises xs → IsPartitionedBy (λ s. is_before s.task.name name) xs
+pub parted : (name : Name) (xs : List Slot) → NamesRise xs → IsPartitionedBy (λ s. name_before s.task.name name) xs
 parted name xs rises i j d order inside before = go (cases_eq i j) where
-  go : (i ≡ j) ⊎ (i ≢ j) → is_before (get_or xs i d).task.name name ≡ true
-  go (inl same) = subst (λ k. is_before (get_or xs k d).task.name name ≡ true) (sym same) before
+  go : (i ≡ j) ⊎ (i ≢ j) → name_before (get_or xs i d).task.name name ≡ true
+  go (inl same) = subst (λ k. name_before (get_or xs k d).task.name name ≡ true) (sym same) before
   go (inr other) =
       before_trans (get_or xs i d).task.name (get_or xs j d).task.name name
-      (ap (λ s. is_before s.task.name (get_or xs j d).task.name) (get_or_default xs i d vacant (omega arith))
-      ∙ ap (λ s. is_before (slot_at xs i).task.name s.task.name) (get_or_default xs j d vacant inside)
+      (ap (λ s. name_before s.task.name (get_or xs j d).task.name) (get_or_default xs i d vacant (omega arith))
+      ∙ ap (λ s. name_before (slot_at xs i).task.name s.task.name) (get_or_default xs j d vacant inside)
       ∙ rises i j (omega arith) inside)
       before
 
 pub first_not_before : (name : Name) (xs : List Slot) (place : ℕ) → place ≤ length xs
-    → IsPartitionPoint (λ s. is_before s.task.name name ≡ true) (λ s. is_before s.task.name name ≡ false) xs place
+    → IsPartitionPoint (λ s. name_before s.task.name name ≡ true) (λ s. name_before s.task.name name ≡ false) xs place
     → IsFirstNotBefore name xs place
 first_not_before name xs place within point = record {
   within = within;
@@ -34,15 +34,15 @@ first_not_before name xs place within point = record {
 }
 
 -- a name behind those of the tasks that are there is behind those of all slots
-each_before : (name : Name) (xs : List Slot) (ranks : List ℕ) (room : ℕ) → IsIndexed xs ranks room
+each_before : (name : Name) (xs : List Slot) (ranks : List ℕ) (room : ℕ) → AreRanked xs ranks room
     → AllBefore name (present xs)
-    → (k : ℕ) → k < length xs → is_before (slot_at xs k).task.name name ≡ true
+    → (k : ℕ) → k < length xs → name_before (slot_at xs k).task.name name ≡ true
 each_before name xs ranks room is all k inside = go (cases_eq k (length xs - 1)) where
-  last : is_before (slot_at xs (length xs - 1)).task.name name ≡ true
-  last = present-All (λ t. is_before t.name name ≡ true) xs all (length xs - 1) (omega arith) (is.ends (omega arith))
+  last : name_before (slot_at xs (length xs - 1)).task.name name ≡ true
+  last = present-All (λ t. name_before t.name name ≡ true) xs all (length xs - 1) (omega arith) (is.ends (omega arith))
 
-  go : (k ≡ length xs - 1) ⊎ (k ≢ length xs - 1) → is_before (slot_at xs k).task.name name ≡ true
-  go (inl same) = subst (λ j. is_before (slot_at xs j).task.name name ≡ true) (sym same) last
+  go : (k ≡ length xs - 1) ⊎ (k ≢ length xs - 1) → name_before (slot_at xs k).task.name name ≡ true
+  go (inl same) = subst (λ j. name_before (slot_at xs j).task.name name ≡ true) (sym same) last
   go (inr other) =
       before_trans (slot_at xs k).task.name (slot_at xs (length xs - 1)).task.name name
       (is.rises k (length xs - 1) (omega arith) (omega arith)) last
@@ -58,13 +58,13 @@ push_other xs s k other = go (cases_lt k (length xs)) where
       get_or_past (xs ++ s ∷ []) k vacant (omega (arith, length_push xs s)) ∙ sym (get_or_past xs k vacant past)
 
 -- a task joins at the end
-pub pushed : (xs ys : List Slot) (ranks after : List ℕ) (room more : ℕ) (s : Slot) → IsIndexed xs ranks room
+pub pushed : (xs ys : List Slot) (ranks after : List ℕ) (room more : ℕ) (s : Slot) → AreRanked xs ranks room
     → length xs < length ranks
     → s.here ≡ true → s.task.ts < 2 ^ 32 → AllBefore s.task.name (present xs) → ys ≡ xs ++ s ∷ []
-    → after ≡ set ranks (length xs) (s.task.ts * 2 ^ 32 + length xs) → room ≤ more → IsIndexed ys after more
+    → after ≡ set ranks (length xs) (s.task.ts * 2 ^ 32 + length xs) → room ≤ more → AreRanked ys after more
 pushed xs ys ranks after room more s is some here stamp all joined ranked wider =
-    subst (λ zs. IsIndexed zs after more) (sym joined)
-    (subst (λ rs. IsIndexed (xs ++ s ∷ []) rs more) (sym ranked) index) where
+    subst (λ zs. AreRanked zs after more) (sym joined)
+    (subst (λ rs. AreRanked (xs ++ s ∷ []) rs more) (sym ranked) index) where
       longer : length (xs ++ s ∷ []) ≡ length xs + 1
       longer = length_push xs s
 
@@ -97,17 +97,17 @@ pushed xs ys ranks after room more s is some here stamp all joined ranked wider 
           ∙ ap (rank_of k) (sym (push_other xs s k other))
 
       rises : (i j : ℕ) → i < j → j < length (xs ++ s ∷ []) → (j ≡ length xs) ⊎ (j ≢ length xs)
-          → is_before (slot_at (xs ++ s ∷ []) i).task.name (slot_at (xs ++ s ∷ []) j).task.name ≡ true
+          → name_before (slot_at (xs ++ s ∷ []) i).task.name (slot_at (xs ++ s ∷ []) j).task.name ≡ true
       rises i j order inside (inl end) =
-          ap (λ t. is_before t.task.name (slot_at (xs ++ s ∷ []) j).task.name) (before_end i (omega arith))
-          ∙ ap (λ t. is_before (slot_at xs i).task.name t.task.name) (at_end j end)
+          ap (λ t. name_before t.task.name (slot_at (xs ++ s ∷ []) j).task.name) (before_end i (omega arith))
+          ∙ ap (λ t. name_before (slot_at xs i).task.name t.task.name) (at_end j end)
           ∙ each_before s.task.name xs ranks room is all i (omega arith)
       rises i j order inside (inr other) =
-          ap (λ t. is_before t.task.name (slot_at (xs ++ s ∷ []) j).task.name) (before_end i (omega (arith, longer)))
-          ∙ ap (λ t. is_before (slot_at xs i).task.name t.task.name) (push_other xs s j other)
+          ap (λ t. name_before t.task.name (slot_at (xs ++ s ∷ []) j).task.name) (before_end i (omega (arith, longer)))
+          ∙ ap (λ t. name_before (slot_at xs i).task.name t.task.name) (push_other xs s j other)
           ∙ is.rises i j order (omega (arith, longer))
 
-      index : IsIndexed (xs ++ s ∷ []) (set ranks (length xs) (s.task.ts * 2 ^ 32 + length xs)) more
+      index : AreRanked (xs ++ s ∷ []) (set ranks (length xs) (s.task.ts * 2 ^ 32 + length xs)) more
       index = record {
         within = omega (arith, longer, wide);
         held = (let held = is.held in omega (arith, wide));
@@ -132,9 +132,9 @@ trimmed_same xs ys is =
 
 -- a task leaves its slot
 pub left_slot : (name : Name) (xs ys zs : List Slot) (ranks after : List ℕ) (room more at : ℕ) (s : Slot)
-    → IsIndexed xs ranks room
-    → IsPlaceOf name xs at → s.here ≡ false → s.task ≡ (slot_at xs at).task → ys ≡ set xs at s → IsTrimmed ys zs
-    → after ≡ set ranks at no_rank → room ≤ more → IsIndexed zs after more
+    → AreRanked xs ranks room
+    → IsPlaceOfName name xs at → s.here ≡ false → s.task ≡ (slot_at xs at).task → ys ≡ set xs at s → IsTrimmed ys zs
+    → after ≡ set ranks at no_rank → room ≤ more → AreRanked zs after more
 left_slot name xs ys zs ranks after room more at s is place gone kept set_is trimmed ranked wider = record {
   within = (let within = is.within in let fewer = trimmed.fewer in omega (arith, long, wide));
   held = (let held = is.held in omega (arith, wide));
@@ -145,8 +145,8 @@ left_slot name xs ys zs ranks after room more at s is place gone kept set_is tri
       omega arith);
   ranked = λ k inside. of k (omega (arith, wide)) (cases_eq k at) ∙ past k (cases_lt k (length zs));
   rises = λ i j order inside.
-      ap (λ t. is_before t.name (slot_at zs j).task.name) (tasks i (omega arith))
-      ∙ ap (λ t. is_before (slot_at xs i).task.name t.name) (tasks j inside)
+      ap (λ t. name_before t.name (slot_at zs j).task.name) (tasks i (omega arith))
+      ∙ ap (λ t. name_before (slot_at xs i).task.name t.name) (tasks j inside)
       ∙ is.rises i j order (let fewer = trimmed.fewer in omega (arith, long));
   ends = trimmed.ends;
 }

@@ -7,8 +7,8 @@ use Rattle.std.proofs.lemmas.List.Elements.{All-nil, All-cons, All-head, All-tai
 use Rattle.task_desc.specs.declared.desc.Name.{Name}
 use Rattle.pending_list.specs.declared.task.PendingTask.{PendingTask}
 use Rattle.pending_list.specs.declared.slot.Slot.{Slot}
-use Rattle.pending_list.specs.Pending.{is_named, is_before, find_named, without, AllBefore}
-use Rattle.pending_list.specs.Slots.{present, slot_at, vacant, Rises, IsPlaceOf, IsNowhere, EndsHere}
+use Rattle.pending_list.specs.Pending.{is_named, name_before, find_named, without_name, AllBefore}
+use Rattle.pending_list.specs.Slots.{present, slot_at, vacant, NamesRise, IsPlaceOfName, IsNowhere, EndsHere}
 
 not_suc : (k : ℕ) → zero ≢ suc k
 not_suc k same = let no_way : ⊥ = omega arith in no_way
@@ -58,7 +58,7 @@ present-All P (x ∷ xs) all (suc k) inside here =
       go false all on = on all
 
 -- the task of a name is found
-pub find_there : (name : Name) (xs : List Slot) (at : ℕ) → IsPlaceOf name xs at
+pub find_there : (name : Name) (xs : List Slot) (at : ℕ) → IsPlaceOfName name xs at
     → find_named name (present xs) ≡ Some (slot_at xs at).task
 find_there name [] at is = absurd (let within = is.within in omega arith)
 find_there name (x ∷ xs) zero is = rw (is.here, is.named) refl
@@ -94,22 +94,22 @@ any_found name tasks found is = ap is_some is ∙ go tasks where
     one true is = refl
     one false is = is
 
-without_nowhere : (name : Name) (xs : List Slot) → IsNowhere name xs → without name (present xs) ≡ present xs
+without_nowhere : (name : Name) (xs : List Slot) → IsNowhere name xs → without_name name (present xs) ≡ present xs
 without_nowhere name [] is = refl
 without_nowhere name (x ∷ xs) is =
     go x.here refl (without_nowhere name xs (λ k inside here. is (suc k) (omega arith) here)) where
-      go : (b : Bool) → x.here ≡ b → without name (present xs) ≡ present xs
-          → without name (if b then x.task ∷ present xs else present xs) ≡ (if b then x.task ∷ present xs else present xs)
+      go : (b : Bool) → x.here ≡ b → without_name name (present xs) ≡ present xs
+          → without_name name (if b then x.task ∷ present xs else present xs) ≡ (if b then x.task ∷ present xs else present xs)
       go true here same = let other = is 0 (omega arith) here in rw other (ap (λ ts. x.task ∷ ts) same)
       go false here same = same
 
 -- where no task of a name is there none leaves
-pub leaves_none : (name : Name) (xs : List Slot) → IsNowhere name xs → present xs ≡ without name (present xs)
+pub leaves_none : (name : Name) (xs : List Slot) → IsNowhere name xs → present xs ≡ without_name name (present xs)
 leaves_none name xs is = sym (without_nowhere name xs is)
 
 -- the slot of the name becomes vacant
-pub leaves_there : (name : Name) (xs : List Slot) (at : ℕ) (left : Slot) → IsPlaceOf name xs at → left.here ≡ false
-    → present (set xs at left) ≡ without name (present xs)
+pub leaves_there : (name : Name) (xs : List Slot) (at : ℕ) (left : Slot) → IsPlaceOfName name xs at → left.here ≡ false
+    → present (set xs at left) ≡ without_name name (present xs)
 leaves_there name [] at left is gone = refl
 leaves_there name (x ∷ xs) zero left is gone =
     let others : IsNowhere name xs = λ k inside here. is.others (suc k) (omega arith) (not_zero k) in
@@ -121,9 +121,9 @@ leaves_there name (x ∷ xs) (suc at) left is gone = go x.here (is.others 0 (ome
       named = is.named;
       others = λ k inside other. is.others (suc k) (omega arith) (λ e. other (omega arith));
     }) gone) where
-      go : (b : Bool) → is_named name x.task ≡ false → present (set xs at left) ≡ without name (present xs)
+      go : (b : Bool) → is_named name x.task ≡ false → present (set xs at left) ≡ without_name name (present xs)
           → (if b then x.task ∷ present (set xs at left) else present (set xs at left))
-          ≡ without name (if b then x.task ∷ present xs else present xs)
+          ≡ without_name name (if b then x.task ∷ present xs else present xs)
       go true other same = rw other (ap (λ ts. x.task ∷ ts) same)
       go false other same = same
 
@@ -178,12 +178,12 @@ taken_fewer xs i s inside is here =
     omega arith
 
 -- names that rise: those of the tasks before a slot come before its own
-pub taken_before : (xs : List Slot) (i : ℕ) (s : Slot) → Rises xs → i < length xs → s ≡ slot_at xs i
+pub taken_before : (xs : List Slot) (i : ℕ) (s : Slot) → NamesRise xs → i < length xs → s ≡ slot_at xs i
     → AllBefore s.task.name (present (take i xs))
 taken_before xs i s rises inside is =
     subst (λ t. AllBefore t.task.name (present (take i xs))) (sym is)
-    (All-present (λ t. is_before t.name (slot_at xs i).task.name ≡ true) (take i xs)
+    (All-present (λ t. name_before t.name (slot_at xs i).task.name ≡ true) (take i xs)
     (λ k front here.
     (let short = length-take-le i xs (omega arith) in
     let low : k < i = omega arith in
-    ap (λ t. is_before t.task.name (slot_at xs i).task.name) (get_or-take i xs k vacant low) ∙ rises k i low inside)))
+    ap (λ t. name_before t.task.name (slot_at xs i).task.name) (get_or-take i xs k vacant low) ∙ rises k i low inside)))

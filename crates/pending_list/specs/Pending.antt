@@ -19,16 +19,16 @@ find_named name [] = None
 find_named name (t ∷ ts) = if is_named name t then Some t else find_named name ts
 
 -- the tasks but those of a name
-abbrev pub without : Name → List PendingTask → List PendingTask
-without name tasks = filter (λ t. not (is_named name t)) tasks
+abbrev pub without_name : Name → List PendingTask → List PendingTask
+without_name name tasks = filter (λ t. not (is_named name t)) tasks
 
 -- whether a name comes before another: by creators, then by places among a creator's children
-abbrev pub is_before : Name → Name → Bool
-is_before a b = nat_lt a.creator b.creator || ((a.creator == b.creator) && nat_lt a.index b.index)
+abbrev pub name_before : Name → Name → Bool
+name_before a b = nat_lt a.creator b.creator || ((a.creator == b.creator) && nat_lt a.index b.index)
 
 -- each of the tasks has a name before this one
 abbrev pub AllBefore : Name → List PendingTask → Type 0
-AllBefore name tasks = All (λ t. is_before t.name name ≡ true) tasks
+AllBefore name tasks = All (λ t. name_before t.name name ≡ true) tasks
 
 -- the second task where its timestamp is smaller
 abbrev pub earlier : Option PendingTask → Option PendingTask → Option PendingTask

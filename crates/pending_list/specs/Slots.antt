@@ -4,7 +4,7 @@ use Rattle.std.specs.Prelude.{slice_index_or, if◌then◌else◌}
 use Rattle.task_desc.specs.declared.desc.Name.{Name}
 use Rattle.pending_list.specs.declared.task.PendingTask.{PendingTask}
 use Rattle.pending_list.specs.declared.slot.Slot.{Slot}
-use Rattle.pending_list.specs.Pending.{is_named, is_before}
+use Rattle.pending_list.specs.Pending.{is_named, name_before}
 use Rattle.pending_list.specs.Tournament.{no_rank}
 
 -- the tasks that are there
@@ -24,18 +24,18 @@ abbrev pub slot_at : List Slot → ℕ → Slot
 slot_at slots k = slice_index_or slots k vacant
 
 -- names come one before the other, in vacant slots too
-abbrev pub Rises : List Slot → Type 0
-Rises slots = (i j : ℕ) → i < j → j < length slots
-    → is_before (slot_at slots i).task.name (slot_at slots j).task.name ≡ true
+abbrev pub NamesRise : List Slot → Type 0
+NamesRise slots = (i j : ℕ) → i < j → j < length slots
+    → name_before (slot_at slots i).task.name (slot_at slots j).task.name ≡ true
 
 -- those before this place have a name before this one, and no other has
 pub record IsFirstNotBefore (name : Name) (slots : List Slot) (place : ℕ) : Type 0 where
   pub within : place ≤ length slots
-  pub before : (k : ℕ) → k < place → is_before (slot_at slots k).task.name name ≡ true
-  pub behind : (k : ℕ) → place ≤ k → k < length slots → is_before (slot_at slots k).task.name name ≡ false
+  pub before : (k : ℕ) → k < place → name_before (slot_at slots k).task.name name ≡ true
+  pub behind : (k : ℕ) → place ≤ k → k < length slots → name_before (slot_at slots k).task.name name ≡ false
 
 -- the task of a name is at this place, and no slot before it has the name
-pub record IsPlaceOf (name : Name) (slots : List Slot) (place : ℕ) : Type 0 where
+pub record IsPlaceOfName (name : Name) (slots : List Slot) (place : ℕ) : Type 0 where
   pub within : place < length slots
   pub here : (slot_at slots place).here ≡ true
   pub named : is_named name (slot_at slots place).task ≡ true
@@ -62,11 +62,11 @@ abbrev pub rank_of : ℕ → Slot → ℕ
 rank_of k slot = if slot.here then slot.task.ts * 2 ^ 32 + k else no_rank
 
 -- slots in order, and the rank of each; behind them is no task
-pub record IsIndexed (slots : List Slot) (ranks : List ℕ) (room : ℕ) : Type 0 where
+pub record AreRanked (slots : List Slot) (ranks : List ℕ) (room : ℕ) : Type 0 where
   pub within : length slots ≤ length ranks
   pub held : length ranks ≤ room
   pub few : length ranks < 2 ^ 32
   pub stamps : (k : ℕ) → k < length slots → (slot_at slots k).task.ts < 2 ^ 32
   pub ranked : (k : ℕ) → k < length ranks → slice_index_or ranks k no_rank ≡ rank_of k (slot_at slots k)
-  pub rises : Rises slots
+  pub rises : NamesRise slots
   pub ends : EndsHere slots

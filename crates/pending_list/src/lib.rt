@@ -2,7 +2,7 @@
 //!
 //! A task joins at the end, is found and leaves by its name, and the first of the least timestamp is at hand: a
 //! join, a look by name and a leave cost the logarithm of the number of tasks, the look at the first one step. It
-//! stands on task descriptors; the serial machine calls it.
+//! stands on task descriptors; the serial machine calls it, and what speaks of its bags cites it.
 #![tactic(auto)]
 
 mod list;

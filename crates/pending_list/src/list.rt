@@ -1,8 +1,10 @@
+//! The list of pending tasks.
+
 ghost use Rattle.std.specs.Prelude.{◌≡◌, ◌==◌, ◌≤◌, ◌<◌, ◌+◌, ◌-◌, ◌*◌, ◌%◌, ◌^◌, ◌++◌, ◌∷◌, [], length, IfOk};
 ghost use Rattle.std.specs.Prelude.{OnOk, OnErr};
 ghost use Rattle.std.specs.List.{list_any};
-ghost use Rattle.pending_list.specs.Pending.{is_named, find_named, without, AllBefore, first_least};
-ghost use Rattle.pending_list.specs.Slots.{present, Rises};
+ghost use Rattle.pending_list.specs.Pending.{is_named, find_named, without_name, AllBefore, first_least};
+ghost use Rattle.pending_list.specs.Slots.{present, NamesRise};
 
 use crate::slot::{Slot, count, place_of, trim};
 use crate::task::PendingTask;
@@ -29,13 +31,13 @@ pub struct PendingList {
 impl Model for PendingList {
     ghost use Rattle.std.specs.Prelude.{length, ◌-◌, vec_capacity};
     ghost use Rattle.pending_list.specs.Pending.{PendingValue};
-    ghost use Rattle.pending_list.specs.Slots.{present, IsIndexed};
+    ghost use Rattle.pending_list.specs.Slots.{present, AreRanked};
 
     ghost Value = { PendingValue };
 
     ghost view = { λ p. record { tasks = present p.slots.items; room = length p.ranks - length p.slots.items } };
 
-    ghost invariant = { λ p. IsIndexed p.slots.items p.ranks (vec_capacity p.slots) };
+    ghost invariant = { λ p. AreRanked p.slots.items p.ranks (vec_capacity p.slots) };
 }
 
 impl PendingList {
@@ -50,8 +52,8 @@ impl PendingList {
         }
     }
 
-    /// No tasks, with room for so many.
-    fn with_room(alloc: Global, room: usize) -> Result<PendingList, AllocError>
+    /// No tasks, with memory for so many.
+    fn with_spare(alloc: Global, room: usize) -> Result<PendingList, AllocError>
         requires { room < 2 ^ 32 }
         ensures { IfOk result (λ list. list ≡ record { tasks = []; room = room }) }
     {
@@ -65,7 +67,7 @@ impl PendingList {
     }
 
     /// How many tasks can join before memory is taken again.
-    pub fn room(&self) -> usize
+    pub fn spare_capacity(&self) -> usize
         ensures { result ≡ self.now.room }
     {
         self.ranks.len() - self.slots.len()
@@ -78,21 +80,21 @@ impl PendingList {
         self.slots.is_empty()
     }
 
-    /// Makes room for so many more tasks. A list that is full moves into fresh slots, about twice as many as it has
+    /// Takes memory for so many more tasks. A list that is full moves into fresh slots, about twice as many as it has
     /// tasks; more than 4,294,967,295 slots are refused as out of memory.
     pub fn reserve(&mut self, more: usize) -> Result<(), AllocError>
         ensures tasks { self.new.tasks ≡ self.old.tasks }
         ensures room { OnOk result (more ≤ self.new.room) }
         ensures unchanged { OnErr result (self.new ≡ self.old) }
     {
-        if self.room() < more {
-            *self = self.moved(more)?;
+        if self.spare_capacity() < more {
+            *self = self.larger_list(more)?;
         }
         Ok(())
     }
 
-    /// The same tasks in fresh slots, with room for so many more.
-    fn moved(&self, more: usize) -> Result<PendingList, AllocError>
+    /// The same tasks in fresh slots, with memory for so many more.
+    fn larger_list(&self, more: usize) -> Result<PendingList, AllocError>
         ensures tasks { IfOk result (λ list. list.tasks ≡ self.now.tasks) }
         ensures room { IfOk result (λ list. more ≤ list.room) }
     {
@@ -101,7 +103,7 @@ impl PendingList {
         if width as u64 >= SLOT_NUMBERS {
             return Err(AllocError);
         }
-        let mut fresh = PendingList::with_room(self.alloc, width)?;
+        let mut fresh = PendingList::with_spare(self.alloc, width)?;
         copy(&self.slots, &mut fresh);
         Ok(fresh)
     }
@@ -137,7 +139,7 @@ impl PendingList {
 
     /// The task of a name leaves, if it is pending. No memory.
     pub fn remove(&mut self, name: Name)
-        ensures tasks { self.new.tasks ≡ without name self.old.tasks }
+        ensures tasks { self.new.tasks ≡ without_name name self.old.tasks }
         ensures room { self.old.room ≤ self.new.room }
     {
         if let Some(place) = place_of(&self.slots, name, slot_of(self.ranks.least())) {
@@ -174,9 +176,9 @@ fn slot_of(rank: u64) -> usize
     (rank % SLOT_NUMBERS) as usize
 }
 
-/// What slots hold joins a list, which has room for it.
+/// What slots hold joins a list, which has memory for it.
 fn copy(slots: &[Slot], list: &mut PendingList)
-    requires rises { Rises slots.now }
+    requires rises { NamesRise slots.now }
     requires empty { list.old.tasks ≡ [] }
     requires room { length (present slots.now) ≤ list.old.room }
     ensures tasks { list.new.tasks ≡ present slots.now }

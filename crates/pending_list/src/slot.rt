@@ -2,8 +2,8 @@
 
 ghost use Rattle.std.specs.Prelude.{◌≡◌, ◌+◌, ◌*◌, ◌^◌, ◌<◌, ◌≤◌, ◌&&◌, true, length, vec_len, vec_capacity};
 ghost use Rattle.std.specs.Prelude.{MatchOption};
-ghost use Rattle.pending_list.specs.Pending.{is_before, is_named};
-ghost use Rattle.pending_list.specs.Slots.{present, Rises, IsFirstNotBefore, IsPlaceOf, IsNowhere, IsTrimmed};
+ghost use Rattle.pending_list.specs.Pending.{name_before, is_named};
+ghost use Rattle.pending_list.specs.Slots.{present, NamesRise, IsFirstNotBefore, IsPlaceOfName, IsNowhere, IsTrimmed};
 
 use crate::task::PendingTask;
 use task_desc::Name;
@@ -17,7 +17,7 @@ pub(crate) struct Slot {
 
 /// Whether a name comes before another.
 fn comes_before(a: Name, b: Name) -> bool
-    ensures { result ≡ is_before a b }
+    ensures { result ≡ name_before a b }
 {
     a.creator < b.creator || a.creator == b.creator && a.index < b.index
 }
@@ -32,7 +32,7 @@ fn holds(slot: &Slot, name: Name) -> bool
 
 /// Where the first slot stands whose name isn't before this one.
 fn first_not_before(slots: &[Slot], name: Name) -> usize
-    requires { Rises slots.now }
+    requires { NamesRise slots.now }
     ensures { IsFirstNotBefore name slots.now result }
 {
     slots.partition_point(|slot| comes_before(slot.task.name, name))
@@ -40,8 +40,8 @@ fn first_not_before(slots: &[Slot], name: Name) -> usize
 
 /// Where the task of a name is, by halving the slots.
 fn look_for(slots: &[Slot], name: Name) -> Option<usize>
-    requires { Rises slots.now }
-    ensures { MatchOption result (IsNowhere name slots.now) (IsPlaceOf name slots.now) }
+    requires { NamesRise slots.now }
+    ensures { MatchOption result (IsNowhere name slots.now) (IsPlaceOfName name slots.now) }
 {
     let place = first_not_before(slots, name);
     if place == slots.len() {
@@ -56,8 +56,8 @@ fn look_for(slots: &[Slot], name: Name) -> Option<usize>
 
 /// Where the task of a name is. A right guess saves the search.
 pub(crate) fn place_of(slots: &[Slot], name: Name, guess: usize) -> Option<usize>
-    requires { Rises slots.now }
-    ensures { MatchOption result (IsNowhere name slots.now) (IsPlaceOf name slots.now) }
+    requires { NamesRise slots.now }
+    ensures { MatchOption result (IsNowhere name slots.now) (IsPlaceOfName name slots.now) }
 {
     if guess < slots.len() {
         if holds(&slots[guess], name) {

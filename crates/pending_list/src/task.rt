@@ -1,3 +1,5 @@
+//! A pending task.
+
 use task_desc::Name;
 
 /// A task that waits for its turn.

@@ -1,3 +1,4 @@
+-- Contracts mean all of these.
 pub mod Policy
 pub mod Policies
 pub mod Serving

@@ -4,8 +4,8 @@ use Rattle.std.specs.List.{AllZip}
 use Rattle.progress_cell.specs.declared.reading.Reading.{Reading}
 
 -- nothing is committed and nothing emitted
-abbrev pub opening : Reading
-opening = record { commits = 0; output = 0 }
+abbrev pub opening_reading : Reading
+opening_reading = record { commits = 0; output = 0 }
 
 -- neither number of the first is above that of the second
 abbrev pub IsAtMost : Reading → Reading → Type 0
@@ -17,7 +17,7 @@ NeverFalls readings = AllPairs IsAtMost readings
 
 -- the last of some readings; of none it is the opening
 abbrev pub last_of : List Reading → Reading
-last_of [] = opening
+last_of [] = opening_reading
 last_of (reading ∷ []) = reading
 last_of (reading ∷ next ∷ rest) = last_of (next ∷ rest)
 

@@ -4,21 +4,21 @@ use mathlib.Core.Option.{some}
 use lib.ListN.{get_elem?}
 use Rattle.progress_cell.specs.Readings.{IsAtMost, NeverFalls, StandsIn, last_of}
 use Rattle.progress_cell.specs.declared.reading.Reading.{Reading}
-use Rattle.progress_cell.specs.declared.view.View.{View}
-use Rattle.progress_cell.specs.declared.view.View.TheVariants.{Writes, Reads, Spent}
+use Rattle.progress_cell.specs.declared.view.PassView.{PassView}
+use Rattle.progress_cell.specs.declared.view.PassView.TheVariants.{Writes, Reads, Spent}
 
 -- the reading that two words are
 abbrev pub reading_of : List ℕ → Reading
 reading_of words = record { commits = slice_index words 0; output = slice_index words 1 }
 
 -- the readings that a pass told or saw
-abbrev pub known : View → List Reading
-known (Writes told joined) = told
-known (Reads seen) = seen
-known Spent = []
+abbrev pub readings_of : PassView → List Reading
+readings_of (Writes told joined) = told
+readings_of (Reads seen) = seen
+readings_of Spent = []
 
 -- the lists that the writer took in
-abbrev pub joined_of : View → List (List Reading)
+abbrev pub joined_of : PassView → List (List Reading)
 joined_of (Writes told joined) = joined
 joined_of (Reads seen) = []
 joined_of Spent = []
@@ -40,18 +40,18 @@ pub record IsTold (telling : Telling) (words : List ℕ) : Type 0 where
 
 -- what a pass may know: the writer's, and no other, knows what was told and taken in; what a reader saw stands in
 -- `told`, and its last reading isn't above the words; of a spent pass nothing is asked
-abbrev pub Fits : Telling → List ℕ → ℕ → View → Type 0
-Fits telling words pass (Writes told joined) =
+abbrev pub PassFits : Telling → List ℕ → ℕ → PassView → Type 0
+PassFits telling words pass (Writes told joined) =
     (pass ≡ telling.writer) × (told ≡ telling.told) × (joined ≡ telling.joined)
-Fits telling words pass (Reads seen) = StandsIn seen telling.told × IsAtMost (last_of seen) (reading_of words)
-Fits telling words pass Spent = Unit {0}
+PassFits telling words pass (Reads seen) = StandsIn seen telling.told × IsAtMost (last_of seen) (reading_of words)
+PassFits telling words pass Spent = Unit {0}
 
 -- what each pass knows fits
-abbrev pub AllFit : Telling → List ℕ → List View → Type 0
-AllFit telling words views = (pass : ℕ) (v : View) → get_elem? views pass ≡ some v → Fits telling words pass v
+abbrev pub AllFit : Telling → List ℕ → List PassView → Type 0
+AllFit telling words views = (pass : ℕ) (v : PassView) → get_elem? views pass ≡ some v → PassFits telling words pass v
 
 -- the rule: something was told that the words and all that is known fit
-pub record Kept (words : List ℕ) (views : List View) : Type 0 where
+pub record RuleHolds (words : List ℕ) (views : List PassView) : Type 0 where
   pub telling : Telling
   pub told : IsTold telling words
   pub fit : AllFit telling words views

@@ -1,11 +1,11 @@
 //! The board, its writer and its readers.
 
 ghost use Rattle.std.specs.Prelude.{◌≡◌, [], ◌∷◌, ◌++◌, IfOk};
-ghost use Rattle.progress_cell.specs.Readings.{IsAtMost, StandsIn, last_of, opening};
+ghost use Rattle.progress_cell.specs.Readings.{IsAtMost, StandsIn, last_of, opening_reading};
 
 use crate::reading::Reading;
 use crate::steps::{Begin, Confirm, Leave, Rises, See, Store, TakeIn};
-use crate::view::View;
+use crate::view::PassView;
 use crossbeam_utils::atomic::seq_cell::{Pass, RuledSeqCell};
 use std::alloc::{AllocError, Global};
 use std::marker::Model;
@@ -17,7 +17,7 @@ use std::sync::Wait;
 /// writer or the reader that it came from. Each call takes only what belongs to its board.
 #[derive(Drop)]
 pub struct Board {
-    cell: RuledSeqCell<[u64; 2], View, Rises, 2>,
+    cell: RuledSeqCell<[u64; 2], PassView, Rises, 2>,
 }
 
 impl Model for Board {
@@ -32,18 +32,18 @@ impl Model for Board {
 /// a list that no memory is spent on. It may go to another thread.
 #[derive(Drop)]
 pub struct Writer {
-    pass: Pass<[u64; 2], View>,
+    pass: Pass<[u64; 2], PassView>,
     last: Reading,
 }
 
 impl Model for Writer {
     ghost use Rattle.crossbeam_utils.specs.Seq.{cell_view};
     ghost use Rattle.progress_cell.specs.Board.{WriterValue, IsWriter};
-    ghost use Rattle.progress_cell.specs.Rule.{known};
+    ghost use Rattle.progress_cell.specs.Rule.{readings_of};
 
     ghost Value = { WriterValue };
 
-    ghost view = { λ writer. record { board = writer.pass.table_id; told = known (cell_view writer.pass) } };
+    ghost view = { λ writer. record { board = writer.pass.table_id; told = readings_of (cell_view writer.pass) } };
 
     ghost invariant = { λ writer. IsWriter (cell_view writer.pass) writer.last };
 }
@@ -61,17 +61,17 @@ impl Writer {
 /// writer had told when it was made: a list that no memory is spent on. It may go to another thread.
 #[derive(Drop)]
 pub struct Reader {
-    pass: Pass<[u64; 2], View>,
+    pass: Pass<[u64; 2], PassView>,
 }
 
 impl Model for Reader {
     ghost use Rattle.crossbeam_utils.specs.Seq.{cell_view};
     ghost use Rattle.progress_cell.specs.Board.{ReaderValue, IsReader};
-    ghost use Rattle.progress_cell.specs.Rule.{known};
+    ghost use Rattle.progress_cell.specs.Rule.{readings_of};
 
     ghost Value = { ReaderValue };
 
-    ghost view = { λ reader. record { board = reader.pass.table_id; seen = known (cell_view reader.pass) } };
+    ghost view = { λ reader. record { board = reader.pass.table_id; seen = readings_of (cell_view reader.pass) } };
 
     ghost invariant = { λ reader. IsReader (cell_view reader.pass) };
 }
@@ -81,7 +81,7 @@ impl Board {
     /// here, and an error is want of that and nothing else.
     pub fn new(alloc: Global) -> Result<(Board, Writer), AllocError>
         ensures belongs { IfOk result (λ made. made.1.board ≡ made.0) }
-        ensures told { IfOk result (λ made. made.1.told ≡ opening ∷ []) }
+        ensures told { IfOk result (λ made. made.1.told ≡ opening_reading ∷ []) }
     {
         let (cell, pass) = RuledSeqCell::ruled(alloc, [0, 0])?;
         let last = Reading {

@@ -8,7 +8,8 @@
 //!
 //! It stands on the ruled cell of two words of `crossbeam_utils`; `specs/Rule` says what always holds of the words and
 //! of what is known of them, and `specs/Steps` what each step does. `tile_worker` tells a run on it
-//! (`run_watched`), for a library's caller that follows the run from a thread of its own; no command does.
+//! (`run_watched`), for a library's caller that follows the run from a thread of its own; no command does. The book
+//! tells its counts as a `Reading`.
 //!
 //! `Board::new` alone takes memory. Where no other call comes between, a call makes 1 to 7 atomic steps on the words.
 //! `publish` takes the words' own lock for these steps, and so does a `read` or a `join` that was overtaken by it; they

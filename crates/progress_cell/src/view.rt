@@ -4,7 +4,7 @@ use crate::reading::Reading;
 use std::collections::LinkedList;
 
 /// What a pass knows. Contracts alone see it: no value of it is made.
-pub enum View {
+pub enum PassView {
     /// The writer's: the readings that it told, and the lists of the readers that it took in.
     Writes(LinkedList<Reading>, LinkedList<LinkedList<Reading>>),
     /// A reader's: the readings that it saw.

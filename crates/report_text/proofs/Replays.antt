@@ -13,9 +13,9 @@ use Rattle.run_journal.specs.declared.journal.Entry.{Entry}
 use Rattle.serial_machine.specs.declared.fault.TurnFault.{TurnFault}
 use Rattle.serial_machine.specs.declared.fault.TurnFault.TheVariants as faults
 use Rattle.serial_machine.specs.BagValue.{BagValue}
-use Rattle.serial_machine.specs.State.{State}
+use Rattle.serial_machine.specs.State.{SerialState}
 use Rattle.serial_machine.specs.TaskRun.{TaskEnd, Done, Trapped}
-use Rattle.serial_machine.specs.Turn.{turn, MayTurn, TrapsSo, run_of, Refuses, find_named, is_named, is_least, is_pending}
+use Rattle.serial_machine.specs.Turn.{turn, MayTurn, TrapsSo, run_in_bag, RefusesTurn, find_named, is_named, is_least, is_pending}
 use Rattle.serial_machine.proofs.Proved.{is_pending-inner, may-why}
 
 pub found_at : (es : List Entry) (i : ℕ) (d e : Entry) → i < length es → e ≡ get_or es i d → slice_get es i ≡ Some e
@@ -54,7 +54,7 @@ last_same xs ys n e same len =
 -- ---- traps
 
 -- a task that traps takes no turn
-pub trap-none : (image : ImageValue) (budget : ℕ) (s : State) (name : Name) (cause pc : ℕ) → TrapsSo image budget s name cause pc → turn image budget s name ≡ None
+pub trap-none : (image : ImageValue) (budget : ℕ) (s : SerialState) (name : Name) (cause pc : ℕ) → TrapsSo image budget s name cause pc → turn image budget s name ≡ None
 unfolding turn
 trap-none image budget s name cause pc h = rw (h.may.top, h.may.found, h.may.least, h.run) refl
 
@@ -89,8 +89,8 @@ to_fault (Trapped c p) = faults.Trap c p
 to_fault (Done t) = faults.Memory
 
 -- a task that traps is refused so
-pub trap-why : (image : ImageValue) (budget : ℕ) (s : State) (name : Name) (cause pc : ℕ) (fault : TurnFault)
-    → TrapsSo image budget s name cause pc → Refuses image budget s name fault → fault ≢ faults.Memory → fault ≡ faults.Trap cause pc
+pub trap-why : (image : ImageValue) (budget : ℕ) (s : SerialState) (name : Name) (cause pc : ℕ) (fault : TurnFault)
+    → TrapsSo image budget s name cause pc → RefusesTurn image budget s name fault → fault ≢ faults.Memory → fault ≡ faults.Trap cause pc
 trap-why image budget s name cause pc faults.NotPending t h other = absurd (may-why image budget s name faults.NotPending t.bag t.outer t.task t.may h)
 trap-why image budget s name cause pc (faults.NotTop depth) t h other = absurd (may-why image budget s name (faults.NotTop depth) t.bag t.outer t.task t.may h)
 trap-why image budget s name cause pc (faults.NotLeast ts) t h other = absurd (may-why image budget s name (faults.NotLeast ts) t.bag t.outer t.task t.may h)
@@ -98,7 +98,7 @@ trap-why image budget s name cause pc (faults.Trap c p) t h other =
     let bags : h.bag ≡ t.bag = ap (first-of t.bag) (sym h.may.top ∙ t.may.top) in
     let outers : h.outer ≡ t.outer = ap rest-of (sym h.may.top ∙ t.may.top) in
     let tasks : h.task ≡ t.task = some-same h.task t.task (sym h.may.found ∙ ap (λ b. find_named name b.tasks) bags ∙ t.may.found) in
-    ap to_fault (sym h.run ∙ ap (λ b. run_of image budget s b h.outer h.task) bags ∙ ap (λ o. run_of image budget s t.bag o h.task) outers ∙ ap (λ k. run_of image budget s t.bag t.outer k) tasks ∙ t.run)
+    ap to_fault (sym h.run ∙ ap (λ b. run_in_bag image budget s b h.outer h.task) bags ∙ ap (λ o. run_in_bag image budget s t.bag o h.task) outers ∙ ap (λ k. run_in_bag image budget s t.bag t.outer k) tasks ∙ t.run)
 trap-why image budget s name cause pc faults.Memory t h other = absurd (other refl)
 
 pub match-both : {P Q R S : Type 0} (b : Bool) → MatchBool b P Q → (P → R) → (Q → S) → MatchBool b R S

@@ -19,7 +19,7 @@ use Rattle.report_text.specs.Hex.{byte_hex, word_hex, hex_digit, hex_bytes}
 use Rattle.text_lines.specs.Lines.{behind, lines_of, cut}
 use Rattle.report_text.specs.Grammar.{entry_in, output_in, output_bytes, window_in, trap_in, end_in, onto_journal, onto_window, with_output, entries_at, window_at, report_of}
 use Rattle.report_text.specs.Report.{name_text, entry_line, entry_lines, output_digits, output_line, window_word, window_of, window_line, body_lines, end_line, report}
-use Rattle.report_text.specs.ReadBack.{IsName, EntryFits, TrapFits, EndFits, ReadsBack}
+use Rattle.report_text.specs.ReadBack.{IsName, EntryFits, TrapFits, EndFits, ReportReadsBack}
 use Rattle.undo_log.specs.Number.{AreBytes}
 use Rattle.report_text.proofs.Steps.{onto_journal_both, onto_journal_none, entry_step, output_step, onto_window_both, onto_window_none, word_step}
 use Rattle.report_text.proofs.HexBack.{word-back, bytes-back}
@@ -263,7 +263,7 @@ regrouped : (journal : List Entry) (image : ImageValue) (memory output : List â„
 unfolding report entry_lines body_lines
 regrouped journal image memory output end = simp (append_assoc) refl
 
-pub report_back : ReadsBack
+pub report_back : ReportReadsBack
 report_back image journal memory output end h few entries bytes emitted fits =
     let window = window_of image memory in
     let tail = flat_map window_line window ++ end_line end in

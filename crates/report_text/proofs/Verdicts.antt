@@ -11,8 +11,9 @@ use Rattle.run_journal.specs.declared.journal.Entry.{Entry}
 use Rattle.serial_machine.specs.declared.fault.TurnFault.{TurnFault}
 use Rattle.serial_machine.specs.declared.fault.TurnFault.TheVariants as faults
 use Rattle.serial_machine.specs.BagValue.{BagValue}
-use Rattle.serial_machine.specs.State.{State}
-use Rattle.serial_machine.specs.Turn.{turn, turned, Refuses, find_named, is_named, is_least, is_pending, inner}
+use Rattle.serial_machine.specs.State.{SerialState}
+use Rattle.serial_machine.specs.Turn.{turn, turn_from_stack, RefusesTurn, find_named, is_named, is_least, is_pending}
+use Rattle.serial_machine.specs.Turn.{inner}
 use Rattle.serial_machine.specs.Run.{Runs, IsRun, IsEnd, opening}
 use Rattle.serial_machine.proofs.Proved.{is_pending-inner}
 use Rattle.report_text.specs.declared.report.Report.{Report}
@@ -23,27 +24,30 @@ use Rattle.report_text.proofs.Replays.{none-other, some-same, least-none, trap-n
 
 -- ---- runs
 
-state-same : (a b : State) (e f : Entry) → ◌≡◌ {A = Option (State × Entry)} (Some (a, e)) (Some (b, f)) → a ≡ b
-state-same a b e f h = ap (λ o. (unwrap_or {T = State × Entry} o (a, e)).0) h
+state-same : (a b : SerialState) (e f : Entry)
+    → ◌≡◌ {A = Option (SerialState × Entry)} (Some (a, e)) (Some (b, f)) → a ≡ b
+state-same a b e f h = ap (λ o. (unwrap_or {T = SerialState × Entry} o (a, e)).0) h
 
-entry-same : (a b : State) (e f : Entry) → ◌≡◌ {A = Option (State × Entry)} (Some (a, e)) (Some (b, f)) → e ≡ f
-entry-same a b e f h = ap (λ o. (unwrap_or {T = State × Entry} o (a, e)).1) h
+entry-same : (a b : SerialState) (e f : Entry)
+    → ◌≡◌ {A = Option (SerialState × Entry)} (Some (a, e)) (Some (b, f)) → e ≡ f
+entry-same a b e f h = ap (λ o. (unwrap_or {T = SerialState × Entry} o (a, e)).1) h
 
 -- a journal leads to one state
-runs-same : (image : ImageValue) (budget : ℕ) (s : State) (es : List Entry) (a b : State) → Runs image budget s es a → Runs image budget s es b → a ≡ b
+runs-same : (image : ImageValue) (budget : ℕ) (s : SerialState) (es : List Entry) (a b : SerialState) → Runs image budget s es a → Runs image budget s es b → a ≡ b
 runs-same image budget s [] a b h g = sym h ∙ g
 runs-same image budget s (e ∷ es) a b (m, t, r) (n, u, q) =
     let same : m ≡ n = state-same m n e e (sym t ∙ u) in
-    let P : State → Type 0 = λ z. Runs image budget z es a in
+    let P : SerialState → Type 0 = λ z. Runs image budget z es a in
     runs-same image budget n es a b (subst P same r) q
 
 -- an entry is that of a turn from this state
-record IsTurn (image : ImageValue) (budget : ℕ) (s : State) (e : Entry) : Type 0 where
-  next : State
+record IsTurn (image : ImageValue) (budget : ℕ) (s : SerialState) (e : Entry) : Type 0 where
+  next : SerialState
   turned_so : turn image budget s e.name ≡ Some (next, e)
 
 -- each entry of a run is that of a turn from the state before it
-turn-in-run : (image : ImageValue) (budget : ℕ) (s : State) (es : List Entry) (after mid : State) (k : ℕ) (e : Entry)
+turn-in-run : (image : ImageValue) (budget : ℕ) (s : SerialState) (es : List Entry) (after mid : SerialState)
+    (k : ℕ) (e : Entry)
     → Runs image budget s es after → slice_get es k ≡ Some e → Runs image budget s (take k es) mid → IsTurn image budget mid e
 turn-in-run image budget s [] after mid k e h stands g = absurd (none-other e stands)
 turn-in-run image budget s (x ∷ xs) after mid zero e (m, t, r) stands g =
@@ -52,7 +56,7 @@ turn-in-run image budget s (x ∷ xs) after mid zero e (m, t, r) stands g =
     record { next = m; turned_so = ap (λ z. turn image budget z e.name) (sym g) ∙ subst P same t }
 turn-in-run image budget s (x ∷ xs) after mid (suc k) e (m, t, r) stands (n, u, q) =
     let same : m ≡ n = state-same m n x x (sym t ∙ u) in
-    let P : State → Type 0 = λ z. Runs image budget z xs after in
+    let P : SerialState → Type 0 = λ z. Runs image budget z xs after in
     turn-in-run image budget n xs after mid k e (subst P same r) stands q
 
 -- ---- lists
@@ -95,7 +99,7 @@ first-false : (a b : Bool) → (a || b) ≡ false → a ≡ false
 first-false true b h = cc
 first-false false b h = refl
 
-unpending-none : (image : ImageValue) (budget : ℕ) (s : State) (name : Name) (stack : List BagValue) → is_pending name stack ≡ false → turned image budget s name stack ≡ None
+unpending-none : (image : ImageValue) (budget : ℕ) (s : SerialState) (name : Name) (stack : List BagValue) → is_pending name stack ≡ false → turn_from_stack image budget s name stack ≡ None
 unpending-none image budget s name [] h = refl
 unpending-none image budget s name (bag ∷ outer) h = rw (find-none name bag.tasks (first-false _ _ h)) refl
 
@@ -103,7 +107,7 @@ least-false : (ts u : ℕ) (tasks : List PendingTask) (b : Bool) → is_least ts
 least-false ts u tasks true is never = absurd (never is)
 least-false ts u tasks false is never = is
 
-refused-none : (image : ImageValue) (budget : ℕ) (s : State) (name : Name) (fault : TurnFault) → Refuses image budget s name fault → fault ≢ faults.Memory → turn image budget s name ≡ None
+refused-none : (image : ImageValue) (budget : ℕ) (s : SerialState) (name : Name) (fault : TurnFault) → RefusesTurn image budget s name fault → fault ≢ faults.Memory → turn image budget s name ≡ None
 unfolding turn
 refused-none image budget s name faults.NotPending h other = unpending-none image budget s name (inner s.stack) (is_pending-inner name s.stack ∙ h)
 refused-none image budget s name (faults.NotTop depth) h other = rw (h.top, h.elsewhere) refl
@@ -116,19 +120,19 @@ refused-none image budget s name faults.Memory h other = absurd (other refl)
 -- ---- wrong lines
 
 -- a wrong entry below the limit is no turn
-no-turn : (image : ImageValue) (commits budget place : ℕ) (s : State) (e : Entry) (why : Option TurnFault)
+no-turn : (image : ImageValue) (commits budget place : ℕ) (s : SerialState) (e : Entry) (why : Option TurnFault)
     → IsNoTurn image commits budget place s e why → place < commits → IsTurn image budget s e → ⊥
 no-turn image commits budget place s e None (inl at) lt t = omega (arith, at, lt)
 no-turn image commits budget place s e None (inr (below, o)) lt t = o.other (entry-same o.after t.next o.found e (sym o.turned ∙ t.turned_so))
 no-turn image commits budget place s e (Some fault) (below, refused, other) lt t = none-other (t.next, e) (sym (refused-none image budget s e.name fault refused other) ∙ t.turned_so)
 
-within-limit : (image : ImageValue) (commits budget place : ℕ) (s : State) (e : Entry) (why : Option TurnFault) → IsNoTurn image commits budget place s e why → place ≤ commits
+within-limit : (image : ImageValue) (commits budget place : ℕ) (s : SerialState) (e : Entry) (why : Option TurnFault) → IsNoTurn image commits budget place s e why → place ≤ commits
 within-limit image commits budget place s e None (inl at) = omega (arith, at)
 within-limit image commits budget place s e None (inr (below, o)) = omega (arith, below)
 within-limit image commits budget place s e (Some fault) (below, refused, other) = omega (arith, below)
 
 -- no run goes past a wrong entry below the limit
-entry-stops : (image : ImageValue) (commits budget : ℕ) (journal : List Entry) (line : ℕ) (why : Option TurnFault) (w : IsWrongEntry image commits budget journal line why) (n : ℕ) (after : State)
+entry-stops : (image : ImageValue) (commits budget : ℕ) (journal : List Entry) (line : ℕ) (why : Option TurnFault) (w : IsWrongEntry image commits budget journal line why) (n : ℕ) (after : SerialState)
     → IsRun image budget (take n journal) after → w.place < n → w.place < commits → ⊥
 entry-stops image commits budget journal line why w n after run lt below =
     let P : List Entry → Type 0 = λ es. Runs image budget (opening image) es w.state in
@@ -137,7 +141,7 @@ entry-stops image commits budget journal line why w n after run lt below =
     (slice_get-front journal w.place n lt ∙ w.stands) (subst P (sym (take-front journal w.place n lt)) w.run))
 
 -- nor is a journal with a wrong entry a run
-entry-run : (image : ImageValue) (commits budget : ℕ) (journal : List Entry) (line : ℕ) (why : Option TurnFault) (after : State)
+entry-run : (image : ImageValue) (commits budget : ℕ) (journal : List Entry) (line : ℕ) (why : Option TurnFault) (after : SerialState)
     → IsWrongEntry image commits budget journal line why → IsReplayed image commits budget journal after → ⊥
 entry-run image commits budget journal line why after w r =
     let lt : w.place < length journal = slice_get_within journal w.place w.entry w.stands in
@@ -164,16 +168,17 @@ differ-once xs ys p q v w = go (order p q) where
   go (inr (inr lt)) = absurd (w.other (below q p lt v.same))
 
 -- the states that a replayed journal leads to are one
-replayed-same : (image : ImageValue) (commits budget : ℕ) (journal : List Entry) (a b : State) → IsReplayed image commits budget journal a → IsReplayed image commits budget journal b → a ≡ b
+replayed-same : (image : ImageValue) (commits budget : ℕ) (journal : List Entry) (a b : SerialState) → IsReplayed image commits budget journal a → IsReplayed image commits budget journal b → a ≡ b
 replayed-same image commits budget journal a b h g = runs-same image budget (opening image) journal a b h.run g.run
 
 -- the output isn't at once the run's and not
-output-clash : (image : ImageValue) (commits budget : ℕ) (report : Report) (line : ℕ) (why : Option TurnFault) (s : State)
+output-clash : (image : ImageValue) (commits budget : ℕ) (report : Report) (line : ℕ) (why : Option TurnFault) (s : SerialState)
     → IsWrongOutput image commits budget report line why → IsReplayed image commits budget report.journal s → report.output ≡ s.output → ⊥
 output-clash image commits budget report line why s w r is = w.other (is ∙ ap (λ z. z.output) (replayed-same image commits budget report.journal s w.state r w.run))
 
 -- nor is the window
-word-clash : (image : ImageValue) (commits budget : ℕ) (report : Report) (line : ℕ) (why : Option TurnFault) (s : State)
+word-clash : (image : ImageValue) (commits budget : ℕ) (report : Report) (line : ℕ) (why : Option TurnFault)
+    (s : SerialState)
     → IsWrongWord image commits budget report line why → IsReplayed image commits budget report.journal s → report.window ≡ window_of image s.memory → ⊥
 word-clash image commits budget report line why s w r is =
     let same : s ≡ w.state = replayed-same image commits budget report.journal s w.state r w.run in
@@ -183,7 +188,7 @@ word-word : (image : ImageValue) (commits budget : ℕ) (report : Report) (k l :
     → IsWrongWord image commits budget report k x → IsWrongWord image commits budget report l y → k ≡ l
 word-word image commits budget report k l x y v w =
     let same : w.state ≡ v.state = replayed-same image commits budget report.journal w.state v.state w.run v.run in
-    let P : State → Type 0 = λ z. DifferFirst report.window (window_of image z.memory) w.place in
+    let P : SerialState → Type 0 = λ z. DifferFirst report.window (window_of image z.memory) w.place in
     v.told ∙ ap (λ p. length report.journal + 3 + p) (differ-once report.window (window_of image v.state.memory) v.place w.place v.other (subst P same w.other)) ∙ sym w.told
 
 abbrev IsWrong : ImageValue → ℕ → ℕ → Report → ℕ → Option TurnFault → Type 0
@@ -200,7 +205,7 @@ yes-no image commits budget report line why y (inr (inl w)) = output-clash image
 yes-no image commits budget report line why y (inr (inr (inl w))) = word-clash image commits budget report line why y.state w y.run y.window
 yes-no image commits budget report line why y (inr (inr (inr w))) =
     let same : y.state ≡ w.state = replayed-same image commits budget report.journal y.state w.state y.run w.run in
-    let P : State → Type 0 = λ z. IsEnd image budget commits report.journal z report.end in
+    let P : SerialState → Type 0 = λ z. IsEnd image budget commits report.journal z report.end in
     w.other (subst P same y.end)
 
 -- two wrong lines are one

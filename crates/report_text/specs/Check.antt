@@ -5,8 +5,8 @@ use Rattle.guest_image.specs.ImageValue.{ImageValue}
 use Rattle.run_journal.specs.declared.journal.Entry.{Entry}
 use Rattle.serial_machine.specs.declared.fault.TurnFault.{TurnFault}
 use Rattle.serial_machine.specs.declared.fault.TurnFault.TheVariants as faults
-use Rattle.serial_machine.specs.State.{State}
-use Rattle.serial_machine.specs.Turn.{turn, Refuses}
+use Rattle.serial_machine.specs.State.{SerialState}
+use Rattle.serial_machine.specs.Turn.{turn, RefusesTurn}
 use Rattle.serial_machine.specs.Run.{IsRun, IsEnd}
 use Rattle.run_law.specs.Laws.{AreLawful}
 use Rattle.report_text.specs.declared.report.Report.{Report}
@@ -17,31 +17,32 @@ use Rattle.report_text.specs.declared.verdict.Verdict.TheVariants as verdicts
 use Rattle.report_text.specs.Report.{window_of}
 
 -- the entries make a run within the commit limit, which leads to this state
-pub record IsReplayed (image : ImageValue) (commits budget : ℕ) (journal : List Entry) (after : State) : Type 0 where
+pub record IsReplayed (image : ImageValue) (commits budget : ℕ) (journal : List Entry)
+    (after : SerialState) : Type 0 where
   pub run : IsRun image budget journal after
   pub within : length journal ≤ commits
 
 -- the task of an entry takes its turn, and the entry tells another depth or timestamp
-pub record IsToldOtherwise (image : ImageValue) (budget : ℕ) (s : State) (entry : Entry) : Type 0 where
-  pub after : State
+pub record DiffersFromTurn (image : ImageValue) (budget : ℕ) (s : SerialState) (entry : Entry) : Type 0 where
+  pub after : SerialState
   pub found : Entry
   pub turned : turn image budget s entry.name ≡ Some (after, found)
   pub other : found ≢ entry
 
 -- why the entry at a place of the journal doesn't go on with the run that led to this state: the limit is reached, the
 -- entry tells its turn otherwise, or the serial machine refuses the turn so
-abbrev pub IsNoTurn : ImageValue → ℕ → ℕ → ℕ → State → Entry → Option TurnFault → Type 0
+abbrev pub IsNoTurn : ImageValue → ℕ → ℕ → ℕ → SerialState → Entry → Option TurnFault → Type 0
 IsNoTurn image commits budget place s entry None =
-    (place ≡ commits) ⊎ ((place < commits) × IsToldOtherwise image budget s entry)
+    (place ≡ commits) ⊎ ((place < commits) × DiffersFromTurn image budget s entry)
 IsNoTurn image commits budget place s entry (Some fault) =
-    (place < commits) × Refuses image budget s entry.name fault × (fault ≢ faults.Memory)
+    (place < commits) × RefusesTurn image budget s entry.name fault × (fault ≢ faults.Memory)
 
 -- the line has the first entry that isn't the run's
 pub record IsWrongEntry (image : ImageValue) (commits budget : ℕ) (journal : List Entry)
     (line : ℕ) (why : Option TurnFault) : Type 0 where
   pub place : ℕ
   pub told : line ≡ place + 2
-  pub state : State
+  pub state : SerialState
   pub run : IsRun image budget (take place journal) state
   pub entry : Entry
   pub stands : slice_get journal place ≡ Some entry
@@ -52,7 +53,7 @@ pub record IsWrongOutput (image : ImageValue) (commits budget : ℕ) (report : R
     (line : ℕ) (why : Option TurnFault) : Type 0 where
   pub told : line ≡ length report.journal + 2
   pub no_refusal : why ≡ None
-  pub state : State
+  pub state : SerialState
   pub run : IsReplayed image commits budget report.journal state
   pub other : report.output ≢ state.output
 
@@ -68,7 +69,7 @@ pub record IsWrongWord (image : ImageValue) (commits budget : ℕ) (report : Rep
   pub place : ℕ
   pub told : line ≡ length report.journal + 3 + place
   pub no_refusal : why ≡ None
-  pub state : State
+  pub state : SerialState
   pub run : IsReplayed image commits budget report.journal state
   pub output : report.output ≡ state.output
   pub other : DifferFirst report.window (window_of image state.memory) place
@@ -78,7 +79,7 @@ pub record IsWrongEnd (image : ImageValue) (commits budget : ℕ) (report : Repo
     (line : ℕ) (why : Option TurnFault) : Type 0 where
   pub told : line ≡ length report.journal + 3 + length report.window
   pub no_refusal : why ≡ None
-  pub state : State
+  pub state : SerialState
   pub run : IsReplayed image commits budget report.journal state
   pub output : report.output ≡ state.output
   pub window : report.window ≡ window_of image state.memory
@@ -86,7 +87,7 @@ pub record IsWrongEnd (image : ImageValue) (commits budget : ℕ) (report : Repo
 
 -- the report is that of a run with these limits
 pub record IsReportOf (image : ImageValue) (commits budget : ℕ) (report : Report) : Type 0 where
-  pub state : State
+  pub state : SerialState
   pub run : IsReplayed image commits budget report.journal state
   pub output : report.output ≡ state.output
   pub window : report.window ≡ window_of image state.memory
@@ -108,17 +109,17 @@ IsVerdict image commits budget report (verdicts.Illegal line why) =
 IsVerdict image commits budget report verdicts.Memory = Unit {0}
 
 -- the line that a verdict tells, if it tells one
-abbrev pub told_line : Verdict → Option ℕ
-told_line verdicts.Yes = None
-told_line (verdicts.Illegal line why) = Some line
-told_line verdicts.Memory = None
+abbrev pub line_of_verdict : Verdict → Option ℕ
+line_of_verdict verdicts.Yes = None
+line_of_verdict (verdicts.Illegal line why) = Some line
+line_of_verdict verdicts.Memory = None
 
 -- two verdicts on one report, want of memory aside, tell the same line, or both none
 abbrev pub AgreeOnTheLine : Type 0
 AgreeOnTheLine = (image : ImageValue) (commits budget : ℕ) (report : Report) (v w : Verdict)
     → v ≢ verdicts.Memory → w ≢ verdicts.Memory
     → IsVerdict image commits budget report v → IsVerdict image commits budget report w
-    → told_line v ≡ told_line w
+    → line_of_verdict v ≡ line_of_verdict w
 
 -- what an examination says of a report: a verdict, with the machine at the end of the run
 abbrev pub IsExamined : ImageValue → ℕ → ℕ → Report → Examined → Type 0

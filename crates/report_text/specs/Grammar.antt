@@ -11,7 +11,7 @@ use Rattle.report_text.specs.declared.report.WindowWord.{WindowWord}
 use Rattle.report_text.specs.declared.report.Report.{Report}
 use Rattle.report_text.specs.declared.fault.JournalFault.{JournalFault}
 use Rattle.report_text.specs.declared.fault.JournalFault.TheVariants as faults
-use Rattle.text_lines.specs.Lines.{◌>>=◌, guarded, lines_of, cut, behind}
+use Rattle.text_lines.specs.Lines.{◌>>=◌, some_if, lines_of, cut, behind}
 use Rattle.text_lines.specs.Numerals.{number, field}
 use Rattle.report_text.specs.Hex.{hex_word, hex_bytes}
 
@@ -19,7 +19,7 @@ use Rattle.report_text.specs.Hex.{hex_word, hex_bytes}
 unfoldable pub entry_in : ℕ → List ℕ → Option Entry
 entry_in n line =
     field 32 line >>= λ a. field 46 a.1 >>= λ b. field 32 b.1 >>= λ c. field 32 c.1 >>= λ d. number d.1 >>= λ ts.
-    guarded ((a.0 == n) && (nat_le n MAX_ENTRIES && (nat_le 1 d.0 && nat_le d.0 MAX_DEPTH)))
+    some_if ((a.0 == n) && (nat_le n MAX_ENTRIES && (nat_le 1 d.0 && nat_le d.0 MAX_DEPTH)))
     (record { name = record { creator = b.0; index = c.0 }; depth = d.0; ts = ts })
 
 -- the bytes of two digits each, of which there are some, or a dash for none
@@ -44,7 +44,7 @@ window_in line =
 unfoldable pub trap_in : List ℕ → Option End
 trap_in rest =
     field 32 rest >>= λ a. cut 32 a.1 >>= λ p. hex_word p.0 >>= λ pc. field 46 p.1 >>= λ b. number b.1 >>= λ index.
-    guarded (nat_le 1 a.0 && nat_le a.0 MAX_CAUSE) (ends.Trap (record { creator = b.0; index = index }) a.0 pc)
+    some_if (nat_le 1 a.0 && nat_le a.0 MAX_CAUSE) (ends.Trap (record { creator = b.0; index = index }) a.0 pc)
 
 -- how the run ended
 unfoldable pub end_in : List ℕ → Option End
@@ -66,10 +66,10 @@ onto_window front (Ok r) = Ok (front ++ r.0, r.1)
 onto_window front (Err line) = Err line
 
 -- line k is a word of the window, with what the lines behind it say, or it is outside
-abbrev pub after_word : ℕ → Option WindowWord → Result (List WindowWord × End) ℕ
+abbrev pub after_window_word : ℕ → Option WindowWord → Result (List WindowWord × End) ℕ
     → Result (List WindowWord × End) ℕ
-after_word k None rest = Err k
-after_word k (Some w) rest = onto_window (w ∷ []) rest
+after_window_word k None rest = Err k
+after_window_word k (Some w) rest = onto_window (w ∷ []) rest
 
 -- line k is the end, behind which nothing stands, or else what the rest says
 abbrev pub after_end : ℕ → List (List ℕ) → Option End → Result (List WindowWord × End) ℕ
@@ -80,7 +80,7 @@ after_end k ls (Some e) rest = if is_nothing ls then Ok ([], e) else Err (k + 1)
 -- the window and the end in the lines from the k-th on, or the first line outside
 abbrev pub window_at : ℕ → List (List ℕ) → Result (List WindowWord × End) ℕ
 window_at k [] = Err k
-window_at k (l ∷ ls) = after_end k ls (end_in l) (after_word k (window_in l) (window_at (k + 1) ls))
+window_at k (l ∷ ls) = after_end k ls (end_in l) (after_window_word k (window_in l) (window_at (k + 1) ls))
 
 -- a report without entries
 abbrev pub with_output : List ℕ → Result (List WindowWord × End) ℕ → Result Report ℕ
@@ -119,7 +119,7 @@ abbrev pub report_of : List ℕ → Result Report ℕ
 report_of text = report_at (lines_of text)
 
 -- a call answered what reading gives, unless memory was wanting
-abbrev pub Gives : {X : Type 0} → Result X JournalFault → Result X ℕ → Type 0
-Gives (Ok x) read = read ≡ Ok x
-Gives (Err faults.Memory) read = Unit {0}
-Gives (Err (faults.Line line)) read = read ≡ Err line
+abbrev pub GivesRead : {X : Type 0} → Result X JournalFault → Result X ℕ → Type 0
+GivesRead (Ok x) read = read ≡ Ok x
+GivesRead (Err faults.Memory) read = Unit {0}
+GivesRead (Err (faults.Line line)) read = read ≡ Err line

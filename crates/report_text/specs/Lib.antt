@@ -1,3 +1,4 @@
+-- Contracts mean all but Replay, which serves this crate alone.
 pub mod Check
 pub mod Grammar
 pub mod Hex

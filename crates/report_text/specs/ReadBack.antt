@@ -39,8 +39,8 @@ EndFits (ends.Trap name cause pc) = TrapFits name cause pc
 
 -- what is written of a run reads back as that run's report, where the number of its entries, their depths and the cause
 -- of its end are in the grammar's ranges
-abbrev pub ReadsBack : Type 0
-ReadsBack = (image : ImageValue) (journal : List Entry) (memory output : List ℕ) (end : End)
+abbrev pub ReportReadsBack : Type 0
+ReportReadsBack = (image : ImageValue) (journal : List Entry) (memory output : List ℕ) (end : End)
     → IsImage image → length journal ≤ MAX_ENTRIES → AllByRecursion EntryFits journal
     → AreBytes memory → AreBytes output → EndFits end
     → report_of (report image journal memory output end)

@@ -2,8 +2,8 @@
 
 ghost use Rattle.std.specs.Prelude.{◌≡◌, ◌+◌, ◌<◌, ◌≤◌, length};
 ghost use Rattle.text_lines.specs.Lines.{lines_of};
-ghost use Rattle.report_text.specs.ReadBack.{ReadsBack};
-ghost use Rattle.report_text.specs.Grammar.{Gives, entries_at, report_of, window_at};
+ghost use Rattle.report_text.specs.ReadBack.{ReportReadsBack};
+ghost use Rattle.report_text.specs.Grammar.{GivesRead, entries_at, report_of, window_at};
 
 use crate::fault::JournalFault;
 use crate::parsing::{end_in, entry_in, output_in, window_in};
@@ -16,7 +16,7 @@ use text_lines::next_line;
 /// missing is told by the number that it should have.
 pub fn read_journal(alloc: Global, text: &[u8]) -> Result<Report, JournalFault>
     requires { length text.now < 4294967295 }
-    ensures { Gives result (report_of text.now) }
+    ensures { GivesRead result (report_of text.now) }
 {
     let Some((first, rest)) = next_line(text) else {
         return Err(JournalFault::Line { line: 1 });
@@ -31,7 +31,7 @@ pub fn read_journal(alloc: Global, text: &[u8]) -> Result<Report, JournalFault>
 #[tactic(auto, using(crate::proofs::Steps::entry_steps))]
 fn read_entries(alloc: Global, text: &[u8]) -> Result<Report, JournalFault>
     requires { length text.now < 4294967294 }
-    ensures { Gives result (entries_at 1 (lines_of text.now)) }
+    ensures { GivesRead result (entries_at 1 (lines_of text.now)) }
 {
     let mut journal = Journal::new(alloc);
     let mut rest = text;
@@ -68,7 +68,7 @@ fn read_entries(alloc: Global, text: &[u8]) -> Result<Report, JournalFault>
 #[tactic(auto, using(crate::proofs::Steps::window_steps))]
 fn read_window(alloc: Global, text: &[u8], from: u32) -> Result<(Window, End), JournalFault>
     requires { from + length text.now < 4294967296 }
-    ensures { Gives result (window_at from (lines_of text.now)) }
+    ensures { GivesRead result (window_at from (lines_of text.now)) }
 {
     let mut window = Window::new(alloc);
     let mut rest = text;
@@ -96,5 +96,5 @@ fn read_window(alloc: Global, text: &[u8], from: u32) -> Result<(Window, End), J
 /// A report that was written is read back as what it was written of.
 #[tactic(auto, using(crate::proofs::ReportBack::report_back))]
 pub fn written_reports_read_back()
-    ensures { ReadsBack }
+    ensures { ReportReadsBack }
 {}

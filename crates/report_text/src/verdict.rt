@@ -12,7 +12,7 @@ pub enum Verdict {
         /// The number of the line, from 1 on.
         line: u32,
         /// Why the serial machine refuses the turn, where the line is an entry up to the commit limit
-        /// that is no legal turn.
+        /// that is no legal turn. One cause that holds: of two smaller timestamps either may be told.
         why: Option<TurnFault>,
     },
     /// Out of memory.

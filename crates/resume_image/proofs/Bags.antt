@@ -6,7 +6,7 @@ use Rattle.task_desc.specs.declared.desc.Spawn.{Spawn}
 use Rattle.task_desc.specs.declared.desc.Place.TheVariants.{Same, Sub, Super}
 use Rattle.pending_list.specs.declared.task.PendingTask.{PendingTask}
 use Rattle.serial_machine.specs.BagValue.{BagValue}
-use Rattle.serial_machine.specs.Turn.{children, inner, kind_outside, stack_after, sub_bags, with_super, without}
+use Rattle.serial_machine.specs.Turn.{children, inner, kind_outside, stack_after, sub_bags, with_super, without_name}
 
 module _ (Good : Kind → List PendingTask → Type 0) where
   abbrev pub AreGood : List BagValue → Type 0
@@ -43,7 +43,7 @@ module _ (Before Good : Kind → List PendingTask → Type 0) (stays : (kind : K
   good_super tasks (bag ∷ outer) above good = (above bag.kind refl bag.tasks good.0, good_stays outer good.1)
 
   pub good_after : (bag : BagValue) (outer : List BagValue) (name : Name) (n ts : ℕ) (spawns : List Spawn) (sub : Option Kind) → AreGood Before (bag ∷ outer)
-      → Good bag.kind (without name bag.tasks ++ children Same n spawns)
+      → Good bag.kind (without_name name bag.tasks ++ children Same n spawns)
       → ((kind : Kind) → sub ≡ Some kind → Good kind (children Sub n spawns))
       → ((kind : Kind) → kind_outside outer ≡ Some kind → (own : List PendingTask) → Before kind own → Good kind (own ++ children Super n spawns))
       → AreGood Good (stack_after bag outer name n ts spawns sub)

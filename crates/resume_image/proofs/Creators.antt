@@ -11,7 +11,7 @@ use Rattle.task_desc.specs.declared.desc.Name.{Name}
 use Rattle.pending_list.specs.declared.task.PendingTask.{PendingTask}
 use Rattle.run_journal.specs.declared.journal.Entry.{Entry}
 use Rattle.serial_machine.specs.Run.{IsRun, Runs, opening}
-use Rattle.serial_machine.specs.State.{State}
+use Rattle.serial_machine.specs.State.{SerialState}
 use Rattle.serial_machine.specs.Turn.{find_named, is_named}
 use Rattle.run_law.proofs.Proved.{turn-did, Turned}
 use Rattle.resume_image.proofs.Bags.{AreGood, good_inner}
@@ -31,22 +31,22 @@ found_old count kind name (u ∷ us) t found each = go (is_named name u) refl fo
         omega (arith, creator, old)
     go false is at rest = rest at
 
-turn_old : (image : ImageValue) (budget : ℕ) (s after : State) (e : Entry) → Stands image s → Turned image budget s after e.name e → e.name.creator ≤ s.count
+turn_old : (image : ImageValue) (budget : ℕ) (s after : SerialState) (e : Entry) → Stands image s → Turned image budget s after e.name e → e.name.creator ≤ s.count
 turn_old image budget s after e stands did =
     let old : AreGood (AreOld s.count) (did.bag ∷ did.outer) = subst (AreGood (AreOld s.count)) did.may.top (good_inner (AreOld s.count) s.stack stands.old) in
     found_old s.count did.bag.kind e.name did.bag.tasks did.task did.may.found old.0.each
 
-runs_old : (image : ImageValue) (budget : ℕ) (s : State) (es : List Entry) (last : State) (most : ℕ) → s.count + length es ≤ most → Stands image s
+runs_old : (image : ImageValue) (budget : ℕ) (s : SerialState) (es : List Entry) (last : SerialState) (most : ℕ) → s.count + length es ≤ most → Stands image s
     → Runs image budget s es last → AllByRecursion (λ (e : Entry). e.name.creator ≤ most) es
 runs_old image budget s [] last most fits stands run = tt
 runs_old image budget s (e ∷ es) last most fits stands (mid, turned, rest) =
     let did = turn-did image budget s mid e.name e turned in
-    let count : mid.count ≡ s.count + 1 = ap (λ (st : State). st.count) did.state in (
+    let count : mid.count ≡ s.count + 1 = ap (λ (st : SerialState). st.count) did.state in (
       omega (arith, turn_old image budget s mid e stands did, fits),
       runs_old image budget mid es last most (omega (arith, count, fits)) (turn_stands image budget s mid e.name e did stands) rest,
     )
 
-pub creators_are_turns : (image : ImageValue) → (budget : ℕ) → (journal : List Entry) → (state : State) → IsRun image budget journal state
+pub creators_are_turns : (image : ImageValue) → (budget : ℕ) → (journal : List Entry) → (state : SerialState) → IsRun image budget journal state
     → All (λ (e : Entry). e.name.creator ≤ length journal) journal
 creators_are_turns image budget journal state run =
     All-from_recursion (λ (e : Entry). e.name.creator ≤ length journal) journal

@@ -15,13 +15,13 @@ use Rattle.pending_list.specs.declared.task.PendingTask.{PendingTask}
 use Rattle.run_journal.specs.declared.journal.Entry.{Entry}
 use Rattle.spec_state.specs.declared.pending.Pending.{Pending}
 use Rattle.serial_machine.specs.BagValue.{BagValue}
-use Rattle.serial_machine.specs.State.{State}
+use Rattle.serial_machine.specs.State.{SerialState}
 use Rattle.serial_machine.specs.TaskRun.{Done, task_run}
 use Rattle.serial_machine.specs.Run.{Runs}
-use Rattle.serial_machine.specs.Turn.{child, children, context_of, find_named, inner, is_for, is_named, run_of, stack_after, sub_bags, turn, with_super, without, MayTurn}
+use Rattle.serial_machine.specs.Turn.{child, children, context_in_bag, find_named, inner, is_for, is_named, run_in_bag, stack_after, sub_bags, turn, with_super, without_name, MayTurn}
 use Rattle.serial_machine.proofs.Proved.{turn-done}
 use Rattle.run_law.proofs.Proved.{turn-did, Turned}
-use Rattle.resume_image.specs.Joined.{shifted, shifted_entry}
+use Rattle.resume_image.specs.Joined.{shifted_name, shifted_entry}
 use Rattle.resume_image.proofs.Names.{AreSaved, IsKnown, Know}
 use Rattle.resume_image.proofs.Bags.{AreGood, good_after, good_inner}
 use Rattle.resume_image.proofs.Same.{other, same_run}
@@ -42,11 +42,11 @@ known_found pendings name (u ∷ us) t found each = go (is_named name u) refl fo
         omega (arith, index, inside)
     go false is at rest first = rest at first
 
-known_without : (pendings : List Pending) (name : Name) (tasks : List PendingTask) → Know pendings tasks → Know pendings (without name tasks)
+known_without : (pendings : List Pending) (name : Name) (tasks : List PendingTask) → Know pendings tasks → Know pendings (without_name name tasks)
 known_without pendings name [] each = tt
 known_without pendings name (t ∷ ts) each = go (is_named name t) (known_without pendings name ts each.1)
   where
-    go : (b : Bool) → Know pendings (without name ts) → Know pendings (if not b then t ∷ without name ts else without name ts)
+    go : (b : Bool) → Know pendings (without_name name ts) → Know pendings (if not b then t ∷ without_name name ts else without_name name ts)
     go true rest = rest
     go false rest = (each.0, rest)
 
@@ -70,12 +70,12 @@ known_after : (pendings : List Pending) (bag : BagValue) (outer : List BagValue)
     → n ≢ 0 → AreKnown pendings (bag ∷ outer) → AreKnown pendings (stack_after bag outer name n ts spawns sub)
 known_after pendings bag outer name n ts spawns sub some known =
     good_after (λ kind tasks. Know pendings tasks) (λ kind tasks. Know pendings tasks) (λ kind tasks each. each) bag outer name n ts spawns sub known
-    (known_more pendings (without name bag.tasks) (children Same n spawns) (known_without pendings name bag.tasks known.0) (known_children pendings Same n spawns some))
+    (known_more pendings (without_name name bag.tasks) (children Same n spawns) (known_without pendings name bag.tasks known.0) (known_children pendings Same n spawns some))
     (λ kind is. known_children pendings Sub n spawns some)
     (λ kind is tasks each. known_more pendings tasks (children Super n spawns) each (known_children pendings Super n spawns some))
 
 -- a state of the first image, and one of the image that was saved: the first goes on as the second does
-pub record Follows (turns : ℕ) (front : List ℕ) (pendings : List Pending) (first second : State) : Type 0 where
+pub record Follows (turns : ℕ) (front : List ℕ) (pendings : List Pending) (first second : SerialState) : Type 0 where
   pub stack : AreShifted turns pendings (inner first.stack) (inner second.stack)
   pub memory : first.memory ≡ second.memory
   pub output : first.output ≡ front ++ second.output
@@ -85,12 +85,13 @@ pub record Follows (turns : ℕ) (front : List ℕ) (pendings : List Pending) (f
 module _ (image : ImageValue) (budget : ℕ) (initial : List ℕ) (tasks : List ImageTask) (turns : ℕ) (front : List ℕ) (pendings : List Pending)
     (saved : AreSaved turns pendings) where
   -- what a turn of the second leads to, the turn of the shifted name leads to in the first
-  pub record Turns (first mid : State) (e : Entry) : Type 0 where
-    pub after : State
-    pub turned : turn image budget first (shifted turns pendings e.name) ≡ Some (after, shifted_entry turns pendings e)
+  pub record Turns (first mid : SerialState) (e : Entry) : Type 0 where
+    pub after : SerialState
+    pub turned : turn image budget first (shifted_name turns pendings e.name)
+        ≡ Some (after, shifted_entry turns pendings e)
     pub follows : Follows turns front pendings after mid
 
-  turn_followed : (first second mid : State) (e : Entry) → Follows turns front pendings first second
+  turn_followed : (first second mid : SerialState) (e : Entry) → Follows turns front pendings first second
       → Turned (other image initial tasks) budget second mid e.name e → Turns first mid e
   turn_followed first second mid e same did = at (inner first.stack) refl
       (subst (AreShifted turns pendings (inner first.stack)) did.may.top same.stack)
@@ -105,11 +106,11 @@ module _ (image : ImageValue) (budget : ℕ) (initial : List ℕ) (tasks : List 
       some none = absurd (omega (arith, none))
 
       taken : (bag : BagValue) (outer : List BagValue) → inner first.stack ≡ bag ∷ outer → IsShifted turns pendings bag did.bag
-          → AreShifted turns pendings outer did.outer → MayTurn first.stack (shifted turns pendings e.name) bag outer (shifted_task turns pendings did.task)
+          → AreShifted turns pendings outer did.outer → MayTurn first.stack (shifted_name turns pendings e.name) bag outer (shifted_task turns pendings did.task)
       taken bag outer top one rest = record {
         top = top;
         found =
-            ap (λ (x : BagValue). find_named (shifted turns pendings e.name) x.tasks) one
+            ap (λ (x : BagValue). find_named (shifted_name turns pendings e.name) x.tasks) one
             ∙ find_shifted turns pendings saved e.name did.bag.tasks named known.0
             ∙ ap (option_map (shifted_task turns pendings)) did.may.found;
         least =
@@ -119,28 +120,28 @@ module _ (image : ImageValue) (budget : ℕ) (initial : List ℕ) (tasks : List 
       }
 
       ran : (bag : BagValue) (outer : List BagValue) → IsShifted turns pendings bag did.bag → AreShifted turns pendings outer did.outer
-          → run_of image budget first bag outer (shifted_task turns pendings did.task) ≡ Done did.done
+          → run_in_bag image budget first bag outer (shifted_task turns pendings did.task) ≡ Done did.done
       ran bag outer one rest =
           ap (λ ctx. task_run image budget ctx did.task.entry did.task.args first.memory) (context_shifted turns pendings image.version bag did.bag outer did.outer did.task one rest)
-          ∙ ap (task_run image budget (context_of image.version did.bag did.outer did.task) did.task.entry did.task.args) same.memory
-          ∙ sym (same_run image initial tasks budget (context_of image.version did.bag did.outer did.task) did.task.entry did.task.args second.memory)
+          ∙ ap (task_run image budget (context_in_bag image.version did.bag did.outer did.task) did.task.entry did.task.args) same.memory
+          ∙ sym (same_run image initial tasks budget (context_in_bag image.version did.bag did.outer did.task) did.task.entry did.task.args second.memory)
           ∙ did.run
 
       at : (stack : List BagValue) → inner first.stack ≡ stack → AreShifted turns pendings stack (did.bag ∷ did.outer) → Turns first mid e
       at [] top h = absurd h
       at (bag ∷ outer) top (one, rest) = record {
         after = record {
-          stack = stack_after bag outer (shifted turns pendings e.name) (first.count + 1) did.task.ts did.done.spawns did.done.sub;
+          stack = stack_after bag outer (shifted_name turns pendings e.name) (first.count + 1) did.task.ts did.done.spawns did.done.sub;
           memory = did.done.memory;
           output = first.output ++ did.done.bytes;
           count = first.count + 1;
         };
         turned =
-            turn-done image budget first (shifted turns pendings e.name) bag outer (shifted_task turns pendings did.task) did.done
+            turn-done image budget first (shifted_name turns pendings e.name) bag outer (shifted_task turns pendings did.task) did.done
             (taken bag outer top one rest) (ran bag outer one rest)
             ∙ ap (λ entry. Some (
               record {
-                stack = stack_after bag outer (shifted turns pendings e.name) (first.count + 1) did.task.ts did.done.spawns did.done.sub;
+                stack = stack_after bag outer (shifted_name turns pendings e.name) (first.count + 1) did.task.ts did.done.spawns did.done.sub;
                 memory = did.done.memory;
                 output = first.output ++ did.done.bytes;
                 count = first.count + 1;
@@ -148,7 +149,7 @@ module _ (image : ImageValue) (budget : ℕ) (initial : List ℕ) (tasks : List 
               entry,
             )) (told bag one);
         follows = subst (Follows turns front pendings (record {
-          stack = stack_after bag outer (shifted turns pendings e.name) (first.count + 1) did.task.ts did.done.spawns did.done.sub;
+          stack = stack_after bag outer (shifted_name turns pendings e.name) (first.count + 1) did.task.ts did.done.spawns did.done.sub;
           memory = did.done.memory;
           output = first.output ++ did.done.bytes;
           count = first.count + 1;
@@ -162,30 +163,30 @@ module _ (image : ImageValue) (budget : ℕ) (initial : List ℕ) (tasks : List 
       }
         where
           told : (bag : BagValue) → IsShifted turns pendings bag did.bag
-              → ◌≡◌ {A = Entry} (record { name = shifted turns pendings e.name; depth = bag.depth; ts = did.task.ts }) (shifted_entry turns pendings e)
+              → ◌≡◌ {A = Entry} (record { name = shifted_name turns pendings e.name; depth = bag.depth; ts = did.task.ts }) (shifted_entry turns pendings e)
           told bag one =
-              ap (λ (x : BagValue). record { name = shifted turns pendings e.name; depth = x.depth; ts = did.task.ts }) one
-              ∙ ap (λ (x : Entry). record x { name = shifted turns pendings e.name }) (sym did.told)
+              ap (λ (x : BagValue). record { name = shifted_name turns pendings e.name; depth = x.depth; ts = did.task.ts }) one
+              ∙ ap (λ (x : Entry). record x { name = shifted_name turns pendings e.name }) (sym did.told)
 
           stacks : (bag : BagValue) (outer : List BagValue) → IsShifted turns pendings bag did.bag → AreShifted turns pendings outer did.outer
               → AreShifted turns pendings
-              (stack_after bag outer (shifted turns pendings e.name) (first.count + 1) did.task.ts did.done.spawns did.done.sub)
+              (stack_after bag outer (shifted_name turns pendings e.name) (first.count + 1) did.task.ts did.done.spawns did.done.sub)
               (stack_after did.bag did.outer e.name (second.count + 1) did.task.ts did.done.spawns did.done.sub)
           stacks bag outer one rest =
               let number : turns + (second.count + 1) ≡ first.count + 1 = omega (arith, same.count) in
               subst
               (λ n. AreShifted turns pendings
-              (stack_after bag outer (shifted turns pendings e.name) n did.task.ts did.done.spawns did.done.sub)
+              (stack_after bag outer (shifted_name turns pendings e.name) n did.task.ts did.done.spawns did.done.sub)
               (stack_after did.bag did.outer e.name (second.count + 1) did.task.ts did.done.spawns did.done.sub))
               number
               (after_shifted turns pendings saved bag did.bag outer did.outer e.name (second.count + 1) did.task.ts did.done.spawns did.done.sub some named known.0 one rest)
 
-  pub record RunsOn (first : State) (es : List Entry) (last : State) : Type 0 where
-    pub after : State
+  pub record RunsOn (first : SerialState) (es : List Entry) (last : SerialState) : Type 0 where
+    pub after : SerialState
     pub runs : Runs image budget first (map (shifted_entry turns pendings) es) after
     pub follows : Follows turns front pendings after last
 
-  pub runs_followed : (first second : State) (es : List Entry) (last : State) → Follows turns front pendings first second
+  pub runs_followed : (first second : SerialState) (es : List Entry) (last : SerialState) → Follows turns front pendings first second
       → Runs (other image initial tasks) budget second es last → RunsOn first es last
   runs_followed first second [] last same done = record { after = first; runs = refl; follows = subst (Follows turns front pendings first) done same }
   runs_followed first second (e ∷ es) last same (mid, turned, rest) =

@@ -10,17 +10,17 @@ use Rattle.run_journal.specs.declared.journal.Entry.{Entry}
 use Rattle.spec_state.specs.declared.pending.Pending.{Pending}
 use Rattle.serial_machine.specs.BagValue.{BagValue}
 use Rattle.serial_machine.specs.Run.{IsRun, Runs, opening}
-use Rattle.serial_machine.specs.State.{State}
+use Rattle.serial_machine.specs.State.{SerialState}
 use Rattle.serial_machine.specs.Turn.{inner, is_named, is_pending}
 use Rattle.serial_machine.proofs.Proved.{is_pending-inner}
-use Rattle.spec_state.specs.Pendings.{Leaves}
+use Rattle.spec_state.specs.Pendings.{RunLeaves}
 use Rattle.resume_image.specs.Saved.{saved_image, saved_task}
-use Rattle.resume_image.specs.Joined.{IsJoinedRun, shifted, shifted_entry}
+use Rattle.resume_image.specs.Joined.{IsJoinedRun, shifted_name, shifted_entry}
 use Rattle.resume_image.proofs.Followed.{runs_followed}
 use Rattle.resume_image.proofs.Opened.{saved_opens}
 use Rattle.resume_image.proofs.Shifted.{AreShifted, shifted_task}
 
-runs_more : (image : ImageValue) (budget : ℕ) (es more : List Entry) (s mid after : State) → Runs image budget s es mid → Runs image budget mid more after
+runs_more : (image : ImageValue) (budget : ℕ) (es more : List Entry) (s mid after : SerialState) → Runs image budget s es mid → Runs image budget mid more after
     → Runs image budget s (es ++ more) after
 runs_more image budget [] more s mid after done on = subst (λ st. Runs image budget st more after) (sym done) on
 runs_more image budget (e ∷ es) more s mid after (next, turned, rest) on = (next, turned, runs_more image budget es more next mid after rest on)
@@ -41,7 +41,7 @@ named_own name t same =
 module _ (turns : ℕ) (pendings : List Pending) where
   -- a name that pends in the second state, and its shifted name
   abbrev Pends : (Name → Bool) → Name → Type 0
-  Pends pends name = (own : Name) × (pends own ≡ true) × (name ≡ shifted turns pendings own)
+  Pends pends name = (own : Name) × (pends own ≡ true) × (name ≡ shifted_name turns pendings own)
 
   either : (a b : Bool) → (a || b) ≡ true → (P : Type 0) → (a ≡ true → P) → (b ≡ true → P) → P
   either true b is P one other = one refl
@@ -65,13 +65,13 @@ module _ (turns : ℕ) (pendings : List Pending) where
       (rest.0, right_holds (is_named rest.0 t) (list_any (is_named rest.0) ts) rest.1, rest.2)))
 
   bag_there : (own : Name) (ts : List PendingTask) → list_any (is_named own) ts ≡ true
-      → list_any (is_named (shifted turns pendings own)) (map (shifted_task turns pendings) ts) ≡ true
+      → list_any (is_named (shifted_name turns pendings own)) (map (shifted_task turns pendings) ts) ≡ true
   bag_there own [] is = absurd (cc (is))
   bag_there own (t ∷ ts) is =
       either (is_named own t) (list_any (is_named own) ts) is
-      (list_any (is_named (shifted turns pendings own)) (map (shifted_task turns pendings) (t ∷ ts)) ≡ true)
-      (λ here. left_holds _ _ (named_own (shifted turns pendings own) (shifted_task turns pendings t) (ap (shifted turns pendings) (own_name own t here))))
-      (λ there. right_holds (is_named (shifted turns pendings own) (shifted_task turns pendings t)) _ (bag_there own ts there))
+      (list_any (is_named (shifted_name turns pendings own)) (map (shifted_task turns pendings) (t ∷ ts)) ≡ true)
+      (λ here. left_holds _ _ (named_own (shifted_name turns pendings own) (shifted_task turns pendings t) (ap (shifted_name turns pendings) (own_name own t here))))
+      (λ there. right_holds (is_named (shifted_name turns pendings own) (shifted_task turns pendings t)) _ (bag_there own ts there))
 
   stack_back : (name : Name) (xs ys : List BagValue) → AreShifted turns pendings xs ys → is_pending name xs ≡ true → Pends (λ own. is_pending own ys) name
   stack_back name [] [] same is = absurd (cc (is))
@@ -85,18 +85,19 @@ module _ (turns : ℕ) (pendings : List Pending) where
       (rest.0, right_holds (list_any (is_named rest.0) y.tasks) (is_pending rest.0 ys) rest.1, rest.2)))
 
   stack_there : (own : Name) (xs ys : List BagValue) → AreShifted turns pendings xs ys → is_pending own ys ≡ true
-      → is_pending (shifted turns pendings own) xs ≡ true
+      → is_pending (shifted_name turns pendings own) xs ≡ true
   stack_there own [] [] same is = absurd (cc (is))
   stack_there own [] (y ∷ ys) same is = absurd same
   stack_there own (x ∷ xs) [] same is = absurd same
   stack_there own (x ∷ xs) (y ∷ ys) same is =
-      either (list_any (is_named own) y.tasks) (is_pending own ys) is (is_pending (shifted turns pendings own) (x ∷ xs) ≡ true)
-      (λ here. left_holds _ _ (ap (λ (b : BagValue). list_any (is_named (shifted turns pendings own)) b.tasks) same.0 ∙ bag_there own y.tasks here))
-      (λ there. right_holds (list_any (is_named (shifted turns pendings own)) x.tasks) _ (stack_there own xs ys same.1 there))
+      either (list_any (is_named own) y.tasks) (is_pending own ys) is (is_pending (shifted_name turns pendings own) (x ∷ xs) ≡ true)
+      (λ here. left_holds _ _ (ap (λ (b : BagValue). list_any (is_named (shifted_name turns pendings own)) b.tasks) same.0 ∙ bag_there own y.tasks here))
+      (λ there. right_holds (list_any (is_named (shifted_name turns pendings own)) x.tasks) _ (stack_there own xs ys same.1 there))
 
 pub runs_join : (image : ImageValue) → IsImage image → (budget : ℕ) → (one two : List Entry) → (memory output : List ℕ) → (pendings : List Pending)
-    → Leaves image budget one memory output pendings → 0 < length pendings → All (λ (p : Pending). p.depth ≡ 1) pendings
-    → (second : State) → IsRun (saved_image image memory pendings) budget two second
+    → RunLeaves image budget one memory output pendings → 0 < length pendings
+    → All (λ (p : Pending). p.depth ≡ 1) pendings
+    → (second : SerialState) → IsRun (saved_image image memory pendings) budget two second
     → IsJoinedRun image budget one two output pendings second
 runs_join image within budget one two memory output pendings left some root second run =
     let opened = saved_opens image budget one memory output pendings within left some root in
@@ -113,7 +114,7 @@ runs_join image within budget one two memory output pendings left some root seco
             (there.0, sym (is_pending-inner there.0 second.stack) ∙ there.1, there.2)),
         λ found.
             ap (λ n. is_pending n on.after.stack) found.2
-            ∙ sym (is_pending-inner (shifted (length one) pendings found.0) on.after.stack)
+            ∙ sym (is_pending-inner (shifted_name (length one) pendings found.0) on.after.stack)
             ∙ stack_there (length one) pendings found.0 (inner on.after.stack) (inner second.stack) on.follows.stack
             (is_pending-inner found.0 second.stack ∙ found.1),
       );

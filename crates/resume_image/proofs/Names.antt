@@ -7,10 +7,10 @@ use Rattle.std.proofs.lemmas.Grind.{common_steps}
 use Rattle.std.proofs.lemmas.List.{get_or-map}
 use Rattle.task_desc.specs.declared.desc.Name.{Name}
 use Rattle.pending_list.specs.declared.task.PendingTask.{PendingTask}
-use Rattle.pending_list.specs.Pending.{is_before}
+use Rattle.pending_list.specs.Pending.{name_before}
 use Rattle.spec_state.specs.declared.pending.Pending.{Pending}
 use Rattle.spec_state.specs.Pendings.{IsBefore}
-use Rattle.resume_image.specs.Joined.{shifted}
+use Rattle.resume_image.specs.Joined.{shifted_name}
 
 -- whether two names are one
 abbrev pub is_one : Name → Name → Bool
@@ -29,7 +29,7 @@ pub record AreSaved (turns : ℕ) (pendings : List Pending) : Type 0 where
   pub sorted : AllPairs IsBefore pendings
   pub made : All (λ p. p.name.creator ≤ turns) pendings
 
-apart : (a b : Name) → is_before a b ≡ true → is_one a b ≡ false
+apart : (a b : Name) → name_before a b ≡ true → is_one a b ≡ false
 apart a b before = grind (arith, nat_tests, common_steps)
 
 turned : (a b : Name) → is_one b a ≡ is_one a b
@@ -76,7 +76,7 @@ module _ (turns : ℕ) (pendings : List Pending) (saved : AreSaved turns pending
       grind (arith, nat_tests, common_steps)
 
   pub same_name : (a b : Name) → IsKnown pendings a → IsKnown pendings b
-      → is_one (shifted turns pendings a) (shifted turns pendings b) ≡ is_one a b
+      → is_one (shifted_name turns pendings a) (shifted_name turns pendings b) ≡ is_one a b
   same_name a b first second = go (a.creator == 0) (b.creator == 0) refl refl
     where
       later : Name → Name

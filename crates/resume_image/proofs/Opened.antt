@@ -15,11 +15,11 @@ use Rattle.run_journal.specs.declared.journal.Entry.{Entry}
 use Rattle.spec_state.specs.declared.pending.Pending.{Pending}
 use Rattle.serial_machine.specs.BagValue.{BagValue}
 use Rattle.serial_machine.specs.Run.{image_task, opening, opening_memory}
-use Rattle.serial_machine.specs.State.{IsStack, State}
+use Rattle.serial_machine.specs.State.{IsStack, SerialState}
 use Rattle.serial_machine.specs.Turn.{inner}
 use Rattle.run_law.proofs.Proved.{count-run, run_sized}
 use Rattle.serial_machine.proofs.Proved.{IsStack-inner}
-use Rattle.spec_state.specs.Pendings.{ArePendings, IsBefore, Leaves, all_pending, pending_at}
+use Rattle.spec_state.specs.Pendings.{ArePendings, IsBefore, RunLeaves, all_pending, pending_at}
 use Rattle.resume_image.specs.Saved.{saved_image, saved_task}
 use Rattle.resume_image.proofs.Bags.{AreGood, good_inner}
 use Rattle.resume_image.proofs.Followed.{Follows}
@@ -76,7 +76,7 @@ pub record IsOne (image : ImageValue) (count : ℕ) (stack : List BagValue) (pen
   pub old : AreOld count bag.kind bag.tasks
   pub are : pendings ≡ map (pending_at 1) bag.tasks
 
-module _ (image : ImageValue) (s : State) (stands : Stands image s) (pendings : List Pending) (are : ArePendings s.stack pendings)
+module _ (image : ImageValue) (s : SerialState) (stands : Stands image s) (pendings : List Pending) (are : ArePendings s.stack pendings)
     (some : 0 < length pendings) (root : All (λ (p : Pending). p.depth ≡ 1) pendings) where
   held_at_one : (p : Pending) (ps : List Pending) → AllByRecursion (λ (q : Pending). q.depth ≡ 1) ps → Holds ps p → p.depth ≡ 1
   held_at_one p [] each held = absurd held
@@ -217,12 +217,12 @@ opened_memory image memory pendings sized =
     sym (append-nil memory) ∙ ap (λ k. memory ++ replicate k 0) (sym none)
 
 -- what a run of the saved image begins with
-pub record IsOpened (image : ImageValue) (one : List Entry) (memory output : List ℕ) (pendings : List Pending) (s : State) : Type 0 where
+pub record IsOpened (image : ImageValue) (one : List Entry) (memory output : List ℕ) (pendings : List Pending) (s : SerialState) : Type 0 where
   pub saved : AreSaved (length one) pendings
   pub follows : Follows (length one) output pendings s (opening (saved_image image memory pendings))
 
 pub saved_opens : (image : ImageValue) (budget : ℕ) (one : List Entry) (memory output : List ℕ) (pendings : List Pending) → IsImage image
-    → (left : Leaves image budget one memory output pendings) → 0 < length pendings → All (λ (p : Pending). p.depth ≡ 1) pendings
+    → (left : RunLeaves image budget one memory output pendings) → 0 < length pendings → All (λ (p : Pending). p.depth ≡ 1) pendings
     → IsOpened image one memory output pendings left.state
 saved_opens image budget one memory output pendings within left some root =
     let stands = run_stands image budget one left.state left.run in

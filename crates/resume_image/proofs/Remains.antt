@@ -10,7 +10,7 @@ use Rattle.spec_state.specs.declared.pending.Pending.{Pending}
 use Rattle.serial_machine.specs.BagValue.{BagValue}
 use Rattle.serial_machine.specs.State.{IsStack}
 use Rattle.run_law.proofs.Proved.{run_sized}
-use Rattle.spec_state.specs.Pendings.{Leaves, all_pending, pending_at}
+use Rattle.spec_state.specs.Pendings.{RunLeaves, all_pending, pending_at}
 use Rattle.resume_image.proofs.Standing.{run_stands}
 
 tasks_deep : (depth : ℕ) (ts : List PendingTask) (rest : List Pending) → 1 ≤ depth → AllByRecursion (λ (p : Pending). 1 ≤ p.depth) rest
@@ -23,7 +23,7 @@ stack_deep [] is = tt
 stack_deep (bag ∷ outer) is = tasks_deep bag.depth bag.tasks (all_pending outer) (omega (arith, is.0)) (stack_deep outer is.2)
 
 pub left_deep : (image : ImageValue) (budget : ℕ) (journal : List Entry) (memory output : List ℕ) (pendings : List Pending)
-    → Leaves image budget journal memory output pendings → All (λ (p : Pending). 1 ≤ p.depth) pendings
+    → RunLeaves image budget journal memory output pendings → All (λ (p : Pending). 1 ≤ p.depth) pendings
 left_deep image budget journal memory output pendings left =
     All-permutation (λ (p : Pending). 1 ≤ p.depth) (all_pending left.state.stack) pendings
     (IsPermutation-sym pendings (all_pending left.state.stack) left.pending.held)
@@ -31,6 +31,6 @@ left_deep image budget journal memory output pendings left =
     (stack_deep left.state.stack (run_stands image budget journal left.state left.run).stack))
 
 pub left_sized : (image : ImageValue) (budget : ℕ) (journal : List Entry) (memory output : List ℕ) (pendings : List Pending) → IsImage image
-    → Leaves image budget journal memory output pendings → length memory ≡ image.data_size
+    → RunLeaves image budget journal memory output pendings → length memory ≡ image.data_size
 left_sized image budget journal memory output pendings within left =
     ap length left.memory_is ∙ run_sized image budget journal left.state within left.run

@@ -12,16 +12,16 @@ use Rattle.task_desc.specs.declared.desc.Spawn.{Spawn}
 use Rattle.task_desc.specs.declared.desc.Place.{Place}
 use Rattle.task_desc.specs.declared.desc.Place.TheVariants.{Same, Sub, Super}
 use Rattle.pending_list.specs.declared.task.PendingTask.{PendingTask}
-use Rattle.pending_list.specs.Pending.{is_before}
+use Rattle.pending_list.specs.Pending.{name_before}
 use Rattle.serial_machine.specs.BagValue.{BagValue}
 use Rattle.serial_machine.specs.Run.{image_task}
-use Rattle.serial_machine.specs.Turn.{child, children, is_for, is_named, kind_outside, place_number, stack_after, without}
+use Rattle.serial_machine.specs.Turn.{child, children, is_for, is_named, kind_outside, place_number, stack_after, without_name}
 use Rattle.resume_image.proofs.Bags.{AreGood, good_after}
 use Rattle.resume_image.proofs.Settled.{IsSettled, Settle, SettlesIn, settled_ts}
 
 -- each task stands before those behind it
 abbrev pub AllBehind : PendingTask → List PendingTask → Type 0
-AllBehind t ts = AllByRecursion (λ (u : PendingTask). is_before t.name u.name ≡ true) ts
+AllBehind t ts = AllByRecursion (λ (u : PendingTask). name_before t.name u.name ≡ true) ts
 
 abbrev pub Rise : List PendingTask → Type 0
 Rise [] = Unit {0}
@@ -36,11 +36,11 @@ pub record AreOld (count : ℕ) (kind : Kind) (tasks : List PendingTask) : Type 
   pub each : AllByRecursion (IsOld count kind) tasks
 
 -- what holds of each task holds of those that stay
-kept : (P : PendingTask → Type 0) (name : Name) (tasks : List PendingTask) → AllByRecursion P tasks → AllByRecursion P (without name tasks)
+kept : (P : PendingTask → Type 0) (name : Name) (tasks : List PendingTask) → AllByRecursion P tasks → AllByRecursion P (without_name name tasks)
 kept P name [] each = tt
 kept P name (t ∷ ts) each = go (is_named name t) (kept P name ts each.1)
   where
-    go : (b : Bool) → AllByRecursion P (without name ts) → AllByRecursion P (if not b then t ∷ without name ts else without name ts)
+    go : (b : Bool) → AllByRecursion P (without_name name ts) → AllByRecursion P (if not b then t ∷ without_name name ts else without_name name ts)
     go true rest = rest
     go false rest = (each.0, rest)
 
@@ -52,13 +52,14 @@ weaker : (P Q : PendingTask → Type 0) (tasks : List PendingTask) → ((t : Pen
 weaker P Q [] by each = tt
 weaker P Q (t ∷ ts) by each = (by t each.0, weaker P Q ts by each.1)
 
-rise_without : (name : Name) (tasks : List PendingTask) → Rise tasks → Rise (without name tasks)
+rise_without : (name : Name) (tasks : List PendingTask) → Rise tasks → Rise (without_name name tasks)
 rise_without name [] rise = tt
 rise_without name (t ∷ ts) rise = go (is_named name t) (rise_without name ts rise.1)
   where
-    go : (b : Bool) → Rise (without name ts) → Rise (if not b then t ∷ without name ts else without name ts)
+    go : (b : Bool) → Rise (without_name name ts)
+        → Rise (if not b then t ∷ without_name name ts else without_name name ts)
     go true rest = rest
-    go false rest = (kept (λ (u : PendingTask). is_before t.name u.name ≡ true) name ts rise.0, rest)
+    go false rest = (kept (λ (u : PendingTask). name_before t.name u.name ≡ true) name ts rise.0, rest)
 
 -- what a turn made stands behind what turns before it made
 older : (count : ℕ) (kind : Kind) (t : PendingTask) (more : List PendingTask) → IsOld count kind t
@@ -73,7 +74,7 @@ rise_more : (count : ℕ) (kind : Kind) (tasks more : List PendingTask) → Rise
     → AllByRecursion (λ (u : PendingTask). u.name.creator ≡ count + 1) more → Rise (tasks ++ more)
 rise_more count kind [] more rise old also new = also
 rise_more count kind (t ∷ ts) more rise old also new = (
-  both (λ (u : PendingTask). is_before t.name u.name ≡ true) ts more rise.0 (older count kind t more old.0 new),
+  both (λ (u : PendingTask). name_before t.name u.name ≡ true) ts more rise.0 (older count kind t more old.0 new),
   rise_more count kind ts more rise.1 old.1 also new,
 )
 
@@ -177,7 +178,7 @@ module _ (place : Place) (kind own : Kind) (outer sub : Option Kind) (fits : (ts
             (weaker (IsOld count kind) (IsOld (count + 1) kind) tasks (λ t holds. (omega (arith, holds.0), holds.1)) old.each) made.each;
       }
 
-old_without : (count : ℕ) (kind : Kind) (name : Name) (tasks : List PendingTask) → AreOld count kind tasks → AreOld count kind (without name tasks)
+old_without : (count : ℕ) (kind : Kind) (name : Name) (tasks : List PendingTask) → AreOld count kind tasks → AreOld count kind (without_name name tasks)
 old_without count kind name tasks old = record { rise = rise_without name tasks old.rise; each = kept (IsOld count kind) name tasks old.each }
 
 old_later : (count : ℕ) (kind : Kind) (tasks : List PendingTask) → AreOld count kind tasks → AreOld (count + 1) kind tasks
@@ -192,7 +193,7 @@ pub old_after : (count : ℕ) (bag : BagValue) (outer : List BagValue) (name : N
     → AreGood (AreOld (count + 1)) (stack_after bag outer name (count + 1) ts spawns sub)
 old_after count bag outer name ts spawns sub each old =
     good_after (AreOld count) (AreOld (count + 1)) (old_later count) bag outer name (count + 1) ts spawns sub old
-    (old_more Same bag.kind bag.kind (kind_outside outer) sub (λ t settled. settled) count spawns (without name bag.tasks) each (old_without count bag.kind name bag.tasks old.0))
+    (old_more Same bag.kind bag.kind (kind_outside outer) sub (λ t settled. settled) count spawns (without_name name bag.tasks) each (old_without count bag.kind name bag.tasks old.0))
     (λ kind is. children_old Sub kind bag.kind (kind_outside outer) sub (by_kind sub kind is) count spawns each)
     (λ kind is tasks own. old_more Super kind bag.kind (kind_outside outer) sub (by_kind (kind_outside outer) kind is) count spawns tasks each own)
   where

@@ -2,17 +2,17 @@
 use Rattle.std.proofs.Common.{◌≡◌, refl, ap, ◌∙◌, ℕ, zero, suc, Bool, true, false, List, length, Option, Some, None, if◌then◌else◌, nat_lt}
 use Rattle.guest_image.specs.ImageValue.{ImageValue}
 use Rattle.guest_image.specs.declared.image.ImageTask.{ImageTask}
-use Rattle.guest_image.specs.Fetch.{fetched}
+use Rattle.guest_image.specs.Fetch.{fetched_word}
 use Rattle.rv_table.specs.declared.instr.Effect.{Effect}
 use Rattle.rv_table.specs.declared.instr.Effect.TheVariants as does
 use Rattle.rv_table.specs.declared.instr.Instr.{Instr}
-use Rattle.rv_table.specs.Table.{decoded}
+use Rattle.rv_table.specs.Table.{instr_of_word}
 use Rattle.rv_table.specs.Exec.{acts_on}
 use Rattle.rv_core.specs.declared.state.Core.{Core}
 use Rattle.rv_core.specs.Legs.{effect_next, instr_next, next_at, traps, word_next}
 use Rattle.task_desc.specs.declared.desc.Ctx.{Ctx}
-use Rattle.serial_machine.specs.TaskRun.{after_next, begun, followed, step, steps, task_run, Stepped, Continues, Ends, Traps, TaskEnd}
-use Rattle.task_step.specs.TaskState.{TaskState}
+use Rattle.serial_machine.specs.TaskRun.{after_next, task_at_start, task_end_after, after_instruction, after_instructions, task_run, Continuation, Continues, Ends, Traps, TaskEnd}
+use Rattle.task_request.specs.TaskState.{TaskState}
 
 -- the image with these initial data and these tasks
 abbrev pub other : ImageValue → List ℕ → List ImageTask → ImageValue
@@ -33,31 +33,34 @@ module _ (image : ImageValue) (memory : List ℕ) (tasks : List ImageTask) where
 
   same_word : (size : ℕ) (core : Core) (o : Option ℕ) → word_next (other image memory tasks) size core o ≡ word_next image size core o
   same_word size core None = refl
-  same_word size core (Some word) = same_instr size core (decoded word)
+  same_word size core (Some word) = same_instr size core (instr_of_word word)
 
   same_next : (size budget : ℕ) (core : Core) → next_at (other image memory tasks) size budget core ≡ next_at image size budget core
   unfolding next_at
   same_next size budget core = go (nat_lt core.used budget)
     where
       go : (b : Bool)
-          → (if b then word_next (other image memory tasks) size core (fetched image.text core.pc) else traps core 17)
-          ≡ (if b then word_next image size core (fetched image.text core.pc) else traps core 17)
-      go true = same_word size core (fetched image.text core.pc)
+          → (if b then word_next (other image memory tasks) size core
+          (fetched_word image.text core.pc) else traps core 17)
+          ≡ (if b then word_next image size core (fetched_word image.text core.pc) else traps core 17)
+      go true = same_word size core (fetched_word image.text core.pc)
       go false = refl
 
-  same_followed : (one two : TaskState → TaskEnd) (x : Stepped) → ((t : TaskState) → one t ≡ two t) → followed one x ≡ followed two x
+  same_followed : (one two : TaskState → TaskEnd) (x : Continuation) → ((t : TaskState) → one t ≡ two t) → task_end_after one x ≡ task_end_after two x
   same_followed one two (Continues t) same = same t
   same_followed one two (Ends t) same = refl
   same_followed one two (Traps cause pc) same = refl
 
   same_steps : (budget : ℕ) (ctx : Ctx) (left : ℕ) (task : TaskState)
-      → steps (other image memory tasks) budget ctx left task ≡ steps image budget ctx left task
+      → after_instructions (other image memory tasks) budget ctx left task
+      ≡ after_instructions image budget ctx left task
   same_steps budget ctx zero task = refl
   same_steps budget ctx (suc left) task =
-      ap (λ next. followed (steps (other image memory tasks) budget ctx left) (after_next ctx task next)) (same_next (length task.memory) budget task.core)
-      ∙ same_followed (steps (other image memory tasks) budget ctx left) (steps image budget ctx left) (step image budget ctx task) (same_steps budget ctx left)
+      ap (λ next. task_end_after (after_instructions (other image memory tasks) budget ctx left) (after_next ctx task next)) (same_next (length task.memory) budget task.core)
+      ∙ same_followed (after_instructions (other image memory tasks) budget ctx left) (after_instructions image budget ctx left) (after_instruction image budget ctx task) (same_steps budget ctx left)
 
   pub same_run : (budget : ℕ) (ctx : Ctx) (entry : ℕ) (args bytes : List ℕ)
       → task_run (other image memory tasks) budget ctx entry args bytes ≡ task_run image budget ctx entry args bytes
   unfolding task_run
-  same_run budget ctx entry args bytes = same_steps budget ctx budget (begun image.version entry ctx.ts args bytes)
+  same_run budget ctx entry args bytes =
+      same_steps budget ctx budget (task_at_start image.version entry ctx.ts args bytes)

@@ -8,18 +8,18 @@ use Rattle.task_desc.specs.declared.desc.Ctx.{Ctx}
 use Rattle.task_desc.specs.declared.desc.Spawn.{Spawn}
 use Rattle.task_desc.specs.declared.desc.Place.{Place}
 use Rattle.task_desc.specs.declared.desc.Place.TheVariants.{Same, Sub, Super}
-use Rattle.task_desc.specs.Calls.{most_children, allowed, allowed_at, allowed_sub, allowed_super, counted, domain_ts, is_early}
+use Rattle.task_desc.specs.Calls.{most_children, allowed_spawn, allowed_at, allowed_sub, allowed_super, one_more_child, domain_ts, is_early}
 use Rattle.pending_list.specs.declared.task.PendingTask.{PendingTask}
 use Rattle.serial_machine.specs.BagValue.{BagValue}
-use Rattle.serial_machine.specs.State.{State}
+use Rattle.serial_machine.specs.State.{SerialState}
 use Rattle.serial_machine.specs.TaskRun.{task_run, Done}
-use Rattle.serial_machine.specs.Turn.{context_of, kind_outside, run_of}
+use Rattle.serial_machine.specs.Turn.{context_in_bag, kind_outside, run_in_bag}
 use Rattle.serial_machine.proofs.Proved.{EndHolds, StepHolds, task_run-holds}
-use Rattle.task_step.specs.declared.request.Request.{Request}
-use Rattle.task_step.specs.declared.request.Request.TheVariants as request
-use Rattle.task_step.specs.Steps.{after_request}
-use Rattle.task_step.specs.TaskState.{TaskState, context}
-use Rattle.task_step.proofs.Proved.{AllowedBy, sub_allowed-room}
+use Rattle.task_request.specs.declared.request.Request.{Request}
+use Rattle.task_request.specs.declared.request.Request.TheVariants as request
+use Rattle.task_request.specs.Effects.{after_request}
+use Rattle.task_request.specs.TaskState.{TaskState, context}
+use Rattle.task_request.proofs.Proved.{AllowedBy, sub_allowed-room}
 
 -- a domain of this kind takes the timestamp for what it is
 abbrev pub IsSettled : Kind → ℕ → Type 0
@@ -54,7 +54,7 @@ settle_sub own outer sub kind (s ∷ ss) none each = (one s.place each.0, settle
     one Super here = here
 
 -- an enqueue that is allowed is settled
-allowed_settles : (ctx : Ctx) (spawn : Spawn) (ts : ℕ) → allowed ctx spawn ≡ Ok ts → SettlesIn ctx.own ctx.outer ctx.sub spawn.place ts
+allowed_settles : (ctx : Ctx) (spawn : Spawn) (ts : ℕ) → allowed_spawn ctx spawn ≡ Ok ts → SettlesIn ctx.own ctx.outer ctx.sub spawn.place ts
 allowed_settles ctx spawn ts allows = by_place spawn.place allows
   where
     by_count : (b : Bool) (kind : Kind) → if◌then◌else◌ {A = Result ℕ ℕ} b (Ok (domain_ts kind spawn.ts)) (Err 15) ≡ Ok ts → IsSettled kind ts
@@ -63,7 +63,7 @@ allowed_settles ctx spawn ts allows = by_place spawn.place allows
         subst (IsSettled kind) same (settled_ts kind spawn.ts)
     by_count false kind is = absurd (cc (is))
 
-    by_time : (b : Bool) (kind : Kind) → if◌then◌else◌ {A = Result ℕ ℕ} b (Err 10) (counted ctx (domain_ts kind spawn.ts)) ≡ Ok ts → IsSettled kind ts
+    by_time : (b : Bool) (kind : Kind) → if◌then◌else◌ {A = Result ℕ ℕ} b (Err 10) (one_more_child ctx (domain_ts kind spawn.ts)) ≡ Ok ts → IsSettled kind ts
     by_time true kind is = absurd (cc (is))
     by_time false kind is = by_count (nat_lt ctx.children (most_children ctx.version)) kind is
 
@@ -106,7 +106,7 @@ run_settles image budget ctx entry args memory =
     task_run-holds (AreSettled ctx) image budget ctx (λ task core each. each) (request_settles ctx) entry args memory tt
 
 -- so it holds of the children of a task that is done
-pub done_settles : (image : ImageValue) (budget : ℕ) (s : State) (bag : BagValue) (outer : List BagValue) (task : PendingTask) (done : TaskState)
-    → run_of image budget s bag outer task ≡ Done done → Settle bag.kind (kind_outside outer) done.sub done.spawns
-done_settles image budget s bag outer task done ran = subst (EndHolds (AreSettled (context_of image.version bag outer task))) ran
-    (run_settles image budget (context_of image.version bag outer task) task.entry task.args s.memory)
+pub done_settles : (image : ImageValue) (budget : ℕ) (s : SerialState) (bag : BagValue) (outer : List BagValue) (task : PendingTask) (done : TaskState)
+    → run_in_bag image budget s bag outer task ≡ Done done → Settle bag.kind (kind_outside outer) done.sub done.spawns
+done_settles image budget s bag outer task done ran = subst (EndHolds (AreSettled (context_in_bag image.version bag outer task))) ran
+    (run_settles image budget (context_in_bag image.version bag outer task) task.entry task.args s.memory)

@@ -11,13 +11,13 @@ use Rattle.task_desc.specs.declared.desc.Place.TheVariants.{Same, Sub, Super}
 use Rattle.pending_list.specs.declared.task.PendingTask.{PendingTask}
 use Rattle.spec_state.specs.declared.pending.Pending.{Pending}
 use Rattle.serial_machine.specs.BagValue.{BagValue}
-use Rattle.serial_machine.specs.Turn.{child, children, context_of, find_named, inner, is_least, is_named, kind_outside, stack_after, sub_bags, with_super, without}
-use Rattle.resume_image.specs.Joined.{shifted}
+use Rattle.serial_machine.specs.Turn.{child, children, context_in_bag, find_named, inner, is_least, is_named, kind_outside, stack_after, sub_bags, with_super, without_name}
+use Rattle.resume_image.specs.Joined.{shifted_name}
 use Rattle.resume_image.proofs.Names.{AreSaved, IsKnown, Know, same_name}
 
 module _ (turns : ℕ) (pendings : List Pending) where
   abbrev pub shifted_task : PendingTask → PendingTask
-  shifted_task t = record t { name = shifted turns pendings t.name }
+  shifted_task t = record t { name = shifted_name turns pendings t.name }
 
   -- the first bag is the second one with its tasks' names shifted, whoever made its domain
   abbrev pub IsShifted : BagValue → BagValue → Type 0
@@ -35,30 +35,32 @@ module _ (turns : ℕ) (pendings : List Pending) where
 
   module _ (saved : AreSaved turns pendings) where
     pub find_shifted : (name : Name) (tasks : List PendingTask) → IsKnown pendings name → Know pendings tasks
-        → find_named (shifted turns pendings name) (map shifted_task tasks) ≡ option_map shifted_task (find_named name tasks)
+        → find_named (shifted_name turns pendings name) (map shifted_task tasks) ≡ option_map shifted_task (find_named name tasks)
     find_shifted name [] known each = refl
     find_shifted name (t ∷ ts) known each =
-        ap (λ b. if b then Some (shifted_task t) else find_named (shifted turns pendings name) (map shifted_task ts))
+        ap (λ b. if b then Some (shifted_task t) else find_named (shifted_name turns pendings name)
+        (map shifted_task ts))
         (same_name turns pendings saved name t.name known each.0)
         ∙ go (is_named name t) (find_shifted name ts known each.1)
       where
-        go : (b : Bool) → find_named (shifted turns pendings name) (map shifted_task ts) ≡ option_map shifted_task (find_named name ts)
-            → (if b then Some (shifted_task t) else find_named (shifted turns pendings name) (map shifted_task ts))
+        go : (b : Bool) → find_named (shifted_name turns pendings name) (map shifted_task ts) ≡ option_map shifted_task (find_named name ts)
+            → (if b then Some (shifted_task t) else find_named (shifted_name turns pendings name) (map shifted_task ts))
             ≡ option_map shifted_task (if b then Some t else find_named name ts)
         go true rest = refl
         go false rest = rest
 
     pub without_shifted : (name : Name) (tasks : List PendingTask) → IsKnown pendings name → Know pendings tasks
-        → without (shifted turns pendings name) (map shifted_task tasks) ≡ map shifted_task (without name tasks)
+        → without_name (shifted_name turns pendings name) (map shifted_task tasks)
+        ≡ map shifted_task (without_name name tasks)
     without_shifted name [] known each = refl
     without_shifted name (t ∷ ts) known each =
-        ap (λ b. if not b then shifted_task t ∷ without (shifted turns pendings name) (map shifted_task ts) else without (shifted turns pendings name) (map shifted_task ts))
+        ap (λ b. if not b then shifted_task t ∷ without_name (shifted_name turns pendings name) (map shifted_task ts) else without_name (shifted_name turns pendings name) (map shifted_task ts))
         (same_name turns pendings saved name t.name known each.0)
         ∙ go (is_named name t) (without_shifted name ts known each.1)
       where
-        go : (b : Bool) → without (shifted turns pendings name) (map shifted_task ts) ≡ map shifted_task (without name ts)
-            → (if not b then shifted_task t ∷ without (shifted turns pendings name) (map shifted_task ts) else without (shifted turns pendings name) (map shifted_task ts))
-            ≡ map shifted_task (if not b then t ∷ without name ts else without name ts)
+        go : (b : Bool) → without_name (shifted_name turns pendings name) (map shifted_task ts) ≡ map shifted_task (without_name name ts)
+            → (if not b then shifted_task t ∷ without_name (shifted_name turns pendings name) (map shifted_task ts) else without_name (shifted_name turns pendings name) (map shifted_task ts))
+            ≡ map shifted_task (if not b then t ∷ without_name name ts else without_name name ts)
         go true rest = rest
         go false rest = ap (λ r. shifted_task t ∷ r) rest
 
@@ -133,26 +135,32 @@ module _ (turns : ℕ) (pendings : List Pending) where
     -- the stack after a turn
     pub after_shifted : (a b : BagValue) (xs ys : List BagValue) (name : Name) (n ts : ℕ) (spawns : List Spawn) (sub : Option Kind)
         → n ≢ 0 → IsKnown pendings name → Know pendings b.tasks → IsShifted a b → AreShifted xs ys
-        → AreShifted (stack_after a xs (shifted turns pendings name) (turns + n) ts spawns sub) (stack_after b ys name n ts spawns sub)
+        → AreShifted (stack_after a xs (shifted_name turns pendings name) (turns + n) ts spawns sub) (stack_after b ys name n ts spawns sub)
     unfolding stack_after
     after_shifted a b xs ys name n ts spawns sub some known each same rest =
-        let here : without (shifted turns pendings name) a.tasks ≡ map shifted_task (without name b.tasks) =
-        ap (λ (x : BagValue). without (shifted turns pendings name) x.tasks) same ∙ without_shifted saved name b.tasks known each in
-        let stay : without (shifted turns pendings name) a.tasks ++ children Same (turns + n) spawns ≡ map shifted_task (without name b.tasks ++ children Same n spawns) =
-        more_shifted _ (without name b.tasks) _ (children Same n spawns) here (children_shifted Same n spawns some) in
+        let here : without_name (shifted_name turns pendings name) a.tasks
+        ≡ map shifted_task (without_name name b.tasks) =
+        ap (λ (x : BagValue). without_name (shifted_name turns pendings name) x.tasks) same ∙ without_shifted saved name b.tasks known each in
+        let stay : without_name (shifted_name turns pendings name) a.tasks ++ children Same (turns + n) spawns ≡ map shifted_task (without_name name b.tasks ++ children Same n spawns) =
+        more_shifted _ (without_name name b.tasks) _ (children Same n spawns) here
+        (children_shifted Same n spawns some) in
         let deep : a.depth ≡ b.depth = ap (λ (x : BagValue). x.depth) same in
         subst
         (λ d. AreShifted
         (sub_bags (d + 1) ts (turns + n) (children Sub (turns + n) spawns) sub
-        ++ record a { tasks = without (shifted turns pendings name) a.tasks ++ children Same (turns + n) spawns }
+        ++ record a {
+          tasks =
+              without_name (shifted_name turns pendings name) a.tasks ++ children Same (turns + n) spawns;
+        }
         ∷ with_super (children Super (turns + n) spawns) xs)
         (stack_after b ys name n ts spawns sub))
         (sym deep)
         (sub_shifted (b.depth + 1) ts (turns + n) n (children Sub (turns + n) spawns) (children Sub n spawns) sub
-        (record a { tasks = without (shifted turns pendings name) a.tasks ++ children Same (turns + n) spawns } ∷ with_super (children Super (turns + n) spawns) xs)
-        (record b { tasks = without name b.tasks ++ children Same n spawns } ∷ with_super (children Super n spawns) ys)
+        (record a { tasks = without_name (shifted_name turns pendings name) a.tasks ++ children Same (turns + n) spawns } ∷ with_super (children Super (turns + n) spawns) xs)
+        (record b { tasks = without_name name b.tasks ++ children Same n spawns } ∷ with_super
+        (children Super n spawns) ys)
         (children_shifted Sub n spawns some) (
-          ap (λ (x : BagValue). shifted_bag a.owner (without (shifted turns pendings name) a.tasks ++ children Same (turns + n) spawns) x) same
+          ap (λ (x : BagValue). shifted_bag a.owner (without_name (shifted_name turns pendings name) a.tasks ++ children Same (turns + n) spawns) x) same
               ∙ ap (λ ts. shifted_bag a.owner ts b) stay,
           super_shifted (children Super (turns + n) spawns) (children Super n spawns) xs ys (children_shifted Super n spawns some) rest,
         ))
@@ -164,7 +172,7 @@ module _ (turns : ℕ) (pendings : List Pending) where
   kinds_shifted (a ∷ xs) (b ∷ ys) same = ap (λ (x : BagValue). Some x.kind) same.0
 
   pub context_shifted : (version : ℕ) (a b : BagValue) (xs ys : List BagValue) (t : PendingTask) → IsShifted a b → AreShifted xs ys
-      → context_of version a xs (shifted_task t) ≡ context_of version b ys t
+      → context_in_bag version a xs (shifted_task t) ≡ context_in_bag version b ys t
   context_shifted version a b xs ys t same rest =
-      ap (λ (x : BagValue). context_of version x xs (shifted_task t)) same
-      ∙ ap (λ o. record (context_of version b ys t) { outer = o }) (kinds_shifted xs ys rest)
+      ap (λ (x : BagValue). context_in_bag version x xs (shifted_task t)) same
+      ∙ ap (λ o. record (context_in_bag version b ys t) { outer = o }) (kinds_shifted xs ys rest)

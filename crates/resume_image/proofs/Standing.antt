@@ -11,8 +11,8 @@ use Rattle.run_journal.specs.declared.journal.Entry.{Entry}
 use Rattle.serial_machine.specs.BagValue.{BagValue}
 use Rattle.serial_machine.specs.Legs.{SubFits}
 use Rattle.serial_machine.specs.Run.{IsRun, Runs, opening}
-use Rattle.serial_machine.specs.State.{IsStack, State}
-use Rattle.serial_machine.specs.Turn.{children, context_of, inner, stack_after, sub_bags, with_super, without}
+use Rattle.serial_machine.specs.State.{IsStack, SerialState}
+use Rattle.serial_machine.specs.Turn.{children, context_in_bag, inner, stack_after, sub_bags, with_super, without_name}
 use Rattle.serial_machine.proofs.Proved.{EndHolds, IsStack-after, IsStack-inner, task_run-sub_fits}
 use Rattle.run_law.proofs.Proved.{turn-did, Turned}
 use Rattle.resume_image.proofs.Bags.{AreGood, good_inner}
@@ -56,10 +56,10 @@ rooted_after : (kind : Kind) (bag : BagValue) (outer : List BagValue) (name : Na
     → IsRooted kind (bag ∷ outer) → IsRooted kind (stack_after bag outer name n ts spawns sub)
 unfolding stack_after
 rooted_after kind bag outer name n ts spawns sub root =
-    rooted_sub kind (bag.depth + 1) ts n (children Sub n spawns) sub (record bag { tasks = without name bag.tasks ++ children Same n spawns })
-    (with_super (children Super n spawns) outer) (rooted_super kind bag (without name bag.tasks ++ children Same n spawns) (children Super n spawns) outer root)
+    rooted_sub kind (bag.depth + 1) ts n (children Sub n spawns) sub (record bag { tasks = without_name name bag.tasks ++ children Same n spawns })
+    (with_super (children Super n spawns) outer) (rooted_super kind bag (without_name name bag.tasks ++ children Same n spawns) (children Super n spawns) outer root)
 
-pub record Stands (image : ImageValue) (s : State) : Type 0 where
+pub record Stands (image : ImageValue) (s : SerialState) : Type 0 where
   pub stack : IsStack s.stack
   pub root : IsRooted image.kind s.stack
   pub old : AreGood (AreOld s.count) s.stack
@@ -78,14 +78,14 @@ opening_stands image =
     join [] one two = tt
     join (t ∷ ts) one two = ((omega (arith, one.0.0), two.0), join ts one.1 two.1)
 
-pub turn_stands : (image : ImageValue) (budget : ℕ) (s after : State) (name : Name) (e : Entry) → Turned image budget s after name e → Stands image s → Stands image after
+pub turn_stands : (image : ImageValue) (budget : ℕ) (s after : SerialState) (name : Name) (e : Entry) → Turned image budget s after name e → Stands image s → Stands image after
 turn_stands image budget s after name e did stands =
     let deep : IsStack (did.bag ∷ did.outer) = subst IsStack did.may.top (IsStack-inner s.stack stands.stack) in
     let root : IsRooted image.kind (did.bag ∷ did.outer) = subst (IsRooted image.kind) did.may.top (rooted_inner image.kind s.stack stands.root) in
     let old : AreGood (AreOld s.count) (did.bag ∷ did.outer) = subst (AreGood (AreOld s.count)) did.may.top (good_inner (AreOld s.count) s.stack stands.old) in
     let fits : SubFits did.bag.depth did.done.sub =
     subst (EndHolds (λ task. SubFits did.bag.depth task.sub)) did.run
-    (task_run-sub_fits image budget (context_of image.version did.bag did.outer did.task) did.task.entry did.task.args s.memory) in
+    (task_run-sub_fits image budget (context_in_bag image.version did.bag did.outer did.task) did.task.entry did.task.args s.memory) in
     subst (Stands image) (sym did.state) (record {
       stack = IsStack-after did.bag did.outer name (s.count + 1) did.task.ts did.done.spawns did.done.sub deep fits;
       root = rooted_after image.kind did.bag did.outer name (s.count + 1) did.task.ts did.done.spawns did.done.sub root;
@@ -94,10 +94,10 @@ turn_stands image budget s after name e did stands =
           (done_settles image budget s did.bag did.outer did.task did.done did.run) old;
     })
 
-runs_stand : (image : ImageValue) (budget : ℕ) (s : State) (es : List Entry) (last : State) → Runs image budget s es last → Stands image s → Stands image last
+runs_stand : (image : ImageValue) (budget : ℕ) (s : SerialState) (es : List Entry) (last : SerialState) → Runs image budget s es last → Stands image s → Stands image last
 runs_stand image budget s [] last done stands = subst (Stands image) done stands
 runs_stand image budget s (e ∷ es) last (mid, turned, rest) stands =
     runs_stand image budget mid es last rest (turn_stands image budget s mid e.name e (turn-did image budget s mid e.name e turned) stands)
 
-pub run_stands : (image : ImageValue) (budget : ℕ) (es : List Entry) (last : State) → IsRun image budget es last → Stands image last
+pub run_stands : (image : ImageValue) (budget : ℕ) (es : List Entry) (last : SerialState) → IsRun image budget es last → Stands image last
 run_stands image budget es last run = runs_stand image budget (opening image) es last run (opening_stands image)

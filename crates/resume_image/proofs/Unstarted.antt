@@ -7,7 +7,7 @@ use Rattle.guest_image.specs.declared.image.ImageTask.{ImageTask}
 use Rattle.guest_image.specs.declared.image.Kind.TheVariants.{Ordered}
 use Rattle.spec_state.specs.declared.pending.Pending.{Pending}
 use Rattle.serial_machine.specs.Run.{image_task, opening, opening_memory}
-use Rattle.spec_state.specs.Pendings.{Leaves, all_pending, pending_at}
+use Rattle.spec_state.specs.Pendings.{RunLeaves, all_pending, pending_at}
 
 -- the one task, which pends
 abbrev pub only : ImageTask → Pending
@@ -24,7 +24,7 @@ no_data image initial size =
     ap (λ k. replicate k 0) (sym none) ∙ ap (λ bytes. bytes ++ replicate (image.data_size - length image.initial) 0) (sym initial)
 
 pub unstarted : (image : ImageValue) (budget : ℕ) (task : ImageTask) → image.kind ≡ Ordered → image.initial ≡ [] → image.data_size ≡ 0
-    → image.tasks ≡ task ∷ [] → Leaves image budget [] [] [] (only task ∷ [])
+    → image.tasks ≡ task ∷ [] → RunLeaves image budget [] [] [] (only task ∷ [])
 unstarted image budget task kind initial size tasks = record {
   state = opening image;
   run = refl;

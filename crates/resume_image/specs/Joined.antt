@@ -5,32 +5,33 @@ use Rattle.task_desc.specs.declared.desc.Name.{Name}
 use Rattle.run_journal.specs.declared.journal.Entry.{Entry}
 use Rattle.spec_state.specs.declared.pending.Pending.{Pending}
 use Rattle.serial_machine.specs.Run.{IsRun}
-use Rattle.serial_machine.specs.State.{State}
+use Rattle.serial_machine.specs.State.{SerialState}
 use Rattle.serial_machine.specs.Turn.{is_pending}
 
 -- the name in the first run's image of a task of a run that went on after so many turns: a task of the saved image is
--- the pending task at its place, and a child's creator took its turn so many turns later
-abbrev pub shifted : ℕ → List Pending → Name → Name
-shifted turns pendings name =
+-- the pending task at its place, and a child's creator took its turn so many turns later; a place past them, which no
+-- run names, keeps its name
+abbrev pub shifted_name : ℕ → List Pending → Name → Name
+shifted_name turns pendings name =
     if name.creator == 0
     then slice_index_or (map (λ p. p.name) pendings) name.index name
     else record { creator = turns + name.creator; index = name.index }
 
 -- an entry of the run that went on, under that name
 abbrev pub shifted_entry : ℕ → List Pending → Entry → Entry
-shifted_entry turns pendings e = record e { name = shifted turns pendings e.name }
+shifted_entry turns pendings e = record e { name = shifted_name turns pendings e.name }
 
 -- the first journal, and behind it the second with its names shifted
-abbrev pub joined : List Entry → List Pending → List Entry → List Entry
-joined one pendings two = one ++ map (shifted_entry (length one) pendings) two
+abbrev pub joined_journal : List Entry → List Pending → List Entry → List Entry
+joined_journal one pendings two = one ++ map (shifted_entry (length one) pendings) two
 
 -- the two runs are one run of the image: its output is that of both, its memory that of the second, and what pends
 -- after it are the tasks that pend after the second, under their shifted names
 pub record IsJoinedRun (image : ImageValue) (budget : ℕ) (one two : List Entry) (output : List ℕ)
-    (pendings : List Pending) (second : State) : Type 0 where
-  pub state : State
-  pub run : IsRun image budget (joined one pendings two) state
+    (pendings : List Pending) (second : SerialState) : Type 0 where
+  pub state : SerialState
+  pub run : IsRun image budget (joined_journal one pendings two) state
   pub memory_is : state.memory ≡ second.memory
   pub output_is : state.output ≡ output ++ second.output
   pub pending : (name : Name) → is_pending name state.stack ≡ true
-      ↔ ((own : Name) × (is_pending own second.stack ≡ true) × (name ≡ shifted (length one) pendings own))
+      ↔ ((own : Name) × (is_pending own second.stack ≡ true) × (name ≡ shifted_name (length one) pendings own))

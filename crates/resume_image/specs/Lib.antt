@@ -1,3 +1,4 @@
+-- Contracts mean all of these.
 pub mod Pendings
 pub mod Saved
 pub mod Joined

@@ -5,12 +5,12 @@ ghost use Rattle.guest_image.specs.ImageValue.{ImageValue, IsImage};
 ghost use Rattle.run_journal.specs.declared.journal.Entry.{Entry};
 ghost use Rattle.spec_state.specs.declared.pending.Pending.{Pending};
 ghost use Rattle.serial_machine.specs.Run.{IsRun};
-ghost use Rattle.serial_machine.specs.State.{State};
-ghost use Rattle.spec_state.specs.Pendings.{Leaves};
+ghost use Rattle.serial_machine.specs.State.{SerialState};
+ghost use Rattle.spec_state.specs.Pendings.{RunLeaves};
 ghost use Rattle.conflict_book.specs.Frozen.{IsFrozenOf};
 ghost use Rattle.resume_image.specs.Pendings.{AreOfRoot};
 ghost use Rattle.resume_image.specs.Saved.{IsSavedOf, saved_image};
-ghost use Rattle.resume_image.specs.Joined.{IsJoinedRun, joined, shifted, shifted_entry};
+ghost use Rattle.resume_image.specs.Joined.{IsJoinedRun, joined_journal, shifted_name, shifted_entry};
 
 use conflict_book::Frozen;
 use guest_image::Image;
@@ -24,14 +24,14 @@ use task_desc::Name;
 /// of the first are one run.
 pub fn runs_join()
     ensures { (image : ImageValue) → IsImage image → (budget : ℕ) → (one two : List Entry) → (memory output : List ℕ)
-        → (pendings : List Pending) → Leaves image budget one memory output pendings → 0 < length pendings
-        → AreOfRoot pendings → (second : State) → IsRun (saved_image image memory pendings) budget two second
+        → (pendings : List Pending) → RunLeaves image budget one memory output pendings → 0 < length pendings
+        → AreOfRoot pendings → (second : SerialState) → IsRun (saved_image image memory pendings) budget two second
         → IsJoinedRun image budget one two output pendings second }
 {}
 
 /// Law: whoever takes a turn of a run was made by the image or by a turn of that run.
 fn creators_are_turns()
-    ensures { (image : ImageValue) → (budget : ℕ) → (journal : List Entry) → (state : State)
+    ensures { (image : ImageValue) → (budget : ℕ) → (journal : List Entry) → (state : SerialState)
         → IsRun image budget journal state → All (λ e. e.name.creator ≤ length journal) journal }
 {}
 
@@ -39,7 +39,7 @@ fn creators_are_turns()
 fn joined_is_run(image: &Image, budget: u32, frozen: &Frozen, saved: &Image, two: &Journal)
     requires frozen { IsFrozenOf image.now budget frozen.now }
     requires saved { IsSavedOf image.now frozen.now saved.now }
-    ensures { (second : State) → IsRun saved.now budget two.now second
+    ensures { (second : SerialState) → IsRun saved.now budget two.now second
         → IsJoinedRun image.now budget frozen.now.closed.journal two.now frozen.now.closed.output frozen.now.pending
         second }
 {
@@ -49,7 +49,7 @@ fn joined_is_run(image: &Image, budget: u32, frozen: &Frozen, saved: &Image, two
 /// The name in the first run of a task of the run that went on, where the first took so many turns.
 fn shift(turns: u32, pending: &[Pending], name: Name) -> Name
     requires { turns + name.creator < 2 ^ 32 }
-    ensures { result ≡ shifted turns pending.now name }
+    ensures { result ≡ shifted_name turns pending.now name }
 {
     if name.creator == 0 {
         match pending.get(name.index as usize) {
@@ -77,7 +77,8 @@ fn shift_entry(turns: u32, pending: &[Pending], entry: &Entry) -> Entry
 }
 
 /// The journal of a stopped run of `image`, and behind it that of a run of its saved image with the same budget, each
-/// task under the name that it has in the one run that both are. Each journal has at most 1,000,000 entries.
+/// task under the name that it has in the one run that both are. Each journal has at most 1,000,000 entries,
+/// since a creator's number grows by the first; `snapshot` asks nothing of that.
 ///
 /// `AllocError` where memory runs out.
 pub fn join_runs(
@@ -90,11 +91,12 @@ pub fn join_runs(
 ) -> Result<Journal, AllocError>
     requires frozen { IsFrozenOf image.now budget frozen.now }
     requires saved { IsSavedOf image.now frozen.now saved.now }
-    requires run { (second : State) × IsRun saved.now budget two.now second }
+    requires run { (second : SerialState) × IsRun saved.now budget two.now second }
     requires first_fits { length frozen.now.closed.journal ≤ MAX_COMMITS }
     requires second_fits { length two.now ≤ MAX_COMMITS }
-    ensures journal { IfOk result (λ journal. journal ≡ joined frozen.now.closed.journal frozen.now.pending two.now) }
-    ensures run { (second : State) → IsRun saved.now budget two.now second
+    ensures journal { IfOk result
+        (λ journal. journal ≡ joined_journal frozen.now.closed.journal frozen.now.pending two.now) }
+    ensures run { (second : SerialState) → IsRun saved.now budget two.now second
         → IsJoinedRun image.now budget frozen.now.closed.journal two.now frozen.now.closed.output frozen.now.pending
         second }
 {

@@ -2,6 +2,7 @@
 
 ghost use Rattle.std.specs.Prelude.{◌≡◌, ◌<◌, ◌≤◌, ◌↔◌, ◌-◌, ◌^◌, ℕ, All};
 ghost use Rattle.std.specs.Prelude.{Any, length, map, min, IfOk, IfErr, IsOk, OnOk};
+ghost use Rattle.guest_image.specs.declared.limits.TheConstants.{MAX_TASKS};
 ghost use Rattle.guest_image.specs.ImageValue.{IsImage, IsVersion, image_value, in_version};
 ghost use Rattle.guest_image.specs.Limits.{AreInLimits};
 ghost use Rattle.conflict_book.specs.Frozen.{IsFrozenOf};
@@ -10,12 +11,9 @@ ghost use Rattle.resume_image.specs.Saved.{CannotSave, IsSavedOf, saved_task};
 
 use crate::fault::SaveFault;
 use conflict_book::Frozen;
-use guest_image::{Image, ImageTask, Kind};
+use guest_image::{Image, ImageTask, Kind, MAX_TASKS};
 use spec_state::Pending;
 use std::alloc::{AllocError, Global};
-
-/// How many tasks an image has at most.
-const MAX_TASKS: usize = 65_536;
 
 /// Law: a stopped run's memory is as long as the image's data, and no depth is 0.
 fn frozen_fits(image: &Image, frozen: &Frozen)
@@ -29,7 +27,7 @@ fn frozen_fits(image: &Image, frozen: &Frozen)
 }
 
 /// A number as a fault tells it.
-fn told(number: usize) -> u32
+fn fault_count(number: usize) -> u32
     ensures { result ≡ min number (2 ^ 32 - 1) }
 {
     u32::try_from(number).unwrap_or(u32::MAX)
@@ -60,9 +58,9 @@ fn check(pending: &[Pending]) -> Result<(), SaveFault>
     if depth > 1 {
         return Err(SaveFault::Nested { depth });
     }
-    if pending.len() > MAX_TASKS {
+    if pending.len() > MAX_TASKS as usize {
         return Err(SaveFault::TooMany {
-            count: told(pending.len()),
+            count: fault_count(pending.len()),
         });
     }
     Ok(())

@@ -1,3 +1,5 @@
+//! What a closed book leaves: here, so that whoever writes reports needs no book.
+
 use crate::journal::{Bytes, Journal};
 
 /// What a book of events leaves once it is closed and its uncommitted tasks are taken back.

@@ -60,7 +60,7 @@ impl<T: Drop> Items<T> {
         requires { length self.old < room.old }
         ensures { self.new ≡ self.old ++ item ∷ [] }
     {
-        room.make_room_in(&mut self.items, 1);
+        room.lend_spare(&mut self.items, 1);
         match self.items.push(item) {
             Ok(()) => {}
             Err(_) => unreachable!(),
@@ -81,7 +81,7 @@ impl<T: Copy + Drop> Items<T> {
         requires { length self.old + length more.now ≤ room.old }
         ensures { self.new ≡ self.old ++ more.now }
     {
-        room.make_room_in(&mut self.items, more.len());
+        room.lend_spare(&mut self.items, more.len());
         match self.items.extend_from_slice(more) {
             Ok(()) => {}
             Err(_) => unreachable!(),

@@ -7,12 +7,12 @@ use Rattle.guest_image.specs.ImageValue.{ImageValue}
 use Rattle.task_desc.specs.declared.desc.Name.{Name}
 use Rattle.task_desc.specs.declared.desc.Spawn.{Spawn}
 use Rattle.run_journal.specs.declared.journal.Entry.{Entry}
-use Rattle.serial_machine.specs.State.{State}
+use Rattle.serial_machine.specs.State.{SerialState}
 use Rattle.serial_machine.specs.Names.{one, times, times_in}
 use Rattle.serial_machine.specs.Turn.{child}
 use Rattle.serial_machine.specs.Run.{Runs, IsRun, opening, image_task}
 use Rattle.serial_machine.proofs.Proved.{AreNamed-opening, kids, times_in-inner, turn-done}
-use Rattle.run_law.specs.Laws.{is_same, turns_of, IsOfImage, IsChild, IsMade, IsComplete}
+use Rattle.run_law.specs.Laws.{is_same, turns_of, NameIsOfImage, IsChild, NameIsMade, IsCompleteRun}
 use Rattle.run_law.proofs.Turned.{Turned, turn-did}
 use Rattle.run_law.proofs.RunSteps.{Runs-more, turn-taken}
 use Rattle.run_law.proofs.Distinct.{turn-at-most, distinct}
@@ -48,7 +48,7 @@ from-turn false a k m c P le h later make = go (later (omega (arith, h))) where
   go (inl pending) = one-of a k P (omega (arith, le, pending)) make
   go (inr made) = inr made
 
-made-before : (x : Name) (image : ImageValue) (budget : ℕ) (front : List Entry) (s : State) → IsRun image budget front s → (es : List Entry) (after : State) → Runs image budget s es after
+made-before : (x : Name) (image : ImageValue) (budget : ℕ) (front : List Entry) (s : SerialState) → IsRun image budget front s → (es : List Entry) (after : SerialState) → Runs image budget s es after
     → 1 ≤ turns_of x es → (1 ≤ times_in x s.stack) ⊎ IsChild image budget (front ++ es) x
 made-before x image budget front s run [] after on h = absurd (omega (arith, h))
 made-before x image budget front s run (e ∷ es) after (mid, t, rest) h =
@@ -64,7 +64,7 @@ made-before x image budget front s run (e ∷ es) after (mid, t, rest) h =
       before = front;
       state = s;
       entry = e;
-      stands = record { rest = es; stands = refl; run = run };
+      stands = record { entries_behind = es; stands = refl; run = run };
       bag = d.bag;
       outer = d.outer;
       task = d.task;
@@ -76,19 +76,19 @@ made-before x image budget front s run (e ∷ es) after (mid, t, rest) h =
     } in
     from-turn (is_same e.name x) (times_in x s.stack) _ (times_in x mid.stack) (turns_of x es) _ step h later make
 
-only-made : (image : ImageValue) (budget : ℕ) (journal : List Entry) (state : State) → IsRun image budget journal state → (x : Name) → 1 ≤ turns_of x journal → IsMade image budget journal x
+only-made : (image : ImageValue) (budget : ℕ) (journal : List Entry) (state : SerialState) → IsRun image budget journal state → (x : Name) → 1 ≤ turns_of x journal → NameIsMade image budget journal x
 only-made image budget journal state run x h = go (made-before x image budget [] (opening image) refl journal state run h) where
-  go : (1 ≤ times_in x (opening image).stack) ⊎ IsChild image budget journal x → IsMade image budget journal x
+  go : (1 ≤ times_in x (opening image).stack) ⊎ IsChild image budget journal x → NameIsMade image budget journal x
   go (inl first) = inl (one-parts 0 x.creator x.index (length image.tasks) (omega (arith, first, times-image x image)))
   go (inr made) = inr made
 
 -- what was made takes a turn or is pending
-image-taken : (image : ImageValue) (budget : ℕ) (journal : List Entry) (state : State) → IsRun image budget journal state → (x : Name) → IsOfImage image x → 1 ≤ turns_of x journal + times_in x state.stack
+image-taken : (image : ImageValue) (budget : ℕ) (journal : List Entry) (state : SerialState) → IsRun image budget journal state → (x : Name) → NameIsOfImage image x → 1 ≤ turns_of x journal + times_in x state.stack
 image-taken image budget journal state run x of =
     let kept = times_in-runs x image budget (opening image) journal state (AreNamed-opening image.kind image.tasks _ refl) run in
     omega (arith, kept, times-image x image, one-whole 0 x.creator x.index (length image.tasks) of.0 of.1)
 
-child-taken : (image : ImageValue) (budget : ℕ) (journal : List Entry) (state : State) → IsRun image budget journal state → (x : Name) → IsChild image budget journal x → 1 ≤ turns_of x journal + times_in x state.stack
+child-taken : (image : ImageValue) (budget : ℕ) (journal : List Entry) (state : SerialState) → IsRun image budget journal state → (x : Name) → IsChild image budget journal x → 1 ≤ turns_of x journal + times_in x state.stack
 child-taken image budget journal state run x made =
     let taken = turn-taken image budget journal state made.before made.state made.entry run made.stands in
     let same = same_Some _ _ (sym taken.taken ∙ turn-done image budget made.state made.entry.name made.bag made.outer made.task made.done made.may made.ran) in
@@ -99,15 +99,16 @@ child-taken image budget journal state run x made =
     let count = count-run image budget made.before made.state made.stands.run in
     let number : x.creator ≡ made.state.count + 1 = omega (arith, made.creator, count) in
     let kid = one-whole (made.state.count + 1) x.creator x.index (length made.done.spawns) number made.index in
-    let kept = times_in-runs x image budget taken.after made.stands.rest state (AreNamed-turn image budget made.state taken.after made.entry named d) taken.on in
-    let whole = ap (turns_of x) made.stands.stands ∙ turns_of-append x made.before (made.entry ∷ made.stands.rest) in
+    let kept = times_in-runs x image budget taken.after made.stands.entries_behind state (AreNamed-turn image budget made.state taken.after made.entry named d) taken.on in
+    let whole = ap (turns_of x) made.stands.stands
+    ∙ turns_of-append x made.before (made.entry ∷ made.stands.entries_behind) in
     omega (arith, step, kid, kept, whole, times-kids x (made.state.count + 1) made.done.spawns)
 
-made-taken : (image : ImageValue) (budget : ℕ) (journal : List Entry) (state : State) → IsRun image budget journal state → (x : Name) → IsMade image budget journal x → 1 ≤ turns_of x journal + times_in x state.stack
+made-taken : (image : ImageValue) (budget : ℕ) (journal : List Entry) (state : SerialState) → IsRun image budget journal state → (x : Name) → NameIsMade image budget journal x → 1 ≤ turns_of x journal + times_in x state.stack
 made-taken image budget journal state run x (inl of) = image-taken image budget journal state run x of
 made-taken image budget journal state run x (inr made) = child-taken image budget journal state run x made
 
-pub complete : (image : ImageValue) → (budget : ℕ) → (journal : List Entry) → (state : State) → IsRun image budget journal state → IsComplete image budget journal state
+pub complete : (image : ImageValue) → (budget : ℕ) → (journal : List Entry) → (state : SerialState) → IsRun image budget journal state → IsCompleteRun image budget journal state
 complete image budget journal state run = record {
   only = only-made image budget journal state run;
   each = λ none x made.

@@ -13,11 +13,11 @@ use Rattle.task_desc.specs.declared.desc.Place.TheVariants.{Same, Sub, Super}
 use Rattle.pending_list.specs.declared.task.PendingTask.{PendingTask}
 use Rattle.run_journal.specs.declared.journal.Entry.{Entry}
 use Rattle.serial_machine.specs.BagValue.{BagValue}
-use Rattle.serial_machine.specs.State.{State}
+use Rattle.serial_machine.specs.State.{SerialState}
 use Rattle.serial_machine.specs.Names.{one, times, times_in, AreNamed}
-use Rattle.serial_machine.specs.Turn.{is_named, without, stack_after, children, sub_bags, with_super, kind_outside}
+use Rattle.serial_machine.specs.Turn.{is_named, without_name, stack_after, children, sub_bags, with_super, kind_outside}
 use Rattle.serial_machine.specs.Run.{Runs, IsRun, opening}
-use Rattle.serial_machine.proofs.Proved.{AreNamed-after, AreNamed-opening, kids, kids_for, once-in-first, times-append, times-kids, times_in-inner, without-none}
+use Rattle.serial_machine.proofs.Proved.{AreNamed-after, AreNamed-opening, kids, kids_for, once-in-first, times-append, times-kids, times_in-inner, without_name-none}
 use Rattle.run_law.specs.Laws.{is_same, turns_of}
 use Rattle.run_law.proofs.Distinct.{one-same}
 use Rattle.run_law.proofs.Placed.{HasDomain, HaveDomains, done-placed}
@@ -41,12 +41,12 @@ times-numbered n f named x k (a ∷ items) =
     ∙ count-step n x.creator k x.index (length items) _ (times-numbered n f named x (k + 1) items)
 
 -- no task but that of the name is taken away
-times-left : (x name : Name) (tasks : List PendingTask) → times name tasks ≤ 1 → times x tasks ≤ one (is_same name x) + times x (without name tasks)
+times-left : (x name : Name) (tasks : List PendingTask) → times name tasks ≤ 1 → times x tasks ≤ one (is_same name x) + times x (without_name name tasks)
 times-left x name [] once = omega arith
 times-left x name (t ∷ ts) once = go (is_named name t) refl once (times-left x name ts) where
-  go : (b : Bool) → is_named name t ≡ b → one b + times name ts ≤ 1 → (times name ts ≤ 1 → times x ts ≤ one (is_same name x) + times x (without name ts))
-      → one (is_named x t) + times x ts ≤ one (is_same name x) + times x (if not b then t ∷ without name ts else without name ts)
-  go true e once ih = rw (without-none name ts (omega (arith, once))) (omega (arith, one-same x name t.name e))
+  go : (b : Bool) → is_named name t ≡ b → one b + times name ts ≤ 1 → (times name ts ≤ 1 → times x ts ≤ one (is_same name x) + times x (without_name name ts))
+      → one (is_named x t) + times x ts ≤ one (is_same name x) + times x (if not b then t ∷ without_name name ts else without_name name ts)
+  go true e once ih = rw (without_name-none name ts (omega (arith, once))) (omega (arith, one-same x name t.name e))
   go false e once ih = omega (arith, ih (omega (arith, once)))
 
 -- where there is no domain at a place, no child is for it
@@ -85,15 +85,15 @@ after-left : (x : Name) (bag : BagValue) (outer : List BagValue) (name : Name) (
 unfolding stack_after children
 after-left x bag outer name n ts spawns sub once placed = omega (
   arith,
-  sub-all x (bag.depth + 1) ts n (kind_outside outer) sub spawns (record bag { tasks = without name bag.tasks ++ kids_for Same n 0 spawns } ∷ with_super (kids_for Super n 0 spawns) outer) placed,
-  times-append x (without name bag.tasks) (kids_for Same n 0 spawns),
+  sub-all x (bag.depth + 1) ts n (kind_outside outer) sub spawns (record bag { tasks = without_name name bag.tasks ++ kids_for Same n 0 spawns } ∷ with_super (kids_for Super n 0 spawns) outer) placed,
+  times-append x (without_name name bag.tasks) (kids_for Same n 0 spawns),
   times-left x name bag.tasks once,
   super-all x n sub spawns outer placed,
   times-kids x n 0 spawns,
 )
 
 -- a turn takes away no name but the one that took it, and loses no child
-pub turn-at-least : (x : Name) (image : ImageValue) (budget : ℕ) (s mid : State) (e : Entry) → AreNamed s.count s.stack → (d : Turned image budget s mid e.name e)
+pub turn-at-least : (x : Name) (image : ImageValue) (budget : ℕ) (s mid : SerialState) (e : Entry) → AreNamed s.count s.stack → (d : Turned image budget s mid e.name e)
     → times_in x s.stack + times x (kids (s.count + 1) 0 d.done.spawns) ≤ one (is_same e.name x) + times_in x mid.stack
 turn-at-least x image budget s mid e named d =
     let top : times_in x s.stack ≡ times_in x (d.bag ∷ d.outer) = sym (times_in-inner x s.stack) ∙ ap (times_in x) d.may.top in
@@ -103,19 +103,19 @@ turn-at-least x image budget s mid e named d =
     let stack = ap (λ m. times_in x m.stack) d.state in
     omega (arith, top, le, stack)
 
-pub AreNamed-turn : (image : ImageValue) (budget : ℕ) (s mid : State) (e : Entry) → AreNamed s.count s.stack → Turned image budget s mid e.name e → AreNamed mid.count mid.stack
+pub AreNamed-turn : (image : ImageValue) (budget : ℕ) (s mid : SerialState) (e : Entry) → AreNamed s.count s.stack → Turned image budget s mid e.name e → AreNamed mid.count mid.stack
 AreNamed-turn image budget s mid e named d =
     subst (λ m. AreNamed m.count m.stack) (sym d.state) (AreNamed-after s.stack d.bag d.outer e.name s.count d.task.ts d.done.spawns d.done.sub d.may.top named)
 
-AreNamed-runs : (image : ImageValue) (budget : ℕ) (s : State) (es : List Entry) (after : State) → AreNamed s.count s.stack → Runs image budget s es after → AreNamed after.count after.stack
+AreNamed-runs : (image : ImageValue) (budget : ℕ) (s : SerialState) (es : List Entry) (after : SerialState) → AreNamed s.count s.stack → Runs image budget s es after → AreNamed after.count after.stack
 AreNamed-runs image budget s [] after named run = subst (λ m. AreNamed m.count m.stack) run named
 AreNamed-runs image budget s (e ∷ es) after named (mid, t, rest) = AreNamed-runs image budget mid es after (AreNamed-turn image budget s mid e named (turn-did image budget s mid e.name e t)) rest
 
-pub AreNamed-run : (image : ImageValue) (budget : ℕ) (es : List Entry) (after : State) → IsRun image budget es after → AreNamed after.count after.stack
+pub AreNamed-run : (image : ImageValue) (budget : ℕ) (es : List Entry) (after : SerialState) → IsRun image budget es after → AreNamed after.count after.stack
 AreNamed-run image budget es after run = AreNamed-runs image budget (opening image) es after (AreNamed-opening image.kind image.tasks _ refl) run
 
 -- a name that is pending takes a turn or stays pending
-pub times_in-runs : (x : Name) (image : ImageValue) (budget : ℕ) (s : State) (es : List Entry) (after : State) → AreNamed s.count s.stack → Runs image budget s es after
+pub times_in-runs : (x : Name) (image : ImageValue) (budget : ℕ) (s : SerialState) (es : List Entry) (after : SerialState) → AreNamed s.count s.stack → Runs image budget s es after
     → times_in x s.stack ≤ turns_of x es + times_in x after.stack
 times_in-runs x image budget s [] after named run = omega (arith, ap (λ m. times_in x m.stack) run)
 times_in-runs x image budget s (e ∷ es) after named (mid, t, rest) =
@@ -125,11 +125,11 @@ times_in-runs x image budget s (e ∷ es) after named (mid, t, rest) =
     omega (arith, step, ih)
 
 -- the count of turns
-count-runs : (image : ImageValue) (budget : ℕ) (s : State) (es : List Entry) (after : State) → Runs image budget s es after → after.count ≡ s.count + length es
+count-runs : (image : ImageValue) (budget : ℕ) (s : SerialState) (es : List Entry) (after : SerialState) → Runs image budget s es after → after.count ≡ s.count + length es
 count-runs image budget s [] after run = omega (arith, ap (λ m. m.count) run)
 count-runs image budget s (e ∷ es) after (mid, t, rest) =
     let d = turn-did image budget s mid e.name e t in
     omega (arith, ap (λ m. m.count) d.state, count-runs image budget mid es after rest)
 
-pub count-run : (image : ImageValue) (budget : ℕ) (es : List Entry) (after : State) → IsRun image budget es after → after.count ≡ length es
+pub count-run : (image : ImageValue) (budget : ℕ) (es : List Entry) (after : SerialState) → IsRun image budget es after → after.count ≡ length es
 count-run image budget es after run = omega (arith, count-runs image budget (opening image) es after run)

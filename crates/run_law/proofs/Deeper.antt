@@ -9,7 +9,7 @@ use Rattle.task_desc.specs.declared.desc.Place.TheVariants.{Sub, Super}
 use Rattle.pending_list.specs.declared.task.PendingTask.{PendingTask}
 use Rattle.run_journal.specs.declared.journal.Entry.{Entry}
 use Rattle.serial_machine.specs.BagValue.{BagValue}
-use Rattle.serial_machine.specs.State.{State}
+use Rattle.serial_machine.specs.State.{SerialState}
 use Rattle.serial_machine.specs.Turn.{turn, inner, stack_after, with_super, sub_bags, children}
 use Rattle.serial_machine.specs.Run.{Runs, IsRun, opening}
 use Rattle.run_law.specs.Laws.{AreDeeper}
@@ -99,7 +99,7 @@ AreBelow-sub depth floor n tasks (Some kind) rest h = go (length tasks == 0) whe
   go false = (omega arith, h)
 
 -- what the turns of a run keep
-record IsNested (journal : List Entry) (s : State) : Type 0 where
+record IsNested (journal : List Entry) (s : SerialState) : Type 0 where
   counted : s.count ≡ length journal
   owned : AreOwned journal s.stack
   bound : ℕ
@@ -117,7 +117,7 @@ stack-after journal e bag outer name n ts d spawns sub owned below count depth =
   AreBelow-sub (bag.depth + 1) ts n (children Sub n spawns) sub _ (omega arith, AreBelow-super bag.depth (children Super n spawns) outer below.1),
 )
 
-IsNested-turn : (image : ImageValue) (budget : ℕ) (journal : List Entry) (s mid : State) (e : Entry) → IsNested journal s → turn image budget s e.name ≡ Some (mid, e) → IsNested (journal ++ e ∷ []) mid
+IsNested-turn : (image : ImageValue) (budget : ℕ) (journal : List Entry) (s mid : SerialState) (e : Entry) → IsNested journal s → turn image budget s e.name ≡ Some (mid, e) → IsNested (journal ++ e ∷ []) mid
 IsNested-turn image budget journal s mid e h t =
     let d = turn-did image budget s mid e.name e t in
     let owned = subst (AreOwned journal) d.may.top (AreOwned-inner journal s.stack h.owned) in
@@ -132,7 +132,7 @@ IsNested-turn image budget journal s mid e h t =
       below = subst (λ m. AreBelow (d.bag.depth + 1) m.stack) (sym d.state) both.1;
     }
 
-IsNested-runs : (image : ImageValue) (budget : ℕ) (journal : List Entry) (s : State) (es : List Entry) (after : State) → IsNested journal s → Runs image budget s es after → IsNested (journal ++ es) after
+IsNested-runs : (image : ImageValue) (budget : ℕ) (journal : List Entry) (s : SerialState) (es : List Entry) (after : SerialState) → IsNested journal s → Runs image budget s es after → IsNested (journal ++ es) after
 IsNested-runs image budget journal s [] after h r = subst (IsNested (journal ++ [])) r (subst (λ j. IsNested j s) (sym (append-nil journal)) h)
 IsNested-runs image budget journal s (e ∷ es) after h (mid, t, rest) =
     subst (λ j. IsNested j after) (append_assoc journal (e ∷ []) es) (IsNested-runs image budget (journal ++ e ∷ []) mid es after (IsNested-turn image budget journal s mid e h t) rest)
@@ -145,7 +145,7 @@ IsNested-opening image = record {
   below = (omega arith, tt);
 }
 
-pub deeper : (image : ImageValue) → (budget : ℕ) → (journal : List Entry) → (state : State) → IsRun image budget journal state → AreDeeper image budget journal
+pub deeper : (image : ImageValue) → (budget : ℕ) → (journal : List Entry) → (state : SerialState) → IsRun image budget journal state → AreDeeper image budget journal
 deeper image budget journal state run before s entry t bag outer top one =
     let nested = IsNested-runs image budget [] (opening image) before s (IsNested-opening image) t.run in
     let taken = turn-taken image budget journal state before s entry run t in

@@ -11,12 +11,12 @@ use Rattle.task_desc.specs.declared.desc.Place.TheVariants.{Same, Sub, Super}
 use Rattle.pending_list.specs.declared.task.PendingTask.{PendingTask}
 use Rattle.run_journal.specs.declared.journal.Entry.{Entry}
 use Rattle.serial_machine.specs.BagValue.{BagValue}
-use Rattle.serial_machine.specs.State.{State}
+use Rattle.serial_machine.specs.State.{SerialState}
 use Rattle.serial_machine.specs.Names.{one, times, times_in}
-use Rattle.serial_machine.specs.Turn.{is_named, without, stack_after, children, with_super, find_named}
+use Rattle.serial_machine.specs.Turn.{is_named, without_name, stack_after, children, with_super, find_named}
 use Rattle.serial_machine.specs.Run.{Runs, IsRun, opening}
-use Rattle.serial_machine.proofs.Proved.{AreNamed-opening, kids, kids-fresh, kids_for, times-append, times-kids, times-without, times_in-inner, times_in-sub, times_in-super}
-use Rattle.run_law.specs.Laws.{is_same, turns_of, AreDistinct}
+use Rattle.serial_machine.proofs.Proved.{AreNamed-opening, kids, kids-fresh, kids_for, times-append, times-kids, times-without_name, times_in-inner, times_in-sub, times_in-super}
+use Rattle.run_law.specs.Laws.{is_same, turns_of, TurnsAreDistinct}
 use Rattle.run_law.proofs.Turned.{Turned, turn-did}
 
 -- a name is as often another as one that is the same
@@ -25,12 +25,12 @@ one-same x name own h = grind (arith, nat_tests, common_steps)
 
 -- a name that is found stands there, and is taken away whole
 times-taken : (x name : Name) (tasks : List PendingTask) (t : PendingTask) → find_named name tasks ≡ Some t
-    → one (is_same name x) + times x (without name tasks) ≤ times x tasks
+    → one (is_same name x) + times x (without_name name tasks) ≤ times x tasks
 times-taken x name [] t found = absurd (none-some _ found)
-times-taken x name (u ∷ us) t found = go (is_named name u) refl found (times-taken x name us t) (times-without x name us) where
+times-taken x name (u ∷ us) t found = go (is_named name u) refl found (times-taken x name us t) (times-without_name x name us) where
   go : (b : Bool) → is_named name u ≡ b → (if b then Some u else find_named name us) ≡ Some t
-      → (find_named name us ≡ Some t → one (is_same name x) + times x (without name us) ≤ times x us) → times x (without name us) ≤ times x us
-      → one (is_same name x) + times x (if not b then u ∷ without name us else without name us) ≤ one (is_named x u) + times x us
+      → (find_named name us ≡ Some t → one (is_same name x) + times x (without_name name us) ≤ times x us) → times x (without_name name us) ≤ times x us
+      → one (is_same name x) + times x (if not b then u ∷ without_name name us else without_name name us) ≤ one (is_named x u) + times x us
   go true e f ih le = omega (arith, le, one-same x name u.name e)
   go false e f ih le = omega (arith, ih f)
 
@@ -40,14 +40,14 @@ after-taken : (x : Name) (bag : BagValue) (outer : List BagValue) (name : Name) 
 unfolding stack_after children
 after-taken x bag outer name n ts spawns sub t found = omega (
   arith,
-  times_in-sub x (bag.depth + 1) ts n (kids_for Sub n 0 spawns) sub (record bag { tasks = without name bag.tasks ++ kids_for Same n 0 spawns } ∷ with_super (kids_for Super n 0 spawns) outer),
-  times-append x (without name bag.tasks) (kids_for Same n 0 spawns),
+  times_in-sub x (bag.depth + 1) ts n (kids_for Sub n 0 spawns) sub (record bag { tasks = without_name name bag.tasks ++ kids_for Same n 0 spawns } ∷ with_super (kids_for Super n 0 spawns) outer),
+  times-append x (without_name name bag.tasks) (kids_for Same n 0 spawns),
   times-taken x name bag.tasks t found,
   times_in-super x (kids_for Super n 0 spawns) outer,
   times-kids x n 0 spawns,
 )
 
-pub turn-at-most : (x : Name) (image : ImageValue) (budget : ℕ) (s mid : State) (e : Entry) → (d : Turned image budget s mid e.name e)
+pub turn-at-most : (x : Name) (image : ImageValue) (budget : ℕ) (s mid : SerialState) (e : Entry) → (d : Turned image budget s mid e.name e)
     → one (is_same e.name x) + times_in x mid.stack ≤ times_in x s.stack + times x (kids (s.count + 1) 0 d.done.spawns)
 turn-at-most x image budget s mid e d =
     let top : times_in x s.stack ≡ times_in x (d.bag ∷ d.outer) = sym (times_in-inner x s.stack) ∙ ap (times_in x) d.may.top in
@@ -59,7 +59,7 @@ turn-at-most x image budget s mid e d =
 one-more : (c i n m k : ℕ) → m ≡ n + 1 → k ≤ one ((n + 1 == c) && nat_le 0 i) → one (nat_le c n) + k ≤ one (nat_le c m)
 one-more c i n m k e h = grind (arith, nat_tests, common_steps)
 
-turns-fit : (x : Name) (image : ImageValue) (budget : ℕ) (s : State) (journal : List Entry) (after : State) (k : ℕ) → Runs image budget s journal after
+turns-fit : (x : Name) (image : ImageValue) (budget : ℕ) (s : SerialState) (journal : List Entry) (after : SerialState) (k : ℕ) → Runs image budget s journal after
     → k + times_in x s.stack ≤ one (nat_le x.creator s.count) → k + turns_of x journal + times_in x after.stack ≤ one (nat_le x.creator after.count)
 turns-fit x image budget s [] after k run h = subst (λ z. k + 0 + times_in x z.stack ≤ one (nat_le x.creator z.count)) run (omega (arith, h))
 turns-fit x image budget s (e ∷ es) after k (mid, t, rest) h =
@@ -74,7 +74,7 @@ at-most : (b : Bool) → one b ≤ 1
 at-most true = omega arith
 at-most false = omega arith
 
-pub distinct : (image : ImageValue) → (budget : ℕ) → (journal : List Entry) → (state : State) → IsRun image budget journal state → AreDistinct journal
+pub distinct : (image : ImageValue) → (budget : ℕ) → (journal : List Entry) → (state : SerialState) → IsRun image budget journal state → TurnsAreDistinct journal
 distinct image budget journal state run name =
     let base = AreNamed-opening image.kind image.tasks _ refl name in
     let all = turns-fit name image budget (opening image) journal state 0 run (omega (arith, base)) in

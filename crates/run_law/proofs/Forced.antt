@@ -7,7 +7,7 @@ use Rattle.guest_image.specs.ImageValue.{ImageValue}
 use Rattle.task_desc.specs.declared.desc.Name.{Name}
 use Rattle.pending_list.specs.declared.task.PendingTask.{PendingTask}
 use Rattle.run_journal.specs.declared.journal.Entry.{Entry}
-use Rattle.serial_machine.specs.State.{State}
+use Rattle.serial_machine.specs.State.{SerialState}
 use Rattle.serial_machine.specs.Turn.{turn, inner, is_named, is_least, find_named}
 use Rattle.serial_machine.specs.Run.{Runs, IsRun, opening}
 use Rattle.run_law.specs.Laws.{IsUntied, AreUntied, IsForced}
@@ -58,7 +58,7 @@ found-name name (x ∷ xs) t f = go (is_named name x) refl f (found-name name xs
   go false e f ih = ih f
 
 -- two turns that begin in one state
-same-name : (image : ImageValue) (budget : ℕ) (s mid other : State) (e f : Entry) → IsUntied (inner s.stack)
+same-name : (image : ImageValue) (budget : ℕ) (s mid other : SerialState) (e f : Entry) → IsUntied (inner s.stack)
     → turn image budget s e.name ≡ Some (mid, e) → turn image budget s f.name ≡ Some (other, f) → e.name ≡ f.name
 same-name image budget s mid other e f untied h k =
     let d = turn-did image budget s mid e.name e h in
@@ -71,19 +71,19 @@ same-name image budget s mid other e f untied h k =
     sym (found-name e.name d.bag.tasks d.task d.may.found) ∙ ap (λ t. t.name) tasks ∙ found-name f.name d.bag.tasks g.task found
 
 -- two runs from one state that is reached by these entries
-forced-from : (image : ImageValue) (budget : ℕ) (front : List Entry) (s : State) → IsRun image budget front s
-    → (one two : List Entry) (after other : State) → Runs image budget s one after → AreUntied image budget (front ++ one) → Runs image budget s two other
+forced-from : (image : ImageValue) (budget : ℕ) (front : List Entry) (s : SerialState) → IsRun image budget front s
+    → (one two : List Entry) (after other : SerialState) → Runs image budget s one after → AreUntied image budget (front ++ one) → Runs image budget s two other
     → length two ≡ length one → (two ≡ one) × (other ≡ after)
 forced-from image budget front s run [] [] after other r u q len = (refl, sym q ∙ r)
 forced-from image budget front s run [] (f ∷ fs) after other r u q len = absurd (omega (arith, len))
 forced-from image budget front s run (e ∷ es) [] after other r u q len = absurd (omega (arith, len))
 forced-from image budget front s run (e ∷ es) (f ∷ fs) after other (mid, h, rest) untied (mid2, k, rest2) len =
-    let names = same-name image budget s mid mid2 e f (untied front s e (record { rest = es; stands = refl; run = run })) h k in
+    let names = same-name image budget s mid mid2 e f (untied front s e (record { entries_behind = es; stands = refl; run = run })) h k in
     let both = same_Some _ _ (sym h ∙ ap (turn image budget s) names ∙ k) in
     let again : Runs image budget mid fs other = subst (λ m. Runs image budget m fs other) (sym (ap (λ p. p.0) both)) rest2 in
     let still : AreUntied image budget ((front ++ e ∷ []) ++ es) = subst (AreUntied image budget) (sym (append_assoc front (e ∷ []) es)) untied in
     let ih = forced-from image budget (front ++ e ∷ []) mid (Runs-more image budget front (opening image) s mid e run h) es fs after other rest still again (omega (arith, len)) in
     (ap (λ x. x ∷ fs) (sym (ap (λ p. p.1) both)) ∙ ap (λ xs. e ∷ xs) ih.0, ih.1)
 
-pub forced : (image : ImageValue) → (budget : ℕ) → (journal : List Entry) → (state : State) → IsRun image budget journal state → IsForced image budget journal state
+pub forced : (image : ImageValue) → (budget : ℕ) → (journal : List Entry) → (state : SerialState) → IsRun image budget journal state → IsForced image budget journal state
 forced image budget journal state run untied other after again len = forced-from image budget [] (opening image) refl journal other state after run untied again len

@@ -2,7 +2,7 @@
 use Rattle.std.proofs.Common.{ℕ, List}
 use Rattle.guest_image.specs.ImageValue.{ImageValue}
 use Rattle.run_journal.specs.declared.journal.Entry.{Entry}
-use Rattle.serial_machine.specs.State.{State}
+use Rattle.serial_machine.specs.State.{SerialState}
 use Rattle.serial_machine.specs.Run.{IsRun}
 use Rattle.run_law.specs.Laws.{AreLawful}
 use Rattle.run_law.proofs.Distinct.{distinct}
@@ -10,7 +10,7 @@ use Rattle.run_law.proofs.Complete.{complete}
 use Rattle.run_law.proofs.Deeper.{deeper}
 use Rattle.run_law.proofs.Forced.{forced}
 
-pub lawful : (image : ImageValue) → (budget : ℕ) → (journal : List Entry) → (state : State) → IsRun image budget journal state → AreLawful image budget journal state
+pub lawful : (image : ImageValue) → (budget : ℕ) → (journal : List Entry) → (state : SerialState) → IsRun image budget journal state → AreLawful image budget journal state
 lawful image budget journal state run = record {
   distinct = distinct image budget journal state run;
   complete = complete image budget journal state run;

@@ -7,18 +7,18 @@ use Rattle.task_desc.specs.declared.desc.Ctx.{Ctx}
 use Rattle.task_desc.specs.declared.desc.Spawn.{Spawn}
 use Rattle.task_desc.specs.declared.desc.Place.{Place}
 use Rattle.task_desc.specs.declared.desc.Place.TheVariants.{Same, Sub, Super}
-use Rattle.task_desc.specs.Calls.{allowed, allowed_at, allowed_sub, allowed_super}
+use Rattle.task_desc.specs.Calls.{allowed_spawn, allowed_at, allowed_sub, allowed_super}
 use Rattle.pending_list.specs.declared.task.PendingTask.{PendingTask}
 use Rattle.serial_machine.specs.BagValue.{BagValue}
-use Rattle.serial_machine.specs.State.{State}
+use Rattle.serial_machine.specs.State.{SerialState}
 use Rattle.serial_machine.specs.TaskRun.{task_run, Done}
 use Rattle.serial_machine.proofs.Proved.{EndHolds, StepHolds, task_run-holds}
-use Rattle.task_step.specs.declared.request.Request.{Request}
-use Rattle.task_step.specs.declared.request.Request.TheVariants as request
-use Rattle.task_step.specs.Steps.{after_request}
-use Rattle.task_step.specs.TaskState.{TaskState, context}
-use Rattle.task_step.proofs.Proved.{AllowedBy}
-use Rattle.serial_machine.specs.Turn.{run_of, context_of, kind_outside}
+use Rattle.task_request.specs.declared.request.Request.{Request}
+use Rattle.task_request.specs.declared.request.Request.TheVariants as request
+use Rattle.task_request.specs.Effects.{after_request}
+use Rattle.task_request.specs.TaskState.{TaskState, context}
+use Rattle.task_request.proofs.Proved.{AllowedBy}
+use Rattle.serial_machine.specs.Turn.{run_in_bag, context_in_bag, kind_outside}
 
 -- there is a domain at a place, by the kinds of the superdomain and the subdomain
 abbrev pub HasDomain : Option Kind → Option Kind → Place → Type 0
@@ -49,8 +49,8 @@ abbrev pub IsPlaced : Option Kind → TaskState → Type 0
 IsPlaced outer task = HaveDomains outer task.sub task.spawns
 
 -- an enqueue that is allowed is to a domain that there is
-allowed-placed : (ctx : Ctx) (spawn : Spawn) (ts : ℕ) → allowed ctx spawn ≡ Ok ts → HasDomain ctx.outer ctx.sub spawn.place
-allowed-placed ctx spawn ts allows = by_place spawn.place allows
+allowed_spawn-placed : (ctx : Ctx) (spawn : Spawn) (ts : ℕ) → allowed_spawn ctx spawn ≡ Ok ts → HasDomain ctx.outer ctx.sub spawn.place
+allowed_spawn-placed ctx spawn ts allows = by_place spawn.place allows
   where
     by_sub : (o : Option Kind) → allowed_sub ctx spawn.ts o ≡ Ok ts → IsSome o
     by_sub None at = cc
@@ -73,7 +73,7 @@ request-placed ctx task (request.Load width rd offset) allows placed = placed
 request-placed ctx task (request.Store offset bytes value) allows placed = placed
 request-placed ctx task (request.Enqueue child) allows placed =
     let (spawn, is_allowed, is) = allows in
-    let there : HasDomain ctx.outer task.sub spawn.place = allowed-placed (context ctx task) spawn child.ts is_allowed in
+    let there : HasDomain ctx.outer task.sub spawn.place = allowed_spawn-placed (context ctx task) spawn child.ts is_allowed in
     HaveDomains-more ctx.outer task.sub task.spawns child placed
     (subst (HasDomain ctx.outer task.sub) (sym (ap (λ s. s.place) is)) there)
 request-placed ctx task (request.MakeSub kind) allows placed = HaveDomains-sub ctx.outer task.sub kind task.spawns placed
@@ -87,7 +87,7 @@ task_run-placed image budget ctx entry args memory =
     task_run-holds (IsPlaced ctx.outer) image budget ctx (λ task core placed. placed) (request-placed ctx) entry args memory tt
 
 -- the children of a task that is done
-pub done-placed : (image : ImageValue) (budget : ℕ) (s : State) (bag : BagValue) (outer : List BagValue) (task : PendingTask) (done : TaskState)
-    → run_of image budget s bag outer task ≡ Done done → HaveDomains (kind_outside outer) done.sub done.spawns
+pub done-placed : (image : ImageValue) (budget : ℕ) (s : SerialState) (bag : BagValue) (outer : List BagValue) (task : PendingTask) (done : TaskState)
+    → run_in_bag image budget s bag outer task ≡ Done done → HaveDomains (kind_outside outer) done.sub done.spawns
 done-placed image budget s bag outer task done ran = subst (EndHolds (IsPlaced (kind_outside outer))) ran
-    (task_run-placed image budget (context_of image.version bag outer task) task.entry task.args s.memory)
+    (task_run-placed image budget (context_in_bag image.version bag outer task) task.entry task.args s.memory)

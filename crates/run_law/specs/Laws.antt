@@ -6,11 +6,11 @@ use Rattle.task_desc.specs.declared.desc.Name.{Name}
 use Rattle.run_journal.specs.declared.journal.Entry.{Entry}
 use Rattle.serial_machine.specs.BagValue.{BagValue}
 use Rattle.pending_list.specs.declared.task.PendingTask.{PendingTask}
-use Rattle.serial_machine.specs.State.{State}
+use Rattle.serial_machine.specs.State.{SerialState}
 use Rattle.serial_machine.specs.TaskState.{TaskState}
 use Rattle.serial_machine.specs.TaskRun.{Done}
 use Rattle.serial_machine.specs.Names.{one}
-use Rattle.serial_machine.specs.Turn.{inner, is_least, run_of, MayTurn}
+use Rattle.serial_machine.specs.Turn.{inner, is_least, run_in_bag, MayTurn}
 use Rattle.serial_machine.specs.Run.{IsRun}
 
 -- whether two names are one
@@ -23,24 +23,24 @@ turns_of name [] = 0
 turns_of name (e ∷ es) = one (is_same e.name name) + turns_of name es
 
 -- no name takes two turns of the journal
-abbrev pub AreDistinct : List Entry → Type 0
-AreDistinct journal = (name : Name) → turns_of name journal ≤ 1
+abbrev pub TurnsAreDistinct : List Entry → Type 0
+TurnsAreDistinct journal = (name : Name) → turns_of name journal ≤ 1
 
 -- the entry stands in the journal right behind these entries, whose run led to this state
-pub record IsTurnOf (image : ImageValue) (budget : ℕ) (journal before : List Entry) (state : State)
+pub record IsTurnOf (image : ImageValue) (budget : ℕ) (journal before : List Entry) (state : SerialState)
     (entry : Entry) : Type 0 where
-  pub rest : List Entry
-  pub stands : journal ≡ before ++ entry ∷ rest
+  pub entries_behind : List Entry
+  pub stands : journal ≡ before ++ entry ∷ entries_behind
   pub run : IsRun image budget before state
 
 -- a task of the image has the creator 0 and its place among the image's tasks
-abbrev pub IsOfImage : ImageValue → Name → Type 0
-IsOfImage image name = (name.creator ≡ 0) × (name.index < length image.tasks)
+abbrev pub NameIsOfImage : ImageValue → Name → Type 0
+NameIsOfImage image name = (name.creator ≡ 0) × (name.index < length image.tasks)
 
 -- a child has the number of the turn that made it, counted from 1, and its place among the children of that turn
 pub record IsChild (image : ImageValue) (budget : ℕ) (journal : List Entry) (name : Name) : Type 0 where
   pub before : List Entry
-  pub state : State
+  pub state : SerialState
   pub entry : Entry
   pub stands : IsTurnOf image budget journal before state entry
   pub bag : BagValue
@@ -48,22 +48,22 @@ pub record IsChild (image : ImageValue) (budget : ℕ) (journal : List Entry) (n
   pub task : PendingTask
   pub done : TaskState
   pub may : MayTurn state.stack entry.name bag outer task
-  pub ran : run_of image budget state bag outer task ≡ Done done
+  pub ran : run_in_bag image budget state bag outer task ≡ Done done
   pub creator : name.creator ≡ length before + 1
   pub index : name.index < length done.spawns
 
 -- the image or a turn of the journal made a task of this name
-abbrev pub IsMade : ImageValue → ℕ → List Entry → Name → Type 0
-IsMade image budget journal name = IsOfImage image name ⊎ IsChild image budget journal name
+abbrev pub NameIsMade : ImageValue → ℕ → List Entry → Name → Type 0
+NameIsMade image budget journal name = NameIsOfImage image name ⊎ IsChild image budget journal name
 
 -- only tasks that were made take a turn, and where no task is pending each of them took one
-pub record IsComplete (image : ImageValue) (budget : ℕ) (journal : List Entry) (state : State) : Type 0 where
-  pub only : (name : Name) → 1 ≤ turns_of name journal → IsMade image budget journal name
-  pub each : inner state.stack ≡ [] → (name : Name) → IsMade image budget journal name → turns_of name journal ≡ 1
+pub record IsCompleteRun (image : ImageValue) (budget : ℕ) (journal : List Entry) (state : SerialState) : Type 0 where
+  pub only : (name : Name) → 1 ≤ turns_of name journal → NameIsMade image budget journal name
+  pub each : inner state.stack ≡ [] → (name : Name) → NameIsMade image budget journal name → turns_of name journal ≡ 1
 
 -- the owner's entry, counted from 1, stands before this entry, and all entries behind the owner's up to and with
 -- this one are deeper than it
-pub record IsInside (owner : ℕ) (before : List Entry) (entry : Entry) : Type 0 where
+pub record IsInsideTurns (owner : ℕ) (before : List Entry) (entry : Entry) : Type 0 where
   pub earlier : List Entry
   pub creator : Entry
   pub between : List Entry
@@ -75,9 +75,9 @@ pub record IsInside (owner : ℕ) (before : List Entry) (entry : Entry) : Type 0
 -- with this one are deeper (Subramanian et al. 2017, section 3: a task and its subdomain run as one unit)
 abbrev pub AreDeeper : ImageValue → ℕ → List Entry → Type 0
 AreDeeper image budget journal =
-    (before : List Entry) → (state : State) → (entry : Entry) → IsTurnOf image budget journal before state entry
+    (before : List Entry) → (state : SerialState) → (entry : Entry) → IsTurnOf image budget journal before state entry
     → (bag : BagValue) → (outer : List BagValue) → inner state.stack ≡ bag ∷ outer → 1 ≤ bag.owner
-    → IsInside bag.owner before entry
+    → IsInsideTurns bag.owner before entry
 
 -- at most one task of the innermost bag that isn't empty has the least timestamp there (of a stack from `inner`)
 abbrev pub IsUntied : List BagValue → Type 0
@@ -87,18 +87,18 @@ IsUntied (bag ∷ outer) = length (filter (λ t. is_least t.ts bag.tasks) bag.ta
 -- at no turn of the journal two tasks share the least timestamp of that bag
 abbrev pub AreUntied : ImageValue → ℕ → List Entry → Type 0
 AreUntied image budget journal =
-    (before : List Entry) → (state : State) → (entry : Entry) → IsTurnOf image budget journal before state entry
+    (before : List Entry) → (state : SerialState) → (entry : Entry) → IsTurnOf image budget journal before state entry
     → IsUntied (inner state.stack)
 
 -- where there is no such tie, every run of the same length has this journal and leads to this state
-abbrev pub IsForced : ImageValue → ℕ → List Entry → State → Type 0
+abbrev pub IsForced : ImageValue → ℕ → List Entry → SerialState → Type 0
 IsForced image budget journal state = AreUntied image budget journal
-    → (other : List Entry) → (after : State) → IsRun image budget other after → length other ≡ length journal
+    → (other : List Entry) → (after : SerialState) → IsRun image budget other after → length other ≡ length journal
     → (other ≡ journal) × (after ≡ state)
 
 -- all laws of a run
-pub record AreLawful (image : ImageValue) (budget : ℕ) (journal : List Entry) (state : State) : Type 0 where
-  pub distinct : AreDistinct journal
-  pub complete : IsComplete image budget journal state
+pub record AreLawful (image : ImageValue) (budget : ℕ) (journal : List Entry) (state : SerialState) : Type 0 where
+  pub distinct : TurnsAreDistinct journal
+  pub complete : IsCompleteRun image budget journal state
   pub deeper : AreDeeper image budget journal
   pub forced : IsForced image budget journal state

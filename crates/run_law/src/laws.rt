@@ -4,7 +4,7 @@ ghost use Rattle.std.specs.Prelude.{ℕ, List};
 ghost use Rattle.guest_image.specs.ImageValue.{ImageValue};
 ghost use Rattle.run_law.specs.Laws.{AreLawful};
 ghost use Rattle.serial_machine.specs.Run.{IsRun};
-ghost use Rattle.serial_machine.specs.State.{State};
+ghost use Rattle.serial_machine.specs.State.{SerialState};
 ghost use Rattle.run_journal.specs.declared.journal.Entry.{Entry};
 
 /// The laws of every run of every image, with any budget of its tasks:
@@ -17,6 +17,6 @@ ghost use Rattle.run_journal.specs.declared.journal.Entry.{Entry};
 ///   is the only one of its length.
 #[tactic(auto, using(crate::proofs::Lawful::lawful))]
 pub fn runs_are_lawful()
-    ensures { (image : ImageValue) → (budget : ℕ) → (journal : List Entry) → (state : State)
+    ensures { (image : ImageValue) → (budget : ℕ) → (journal : List Entry) → (state : SerialState)
         → IsRun image budget journal state → AreLawful image budget journal state }
 {}

@@ -5,7 +5,7 @@ use Rattle.std.proofs.Math.ListN.{get_or-append}
 use Rattle.std.proofs.lemmas.Bool.{ltb-false, ltb-true, leb-true, eqb-true, lt-ltb}
 use Rattle.std.proofs.lemmas.Option.{slice_get_within, slice_get_past, slice_get-get_or, get_or_from_slice_get}
 use Rattle.guest_image.specs.ImageValue.{ImageValue}
-use Rattle.guest_image.specs.Fetch.{fetched, text_loaded}
+use Rattle.guest_image.specs.Fetch.{fetched_word, text_loaded}
 use Rattle.guest_image.specs.declared.memory_map.TheConstants.{TEXT_START, DATA_START, STACK_START, STACK_BYTES}
 use Rattle.rv_table.specs.declared.instr.Instr.{Instr}
 use Rattle.rv_table.specs.declared.instr.Instr.TheVariants as instr
@@ -13,19 +13,20 @@ use Rattle.rv_table.specs.declared.instr.Effect.TheVariants as does
 use Rattle.rv_table.specs.declared.instr.Cond.{Cond}
 use Rattle.rv_table.specs.declared.instr.LoadWidth.{LoadWidth}
 use Rattle.rv_table.specs.declared.instr.StoreWidth.{StoreWidth}
-use Rattle.rv_table.specs.Exec.{plus, minus, word, holds, value_of, with_register, shift_signed, jump, loaded_value}
+use Rattle.rv_table.specs.Exec.{plus, minus, word, holds, op_value, with_register, shift_signed, jump, loaded_value}
 use Rattle.rv_table.specs.Regs.{set_word}
-use Rattle.rv_table.specs.Table.{decoded}
+use Rattle.rv_table.specs.Table.{instr_of_word}
 use Rattle.rv_core.specs.declared.state.Core.{Core}
 use Rattle.rv_core.specs.declared.state.Stop.{Stop}
 use Rattle.rv_core.specs.declared.state.Stop.TheVariants as stop
 use Rattle.rv_core.specs.declared.op.Op.{Op}
 use Rattle.rv_core.specs.Next.{Next, Goes, Stops}
-use Rattle.rv_core.specs.Memory.{load_bytes, store_bytes, is_within, is_in_stack}
-use Rattle.rv_core.specs.Legs.{next_at, instr_next, effect_next, moved, after_store_of, PlainStep, PlainSteps}
-use Rattle.rv_core.specs.Ops.{Jump, Branch, Other, shape, word_shape, address, IsOpOf, AreOf, AreDecoded, Place, place, put, shape_next, access, shape_stop, found_stop, OpStep, OpSteps, core_at}
+use Rattle.rv_core.specs.Memory.{load_width, store_width, is_within, is_in_stack}
+use Rattle.rv_core.specs.Legs.{next_at, instr_next, effect_next, core_after, after_store_of, PlainInstruction}
+use Rattle.rv_core.specs.Legs.{PlainInstructions}
+use Rattle.rv_core.specs.Ops.{Jump, Branch, Other, shape, word_shape, address, IsOpOf, AreOf, AreDecoded, Cursor, cursor, cursor_after_put, shape_next, access, shape_stop, found_stop, OpLeads, OpsLead, core_at}
 use Rattle.rv_core.specs.Ops.{Point, point, stack_load, stack_store, stack_next, core_at_point}
-use Rattle.undo_log.specs.Number.{number_at, written}
+use Rattle.undo_log.specs.Number.{number_at, after_write}
 use Rattle.std.specs.Option.{option_or}
 use Rattle.std.specs.Prelude.{nat_le, option_map}
 
@@ -53,7 +54,7 @@ halved x y = omega arith
 address_within : (index : ℕ) → index < 65536 → address index ≡ TEXT_START + 4 * index
 address_within index small = omega arith
 
-fetched_at : (text : List ℕ) (index word : ℕ) → length text ≤ 65536 → slice_get text index ≡ Some word → fetched text (address index) ≡ Some word
+fetched_at : (text : List ℕ) (index word : ℕ) → length text ≤ 65536 → slice_get text index ≡ Some word → fetched_word text (address index) ≡ Some word
 fetched_at text index word short there =
     let inside : index < length text = slice_get_within text index word there in
     let plain : address index ≡ TEXT_START + 4 * index = address_within index (omega arith) in
@@ -63,28 +64,28 @@ fetched_at text index word short there =
     rw (plain, whole, late, back) there
 
 -- what goes to a place is what the code's place says
-to_place : (core : Core) (to : Place) (index pc rd value : ℕ) → address index ≡ pc → Some (place index (set_word core.regs rd value)) ≡ Some to → Goes (moved core pc rd value) ≡ Goes (core_at core to 1)
+to_place : (core : Core) (to : Cursor) (index pc rd value : ℕ) → address index ≡ pc → Some (cursor index (set_word core.regs rd value)) ≡ Some to → Goes (core_after core pc rd value) ≡ Goes (core_at core to 1)
 to_place core to index pc rd value there is =
-    let Meets : Option Place → Type 0 = λ o. Goes (moved core pc rd value) ≡ at o in
-    subst Meets is (ap (λ pc. Goes (moved core pc rd value)) (sym there))
+    let Meets : Option Cursor → Type 0 = λ o. Goes (core_after core pc rd value) ≡ at o in
+    subst Meets is (ap (λ pc. Goes (core_after core pc rd value)) (sym there))
   where
-    at : Option Place → Next
+    at : Option Cursor → Next
     at None = Goes core
     at (Some place) = Goes (core_at core place 1)
 
 -- on to the next word
-onward : (core : Core) (to : Place) (index rd value : ℕ) → core.pc ≡ address index → Some (put (place index core.regs) rd value) ≡ Some to → Goes (moved core (plus core.pc 4) rd value) ≡ Goes (core_at core to 1)
+onward : (core : Core) (to : Cursor) (index rd value : ℕ) → core.pc ≡ address index → Some (cursor_after_put (cursor index core.regs) rd value) ≡ Some to → Goes (core_after core (plus core.pc 4) rd value) ≡ Goes (core_at core to 1)
 onward core to index rd value here is =
     to_place core to (plus index 1) (plus core.pc 4) rd value (address_next index ∙ ap (λ pc. plus pc 4) (sym here)) is
 
 -- to an address that is a multiple of 4
-jumps : (image : ImageValue) (size : ℕ) (core : Core) (to : Place) (index rd target : ℕ) → core.pc ≡ address index → target < 2 ^ 32
+jumps : (image : ImageValue) (size : ℕ) (core : Core) (to : Cursor) (index rd target : ℕ) → core.pc ≡ address index → target < 2 ^ 32
     → (aligned : Bool) → (target % 4 == 0) ≡ aligned
-    → (if aligned then Some (place (minus target TEXT_START / 4) (set_word core.regs rd (plus (address index) 4))) else None) ≡ Some to
+    → (if aligned then Some (cursor (minus target TEXT_START / 4) (set_word core.regs rd (plus (address index) 4))) else None) ≡ Some to
     → effect_next image size core (jump rd (plus core.pc 4) target) ≡ Goes (core_at core to 1)
 jumps image size core to index rd target here small true aligned is =
     rw aligned (to_place core to (minus target TEXT_START / 4) target rd (plus core.pc 4) (address_back target small (eqb-true _ _ aligned))
-    (ap (λ pc. Some (place (minus target TEXT_START / 4) (set_word core.regs rd (plus pc 4)))) here ∙ is))
+    (ap (λ pc. Some (cursor (minus target TEXT_START / 4) (set_word core.regs rd (plus pc 4)))) here ∙ is))
 jumps image size core to index rd target here small false aligned is = cc
 
 -- a target is aligned where the offset is
@@ -95,38 +96,39 @@ is_zero : (n : ℕ) → n ≡ 0 → (n == 0) ≡ true
 is_zero n same = rw same refl
 
 -- a jump by an offset that is a multiple of 4
-by_offset : (image : ImageValue) (size : ℕ) (core : Core) (to : Place) (index rd value offset : ℕ) → core.pc ≡ address index → (offset % 4 == 0) ≡ true
-    → Some (place (plus index (shift_signed (offset % 2 ^ 32) 2)) (set_word core.regs rd value)) ≡ Some to
+by_offset : (image : ImageValue) (size : ℕ) (core : Core) (to : Cursor) (index rd value offset : ℕ) → core.pc ≡ address index → (offset % 4 == 0) ≡ true
+    → Some (cursor (plus index (shift_signed (offset % 2 ^ 32) 2)) (set_word core.regs rd value)) ≡ Some to
     → effect_next image size core (jump rd value (plus core.pc offset)) ≡ Goes (core_at core to 1)
 by_offset image size core to index rd value offset here whole is =
     let there : address (plus index (shift_signed (offset % 2 ^ 32) 2)) ≡ plus core.pc offset = address_words index offset (eqb-true _ _ whole) ∙ ap (λ pc. plus pc offset) (sym here) in
     let aligned : (plus core.pc offset % 4 == 0) ≡ true = is_zero _ (ap (λ pc. plus pc offset % 4) here ∙ aligned_by index offset (eqb-true _ _ whole)) in
     rw aligned (to_place core to (plus index (shift_signed (offset % 2 ^ 32) 2)) (plus core.pc offset) rd value there is)
 
-jal : (image : ImageValue) (size : ℕ) (core : Core) (to : Place) (index rd offset : ℕ) → core.pc ≡ address index → (whole : Bool) → (offset % 4 == 0) ≡ whole
-    → shape_next (if whole then Jump rd (shift_signed (offset % 2 ^ 32) 2) else Other) (place index core.regs) ≡ Some to
+jal : (image : ImageValue) (size : ℕ) (core : Core) (to : Cursor) (index rd offset : ℕ) → core.pc ≡ address index → (whole : Bool) → (offset % 4 == 0) ≡ whole
+    → shape_next (if whole then Jump rd (shift_signed (offset % 2 ^ 32) 2) else Other)
+    (cursor index core.regs) ≡ Some to
     → effect_next image size core (jump rd (plus core.pc 4) (plus core.pc offset)) ≡ Goes (core_at core to 1)
 jal image size core to index rd offset here true whole is =
     by_offset image size core to index rd (plus core.pc 4) offset here whole
-    (ap (λ pc. Some (place (plus index (shift_signed (offset % 2 ^ 32) 2)) (set_word core.regs rd (plus pc 4)))) here ∙ is)
+    (ap (λ pc. Some (cursor (plus index (shift_signed (offset % 2 ^ 32) 2)) (set_word core.regs rd (plus pc 4)))) here ∙ is)
 jal image size core to index rd offset here false whole is = cc
 
-taken_or_not : (image : ImageValue) (size : ℕ) (core : Core) (to : Place) (index offset : ℕ) → core.pc ≡ address index → (offset % 4 == 0) ≡ true → (taken : Bool)
-    → Some (place (plus index (if taken then shift_signed (offset % 2 ^ 32) 2 else 1)) core.regs) ≡ Some to
+taken_or_not : (image : ImageValue) (size : ℕ) (core : Core) (to : Cursor) (index offset : ℕ) → core.pc ≡ address index → (offset % 4 == 0) ≡ true → (taken : Bool)
+    → Some (cursor (plus index (if taken then shift_signed (offset % 2 ^ 32) 2 else 1)) core.regs) ≡ Some to
     → effect_next image size core (if taken then jump 0 0 (plus core.pc offset) else does.Plain (plus core.pc 4) 0 0) ≡ Goes (core_at core to 1)
 taken_or_not image size core to index offset here whole true is = by_offset image size core to index 0 0 offset here whole is
 taken_or_not image size core to index offset here whole false is = onward core to index 0 0 here is
 
-branch : (image : ImageValue) (size : ℕ) (core : Core) (to : Place) (index : ℕ) (cond : Cond) (rs1 rs2 offset : ℕ) → core.pc ≡ address index → (whole : Bool) → (offset % 4 == 0) ≡ whole
-    → shape_next (if whole then Branch cond rs1 rs2 (shift_signed (offset % 2 ^ 32) 2) else Other) (place index core.regs) ≡ Some to
+branch : (image : ImageValue) (size : ℕ) (core : Core) (to : Cursor) (index : ℕ) (cond : Cond) (rs1 rs2 offset : ℕ) → core.pc ≡ address index → (whole : Bool) → (offset % 4 == 0) ≡ whole
+    → shape_next (if whole then Branch cond rs1 rs2 (shift_signed (offset % 2 ^ 32) 2) else Other) (cursor index core.regs) ≡ Some to
     → effect_next image size core (if holds cond (slice_index core.regs rs1) (slice_index core.regs rs2) then jump 0 0 (plus core.pc offset) else does.Plain (plus core.pc 4) 0 0) ≡ Goes (core_at core to 1)
 branch image size core to index cond rs1 rs2 offset here true whole is =
     taken_or_not image size core to index offset here whole (holds cond (slice_index core.regs rs1) (slice_index core.regs rs2)) is
 branch image size core to index cond rs1 rs2 offset here false whole is = cc
 
 -- where the operation of an instruction leads, the instruction leads
-pub goes : (image : ImageValue) (size : ℕ) (core : Core) (to : Place) (index : ℕ) (found : Option Instr) → core.pc ≡ address index
-    → shape_next (word_shape core.pc found) (place index core.regs) ≡ Some to → instr_next image size core found ≡ Goes (core_at core to 1)
+pub goes : (image : ImageValue) (size : ℕ) (core : Core) (to : Cursor) (index : ℕ) (found : Option Instr) → core.pc ≡ address index
+    → shape_next (word_shape core.pc found) (cursor index core.regs) ≡ Some to → instr_next image size core found ≡ Goes (core_at core to 1)
 goes image size core to index None here is = cc
 goes image size core to index (Some (instr.Lui rd imm)) here is = onward core to index rd imm here is
 goes image size core to index (Some (instr.Auipc rd imm)) here is = onward core to index rd (plus core.pc imm) here is
@@ -138,8 +140,8 @@ goes image size core to index (Some (instr.Branch cond rs1 rs2 imm)) here is =
     branch image size core to index cond rs1 rs2 (word imm) here (word imm % 4 == 0) refl is
 goes image size core to index (Some (instr.Load width rd rs1 imm)) here is = cc
 goes image size core to index (Some (instr.Store width rs1 rs2 imm)) here is = cc
-goes image size core to index (Some (instr.OpImm op rd rs1 imm)) here is = onward core to index rd (value_of (with_register op) (slice_index core.regs rs1) (word imm)) here is
-goes image size core to index (Some (instr.Op op rd rs1 rs2)) here is = onward core to index rd (value_of op (slice_index core.regs rs1) (slice_index core.regs rs2)) here is
+goes image size core to index (Some (instr.OpImm op rd rs1 imm)) here is = onward core to index rd (op_value (with_register op) (slice_index core.regs rs1) (word imm)) here is
+goes image size core to index (Some (instr.Op op rd rs1 rs2)) here is = onward core to index rd (op_value op (slice_index core.regs rs1) (slice_index core.regs rs2)) here is
 goes image size core to index (Some instr.Fence) here is = onward core to index 0 0 here is
 goes image size core to index (Some instr.Ecall) here is = cc
 goes image size core to index (Some instr.Ebreak) here is = cc
@@ -179,18 +181,18 @@ low_of size addr n within = leb-true _ _ (first _ _ within)
     first false b is = cc
 
 load_stops : (image : ImageValue) (size : ℕ) (core : Core) (found : Stop) (width : LoadWidth) (rd addr : ℕ) → length image.text ≤ 65536
-    → access size addr (load_bytes width) (stop.Load width rd addr) ≡ Some found → effect_next image size core (does.Load width rd addr) ≡ Stops found
+    → access size addr (load_width width) (stop.Load width rd addr) ≡ Some found → effect_next image size core (does.Load width rd addr) ≡ Stops found
 load_stops image size core found width rd addr short is =
-    let n = load_bytes width in
+    let n = load_width width in
     let (aligned, below, within, same) = accessed (addr % n == 0) (nat_lt addr STACK_START) (is_within DATA_START size addr n) (stop.Load width rd addr) found is in
     let beyond = text_beyond image.text addr n short (low_of size addr n within) in
     let outside = not_in_stack image.version addr n below in
     rw (aligned, beyond, outside, within) (ap Stops same)
 
 store_stops : (image : ImageValue) (size : ℕ) (core : Core) (found : Stop) (width : StoreWidth) (addr value : ℕ)
-    → access size addr (store_bytes width) (stop.Store width addr value) ≡ Some found → effect_next image size core (does.Store width addr value) ≡ Stops found
+    → access size addr (store_width width) (stop.Store width addr value) ≡ Some found → effect_next image size core (does.Store width addr value) ≡ Stops found
 store_stops image size core found width addr value is =
-    let n = store_bytes width in
+    let n = store_width width in
     let (aligned, below, within, same) = accessed (addr % n == 0) (nat_lt addr STACK_START) (is_within DATA_START size addr n) (stop.Store width addr value) found is in
     let outside = not_in_stack image.version addr n below in
     rw (aligned, outside, within) (ap Stops same)
@@ -214,21 +216,21 @@ high_of version addr n within =
 stack_loads : (image : ImageValue) (size : ℕ) (core : Core) (to : Point) (index : ℕ) (width : LoadWidth) (rd addr : ℕ) → length image.text ≤ 65536 → core.pc ≡ address index
     → stack_load image.version width rd addr (point index core.regs core.stack) ≡ Some to → effect_next image size core (does.Load width rd addr) ≡ Goes (core_at_point core to 1)
 stack_loads image size core to index width rd addr short here is =
-    let n = load_bytes width in
+    let n = load_width width in
     let value = loaded_value width (number_at core.stack (addr - STACK_START) n) in
-    let next : Place = put (place index core.regs) rd value in
-    let one : Point = record { place = next; stack = core.stack } in
+    let next : Cursor = cursor_after_put (cursor index core.regs) rd value in
+    let one : Point = record { cursor = next; stack = core.stack } in
     let (aligned, within, same) = reached (addr % n == 0) (is_in_stack image.version addr n) one to is in
     let beyond = text_beyond image.text addr n short (high_of image.version addr n within) in
-    let gone : Goes (moved core (plus core.pc 4) rd value) ≡ Goes (core_at_point core to 1) = onward core next index rd value here refl ∙ ap (λ (t : Point). Goes (core_at_point core t 1)) same in
+    let gone : Goes (core_after core (plus core.pc 4) rd value) ≡ Goes (core_at_point core to 1) = onward core next index rd value here refl ∙ ap (λ (t : Point). Goes (core_at_point core t 1)) same in
     rw (aligned, beyond, within) gone
 
 stack_stores : (image : ImageValue) (size : ℕ) (core : Core) (to : Point) (index : ℕ) (width : StoreWidth) (addr value : ℕ) → core.pc ≡ address index
     → stack_store image.version width addr value (point index core.regs core.stack) ≡ Some to → effect_next image size core (does.Store width addr value) ≡ Goes (core_at_point core to 1)
 stack_stores image size core to index width addr value here is =
-    let n = store_bytes width in
-    let stack = written core.stack (addr - STACK_START) n value in
-    let one : Point = record { place = place (plus index 1) core.regs; stack = stack } in
+    let n = store_width width in
+    let stack = after_write core.stack (addr - STACK_START) n value in
+    let one : Point = record { cursor = cursor (plus index 1) core.regs; stack = stack } in
     let (aligned, within, same) = reached (addr % n == 0) (is_in_stack image.version addr n) one to is in
     let pc : plus core.pc 4 ≡ address (plus index 1) = ap (λ pc. plus pc 4) here ∙ sym (address_next index) in
     let gone : Goes (after_store_of core width addr value) ≡ Goes (core_at_point core to 1) =
@@ -288,7 +290,7 @@ stops image size core found (Some instr.Ecall) short is = ap Stops (search rules
 stops image size core found (Some instr.Ebreak) short is = cc
 
 -- within the budget, what comes of the word at the core
-next_at-word : (image : ImageValue) (size budget : ℕ) (core : Core) (word : ℕ) → core.used < budget → fetched image.text core.pc ≡ Some word → next_at image size budget core ≡ instr_next image size core (decoded word)
+next_at-word : (image : ImageValue) (size budget : ℕ) (core : Core) (word : ℕ) → core.used < budget → fetched_word image.text core.pc ≡ Some word → next_at image size budget core ≡ instr_next image size core (instr_of_word word)
 unfolding next_at
 next_at-word image size budget core word used there =
     let below : nat_lt core.used budget ≡ true = lt-ltb _ _ used in
@@ -303,9 +305,9 @@ next_at-used_up image size budget core used =
 
 -- an operation of the text that touches registers and stack alone is a plain instruction
 pub op_goes : (image : ImageValue) (size budget : ℕ) (core : Core) (ops : List Op) (index : ℕ) (to : Point) → AreDecoded image ops → core.pc ≡ address index → core.used < budget
-    → OpStep image.version ops (point index core.regs core.stack) to → PlainStep image size budget core (core_at_point core to 1)
+    → OpLeads image.version ops (point index core.regs core.stack) to → PlainInstruction image size budget core (core_at_point core to 1)
 op_goes image size budget core ops index to made here used (op, there, is) =
-    by_registers (shape_next (shape op) (place index core.regs)) refl is
+    by_registers (shape_next (shape op) (cursor index core.regs)) refl is
   where
     one : IsOpOf image.text index op
     one = made.of index op there
@@ -313,48 +315,48 @@ op_goes image size budget core ops index to made here used (op, there, is) =
     from : Point
     from = point index core.regs core.stack
 
-    stands : next_at image size budget core ≡ instr_next image size core (decoded one.word)
-    stands = next_at-word image size budget core one.word used (ap (fetched image.text) here ∙ fetched_at image.text index one.word made.short one.there)
+    stands : next_at image size budget core ≡ instr_next image size core (instr_of_word one.word)
+    stands = next_at-word image size budget core one.word used (ap (fetched_word image.text) here ∙ fetched_at image.text index one.word made.short one.there)
 
-    same : word_shape core.pc (decoded one.word) ≡ shape op
-    same = ap (λ pc. word_shape pc (decoded one.word)) here ∙ sym one.same
+    same : word_shape core.pc (instr_of_word one.word) ≡ shape op
+    same = ap (λ pc. word_shape pc (instr_of_word one.word)) here ∙ sym one.same
 
-    by_registers : (next : Option Place) → shape_next (shape op) (place index core.regs) ≡ next
-        → option_or (option_map (λ place. record from { place = place }) next) (stack_next image.version (shape op) from) ≡ Some to
-        → PlainStep image size budget core (core_at_point core to 1)
+    by_registers : (next : Option Cursor) → shape_next (shape op) (cursor index core.regs) ≡ next
+        → option_or (option_map (λ place. record from { cursor = place }) next) (stack_next image.version (shape op) from) ≡ Some to
+        → PlainInstruction image size budget core (core_at_point core to 1)
     by_registers (Some next) leads goes_on =
-        let is_to : (record from { place = next }) ≡ to = cc in
-        subst (λ (t : Point). PlainStep image size budget core (core_at_point core t 1)) is_to
-        (stands ∙ goes image size core next index (decoded one.word) here (ap (λ s. shape_next s (place index core.regs)) same ∙ leads))
+        let is_to : (record from { cursor = next }) ≡ to = cc in
+        subst (λ (t : Point). PlainInstruction image size budget core (core_at_point core t 1)) is_to
+        (stands ∙ goes image size core next index (instr_of_word one.word) here (ap (λ s. shape_next s (cursor index core.regs)) same ∙ leads))
     by_registers None leads goes_on =
-        stands ∙ stack_goes image size core to index (decoded one.word) made.short here (ap (λ s. stack_next image.version s from) same ∙ goes_on)
+        stands ∙ stack_goes image size core to index (instr_of_word one.word) made.short here (ap (λ s. stack_next image.version s from) same ∙ goes_on)
 
 -- an operation of the text that stops is what stands there
 pub op_stops : (image : ImageValue) (size budget : ℕ) (core : Core) (ops : List Op) (index : ℕ) (op : Op) (found : Stop) → AreDecoded image ops → core.pc ≡ address index → core.used < budget
     → slice_get ops index ≡ Some op → shape_stop size (shape op) core.regs ≡ Some found → next_at image size budget core ≡ Stops found
 op_stops image size budget core ops index op found made here used there is =
     let one = made.of index op there in
-    next_at-word image size budget core one.word used (ap (fetched image.text) here ∙ fetched_at image.text index one.word made.short one.there)
-    ∙ stops image size core found (decoded one.word) made.short
-    (ap (λ s. shape_stop size s core.regs) (ap (λ pc. word_shape pc (decoded one.word)) here ∙ sym one.same) ∙ is)
+    next_at-word image size budget core one.word used (ap (fetched_word image.text) here ∙ fetched_at image.text index one.word made.short one.there)
+    ∙ stops image size core found (instr_of_word one.word) made.short
+    (ap (λ s. shape_stop size s core.regs) (ap (λ pc. word_shape pc (instr_of_word one.word)) here ∙ sym one.same) ∙ is)
 
 -- one operation more
-pub OpSteps-more : (version : ℕ) (ops : List Op) (n : ℕ) (from mid to : Point) → OpSteps version ops n from mid → OpStep version ops mid to → OpSteps version ops (n + 1) from to
-OpSteps-more version ops n from mid to front last =
+pub OpsLead-more : (version : ℕ) (ops : List Op) (n : ℕ) (from mid to : Point) → OpsLead version ops n from mid → OpLeads version ops mid to → OpsLead version ops (n + 1) from to
+OpsLead-more version ops n from mid to front last =
     let next : suc n ≡ n + 1 = omega arith in
-    subst (λ k. OpSteps version ops k from to) next (mid, front, last)
+    subst (λ k. OpsLead version ops k from to) next (mid, front, last)
 
 -- n operations are n plain instructions
 pub ops_go : (image : ImageValue) (size budget : ℕ) (core : Core) (ops : List Op) (n index : ℕ) (to : Point) → AreDecoded image ops → core.pc ≡ address index → core.used + n ≤ budget
-    → OpSteps image.version ops n (point index core.regs core.stack) to → PlainSteps image size budget n core (core_at_point core to n)
+    → OpsLead image.version ops n (point index core.regs core.stack) to → PlainInstructions image size budget n core (core_at_point core to n)
 ops_go image size budget core ops zero index to made here used same =
     let At : Point → Type 0 = λ to. core ≡ core_at_point core to 0 in
     subst At same (ap (λ pc. record core { pc = pc }) here ∙ ap (λ used. record core { pc = address index; used = used }) (sym (add-zero core.used)))
 ops_go image size budget core ops (suc n) index to made here used (mid, front, last) = (
   core_at_point core mid n,
   ops_go image size budget core ops n index mid made here (omega arith) front,
-  subst (λ used. PlainStep image size budget (core_at_point core mid n) (record core { pc = address to.place.index; regs = to.place.regs; used = used; stack = to.stack })) (omega arith)
-      (op_goes image size budget (core_at_point core mid n) ops mid.place.index to made refl (omega arith) last),
+  subst (λ used. PlainInstruction image size budget (core_at_point core mid n) (record core { pc = address to.cursor.index; regs = to.cursor.regs; used = used; stack = to.stack })) (omega arith)
+      (op_goes image size budget (core_at_point core mid n) ops mid.cursor.index to made refl (omega arith) last),
 )
 
 -- the same of what may stop

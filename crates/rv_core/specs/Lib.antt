@@ -1,3 +1,4 @@
+-- Contracts mean all but Ops, which serves this crate alone.
 pub mod Next
 pub mod Memory
 pub mod Legs

@@ -8,18 +8,18 @@ use Rattle.rv_table.specs.declared.instr.StoreWidth.{StoreWidth}
 use Rattle.rv_table.specs.declared.instr.StoreWidth.TheVariants as store
 
 -- how many bytes a load reads
-abbrev pub load_bytes : LoadWidth → ℕ
-load_bytes load.B = 1
-load_bytes load.H = 2
-load_bytes load.W = 4
-load_bytes load.Bu = 1
-load_bytes load.Hu = 2
+abbrev pub load_width : LoadWidth → ℕ
+load_width load.B = 1
+load_width load.H = 2
+load_width load.W = 4
+load_width load.Bu = 1
+load_width load.Hu = 2
 
 -- how many bytes a store writes
-abbrev pub store_bytes : StoreWidth → ℕ
-store_bytes store.B = 1
-store_bytes store.H = 2
-store_bytes store.W = 4
+abbrev pub store_width : StoreWidth → ℕ
+store_width store.B = 1
+store_width store.H = 2
+store_width store.W = 4
 
 -- whether n bytes from an address on lie wholly in the range of so many bytes from a start on
 abbrev pub is_within : ℕ → ℕ → ℕ → ℕ → Bool

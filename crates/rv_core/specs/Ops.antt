@@ -13,11 +13,11 @@ use Rattle.rv_table.specs.declared.instr.LoadWidth.{LoadWidth}
 use Rattle.rv_table.specs.declared.instr.StoreWidth.{StoreWidth}
 use Rattle.rv_table.specs.declared.instr.RegOp.{RegOp}
 use Rattle.rv_table.specs.declared.instr.RegOp.TheVariants as reg_op
-use Rattle.rv_table.specs.Exec.{plus, minus, word, holds, value_of, with_register, shift_signed, loaded_value}
+use Rattle.rv_table.specs.Exec.{plus, minus, word, holds, op_value, with_register, shift_signed, loaded_value}
 use Rattle.rv_table.specs.Regs.{set_word}
-use Rattle.rv_table.specs.Table.{decoded}
-use Rattle.rv_core.specs.Memory.{load_bytes, store_bytes, is_within, is_in_stack}
-use Rattle.undo_log.specs.Number.{number_at, written}
+use Rattle.rv_table.specs.Table.{instr_of_word}
+use Rattle.rv_core.specs.Memory.{load_width, store_width, is_within, is_in_stack}
+use Rattle.undo_log.specs.Number.{number_at, after_write}
 use Rattle.rv_core.specs.declared.op.Op.{Op}
 use Rattle.rv_core.specs.declared.op.Op.TheVariants as op
 use Rattle.rv_core.specs.declared.state.Core.{Core}
@@ -106,46 +106,46 @@ address index = (TEXT_START + 4 * index) % 2 ^ 32
 pub record IsOpOf (text : List ℕ) (index : ℕ) (op : Op) : Type 0 where
   pub word : ℕ
   pub there : slice_get text index ≡ Some word
-  pub same : shape op ≡ word_shape (address index) (decoded word)
+  pub same : shape op ≡ word_shape (address index) (instr_of_word word)
 
 -- each operation is that of the word where it stands
 abbrev pub AreOf : List ℕ → List Op → Type 0
 AreOf text ops = (index : ℕ) (op : Op) → slice_get ops index ≡ Some op → IsOpOf text index op
 
 -- which word of the text stands next, and the registers
-pub record Place : Type 0 where
+pub record Cursor : Type 0 where
   pub index : ℕ
   pub regs : List ℕ
 
-abbrev pub place : ℕ → List ℕ → Place
-place index regs = record { index = index; regs = regs }
+abbrev pub cursor : ℕ → List ℕ → Cursor
+cursor index regs = record { index = index; regs = regs }
 
 -- on to the next word, with a register written
-abbrev pub put : Place → ℕ → ℕ → Place
-put from rd value = place (plus from.index 1) (set_word from.regs rd value)
+abbrev pub cursor_after_put : Cursor → ℕ → ℕ → Cursor
+cursor_after_put from rd value = cursor (plus from.index 1) (set_word from.regs rd value)
 
 -- to an address, with a register written: none where it is no multiple of 4
-abbrev pub jump_to : Place → ℕ → ℕ → Option Place
+abbrev pub jump_to : Cursor → ℕ → ℕ → Option Cursor
 jump_to from rd target =
     if target % 4 == 0
-    then Some (place (minus target TEXT_START / 4) (set_word from.regs rd (plus (address from.index) 4)))
+    then Some (cursor (minus target TEXT_START / 4) (set_word from.regs rd (plus (address from.index) 4)))
     else None
 
 -- where an operation leads that touches registers alone
-abbrev pub shape_next : Shape → Place → Option Place
-shape_next (Put rd value) from = Some (put from rd value)
+abbrev pub shape_next : Shape → Cursor → Option Cursor
+shape_next (Put rd value) from = Some (cursor_after_put from rd value)
 shape_next (Jump rd words) from =
-    Some (place (plus from.index words) (set_word from.regs rd (plus (address from.index) 4)))
+    Some (cursor (plus from.index words) (set_word from.regs rd (plus (address from.index) 4)))
 shape_next (JumpTo rd rs1 imm) from = jump_to from rd (plus (slice_index from.regs rs1) imm / 2 * 2)
 shape_next (Branch cond rs1 rs2 words) from =
     let taken = holds cond (slice_index from.regs rs1) (slice_index from.regs rs2) in
-    Some (place (plus from.index (if taken then words else 1)) from.regs)
-shape_next (Imm op rd rs1 imm) from = Some (put from rd (value_of op (slice_index from.regs rs1) imm))
+    Some (cursor (plus from.index (if taken then words else 1)) from.regs)
+shape_next (Imm op rd rs1 imm) from = Some (cursor_after_put from rd (op_value op (slice_index from.regs rs1) imm))
 shape_next (Two op rd rs1 rs2) from =
-    Some (put from rd (value_of op (slice_index from.regs rs1) (slice_index from.regs rs2)))
+    Some (cursor_after_put from rd (op_value op (slice_index from.regs rs1) (slice_index from.regs rs2)))
 shape_next (Load width rd rs1 imm) from = None
 shape_next (Store width rs1 rs2 imm) from = None
-shape_next Fence from = Some (place (plus from.index 1) from.regs)
+shape_next Fence from = Some (cursor (plus from.index 1) from.regs)
 shape_next Ecall from = None
 shape_next Other from = None
 
@@ -157,10 +157,10 @@ access size addr n found =
 -- what an operation stops at, where its shape alone tells it
 abbrev pub shape_stop : ℕ → Shape → List ℕ → Option Stop
 shape_stop size (Load width rd rs1 imm) regs =
-    access size (plus (slice_index regs rs1) imm) (load_bytes width)
+    access size (plus (slice_index regs rs1) imm) (load_width width)
     (stop.Load width rd (plus (slice_index regs rs1) imm))
 shape_stop size (Store width rs1 rs2 imm) regs =
-    access size (plus (slice_index regs rs1) imm) (store_bytes width)
+    access size (plus (slice_index regs rs1) imm) (store_width width)
     (stop.Store width (plus (slice_index regs rs1) imm) (slice_index regs rs2))
 shape_stop size Ecall regs = Some stop.Call
 shape_stop size (Put rd value) regs = None
@@ -178,22 +178,22 @@ found_stop size None regs = None
 found_stop size (Some op) regs = shape_stop size (shape op) regs
 
 -- where the code went: none where it went nowhere
-abbrev pub went : Option ℕ → List ℕ → Option Place
-went None regs = None
-went (Some index) regs = Some (place index regs)
+abbrev pub cursor_reached : Option ℕ → List ℕ → Option Cursor
+cursor_reached None regs = None
+cursor_reached (Some index) regs = Some (cursor index regs)
 
 -- a place with the bytes of the stack
 pub record Point : Type 0 where
-  pub place : Place
+  pub cursor : Cursor
   pub stack : List ℕ
 
 abbrev pub point : ℕ → List ℕ → List ℕ → Point
-point index regs stack = record { place = place index regs; stack = stack }
+point index regs stack = record { cursor = cursor index regs; stack = stack }
 
 -- where the code went, with the stack: none where it went nowhere
-abbrev pub went_on : Option ℕ → List ℕ → List ℕ → Option Point
-went_on None regs stack = None
-went_on (Some index) regs stack = Some (point index regs stack)
+abbrev pub point_reached : Option ℕ → List ℕ → List ℕ → Option Point
+point_reached None regs stack = None
+point_reached (Some index) regs stack = Some (point index regs stack)
 
 -- whether an access is aligned and lies in the stack
 abbrev pub is_stack_access : ℕ → ℕ → ℕ → Bool
@@ -202,28 +202,30 @@ is_stack_access version addr n = (addr % n == 0) && is_in_stack version addr n
 -- a load from the stack: none where it is misaligned or elsewhere
 abbrev pub stack_load : ℕ → LoadWidth → ℕ → ℕ → Point → Option Point
 stack_load version width rd addr from =
-    if is_stack_access version addr (load_bytes width)
+    if is_stack_access version addr (load_width width)
     then Some (record from {
-      place = put from.place rd (loaded_value width (number_at from.stack (addr - STACK_START) (load_bytes width)));
+      cursor =
+          cursor_after_put from.cursor rd
+          (loaded_value width (number_at from.stack (addr - STACK_START) (load_width width)));
     })
     else None
 
 -- a store to the stack: none where it is misaligned or elsewhere
 abbrev pub stack_store : ℕ → StoreWidth → ℕ → ℕ → Point → Option Point
 stack_store version width addr value from =
-    if is_stack_access version addr (store_bytes width)
+    if is_stack_access version addr (store_width width)
     then Some (record {
-      place = place (plus from.place.index 1) from.place.regs;
-      stack = written from.stack (addr - STACK_START) (store_bytes width) value;
+      cursor = cursor (plus from.cursor.index 1) from.cursor.regs;
+      stack = after_write from.stack (addr - STACK_START) (store_width width) value;
     })
     else None
 
 -- where an access of the stack leads
 abbrev pub stack_next : ℕ → Shape → Point → Option Point
 stack_next version (Load width rd rs1 imm) from =
-    stack_load version width rd (plus (slice_index from.place.regs rs1) imm) from
+    stack_load version width rd (plus (slice_index from.cursor.regs rs1) imm) from
 stack_next version (Store width rs1 rs2 imm) from =
-    stack_store version width (plus (slice_index from.place.regs rs1) imm) (slice_index from.place.regs rs2) from
+    stack_store version width (plus (slice_index from.cursor.regs rs1) imm) (slice_index from.cursor.regs rs2) from
 stack_next version (Put rd value) from = None
 stack_next version (Jump rd words) from = None
 stack_next version (JumpTo rd rs1 imm) from = None
@@ -237,27 +239,27 @@ stack_next version Other from = None
 -- where an operation leads: by its registers alone, else by the stack
 abbrev pub op_next : ℕ → Shape → Point → Option Point
 op_next version shape from =
-    option_or (option_map (λ to. record from { place = to }) (shape_next shape from.place))
+    option_or (option_map (λ to. record from { cursor = to }) (shape_next shape from.cursor))
     (stack_next version shape from)
 
 -- the operation that stands at a point leads to another one
-abbrev pub OpStep : ℕ → List Op → Point → Point → Type 0
-OpStep version ops from to =
-    (op : Op) × (slice_get ops from.place.index ≡ Some op) × (op_next version (shape op) from ≡ Some to)
+abbrev pub OpLeads : ℕ → List Op → Point → Point → Type 0
+OpLeads version ops from to =
+    (op : Op) × (slice_get ops from.cursor.index ≡ Some op) × (op_next version (shape op) from ≡ Some to)
 
 -- n operations lead from a point to another
-abbrev pub OpSteps : ℕ → List Op → ℕ → Point → Point → Type 0
-OpSteps version ops zero from to = from ≡ to
-OpSteps version ops (suc n) from to =
-    (mid : Point) × OpSteps version ops n from mid × OpStep version ops mid to
+abbrev pub OpsLead : ℕ → List Op → ℕ → Point → Point → Type 0
+OpsLead version ops zero from to = from ≡ to
+OpsLead version ops (suc n) from to =
+    (mid : Point) × OpsLead version ops n from mid × OpLeads version ops mid to
 
 -- the core at a place, with so many more instructions used
-abbrev pub core_at : Core → Place → ℕ → Core
+abbrev pub core_at : Core → Cursor → ℕ → Core
 core_at core to n = record core { pc = address to.index; regs = to.regs; used = core.used + n }
 
 -- the core at a point, with so many more instructions used
 abbrev pub core_at_point : Core → Point → ℕ → Core
-core_at_point core to n = record (core_at core to.place n) { stack = to.stack }
+core_at_point core to n = record (core_at core to.cursor n) { stack = to.stack }
 
 -- operations of the text of an image, each of its word
 pub record AreDecoded (image : ImageValue) (ops : List Op) : Type 0 where

@@ -4,7 +4,7 @@ use Rattle.guest_image.specs.ImageValue.{ImageValue}
 use Rattle.rv_core.specs.declared.state.Core.{Core}
 use Rattle.rv_core.specs.Next.{Next, Goes, Stops}
 use Rattle.rv_core.specs.Legs.{next_at}
-use Rattle.rv_core.specs.LegValue.{LegValue, IsRun}
+use Rattle.rv_core.specs.LegValue.{LegValue, IsLegOfImage}
 
 -- a core with other bytes as its stack
 abbrev pub with_stack : List ℕ → Core → Core
@@ -22,5 +22,6 @@ NoAddressReachesAStack = (image : ImageValue) (size budget : ℕ) (core : Core) 
 
 -- in an image of version 1 a leg leaves the stack as it was
 abbrev pub LegsKeepTheStack : Type 0
-LegsKeepTheStack = (image : ImageValue) (budget : ℕ) (leg : LegValue) → IsRun image budget leg → image.version ≡ 1
+LegsKeepTheStack = (image : ImageValue) (budget : ℕ) (leg : LegValue) → IsLegOfImage image budget leg
+    → image.version ≡ 1
     → leg.to.stack ≡ leg.from.stack

@@ -2,10 +2,10 @@
 
 ghost use Rattle.std.specs.Prelude.{◌≡◌, ◌+◌, ◌%◌, ◌^◌, ◌<◌, ◌≤◌, ℕ, length, slice_get, None, OnSome, IfSome};
 ghost use Rattle.rv_core.specs.Next.{Stops};
-ghost use Rattle.rv_core.specs.Legs.{IsLeg, IsInside, PlainSteps, next_at, given};
-ghost use Rattle.rv_core.specs.Ops.{IsOpOf, OpSteps, found_stop, point, shape, op_next, went_on};
+ghost use Rattle.rv_core.specs.Legs.{IsLeg, StopIsInData, PlainInstructions, next_at, next_given};
+ghost use Rattle.rv_core.specs.Ops.{IsOpOf, OpsLead, found_stop, point, shape, op_next, point_reached};
 
-use crate::legs::step;
+use crate::legs::execute;
 use crate::naming::Naming;
 use crate::op::{Op, act, act_on_stack, address_of, op_of, stop_of};
 use crate::state::{Core, Head, Stop};
@@ -69,7 +69,7 @@ impl<N: Naming> Decoded<N> {
         ensures bound { result ≤ limit }
         ensures used { core.new.used ≡ core.old.used + result }
         ensures steps { (size budget : ℕ) → core.old.used + limit ≤ budget
-            → PlainSteps N.image size budget result core.old core.new }
+            → PlainInstructions N.image size budget result core.old core.new }
     {
         if core.pc % 4 != 0 {
             return 0;
@@ -146,7 +146,7 @@ fn do_ops(
 ) -> (u32, u32)
     ensures bound { result.1 ≤ limit }
     ensures steps { let from = point start regs.old stack.old in
-        OpSteps version ops.now result.1 from (point result.0 regs.new stack.new) }
+        OpsLead version ops.now result.1 from (point result.0 regs.new stack.new) }
 {
     let mut index = start;
     for steps in 0..limit {
@@ -170,7 +170,7 @@ fn act_whole(
     stack: &mut [u8; 1024],
 ) -> Option<u32>
     ensures next { let from = point index regs.old stack.old in
-        went_on result regs.new stack.new ≡ op_next version (shape op.now) from }
+        point_reached result regs.new stack.new ≡ op_next version (shape op.now) from }
     ensures stays { result ≡ None → (regs.new ≡ regs.old) × (stack.new ≡ stack.old) }
 {
     match act(op, index, regs) {
@@ -180,7 +180,7 @@ fn act_whole(
 }
 
 /// Executes the plain instruction that stands at a core, or tells what stands there.
-fn step_here<N: Naming>(
+fn execute_here<N: Naming>(
     decoded: &Decoded<N>,
     image: &Image,
     data_size: u32,
@@ -189,7 +189,7 @@ fn step_here<N: Naming>(
 ) -> Option<Stop>
     requires image { image.now ≡ N.image }
     requires used { core.old.used < budget }
-    ensures next { given core.new result ≡ next_at image.now data_size budget core.old }
+    ensures next { next_given core.new result ≡ next_at image.now data_size budget core.old }
     ensures stopped { OnSome result (core.new ≡ core.old) }
 {
     if let Some(stop) = decoded.stop_at(data_size, core) {
@@ -200,7 +200,7 @@ fn step_here<N: Naming>(
         regs: core.regs,
         used: core.used,
     };
-    let found = step::<2>(image, data_size, &mut head, &mut core.stack, budget);
+    let found = execute::<2>(image, data_size, &mut head, &mut core.stack, budget);
     core.pc = head.pc;
     core.regs = head.regs;
     core.used = head.used;
@@ -220,7 +220,7 @@ fn turn<N: Naming>(
     requires image { image.now ≡ N.image }
     requires room { 1 ≤ room }
     requires used { core.old.used + room ≤ budget }
-    ensures run { PlainSteps image.now data_size budget result.0 core.old core.new }
+    ensures run { PlainInstructions image.now data_size budget result.0 core.old core.new }
     ensures bound { result.0 ≤ room }
     ensures used { core.new.used ≡ core.old.used + result.0 }
     ensures some { result.1 ≡ None → 1 ≤ result.0 }
@@ -231,7 +231,7 @@ fn turn<N: Naming>(
     if steps == room {
         return (steps, None);
     }
-    match step_here(decoded, image, data_size, core, budget) {
+    match execute_here(decoded, image, data_size, core, budget) {
         Some(stop) => (steps, Some(stop)),
         None => (steps + 1, None),
     }
@@ -252,7 +252,7 @@ pub fn run_decoded<N: Naming>(
     requires quantum { (1 ≤ quantum) × (quantum ≤ 1024) }
     requires used { core.old.used ≤ budget }
     ensures leg { IsLeg image.now data_size budget quantum core.old core.new result.0 result.1 }
-    ensures inside { IsInside data_size result.1 }
+    ensures inside { StopIsInData data_size result.1 }
     ensures used { (core.new.used ≡ core.old.used + result.0) × (core.new.used ≤ budget) }
 {
     let limit = limit_of(quantum, budget, core.used);

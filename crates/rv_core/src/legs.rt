@@ -2,10 +2,10 @@
 
 ghost use Rattle.rv_table.specs.Regs.{set_word};
 ghost use Rattle.std.specs.Prelude.{◌≡◌, ◌+◌, ◌%◌, ◌^◌, ◌-◌, ◌⊎◌, ◌<◌, ◌≤◌, OnSome};
-ghost use Rattle.rv_core.specs.Memory.{load_bytes, store_bytes, is_within, is_in_stack};
+ghost use Rattle.rv_core.specs.Memory.{load_width, store_width, is_within, is_in_stack};
 ghost use Rattle.rv_core.specs.Legs.{after_other_of, after_load_of, load_next, store_next, plain_loaded};
-ghost use Rattle.rv_core.specs.Legs.{effect_next, next_at, given};
-ghost use Rattle.rv_core.specs.Legs.{IsLeg, IsInside, whole};
+ghost use Rattle.rv_core.specs.Legs.{effect_next, next_at, next_given};
+ghost use Rattle.rv_core.specs.Legs.{IsLeg, StopIsInData, core_of_parts};
 
 use crate::state::{Core, Head, Plain, Stop};
 use guest_image::{DATA_START, Image, STACK_BYTES, STACK_START};
@@ -13,8 +13,8 @@ use rv_table::{Effect, LoadWidth, Reg, StoreWidth, decode_at, effect, loaded};
 use undo_log::{number_in, write_in};
 
 /// How many bytes a load of this width reads: 1, 2 or 4.
-pub fn bytes_of_load(width: LoadWidth) -> u8
-    ensures { result ≡ load_bytes width }
+pub fn width_of_load(width: LoadWidth) -> u8
+    ensures { result ≡ load_width width }
 {
     match width {
         LoadWidth::B | LoadWidth::Bu => 1,
@@ -24,8 +24,8 @@ pub fn bytes_of_load(width: LoadWidth) -> u8
 }
 
 /// How many bytes a store of this width writes: 1, 2 or 4.
-pub fn bytes_of_store(width: StoreWidth) -> u8
-    ensures { result ≡ store_bytes width }
+pub fn width_of_store(width: StoreWidth) -> u8
+    ensures { result ≡ store_width width }
 {
     match width {
         StoreWidth::B => 1,
@@ -102,12 +102,13 @@ fn load(
     addr: u32,
 ) -> Option<Stop>
     requires room { head.old.used + 1 < 2 ^ 32 }
-    requires aligned { addr % load_bytes width ≡ 0 }
-    ensures next { let raw = plain_loaded image.now stack.now addr (load_bytes width) in
-        given (whole head.new stack.now) result ≡ load_next data_size (whole head.old stack.now) width rd addr raw }
+    requires aligned { addr % load_width width ≡ 0 }
+    ensures next { let raw = plain_loaded image.now stack.now addr (load_width width) in
+        next_given (core_of_parts head.new stack.now) result
+        ≡ load_next data_size (core_of_parts head.old stack.now) width rd addr raw }
     ensures stopped { OnSome result (head.new ≡ head.old) }
 {
-    let bytes = bytes_of_load(width);
+    let bytes = width_of_load(width);
     let len = u32::from(bytes);
     match plain_load(image, stack, addr, bytes) {
         Some(raw) => {
@@ -136,12 +137,13 @@ fn store(
     value: u32,
 ) -> Option<Stop>
     requires room { head.old.used + 1 < 2 ^ 32 }
-    requires aligned { addr % store_bytes width ≡ 0 }
-    ensures next { let from = whole head.old stack.old in
-        given (whole head.new stack.new) result ≡ store_next image.now.version data_size from width addr value }
-    ensures stopped { OnSome result (whole head.new stack.new ≡ whole head.old stack.old) }
+    requires aligned { addr % store_width width ≡ 0 }
+    ensures next { let from = core_of_parts head.old stack.old in
+        next_given (core_of_parts head.new stack.new) result
+        ≡ store_next image.now.version data_size from width addr value }
+    ensures stopped { OnSome result (core_of_parts head.new stack.new ≡ core_of_parts head.old stack.old) }
 {
-    let bytes = bytes_of_store(width);
+    let bytes = width_of_store(width);
     let len = u32::from(bytes);
     if is_in_stack(image.version(), addr, len) {
         write_in(stack, (addr - STACK_START) as usize, bytes, value);
@@ -164,9 +166,9 @@ fn obey(
     effect: Effect,
 ) -> Option<Stop>
     requires room { head.old.used + 1 < 2 ^ 32 }
-    ensures next { let from = whole head.old stack.old in
-        given (whole head.new stack.new) result ≡ effect_next image.now data_size from effect }
-    ensures stopped { OnSome result (whole head.new stack.new ≡ whole head.old stack.old) }
+    ensures next { let from = core_of_parts head.old stack.old in
+        next_given (core_of_parts head.new stack.new) result ≡ effect_next image.now data_size from effect }
+    ensures stopped { OnSome result (core_of_parts head.new stack.new ≡ core_of_parts head.old stack.old) }
 {
     match effect {
         Effect::Plain { pc, rd, value } => {
@@ -174,14 +176,14 @@ fn obey(
             None
         }
         Effect::Load { width, rd, addr } => {
-            if addr % u32::from(bytes_of_load(width)) == 0 {
+            if addr % u32::from(width_of_load(width)) == 0 {
                 load(image, data_size, head, stack, width, rd, addr)
             } else {
                 trap(head, 4)
             }
         }
         Effect::Store { width, addr, value } => {
-            if addr % u32::from(bytes_of_store(width)) == 0 {
+            if addr % u32::from(width_of_store(width)) == 0 {
                 store(image, data_size, head, stack, width, addr, value)
             } else {
                 trap(head, 6)
@@ -196,16 +198,16 @@ fn obey(
 /// Executes the plain instruction that stands at a core, or tells what stands there and leaves the core as it is.
 /// Inlined with `decode` and `effect`, so that no instruction or effect is built in memory.
 #[tactic(auto, unfolding(crate::specs::Legs::next_at))]
-pub(crate) fn step<const CALLER: usize>(
+pub(crate) fn execute<const CALLER: usize>(
     image: &Image,
     data_size: u32,
     head: &mut Head,
     stack: &mut [u8; 1024],
     budget: u32,
 ) -> Option<Stop>
-    ensures next { let from = whole head.old stack.old in
-        given (whole head.new stack.new) result ≡ next_at image.now data_size budget from }
-    ensures stopped { OnSome result (whole head.new stack.new ≡ whole head.old stack.old) }
+    ensures next { let from = core_of_parts head.old stack.old in
+        next_given (core_of_parts head.new stack.new) result ≡ next_at image.now data_size budget from }
+    ensures stopped { OnSome result (core_of_parts head.new stack.new ≡ core_of_parts head.old stack.old) }
 {
     if head.used >= budget {
         return trap(head, 17);
@@ -232,13 +234,13 @@ fn run_head(
 ) -> (u32, Stop)
     requires quantum { (1 ≤ quantum) × (quantum ≤ 1024) }
     requires used { head.old.used ≤ budget }
-    ensures leg { let from = whole head.old stack.old in
-        IsLeg image.now data_size budget quantum from (whole head.new stack.new) result.0 result.1 }
-    ensures inside { IsInside data_size result.1 }
+    ensures leg { let from = core_of_parts head.old stack.old in
+        IsLeg image.now data_size budget quantum from (core_of_parts head.new stack.new) result.0 result.1 }
+    ensures inside { StopIsInData data_size result.1 }
     ensures used { (head.new.used ≡ head.old.used + result.0) × (head.new.used ≤ budget) }
 {
     for steps in 0..quantum {
-        if let Some(stop) = step::<0>(image, data_size, head, stack, budget) {
+        if let Some(stop) = execute::<0>(image, data_size, head, stack, budget) {
             return (steps, stop);
         }
     }
@@ -257,7 +259,7 @@ pub(crate) fn run_in_place(
     requires quantum { (1 ≤ quantum) × (quantum ≤ 1024) }
     requires used { core.old.used ≤ budget }
     ensures leg { IsLeg image.now data_size budget quantum core.old core.new result.0 result.1 }
-    ensures inside { IsInside data_size result.1 }
+    ensures inside { StopIsInData data_size result.1 }
     ensures used { (core.new.used ≡ core.old.used + result.0) × (core.new.used ≤ budget) }
 {
     let mut head = Head {
@@ -291,7 +293,7 @@ pub fn run_plain_within(
     requires quantum { (1 ≤ quantum) × (quantum ≤ 1024) }
     requires used { from.now.used ≤ budget }
     ensures leg { IsLeg image.now data_size budget quantum from.now result.to result.steps result.stop }
-    ensures inside { IsInside data_size result.stop }
+    ensures inside { StopIsInData data_size result.stop }
     ensures used { (result.to.used ≡ from.now.used + result.steps) × (result.to.used ≤ budget) }
 {
     let mut to = *from;
@@ -307,7 +309,7 @@ pub fn run_plain(image: &Image, from: &Core, quantum: u32, budget: u32) -> Plain
     requires quantum { (1 ≤ quantum) × (quantum ≤ 1024) }
     requires used { from.now.used ≤ budget }
     ensures leg { IsLeg image.now image.now.data_size budget quantum from.now result.to result.steps result.stop }
-    ensures inside { IsInside image.now.data_size result.stop }
+    ensures inside { StopIsInData image.now.data_size result.stop }
     ensures used { (result.to.used ≡ from.now.used + result.steps) × (result.to.used ≤ budget) }
 {
     run_plain_within(image, image.data_size(), from, quantum, budget)

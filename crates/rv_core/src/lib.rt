@@ -1,7 +1,7 @@
 //! The core of a task and its runs of plain instructions: those that touch registers and text alone. A run goes on
 //! until a load from the data, a store, a call, a trap or its quantum stands next. It changes one core in place, at
 //! some sixty machine instructions for each plain instruction of the guest; no call takes memory. It stands on the
-//! instruction table and the image; both machines call it.
+//! instruction table, the image and `undo_log`; both machines, scripts, workers and a bench call it.
 #![tactic(auto)]
 
 mod decoded;
@@ -15,7 +15,7 @@ mod state;
 pub use decoded::{Decoded, run_decoded};
 pub use laws::{a_leg_keeps_the_stack_of_version_1, no_address_reaches_a_stack};
 pub use legs::{
-    after_load, after_other, bytes_of_load, bytes_of_store, run_plain, run_plain_within,
+    after_load, after_other, run_plain, run_plain_within, width_of_load, width_of_store,
 };
 pub use naming::{Leg, Naming, run_leg, run_leg_decoded};
 pub use noted::NotedCore;

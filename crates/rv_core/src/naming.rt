@@ -4,7 +4,7 @@ ghost use Rattle.std.specs.Prelude.{◌≡◌, ◌^◌, ◌-◌, ◌<◌, ◌≤
 ghost use Rattle.guest_image.specs.ImageValue.{ImageValue, image_value};
 ghost use Rattle.guest_image.specs.declared.image.Kind.TheVariants.{Unordered};
 ghost use Rattle.rv_core.specs.Legs.{IsLeg, after_load_of, after_other_of};
-ghost use Rattle.rv_core.specs.LegValue.{IsRun};
+ghost use Rattle.rv_core.specs.LegValue.{IsLegOfImage};
 
 use crate::decoded::Decoded;
 use crate::noted::NotedCore;
@@ -47,14 +47,14 @@ pub struct Leg<N: Naming> {
 }
 
 impl<N: Naming> Model for Leg<N> {
-    ghost use Rattle.rv_core.specs.LegValue.{LegValue, IsRun};
+    ghost use Rattle.rv_core.specs.LegValue.{LegValue, IsLegOfImage};
 
     ghost Value = { LegValue };
 
     ghost view = { λ l. record { from = l.from; to = l.to; steps = l.steps; stop = l.stop } };
 
     ghost invariant = { λ l.
-        IsRun N.image N.budget
+        IsLegOfImage N.image N.budget
         (record { from = l.from; to = l.to; steps = l.steps; stop = l.stop }) };
 }
 
@@ -62,7 +62,7 @@ impl<N: Naming> Leg<N> {
     /// The core at which it begins.
     pub fn from(&self) -> &Core
         ensures value { result.now ≡ self.now.from }
-        ensures run { IsRun N.image N.budget self.now }
+        ensures run { IsLegOfImage N.image N.budget self.now }
     {
         self.from.core()
     }
@@ -70,7 +70,7 @@ impl<N: Naming> Leg<N> {
     /// The core at which it ends.
     pub fn to(&self) -> &Core
         ensures value { result.now ≡ self.now.to }
-        ensures run { IsRun N.image N.budget self.now }
+        ensures run { IsLegOfImage N.image N.budget self.now }
     {
         self.to.core()
     }
@@ -78,7 +78,7 @@ impl<N: Naming> Leg<N> {
     /// How many instructions it has.
     pub fn steps(&self) -> u32
         ensures value { result ≡ self.now.steps }
-        ensures run { IsRun N.image N.budget self.now }
+        ensures run { IsLegOfImage N.image N.budget self.now }
     {
         self.steps
     }
@@ -86,7 +86,7 @@ impl<N: Naming> Leg<N> {
     /// What it stopped at.
     pub fn stop(&self) -> Stop
         ensures value { result ≡ self.now.stop }
-        ensures run { IsRun N.image N.budget self.now }
+        ensures run { IsLegOfImage N.image N.budget self.now }
     {
         self.stop
     }
@@ -107,7 +107,7 @@ impl<N: Naming> Leg<N> {
         ensures from { self.new.from ≡ from.now }
         ensures leg { let to = self.new.to in
             IsLeg image.now image.now.data_size budget quantum from.now to self.new.steps self.new.stop }
-        ensures run { IsRun image.now budget self.new }
+        ensures run { IsLegOfImage image.now budget self.new }
     {
         self.from.put(from);
         self.to.put(from);
@@ -157,11 +157,11 @@ pub fn run_leg<N: Naming>(image: &Image, from: &Core, quantum: u32, budget: u32)
     requires used { from.now.used ≤ budget }
     ensures from { result.from ≡ from.now }
     ensures leg { IsLeg image.now image.now.data_size budget quantum from.now result.to result.steps result.stop }
-    ensures run { IsRun image.now budget result }
+    ensures run { IsLegOfImage image.now budget result }
 {
     let from = NotedCore::of(from);
     let mut leg = Leg {
-        to: from.copied(),
+        to: from.copy(),
         from,
         steps: 0,
         stop: Stop::Quantum,
@@ -187,11 +187,11 @@ pub fn run_leg_decoded<N: Naming>(
     requires used { from.now.used ≤ budget }
     ensures from { result.from ≡ from.now }
     ensures leg { IsLeg image.now image.now.data_size budget quantum from.now result.to result.steps result.stop }
-    ensures run { IsRun image.now budget result }
+    ensures run { IsLegOfImage image.now budget result }
 {
     let from = NotedCore::of(from);
     let mut leg = Leg {
-        to: from.copied(),
+        to: from.copy(),
         from,
         steps: 0,
         stop: Stop::Quantum,

@@ -1,7 +1,7 @@
 //! Cores that stay in their places, and note whether their stack is empty: an empty stack is never copied.
 
 ghost use Rattle.std.specs.Prelude.{◌≡◌, ◌+◌, ◌^◌, ◌-◌, ◌<◌, ◌≤◌, ◌↔◌, true, IsTrue};
-ghost use Rattle.rv_core.specs.Legs.{IsLeg, IsInside, start_of, after_load_of, after_other_of};
+ghost use Rattle.rv_core.specs.Legs.{IsLeg, StopIsInData, start_of, after_load_of, after_other_of};
 ghost use Rattle.rv_core.specs.Memory.{empty_stack};
 
 use crate::decoded::{Decoded, run_decoded};
@@ -63,7 +63,7 @@ impl NotedCore {
     }
 
     /// The same core once more.
-    pub(crate) fn copied(&self) -> NotedCore
+    pub(crate) fn copy(&self) -> NotedCore
         ensures { result ≡ self.now }
     {
         NotedCore {
@@ -158,7 +158,7 @@ impl NotedCore {
         requires quantum { (1 ≤ quantum) × (quantum ≤ 1024) }
         requires used { self.old.used ≤ budget }
         ensures leg { IsLeg image.now image.now.data_size budget quantum self.old self.new result.0 result.1 }
-        ensures inside { IsInside image.now.data_size result.1 }
+        ensures inside { StopIsInData image.now.data_size result.1 }
         ensures used { (self.new.used ≡ self.old.used + result.0) × (self.new.used ≤ budget) }
     {
         let done = run_in_place(image, image.data_size(), &mut self.core, quantum, budget);
@@ -178,7 +178,7 @@ impl NotedCore {
         requires quantum { (1 ≤ quantum) × (quantum ≤ 1024) }
         requires used { self.old.used ≤ budget }
         ensures leg { IsLeg image.now image.now.data_size budget quantum self.old self.new result.0 result.1 }
-        ensures inside { IsInside image.now.data_size result.1 }
+        ensures inside { StopIsInData image.now.data_size result.1 }
         ensures used { (self.new.used ≡ self.old.used + result.0) × (self.new.used ≤ budget) }
     {
         let size = image.data_size();

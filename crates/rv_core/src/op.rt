@@ -2,14 +2,16 @@
 
 ghost use Rattle.std.specs.Prelude.{◌≡◌, ◌<◌, ◌%◌, ◌^◌, None};
 ghost use Rattle.guest_image.specs.declared.memory_map.TheConstants.{TEXT_START};
-ghost use Rattle.rv_table.specs.Exec.{plus, word, value_of, with_register, shift_signed, holds};
-ghost use Rattle.rv_table.specs.Table.{decoded};
-ghost use Rattle.rv_core.specs.Ops.{Shape, shape, in_words, instr_shape, word_shape, address, place, put, jump_to};
+ghost use Rattle.rv_table.specs.Exec.{plus, word, op_value, with_register, shift_signed, holds};
+ghost use Rattle.rv_table.specs.Table.{instr_of_word};
+ghost use Rattle.rv_core.specs.Ops.{Shape, shape, in_words, instr_shape, word_shape, address, cursor, cursor_after_put};
+ghost use Rattle.rv_core.specs.Ops.{jump_to};
 ghost use Rattle.rv_core.specs.Ops.{shape_next};
-ghost use Rattle.rv_core.specs.Ops.{access, shape_stop, went, went_on, point, is_stack_access, stack_load};
+ghost use Rattle.rv_core.specs.Ops.{access, shape_stop, cursor_reached, point_reached, point, is_stack_access};
+ghost use Rattle.rv_core.specs.Ops.{stack_load};
 ghost use Rattle.rv_core.specs.Ops.{stack_store, stack_next};
 
-use crate::legs::{bytes_of_load, bytes_of_store, is_in, is_in_stack};
+use crate::legs::{is_in, is_in_stack, width_of_load, width_of_store};
 use crate::state::Stop;
 use guest_image::{DATA_START, STACK_START, TEXT_START};
 use rv_table::{
@@ -313,7 +315,7 @@ fn instr_op(instr: Instr, pc: u32) -> Op
 
 /// The operation of a word at a pc.
 pub(crate) fn op_of(word: u32, pc: u32) -> Op
-    ensures { shape result ≡ word_shape pc (decoded word) }
+    ensures { shape result ≡ word_shape pc (instr_of_word word) }
 {
     match decode_at::<1>(word) {
         Some(instr) => instr_op(instr, pc),
@@ -337,7 +339,7 @@ fn address_behind(index: u32) -> u32
 
 /// On to the next word, with a register written.
 fn go_on(index: u32, regs: &mut Regs, rd: Reg, value: u32) -> Option<u32>
-    ensures { went result regs.new ≡ Some (put (place index regs.old) rd value) }
+    ensures { cursor_reached result regs.new ≡ Some (cursor_after_put (cursor index regs.old) rd value) }
 {
     regs.set(rd, value);
     Some(index.wrapping_add(1))
@@ -345,7 +347,7 @@ fn go_on(index: u32, regs: &mut Regs, rd: Reg, value: u32) -> Option<u32>
 
 /// An operation with an immediate.
 fn by_imm(op: RegOp, index: u32, regs: &mut Regs, rd: Reg, rs1: Reg, imm: u32) -> Option<u32>
-    ensures { went result regs.new ≡ shape_next (Shape.Imm op rd rs1 imm) (place index regs.old) }
+    ensures { cursor_reached result regs.new ≡ shape_next (Shape.Imm op rd rs1 imm) (cursor index regs.old) }
 {
     let value = compute(op, regs.get(rs1), imm);
     go_on(index, regs, rd, value)
@@ -353,7 +355,7 @@ fn by_imm(op: RegOp, index: u32, regs: &mut Regs, rd: Reg, rs1: Reg, imm: u32) -
 
 /// An operation on two registers.
 fn by_two(op: RegOp, index: u32, regs: &mut Regs, rd: Reg, rs1: Reg, rs2: Reg) -> Option<u32>
-    ensures { went result regs.new ≡ shape_next (Shape.Two op rd rs1 rs2) (place index regs.old) }
+    ensures { cursor_reached result regs.new ≡ shape_next (Shape.Two op rd rs1 rs2) (cursor index regs.old) }
 {
     let value = compute(op, regs.get(rs1), regs.get(rs2));
     go_on(index, regs, rd, value)
@@ -361,7 +363,7 @@ fn by_two(op: RegOp, index: u32, regs: &mut Regs, rd: Reg, rs1: Reg, rs2: Reg) -
 
 /// A branch.
 fn by_cond(cond: Cond, index: u32, regs: &Regs, rs1: Reg, rs2: Reg, words: u32) -> Option<u32>
-    ensures { went result regs.now ≡ shape_next (Shape.Branch cond rs1 rs2 words) (place index regs.now) }
+    ensures { cursor_reached result regs.now ≡ shape_next (Shape.Branch cond rs1 rs2 words) (cursor index regs.now) }
 {
     let by = if is_met(cond, regs.get(rs1), regs.get(rs2)) {
         words
@@ -373,7 +375,7 @@ fn by_cond(cond: Cond, index: u32, regs: &Regs, rs1: Reg, rs2: Reg, words: u32) 
 
 /// JAL
 fn jump(index: u32, regs: &mut Regs, rd: Reg, words: u32) -> Option<u32>
-    ensures { went result regs.new ≡ shape_next (Shape.Jump rd words) (place index regs.old) }
+    ensures { cursor_reached result regs.new ≡ shape_next (Shape.Jump rd words) (cursor index regs.old) }
 {
     regs.set(rd, address_behind(index));
     Some(index.wrapping_add(words))
@@ -381,7 +383,7 @@ fn jump(index: u32, regs: &mut Regs, rd: Reg, words: u32) -> Option<u32>
 
 /// JALR, to an aligned target.
 fn jump_by(index: u32, regs: &mut Regs, rd: Reg, rs1: Reg, imm: u32) -> Option<u32>
-    ensures next { went result regs.new ≡ shape_next (Shape.JumpTo rd rs1 imm) (place index regs.old) }
+    ensures next { cursor_reached result regs.new ≡ shape_next (Shape.JumpTo rd rs1 imm) (cursor index regs.old) }
     ensures stays { result ≡ None → regs.new ≡ regs.old }
 {
     let target = regs.get(rs1).wrapping_add(imm) / 2 * 2;
@@ -395,7 +397,7 @@ fn jump_by(index: u32, regs: &mut Regs, rd: Reg, rs1: Reg, imm: u32) -> Option<u
 
 /// Does an operation that touches registers alone: which word stands next, or None and no change.
 pub(crate) fn act(op: &Op, index: u32, regs: &mut Regs) -> Option<u32>
-    ensures next { went result regs.new ≡ shape_next (shape op.now) (place index regs.old) }
+    ensures next { cursor_reached result regs.new ≡ shape_next (shape op.now) (cursor index regs.old) }
     ensures stays { result ≡ None → regs.new ≡ regs.old }
 {
     match *op {
@@ -451,10 +453,10 @@ fn load_stack(
     stack: &[u8; 1024],
 ) -> Option<u32>
     ensures next { let from = point index regs.old stack.now in
-        went_on result regs.new stack.now ≡ stack_load version width rd addr from }
+        point_reached result regs.new stack.now ≡ stack_load version width rd addr from }
     ensures stays { result ≡ None → regs.new ≡ regs.old }
 {
-    let bytes = bytes_of_load(width);
+    let bytes = width_of_load(width);
     if is_stack_access(version, addr, u32::from(bytes)) {
         let raw = number_in(stack, (addr - STACK_START) as usize, bytes);
         go_on(index, regs, rd, loaded(width, raw))
@@ -474,10 +476,10 @@ fn store_stack(
     stack: &mut [u8; 1024],
 ) -> Option<u32>
     ensures next { let from = point index regs.now stack.old in
-        went_on result regs.now stack.new ≡ stack_store version width addr value from }
+        point_reached result regs.now stack.new ≡ stack_store version width addr value from }
     ensures stays { result ≡ None → stack.new ≡ stack.old }
 {
-    let bytes = bytes_of_store(width);
+    let bytes = width_of_store(width);
     if is_stack_access(version, addr, u32::from(bytes)) {
         write_in(stack, (addr - STACK_START) as usize, bytes, value);
         Some(index.wrapping_add(1))
@@ -495,7 +497,7 @@ pub(crate) fn act_on_stack(
     stack: &mut [u8; 1024],
 ) -> Option<u32>
     ensures next { let from = point index regs.old stack.old in
-        went_on result regs.new stack.new ≡ stack_next version (shape op.now) from }
+        point_reached result regs.new stack.new ≡ stack_next version (shape op.now) from }
     ensures stays { result ≡ None → (regs.new ≡ regs.old) × (stack.new ≡ stack.old) }
 {
     match *op {
@@ -547,7 +549,7 @@ pub(crate) fn stop_of(op: &Op, data_size: u32, regs: &Regs) -> Option<Stop>
             imm,
         } => {
             let addr = regs.get(rs1).wrapping_add(imm);
-            let len = u32::from(bytes_of_load(width));
+            let len = u32::from(width_of_load(width));
             stop_in(data_size, addr, len, Stop::Load { width, rd, addr })
         }
         Op::Store {
@@ -557,7 +559,7 @@ pub(crate) fn stop_of(op: &Op, data_size: u32, regs: &Regs) -> Option<Stop>
             imm,
         } => {
             let addr = regs.get(rs1).wrapping_add(imm);
-            let len = u32::from(bytes_of_store(width));
+            let len = u32::from(width_of_store(width));
             let value = regs.get(rs2);
             stop_in(data_size, addr, len, Stop::Store { width, addr, value })
         }

@@ -51,17 +51,17 @@ holds cond.Ltu x y = nat_lt x y
 holds cond.Geu x y = not (nat_lt x y)
 
 -- what a register-register operation computes (section 2.4); a shift uses the low 5 bits of its amount
-abbrev pub value_of : RegOp → ℕ → ℕ → ℕ
-value_of reg_op.Add x y = plus x y
-value_of reg_op.Sub x y = minus x y
-value_of reg_op.Sll x y = x * 2 ^ (y % 32) % 2 ^ 32
-value_of reg_op.Slt x y = bit (less_signed x y)
-value_of reg_op.Sltu x y = bit (nat_lt x y)
-value_of reg_op.Xor x y = bit_xor x y
-value_of reg_op.Srl x y = x / 2 ^ (y % 32)
-value_of reg_op.Sra x y = shift_signed x (y % 32)
-value_of reg_op.Or x y = bit_or x y
-value_of reg_op.And x y = bit_and x y
+abbrev pub op_value : RegOp → ℕ → ℕ → ℕ
+op_value reg_op.Add x y = plus x y
+op_value reg_op.Sub x y = minus x y
+op_value reg_op.Sll x y = x * 2 ^ (y % 32) % 2 ^ 32
+op_value reg_op.Slt x y = bit (less_signed x y)
+op_value reg_op.Sltu x y = bit (nat_lt x y)
+op_value reg_op.Xor x y = bit_xor x y
+op_value reg_op.Srl x y = x / 2 ^ (y % 32)
+op_value reg_op.Sra x y = shift_signed x (y % 32)
+op_value reg_op.Or x y = bit_or x y
+op_value reg_op.And x y = bit_and x y
 
 -- the register-register operation that an operation with an immediate does to it (section 2.4)
 abbrev pub with_register : ImmOp → RegOp
@@ -92,9 +92,9 @@ acts_on pc regs (Load width rd rs1 imm) = does.Load width rd (plus (slice_index 
 acts_on pc regs (Store width rs1 rs2 imm) =
     does.Store width (plus (slice_index regs rs1) (word imm)) (slice_index regs rs2)
 acts_on pc regs (OpImm op rd rs1 imm) =
-    does.Plain (plus pc 4) rd (value_of (with_register op) (slice_index regs rs1) (word imm))
+    does.Plain (plus pc 4) rd (op_value (with_register op) (slice_index regs rs1) (word imm))
 acts_on pc regs (Op op rd rs1 rs2) =
-    does.Plain (plus pc 4) rd (value_of op (slice_index regs rs1) (slice_index regs rs2))
+    does.Plain (plus pc 4) rd (op_value op (slice_index regs rs1) (slice_index regs rs2))
 acts_on pc regs Fence = does.Plain (plus pc 4) 0 0
 acts_on pc regs Ecall = does.Call
 acts_on pc regs Ebreak = does.Break

@@ -1,3 +1,4 @@
+-- Contracts mean all of these.
 pub mod Regs
 pub mod Fields
 pub mod Table

@@ -119,8 +119,8 @@ first_fit [] word = None
 first_fit (row ∷ rows) word = if fits row.pattern word then Some (row.instr word) else first_fit rows word
 
 -- the instruction that a word stands for: none where the word fits no row
-abbrev pub decoded : ℕ → Option Instr
-decoded word = first_fit table word
+abbrev pub instr_of_word : ℕ → Option Instr
+instr_of_word word = first_fit table word
 
 -- no word fits both rows
 abbrev pub Excludes : Row → Row → Type 0

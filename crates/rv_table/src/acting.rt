@@ -1,7 +1,7 @@
 //! What an instruction does.
 
 ghost use Rattle.std.specs.Prelude.{◌≡◌, ◌<◌, if◌then◌else◌};
-ghost use Rattle.rv_table.specs.Exec.{acts_on, holds, value_of, with_register, jump, loaded_value, plus};
+ghost use Rattle.rv_table.specs.Exec.{acts_on, holds, op_value, with_register, jump, loaded_value, plus};
 ghost use Rattle.rv_table.specs.Exec.{shift_signed, word};
 
 use crate::instr::{Cond, Effect, ImmOp, Instr, LoadWidth, RegOp, StoreWidth};
@@ -31,7 +31,7 @@ fn shift_copying_sign(x: u32, by: u32) -> u32
 
 /// What an operation computes.
 pub fn compute(op: RegOp, x: u32, y: u32) -> u32
-    ensures { result ≡ value_of op x y }
+    ensures { result ≡ op_value op x y }
 {
     match op {
         RegOp::Add => x.wrapping_add(y),

@@ -2,7 +2,7 @@
 
 ghost use Rattle.std.specs.Prelude.{◌≡◌, ◌<◌, pos};
 ghost use Rattle.rv_table.specs.Fields as field;
-ghost use Rattle.rv_table.specs.Table.{decoded};
+ghost use Rattle.rv_table.specs.Table.{instr_of_word};
 
 use crate::instr::{Cond, ImmOp, Instr, LoadWidth, RegOp, StoreWidth};
 use crate::reg::Reg;
@@ -175,7 +175,7 @@ fn op_of(op: RegOp, word: u32) -> Instr
 
 fn decode_jalr(word: u32) -> Option<Instr>
     requires { field.opcode word ≡ 0b1100111 }
-    ensures { result ≡ decoded word }
+    ensures { result ≡ instr_of_word word }
 {
     match funct3(word) {
         0b000 => Some(jalr_of(word)),
@@ -185,7 +185,7 @@ fn decode_jalr(word: u32) -> Option<Instr>
 
 fn decode_branch(word: u32) -> Option<Instr>
     requires { field.opcode word ≡ 0b1100011 }
-    ensures { result ≡ decoded word }
+    ensures { result ≡ instr_of_word word }
 {
     match funct3(word) {
         0b000 => Some(branch_of(Cond::Eq, word)),
@@ -200,7 +200,7 @@ fn decode_branch(word: u32) -> Option<Instr>
 
 fn decode_load(word: u32) -> Option<Instr>
     requires { field.opcode word ≡ 0b0000011 }
-    ensures { result ≡ decoded word }
+    ensures { result ≡ instr_of_word word }
 {
     match funct3(word) {
         0b000 => Some(load_of(LoadWidth::B, word)),
@@ -214,7 +214,7 @@ fn decode_load(word: u32) -> Option<Instr>
 
 fn decode_store(word: u32) -> Option<Instr>
     requires { field.opcode word ≡ 0b0100011 }
-    ensures { result ≡ decoded word }
+    ensures { result ≡ instr_of_word word }
 {
     match funct3(word) {
         0b000 => Some(store_of(StoreWidth::B, word)),
@@ -226,7 +226,7 @@ fn decode_store(word: u32) -> Option<Instr>
 
 fn decode_op_imm(word: u32) -> Option<Instr>
     requires { field.opcode word ≡ 0b0010011 }
-    ensures { result ≡ decoded word }
+    ensures { result ≡ instr_of_word word }
 {
     match funct3(word) {
         0b000 => Some(op_imm_of(ImmOp::Add, word)),
@@ -244,7 +244,7 @@ fn decode_op_imm(word: u32) -> Option<Instr>
 
 fn decode_op(word: u32) -> Option<Instr>
     requires { field.opcode word ≡ 0b0110011 }
-    ensures { result ≡ decoded word }
+    ensures { result ≡ instr_of_word word }
 {
     match (funct3(word), funct7(word)) {
         (0b000, 0b000_0000) => Some(op_of(RegOp::Add, word)),
@@ -263,7 +263,7 @@ fn decode_op(word: u32) -> Option<Instr>
 
 fn decode_fence(word: u32) -> Option<Instr>
     requires { field.opcode word ≡ 0b0001111 }
-    ensures { result ≡ decoded word }
+    ensures { result ≡ instr_of_word word }
 {
     match funct3(word) {
         0b000 => Some(Instr::Fence),
@@ -273,7 +273,7 @@ fn decode_fence(word: u32) -> Option<Instr>
 
 fn decode_system(word: u32) -> Option<Instr>
     requires { field.opcode word ≡ 0b1110011 }
-    ensures { result ≡ decoded word }
+    ensures { result ≡ instr_of_word word }
 {
     match word {
         0x0000_0073 => Some(Instr::Ecall),
@@ -284,7 +284,7 @@ fn decode_system(word: u32) -> Option<Instr>
 
 /// The instruction that a word stands for: none exactly where it is none of the 40 of RV32I 2.1.
 pub fn decode(word: u32) -> Option<Instr>
-    ensures { result ≡ decoded word }
+    ensures { result ≡ instr_of_word word }
 {
     decode_at::<0>(word)
 }
@@ -292,7 +292,7 @@ pub fn decode(word: u32) -> Option<Instr>
 /// The same as `decode`, of which each `CALLER` gets machine code of its own: LLVM joins a function of this size to
 /// the code around a call only where there is no other call of it.
 pub fn decode_at<const CALLER: usize>(word: u32) -> Option<Instr>
-    ensures { result ≡ decoded word }
+    ensures { result ≡ instr_of_word word }
 {
     match word & 0x7f {
         0b011_0111 => Some(Instr::Lui {

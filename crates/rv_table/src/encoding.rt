@@ -2,7 +2,7 @@
 
 ghost use Rattle.std.specs.Prelude.{◌≡◌, ◌<◌, ◌^◌, ◌%◌, pos, Some, IsTrue};
 ghost use Rattle.rv_table.specs.Fields as field;
-ghost use Rattle.rv_table.specs.Table.{decoded};
+ghost use Rattle.rv_table.specs.Table.{instr_of_word};
 ghost use Rattle.rv_table.specs.Valid.{valid, is_branch_offset, is_even as even, is_jump_offset};
 ghost use Rattle.rv_table.specs.Valid.{is_operand as operand, is_twelve_bits as twelve_bits};
 
@@ -164,7 +164,7 @@ fn j_type(rd: Reg, imm: i32) -> u32
 
 fn encode_branch(cond: Cond, rs1: Reg, rs2: Reg, imm: i32) -> u32
     requires { IsTrue (is_branch_offset imm) }
-    ensures { decoded result ≡ Some (Instr.Branch cond rs1 rs2 imm) }
+    ensures { instr_of_word result ≡ Some (Instr.Branch cond rs1 rs2 imm) }
 {
     match cond {
         Cond::Eq => b_type(0b000, rs1, rs2, imm),
@@ -178,7 +178,7 @@ fn encode_branch(cond: Cond, rs1: Reg, rs2: Reg, imm: i32) -> u32
 
 fn encode_load(width: LoadWidth, rd: Reg, rs1: Reg, imm: i32) -> u32
     requires { IsTrue (twelve_bits imm) }
-    ensures { decoded result ≡ Some (Instr.Load width rd rs1 imm) }
+    ensures { instr_of_word result ≡ Some (Instr.Load width rd rs1 imm) }
 {
     match width {
         LoadWidth::B => i_type(0b000, 0b000_0011, rd, rs1, imm),
@@ -191,7 +191,7 @@ fn encode_load(width: LoadWidth, rd: Reg, rs1: Reg, imm: i32) -> u32
 
 fn encode_store(width: StoreWidth, rs1: Reg, rs2: Reg, imm: i32) -> u32
     requires { IsTrue (twelve_bits imm) }
-    ensures { decoded result ≡ Some (Instr.Store width rs1 rs2 imm) }
+    ensures { instr_of_word result ≡ Some (Instr.Store width rs1 rs2 imm) }
 {
     match width {
         StoreWidth::B => s_type(0b000, rs1, rs2, imm),
@@ -221,7 +221,7 @@ fn shift(funct7: u32, funct3: u32, rd: Reg, rs1: Reg, shamt: i32) -> u32
 
 fn encode_op_imm(op: ImmOp, rd: Reg, rs1: Reg, imm: i32) -> u32
     requires { IsTrue (operand op imm) }
-    ensures { decoded result ≡ Some (Instr.OpImm op rd rs1 imm) }
+    ensures { instr_of_word result ≡ Some (Instr.OpImm op rd rs1 imm) }
 {
     match op {
         ImmOp::Add => i_type(0b000, 0b001_0011, rd, rs1, imm),
@@ -237,7 +237,7 @@ fn encode_op_imm(op: ImmOp, rd: Reg, rs1: Reg, imm: i32) -> u32
 }
 
 fn encode_op(op: RegOp, rd: Reg, rs1: Reg, rs2: Reg) -> u32
-    ensures { decoded result ≡ Some (Instr.Op op rd rs1 rs2) }
+    ensures { instr_of_word result ≡ Some (Instr.Op op rd rs1 rs2) }
 {
     match op {
         RegOp::Add => r_type(0b000_0000, 0b000, rd, rs1, rs2),
@@ -257,7 +257,7 @@ fn encode_op(op: RegOp, rd: Reg, rs1: Reg, rs2: Reg) -> u32
 /// 0x0000000F.
 pub fn encode(instr: &Instr) -> u32
     requires { IsTrue (valid instr.now) }
-    ensures decodes { decoded result ≡ Some instr.now }
+    ensures decodes { instr_of_word result ≡ Some instr.now }
     ensures fence { instr.now ≡ Instr.Fence → result ≡ 0x0000000F }
 {
     match *instr {

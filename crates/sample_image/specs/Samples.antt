@@ -10,7 +10,7 @@ abbrev pub first_task : ℕ × ℕ → ImageTask
 first_task entry = record { entry = entry.0; ts = entry.1; args = 0 ∷ 0 ∷ 0 ∷ [] }
 
 -- what the image of a program says: it is ordered, and has no window
-abbrev pub value_of : Program → ImageValue
-value_of program =
+abbrev pub value_of_program : Program → ImageValue
+value_of_program program =
     image_value kinds.Ordered program.text.now program.initial.now program.data_size 0 0
     (map first_task program.tasks.now)

@@ -3,7 +3,7 @@
 ghost use Rattle.std.specs.Prelude.{◌≡◌, ◌⊎◌, Err, IfOk, map};
 ghost use Rattle.guest_image.specs.declared.fault.ImageFault.TheVariants as faults;
 ghost use Rattle.guest_image.specs.Limits.{image_made};
-ghost use Rattle.sample_image.specs.Samples.{first_task, value_of};
+ghost use Rattle.sample_image.specs.Samples.{first_task, value_of_program};
 
 use crate::program::Program;
 use guest_image::{Image, ImageFault, ImageTask, Kind};
@@ -33,7 +33,7 @@ fn tasks_of(alloc: Global, entries: &[(u32, u32)]) -> Result<Vec<ImageTask>, All
 /// The ordered image of a program, with no window; or the first of the limits of an image that it exceeds, or
 /// `Memory` where memory runs out.
 pub fn image_of(alloc: Global, program: &Program) -> Result<Image, ImageFault>
-    ensures { (result ≡ Err faults.Memory) ⊎ (result ≡ image_made (value_of program.now)) }
+    ensures { (result ≡ Err faults.Memory) ⊎ (result ≡ image_made (value_of_program program.now)) }
 {
     let text = program.text.to_vec(alloc)?;
     let initial = program.initial.to_vec(alloc)?;

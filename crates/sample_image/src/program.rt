@@ -1,3 +1,5 @@
+//! Programs with their data and tasks.
+
 /// A program with its data and its tasks, each an entry and a timestamp.
 #[derive(Clone, Copy)]
 pub struct Program {

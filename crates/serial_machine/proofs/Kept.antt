@@ -5,18 +5,19 @@ use Rattle.rv_core.specs.declared.state.Core.{Core}
 use Rattle.rv_core.specs.Next.{Next, Goes, Stops}
 use Rattle.rv_core.specs.Legs.{next_at}
 use Rattle.task_desc.specs.declared.desc.Ctx.{Ctx}
-use Rattle.task_step.specs.declared.request.Request.{Request}
-use Rattle.task_step.specs.declared.request.Request.TheVariants as request
-use Rattle.task_step.specs.Requests.{request_at}
-use Rattle.task_step.specs.TaskState.{TaskState}
-use Rattle.task_step.specs.Steps.{after_request}
-use Rattle.task_step.proofs.Proved.{after_request-size, AllowedBy, HasSize, request_at-allowed, sub_allowed-room}
+use Rattle.task_request.specs.declared.request.Request.{Request}
+use Rattle.task_request.specs.declared.request.Request.TheVariants as request
+use Rattle.task_request.specs.Requests.{request_at}
+use Rattle.task_request.specs.TaskState.{TaskState}
+use Rattle.task_request.specs.Effects.{after_request}
+use Rattle.task_request.proofs.Proved.{after_request-size, AllowedBy, HasSize, request_at-allowed_spawn}
+use Rattle.task_request.proofs.Proved.{sub_allowed-room}
 use Rattle.serial_machine.specs.Legs.{SubFits}
-use Rattle.serial_machine.specs.TaskRun.{context, begun, after_next, step, followed, steps, task_run, Stepped, Continues, Ends, Traps, TaskEnd, Done, Trapped}
+use Rattle.serial_machine.specs.TaskRun.{context, task_at_start, after_next, after_instruction, task_end_after, after_instructions, task_run, Continuation, Continues, Ends, Traps, TaskEnd, Done, Trapped}
 
 module _ (Holds : TaskState → Type 0) where
   -- where the step goes on or ends, this holds of the task
-  abbrev pub StepHolds : Stepped → Type 0
+  abbrev pub StepHolds : Continuation → Type 0
   StepHolds (Continues task) = Holds task
   StepHolds (Ends task) = Holds task
   StepHolds (Traps cause pc) = Unit {0}
@@ -26,29 +27,32 @@ module _ (Holds : TaskState → Type 0) where
   EndHolds (Done task) = Holds task
   EndHolds (Trapped cause pc) = Unit {0}
 
-  followed-holds : (rest : TaskState → TaskEnd) (x : Stepped) → StepHolds x → ((t : TaskState) → Holds t → EndHolds (rest t)) → EndHolds (followed rest x)
-  followed-holds rest (Continues task) here on = on task here
-  followed-holds rest (Ends task) here on = here
-  followed-holds rest (Traps cause pc) here on = tt
+  task_end_after-holds : (rest : TaskState → TaskEnd) (x : Continuation) → StepHolds x → ((t : TaskState) → Holds t → EndHolds (rest t)) → EndHolds (task_end_after rest x)
+  task_end_after-holds rest (Continues task) here on = on task here
+  task_end_after-holds rest (Ends task) here on = here
+  task_end_after-holds rest (Traps cause pc) here on = tt
 
   -- each plain instruction keeps it, and so does each request that the rules of calls allow
   module _ (image : ImageValue) (budget : ℕ) (ctx : Ctx) (moves : (task : TaskState) (core : Core) → Holds task → Holds (record task { core = core }))
       (asks : (task : TaskState) (asked : Request) → AllowedBy (context ctx task) asked → Holds task → StepHolds (after_request task asked)) where
-    pub step-holds : (task : TaskState) (next : Next) → Holds task → StepHolds (after_next ctx task next)
-    step-holds task (Goes core) here = moves task core here
-    step-holds task (Stops found) here =
-        asks task (request_at (context ctx task) task.core found) (request_at-allowed (context ctx task) task.core found) here
+    pub after_instruction-holds : (task : TaskState) (next : Next) → Holds task → StepHolds (after_next ctx task next)
+    after_instruction-holds task (Goes core) here = moves task core here
+    after_instruction-holds task (Stops found) here =
+        asks task (request_at (context ctx task) task.core found) (request_at-allowed_spawn (context ctx task) task.core found) here
 
-    pub steps-hold : (left : ℕ) (task : TaskState) → Holds task → EndHolds (steps image budget ctx left task)
-    steps-hold zero task here = tt
-    steps-hold (suc left) task here =
-        followed-holds (steps image budget ctx left) (step image budget ctx task)
-        (step-holds task (next_at image (length task.memory) budget task.core) here) (steps-hold left)
+    pub after_instructions-hold : (left : ℕ) (task : TaskState) → Holds task
+        → EndHolds (after_instructions image budget ctx left task)
+    after_instructions-hold zero task here = tt
+    after_instructions-hold (suc left) task here =
+        task_end_after-holds (after_instructions image budget ctx left) (after_instruction image budget ctx task)
+        (after_instruction-holds task (next_at image (length task.memory) budget task.core) here)
+        (after_instructions-hold left)
 
     -- so it holds of a task that is done, where it held of the task that had done nothing
-    pub task_run-holds : (entry : ℕ) (args memory : List ℕ) → Holds (begun image.version entry ctx.ts args memory) → EndHolds (task_run image budget ctx entry args memory)
+    pub task_run-holds : (entry : ℕ) (args memory : List ℕ) → Holds (task_at_start image.version entry ctx.ts args memory) → EndHolds (task_run image budget ctx entry args memory)
     unfolding task_run
-    task_run-holds entry args memory here = steps-hold budget (begun image.version entry ctx.ts args memory) here
+    task_run-holds entry args memory here =
+        after_instructions-hold budget (task_at_start image.version entry ctx.ts args memory) here
 
 -- a task at the greatest depth makes no subdomain
 pub request-sub_fits : (ctx : Ctx) (task : TaskState) (asked : Request) → AllowedBy (context ctx task) asked → SubFits ctx.depth task.sub
@@ -77,7 +81,7 @@ task_run-size image budget ctx entry args memory =
     Sized : TaskState → Type 0
     Sized task = length task.memory ≡ length memory
 
-    same : (x : Stepped) (size : ℕ) → size ≡ length memory → HasSize size x → StepHolds Sized x
+    same : (x : Continuation) (size : ℕ) → size ≡ length memory → HasSize size x → StepHolds Sized x
     same (Continues task) size e has = has ∙ e
     same (Ends task) size e has = has ∙ e
     same (Traps cause pc) size e has = tt

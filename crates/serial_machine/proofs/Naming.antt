@@ -13,7 +13,7 @@ use Rattle.pending_list.specs.declared.task.PendingTask.{PendingTask}
 use Rattle.serial_machine.specs.BagValue.{BagValue}
 use Rattle.serial_machine.specs.Names.{one, times, times_in, AreNamed, first_least, earlier, IsNext, next_in, name_of}
 use Rattle.serial_machine.specs.Stack.{AreAllOlder}
-use Rattle.serial_machine.specs.Turn.{is_named, without, inner, child, children, sub_bags, with_super, stack_after, is_least, find_named, is_for}
+use Rattle.serial_machine.specs.Turn.{is_named, without_name, inner, child, children, sub_bags, with_super, stack_after, is_least, find_named, is_for}
 use Rattle.serial_machine.specs.Run.{image_task}
 use Rattle.guest_image.specs.declared.image.ImageTask.{ImageTask}
 use Rattle.std.specs.Prelude.{MatchOption, Contains}
@@ -30,10 +30,10 @@ times_in-inner x (bag ∷ outer) = go (times_in-inner x outer) (length bag.tasks
   go ih true e = let z : bag.tasks ≡ [] = grind (arith, nat_tests, common_steps, nil_from_length) in rw z (omega (arith, ih))
   go ih false e = refl
 
-pub times-without : (x name : Name) (tasks : List PendingTask) → times x (without name tasks) ≤ times x tasks
-times-without x name [] = omega arith
-times-without x name (t ∷ ts) = go (times-without x name ts) (is_named name t) where
-  go : times x (without name ts) ≤ times x ts → (b : Bool) → times x (if not b then t ∷ without name ts else without name ts) ≤ one (is_named x t) + times x ts
+pub times-without_name : (x name : Name) (tasks : List PendingTask) → times x (without_name name tasks) ≤ times x tasks
+times-without_name x name [] = omega arith
+times-without_name x name (t ∷ ts) = go (times-without_name x name ts) (is_named name t) where
+  go : times x (without_name name ts) ≤ times x ts → (b : Bool) → times x (if not b then t ∷ without_name name ts else without_name name ts) ≤ one (is_named x t) + times x ts
   go ih true = omega (arith, ih)
   go ih false = omega (arith, ih)
 
@@ -78,9 +78,9 @@ pub times_in-after : (x : Name) (bag : BagValue) (outer : List BagValue) (name :
 unfolding stack_after children
 times_in-after x bag outer name n ts spawns sub = omega (
   arith,
-  times_in-sub x (bag.depth + 1) ts n (kids_for Sub n 0 spawns) sub (record bag { tasks = without name bag.tasks ++ kids_for Same n 0 spawns } ∷ with_super (kids_for Super n 0 spawns) outer),
-  times-append x (without name bag.tasks) (kids_for Same n 0 spawns),
-  times-without x name bag.tasks,
+  times_in-sub x (bag.depth + 1) ts n (kids_for Sub n 0 spawns) sub (record bag { tasks = without_name name bag.tasks ++ kids_for Same n 0 spawns } ∷ with_super (kids_for Super n 0 spawns) outer),
+  times-append x (without_name name bag.tasks) (kids_for Same n 0 spawns),
+  times-without_name x name bag.tasks,
   times_in-super x (kids_for Super n 0 spawns) outer,
   times-kids x n 0 spawns,
 )

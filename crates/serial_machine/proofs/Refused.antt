@@ -10,8 +10,8 @@ use Rattle.pending_list.specs.declared.task.PendingTask.{PendingTask}
 use Rattle.serial_machine.specs.declared.fault.TurnFault.{TurnFault}
 use Rattle.serial_machine.specs.declared.fault.TurnFault.TheVariants as faults
 use Rattle.serial_machine.specs.BagValue.{BagValue}
-use Rattle.serial_machine.specs.State.{State}
-use Rattle.serial_machine.specs.Turn.{MayTurn, Refuses, find_named, is_named, is_least, is_pending}
+use Rattle.serial_machine.specs.State.{SerialState}
+use Rattle.serial_machine.specs.Turn.{MayTurn, RefusesTurn, find_named, is_named, is_least, is_pending}
 use Rattle.serial_machine.specs.WholeRun.{IsTrapOrMemory}
 use Rattle.serial_machine.proofs.Turns.{is_pending-inner}
 
@@ -36,8 +36,8 @@ least-none ts u (t ∷ tasks) h lt (zero, l, e) = first (both _ _ h).0 e where
 least-none ts u (t ∷ tasks) h lt (suc k, l, e) = least-none ts u tasks (both _ _ h).1 lt (k, omega (arith, l), e)
 
 -- it is refused for its trap, or for want of memory
-pub may-why : (image : ImageValue) (budget : ℕ) (s : State) (name : Name) (fault : TurnFault) (bag : BagValue) (outer : List BagValue) (task : PendingTask)
-    → MayTurn s.stack name bag outer task → Refuses image budget s name fault → IsTrapOrMemory fault
+pub may-why : (image : ImageValue) (budget : ℕ) (s : SerialState) (name : Name) (fault : TurnFault) (bag : BagValue) (outer : List BagValue) (task : PendingTask)
+    → MayTurn s.stack name bag outer task → RefusesTurn image budget s name fault → IsTrapOrMemory fault
 may-why image budget s name faults.NotPending bag outer task may h =
     let a : is_pending name s.stack ≡ true = sym (is_pending-inner name s.stack) ∙ ap (is_pending name) may.top ∙ rw (found-any name bag.tasks task may.found) refl in
     let bad : true ≡ false = sym a ∙ h in

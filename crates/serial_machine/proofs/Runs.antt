@@ -7,20 +7,21 @@ use Rattle.rv_core.specs.declared.state.Core.{Core}
 use Rattle.rv_core.specs.declared.state.Stop.{Stop}
 use Rattle.rv_core.specs.declared.state.Stop.TheVariants as stop
 use Rattle.rv_core.specs.Next.{Stops}
-use Rattle.rv_core.specs.Legs.{next_at, PlainStep, PlainSteps, IsLeg, IsInside}
-use Rattle.rv_core.proofs.Proved.{PlainStep-counted, PlainStep-within}
+use Rattle.rv_core.specs.Legs.{next_at, PlainInstruction, PlainInstructions, IsLeg, StopIsInData}
+use Rattle.rv_core.proofs.Proved.{PlainInstruction-counted, PlainInstruction-within}
 use Rattle.task_desc.specs.declared.desc.Ctx.{Ctx}
 use Rattle.serial_machine.specs.declared.progress.Flow.{Flow}
 use Rattle.serial_machine.specs.declared.progress.Flow.TheVariants as flow
 use Rattle.serial_machine.specs.declared.running.RunEnd.TheVariants as ends
 use Rattle.serial_machine.specs.TaskState.{TaskState}
-use Rattle.task_step.specs.declared.request.Request.{Request}
-use Rattle.task_step.specs.declared.request.Request.TheVariants as request
-use Rattle.task_step.specs.Conditions.{IsInData, HasRoom}
-use Rattle.task_step.specs.Requests.{request_at}
-use Rattle.task_step.proofs.Proved.{after_request-size, after_stop-used, call_at-is, HasSize, HasUsed}
-use Rattle.serial_machine.specs.TaskRun.{context, steps, followed, after_stop, TaskEnd, Stepped, Continues, Ends, Traps}
-use Rattle.serial_machine.specs.Legs.{LegLeads, CanCount, StopCanCount, CanPerform, Leads, Finishes}
+use Rattle.task_request.specs.declared.request.Request.{Request}
+use Rattle.task_request.specs.declared.request.Request.TheVariants as request
+use Rattle.task_request.specs.Conditions.{IsInData, KeepsLimits}
+use Rattle.task_request.specs.Requests.{request_at}
+use Rattle.task_request.proofs.Proved.{after_request-size, after_stop-used, call_at-is, HasSize, HasUsed}
+use Rattle.serial_machine.specs.TaskRun.{context, after_instructions, task_end_after, after_stop, TaskEnd, Continuation}
+use Rattle.serial_machine.specs.TaskRun.{Continues, Ends, Traps}
+use Rattle.serial_machine.specs.Legs.{LegLeads, CanCount, StopCanCount, CanPerform, Leads, FinishesRun}
 
 -- where the budget is used up, trap 17 stands
 pub spent_traps : (image : ImageValue) (size budget : ℕ) (core : Core) (s : Stop) → next_at image size budget core ≡ Stops s → budget ≤ core.used → s ≡ stop.Trap 17 core.pc
@@ -28,29 +29,29 @@ unfolding next_at
 spent_traps image size budget core s h ge = let e : nat_lt core.used budget ≡ false = grind (arith, nat_tests) in let k = rw e at h in cc
 
 -- what a step leads to is how the run is over, or what is followed
-pub followed-Continues : (rest : TaskState → TaskEnd) (x : Stepped) (new : TaskState) → Leads x flow.Continues new → followed rest x ≡ rest new
-followed-Continues rest (Continues t) new h = ap rest (sym h)
-followed-Continues rest (Ends t) new h = absurd h
-followed-Continues rest (Traps cause pc) new h = absurd h
+pub task_end_after-Continues : (rest : TaskState → TaskEnd) (x : Continuation) (new : TaskState) → Leads x flow.Continues new → task_end_after rest x ≡ rest new
+task_end_after-Continues rest (Continues t) new h = ap rest (sym h)
+task_end_after-Continues rest (Ends t) new h = absurd h
+task_end_after-Continues rest (Traps cause pc) new h = absurd h
 
-pub followed-Ended : (rest : TaskState → TaskEnd) (x : Stepped) (new : TaskState) → Leads x flow.Ended new → Finishes (followed rest x) ends.Done new
-followed-Ended rest (Continues t) new h = absurd h
-followed-Ended rest (Ends t) new h = h
-followed-Ended rest (Traps cause pc) new h = absurd h
+pub task_end_after-Ended : (rest : TaskState → TaskEnd) (x : Continuation) (new : TaskState) → Leads x flow.Ended new → FinishesRun (task_end_after rest x) ends.Done new
+task_end_after-Ended rest (Continues t) new h = absurd h
+task_end_after-Ended rest (Ends t) new h = h
+task_end_after-Ended rest (Traps cause pc) new h = absurd h
 
-pub followed-Trapped : (rest : TaskState → TaskEnd) (x : Stepped) (cause pc : ℕ) (new : TaskState) → Leads x (flow.Trapped cause pc) new → Finishes (followed rest x) (ends.Trapped cause pc) new
-followed-Trapped rest (Continues t) cause pc new h = absurd h
-followed-Trapped rest (Ends t) cause pc new h = absurd h
-followed-Trapped rest (Traps c p) cause pc new h = h
+pub task_end_after-Trapped : (rest : TaskState → TaskEnd) (x : Continuation) (cause pc : ℕ) (new : TaskState) → Leads x (flow.Trapped cause pc) new → FinishesRun (task_end_after rest x) (ends.Trapped cause pc) new
+task_end_after-Trapped rest (Continues t) cause pc new h = absurd h
+task_end_after-Trapped rest (Ends t) cause pc new h = absurd h
+task_end_after-Trapped rest (Traps c p) cause pc new h = h
 
 -- a step that goes on, to a task that has used so many instructions
-Leads-used : (used : ℕ) (x : Stepped) (new : TaskState) → Leads x flow.Continues new → HasUsed used x → new.core.used ≡ used
+Leads-used : (used : ℕ) (x : Continuation) (new : TaskState) → Leads x flow.Continues new → HasUsed used x → new.core.used ≡ used
 Leads-used used (Continues t) new leads has = ap (λ t. t.core.used) leads ∙ has
 Leads-used used (Ends t) new leads has = absurd leads
 Leads-used used (Traps cause pc) new leads has = absurd leads
 
 -- a step that goes on, to a task with a memory of this size
-Leads-size : (size : ℕ) (x : Stepped) (new : TaskState) → Leads x flow.Continues new → HasSize size x → length new.memory ≡ size
+Leads-size : (size : ℕ) (x : Continuation) (new : TaskState) → Leads x flow.Continues new → HasSize size x → length new.memory ≡ size
 Leads-size size (Continues t) new leads has = ap (λ t. length t.memory) leads ∙ has
 Leads-size size (Ends t) new leads has = absurd leads
 Leads-size size (Traps cause pc) new leads has = absurd leads
@@ -82,7 +83,7 @@ request-can_count ctx core stop.Quantum can = tt
 
 -- the code can do what can be counted, lies in the memory and has room
 can_do : (ctx : Ctx) (task : TaskState) (asked : Request) → RequestCanCount task.core.used asked → IsInData (length task.memory) asked
-    → HasRoom (context ctx task) asked → CanPerform task asked
+    → KeepsLimits (context ctx task) asked → CanPerform task asked
 can_do ctx task request.Continue count lies room = tt
 can_do ctx task (request.Load width rd offset) count lies room = (count, lies)
 can_do ctx task (request.Store offset bytes value) count lies room = (count, lies)
@@ -94,34 +95,36 @@ can_do ctx task (request.Trap cause) count lies room = tt
 
 -- it can do what a task asks for at its stop
 pub can_perform : (ctx : Ctx) (task : TaskState) (s : Stop) (asked : Request) → asked ≡ request_at (context ctx task) task.core s
-    → StopCanCount task.core.used s → IsInside (length task.memory) s → ((size : ℕ) → IsInside size s → IsInData size asked)
-    → HasRoom (context ctx task) asked → CanPerform task asked
+    → StopCanCount task.core.used s → StopIsInData (length task.memory) s → ((size : ℕ) → StopIsInData size s → IsInData size asked)
+    → KeepsLimits (context ctx task) asked → CanPerform task asked
 can_perform ctx task s asked is count inside lies room =
     let P : Request → Type 0 = RequestCanCount task.core.used in
     can_do ctx task asked (subst P (sym is) (request-can_count (context ctx task) task.core s count)) (lies (length task.memory) inside) room
 
 module _ (image : ImageValue) (budget : ℕ) (ctx : Ctx) where
-  pub steps-plain_step : (t : TaskState) (to : Core) → PlainStep image (length t.memory) budget t.core to
-      → steps image budget ctx (budget - t.core.used) t ≡ steps image budget ctx (budget - to.used) (record t { core = to })
-  steps-plain_step t to h =
-      let within = PlainStep-within image (length t.memory) budget t.core to h in
-      let counted = PlainStep-counted image (length t.memory) budget t.core to h in
+  pub after_instructions-plain_step : (t : TaskState) (to : Core)
+      → PlainInstruction image (length t.memory) budget t.core to
+      → after_instructions image budget ctx (budget - t.core.used) t ≡ after_instructions image budget ctx (budget - to.used) (record t { core = to })
+  after_instructions-plain_step t to h =
+      let within = PlainInstruction-within image (length t.memory) budget t.core to h in
+      let counted = PlainInstruction-counted image (length t.memory) budget t.core to h in
       let e : budget - t.core.used ≡ suc (budget - to.used) = omega arith in
       rw (e, h) refl
 
-  pub steps-plain_steps : (n : ℕ) (t : TaskState) (to : Core) → PlainSteps image (length t.memory) budget n t.core to
-      → steps image budget ctx (budget - t.core.used) t ≡ steps image budget ctx (budget - to.used) (record t { core = to })
-  steps-plain_steps zero t to e = rw (← e) refl
-  steps-plain_steps (suc n) t to (mid, before, last) = steps-plain_steps n t mid before ∙ steps-plain_step (record t { core = mid }) to last
+  pub after_instructions-plain_steps : (n : ℕ) (t : TaskState) (to : Core)
+      → PlainInstructions image (length t.memory) budget n t.core to
+      → after_instructions image budget ctx (budget - t.core.used) t ≡ after_instructions image budget ctx (budget - to.used) (record t { core = to })
+  after_instructions-plain_steps zero t to e = rw (← e) refl
+  after_instructions-plain_steps (suc n) t to (mid, before, last) = after_instructions-plain_steps n t mid before ∙ after_instructions-plain_step (record t { core = mid }) to last
 
   -- what stands at the end of a leg is followed, also where the budget is used up
-  pub steps-stop : (t : TaskState) (s : Stop) → next_at image (length t.memory) budget t.core ≡ Stops s → t.core.used ≤ budget
-      → steps image budget ctx (budget - t.core.used) t ≡ followed (steps image budget ctx (budget - (t.core.used + 1))) (after_stop ctx t s)
-  steps-stop t s h le = elim (cases_lt t.core.used budget) [ inl lt ↦ within lt | inr ge ↦ spent ge ] where
-    within : t.core.used < budget → steps image budget ctx (budget - t.core.used) t ≡ followed (steps image budget ctx (budget - (t.core.used + 1))) (after_stop ctx t s)
+  pub after_instructions-stop : (t : TaskState) (s : Stop) → next_at image (length t.memory) budget t.core ≡ Stops s → t.core.used ≤ budget
+      → after_instructions image budget ctx (budget - t.core.used) t ≡ task_end_after (after_instructions image budget ctx (budget - (t.core.used + 1))) (after_stop ctx t s)
+  after_instructions-stop t s h le = elim (cases_lt t.core.used budget) [ inl lt ↦ within lt | inr ge ↦ spent ge ] where
+    within : t.core.used < budget → after_instructions image budget ctx (budget - t.core.used) t ≡ task_end_after (after_instructions image budget ctx (budget - (t.core.used + 1))) (after_stop ctx t s)
     within lt = let e : budget - t.core.used ≡ suc (budget - (t.core.used + 1)) = omega arith in rw (e, h) refl
 
-    spent : budget ≤ t.core.used → steps image budget ctx (budget - t.core.used) t ≡ followed (steps image budget ctx (budget - (t.core.used + 1))) (after_stop ctx t s)
+    spent : budget ≤ t.core.used → after_instructions image budget ctx (budget - t.core.used) t ≡ task_end_after (after_instructions image budget ctx (budget - (t.core.used + 1))) (after_stop ctx t s)
     spent ge =
         let e : budget - t.core.used ≡ zero = omega arith in
         let k : s ≡ stop.Trap 17 t.core.pc = spent_traps image (length t.memory) budget t.core s h ge in
@@ -135,28 +138,29 @@ module _ (image : ImageValue) (budget : ℕ) (ctx : Ctx) where
 
   -- a leg that stopped before its quantum's end
   pub leg-stopped : (old : TaskState) (to : Core) (n : ℕ) (s : Stop) (f : Flow) (new : TaskState)
-      → PlainSteps image (length old.memory) budget n old.core to → to.used ≡ old.core.used + n → to.used ≤ budget
+      → PlainInstructions image (length old.memory) budget n old.core to → to.used ≡ old.core.used + n
+      → to.used ≤ budget
       → next_at image (length old.memory) budget to ≡ Stops s → s ≢ stop.Quantum
       → Leads (after_stop ctx (record old { core = to }) s) f new → LegLeads image budget ctx old f new
   leg-stopped old to n s flow.Continues new run used within next other leads =
       let mid : TaskState = record old { core = to } in
       let one = Leads-used (to.used + 1) (after_stop ctx mid s) new leads (after_stop-used ctx mid s other) in
       record {
-        same = ap (λ k. steps image budget ctx (budget - k) new) one ∙ sym (steps-plain_steps n old to run ∙ steps-stop mid s next within ∙ followed-Continues _ _ new leads);
+        same = ap (λ k. after_instructions image budget ctx (budget - k) new) one ∙ sym (after_instructions-plain_steps n old to run ∙ after_instructions-stop mid s next within ∙ task_end_after-Continues _ _ new leads);
         used = omega arith;
         within = let lt = budget_left mid s new next leads in omega (arith, lt);
         memory = Leads-size (length old.memory) (after_stop ctx mid s) new leads (after_request-size mid (request_at (context ctx mid) to s));
       }
   leg-stopped old to n s flow.Ended new run used within next other leads =
-      let P : TaskEnd → Type 0 = λ o. Finishes o ends.Done new in
-      subst P (sym (steps-plain_steps n old to run ∙ steps-stop (record old { core = to }) s next within)) (followed-Ended _ _ new leads)
+      let P : TaskEnd → Type 0 = λ o. FinishesRun o ends.Done new in
+      subst P (sym (after_instructions-plain_steps n old to run ∙ after_instructions-stop (record old { core = to }) s next within)) (task_end_after-Ended _ _ new leads)
   leg-stopped old to n s (flow.Trapped cause pc) new run used within next other leads =
-      let P : TaskEnd → Type 0 = λ o. Finishes o (ends.Trapped cause pc) new in
-      subst P (sym (steps-plain_steps n old to run ∙ steps-stop (record old { core = to }) s next within)) (followed-Trapped _ _ cause pc new leads)
+      let P : TaskEnd → Type 0 = λ o. FinishesRun o (ends.Trapped cause pc) new in
+      subst P (sym (after_instructions-plain_steps n old to run ∙ after_instructions-stop (record old { core = to }) s next within)) (task_end_after-Trapped _ _ cause pc new leads)
 
   -- a leg that came to its quantum's end
   pub leg-full : (old : TaskState) (to : Core) (n : ℕ) (s : Stop) (f : Flow) (new : TaskState)
-      → PlainSteps image (length old.memory) budget n old.core to → to.used ≡ old.core.used + n → to.used ≤ budget → 0 < n → s ≡ stop.Quantum
+      → PlainInstructions image (length old.memory) budget n old.core to → to.used ≡ old.core.used + n → to.used ≤ budget → 0 < n → s ≡ stop.Quantum
       → Leads (after_stop ctx (record old { core = to }) s) f new → LegLeads image budget ctx old f new
   leg-full old to n s f new run used within some e leads =
       let P : Stop → Type 0 = λ x. Leads (after_stop ctx (record old { core = to }) x) f new in
@@ -164,7 +168,7 @@ module _ (image : ImageValue) (budget : ℕ) (ctx : Ctx) where
     where
       goes : (f : Flow) → Leads (Continues (record old { core = to })) f new → LegLeads image budget ctx old f new
       goes flow.Continues same = rw same (record {
-        same = sym (steps-plain_steps n old to run);
+        same = sym (after_instructions-plain_steps n old to run);
         used = omega arith;
         within = within;
         memory = refl;

@@ -5,9 +5,9 @@ use Rattle.std.specs.List.{list_any}
 use Rattle.task_desc.specs.declared.desc.Name.{Name}
 use Rattle.pending_list.specs.declared.task.PendingTask.{PendingTask}
 use Rattle.serial_machine.specs.declared.bag.Bag.{Bag}
-use Rattle.serial_machine.specs.Turn.{is_named, without, is_pending}
+use Rattle.serial_machine.specs.Turn.{is_named, without_name, is_pending}
 use Rattle.serial_machine.specs.Names.{times, one}
-use Rattle.serial_machine.specs.Stack.{bag_value, bags, HaveRoom}
+use Rattle.serial_machine.specs.Stack.{bag_value, bags, HaveSpare}
 
 pub list_any_map : {A B : Type 0} (p : B → Bool) (f : A → B) (xs : List A) → list_any p (map f xs) ≡ list_any (λ x. p (f x)) xs
 list_any_map p f [] = refl
@@ -19,10 +19,11 @@ any_bag name [] = refl
 any_bag name (bag ∷ stack) = ap (λ b. list_any (is_named name) bag.tasks.tasks || b) (any_bag name stack)
 
 -- where a name doesn't stand nothing leaves
-pub without-none : (name : Name) (tasks : List PendingTask) → times name tasks ≡ 0 → without name tasks ≡ tasks
-without-none name [] h = refl
-without-none name (t ∷ ts) h = go (without-none name ts) (is_named name t) h where
-  go : (times name ts ≡ 0 → without name ts ≡ ts) → (b : Bool) → one b + times name ts ≡ 0 → (if not b then t ∷ without name ts else without name ts) ≡ t ∷ ts
+pub without_name-none : (name : Name) (tasks : List PendingTask) → times name tasks ≡ 0
+    → without_name name tasks ≡ tasks
+without_name-none name [] h = refl
+without_name-none name (t ∷ ts) h = go (without_name-none name ts) (is_named name t) h where
+  go : (times name ts ≡ 0 → without_name name ts ≡ ts) → (b : Bool) → one b + times name ts ≡ 0 → (if not b then t ∷ without_name name ts else without_name name ts) ≡ t ∷ ts
   go ih true h = absurd (omega (arith, h))
   go ih false h = ap (λ r. t ∷ r) (ih (omega (arith, h)))
 
@@ -30,10 +31,10 @@ without-none name (t ∷ ts) h = go (without-none name ts) (is_named name t) h w
 pub drop_next : {A : Type 0} (xs rest : List A) (x : A) (i : ℕ) → drop i xs ≡ x ∷ rest → rest ≡ drop (i + 1) xs
 drop_next xs rest x i h = sym (ap (drop 1) h) ∙ drop-drop 1 i xs
 
-pub HaveRoom-drop : (more k : ℕ) (stack : List Bag) → HaveRoom more stack → HaveRoom more (drop k stack)
-HaveRoom-drop more zero stack h = h
-HaveRoom-drop more (suc k) [] h = tt
-HaveRoom-drop more (suc k) (bag ∷ stack) h = HaveRoom-drop more k stack h.1
+pub HaveSpare-drop : (more k : ℕ) (stack : List Bag) → HaveSpare more stack → HaveSpare more (drop k stack)
+HaveSpare-drop more zero stack h = h
+HaveSpare-drop more (suc k) [] h = tt
+HaveSpare-drop more (suc k) (bag ∷ stack) h = HaveSpare-drop more k stack h.1
 
 -- a bag that says the same stands in place of another
 pub bags-set : (stack : List Bag) (i : ℕ) (bag other : Bag) → i < length stack → bag_value bag ≡ bag_value (get_or stack i other) → bags (set stack i bag) ≡ bags stack
@@ -42,11 +43,11 @@ bags-set (b ∷ stack) zero bag other below same = ap (λ v. v ∷ bags stack) s
 bags-set (b ∷ stack) (suc i) bag other below same = ap (λ r. bag_value b ∷ r) (bags-set stack i bag other (omega arith) same)
 
 -- one more bag has room
-pub HaveRoom-set : (more : ℕ) (stack : List Bag) (i : ℕ) (bag : Bag) → i < length stack → more ≤ bag.tasks.room
-    → HaveRoom more (take i stack) → HaveRoom more (take (suc i) (set stack i bag))
-HaveRoom-set more [] i bag below room h = absurd (omega arith)
-HaveRoom-set more (b ∷ stack) zero bag below room h = (room, tt)
-HaveRoom-set more (b ∷ stack) (suc i) bag below room h = (h.0, HaveRoom-set more stack i bag (omega arith) room h.1)
+pub HaveSpare-set : (more : ℕ) (stack : List Bag) (i : ℕ) (bag : Bag) → i < length stack → more ≤ bag.tasks.room
+    → HaveSpare more (take i stack) → HaveSpare more (take (suc i) (set stack i bag))
+HaveSpare-set more [] i bag below room h = absurd (omega arith)
+HaveSpare-set more (b ∷ stack) zero bag below room h = (room, tt)
+HaveSpare-set more (b ∷ stack) (suc i) bag below room h = (h.0, HaveSpare-set more stack i bag (omega arith) room h.1)
 
 pub bags-drop : (k : ℕ) (stack : List Bag) → bags (drop k stack) ≡ drop k (bags stack)
 bags-drop zero stack = refl

@@ -12,17 +12,17 @@ use Rattle.pending_list.specs.declared.task.PendingTask.{PendingTask}
 use Rattle.serial_machine.specs.BagValue.{BagValue}
 use Rattle.guest_image.specs.ImageValue.{ImageValue}
 use Rattle.serial_machine.specs.TaskState.{TaskState}
-use Rattle.serial_machine.specs.State.{State, IsStack}
-use Rattle.serial_machine.specs.TaskRun.{Done, Trapped, TaskEnd, task_run, steps, begun}
+use Rattle.serial_machine.specs.State.{SerialState, IsStack}
+use Rattle.serial_machine.specs.TaskRun.{Done, Trapped, TaskEnd, task_run, after_instructions, task_at_start}
 use Rattle.task_desc.specs.declared.desc.Ctx.{Ctx}
-use Rattle.serial_machine.specs.Legs.{SubFits, Finishes}
+use Rattle.serial_machine.specs.Legs.{SubFits, FinishesRun}
 use Rattle.serial_machine.specs.declared.running.RunEnd.TheVariants as run_ends
 use Rattle.serial_machine.specs.declared.bag.Bag.{Bag}
-use Rattle.serial_machine.specs.Stack.{bag_value, bags, settled, IsSelected, IsSelectedFrom, AreAllOlder}
+use Rattle.serial_machine.specs.Stack.{bag_value, bags, stack_behind_turn, IsSelected, IsSelectedFrom, AreAllOlder}
 use Rattle.serial_machine.specs.Names.{AreNamed}
 use Rattle.serial_machine.proofs.Naming.{all-older}
 use Rattle.serial_machine.proofs.Stacks.{bags-drop}
-use Rattle.serial_machine.specs.Turn.{context_of, with_super, sub_bags, stack_after, children, inner, is_pending, MayTurn, run_of, turn}
+use Rattle.serial_machine.specs.Turn.{context_in_bag, with_super, sub_bags, stack_after, children, inner, is_pending, MayTurn, run_in_bag, turn}
 
 pub length-with_super : (tasks : List PendingTask) (outer : List BagValue) → length (with_super tasks outer) ≡ length outer
 length-with_super tasks [] = refl
@@ -58,35 +58,35 @@ is_pending-inner name (bag ∷ outer) = go (is_pending-inner name outer) (length
   go ih false e = refl
 
 -- a task of the innermost bag takes its turn
-pub turn-done : (image : ImageValue) (budget : ℕ) (s : State) (name : Name) (bag : BagValue) (outer : List BagValue) (task : PendingTask) (t : TaskState)
-    → MayTurn s.stack name bag outer task → run_of image budget s bag outer task ≡ Done t
+pub turn-done : (image : ImageValue) (budget : ℕ) (s : SerialState) (name : Name) (bag : BagValue) (outer : List BagValue) (task : PendingTask) (t : TaskState)
+    → MayTurn s.stack name bag outer task → run_in_bag image budget s bag outer task ≡ Done t
     → turn image budget s name ≡ Some (record { stack = stack_after bag outer name (s.count + 1) task.ts t.spawns t.sub; memory = t.memory; output = s.output ++ t.bytes; count = s.count + 1 }, record { name = name; depth = bag.depth; ts = task.ts })
 unfolding turn
 turn-done image budget s name bag outer task t m r = rw (m.top, m.found, m.least, r) refl
 
-pub finish-done : (o : TaskEnd) (t : TaskState) → Finishes o run_ends.Done t → o ≡ Done t
+pub finish-done : (o : TaskEnd) (t : TaskState) → FinishesRun o run_ends.Done t → o ≡ Done t
 finish-done (Done u) t h = ap Done (sym h)
 finish-done (Trapped cause pc) t h = absurd h
 
-pub turn-finished : (image : ImageValue) (budget : ℕ) (s : State) (name : Name) (bag : BagValue) (outer : List BagValue) (task : PendingTask) (t : TaskState)
-    → MayTurn s.stack name bag outer task → Finishes (run_of image budget s bag outer task) run_ends.Done t
+pub turn-finished : (image : ImageValue) (budget : ℕ) (s : SerialState) (name : Name) (bag : BagValue) (outer : List BagValue) (task : PendingTask) (t : TaskState)
+    → MayTurn s.stack name bag outer task → FinishesRun (run_in_bag image budget s bag outer task) run_ends.Done t
     → turn image budget s name ≡ Some (record { stack = stack_after bag outer name (s.count + 1) task.ts t.spawns t.sub; memory = t.memory; output = s.output ++ t.bytes; count = s.count + 1 }, record { name = name; depth = bag.depth; ts = task.ts })
 turn-finished image budget s name bag outer task t m f = turn-done image budget s name bag outer task t m (finish-done _ t f)
 
-pub finish-trapped : (o : TaskEnd) (cause pc : ℕ) (t : TaskState) → Finishes o (run_ends.Trapped cause pc) t → o ≡ Trapped cause pc
+pub finish-trapped : (o : TaskEnd) (cause pc : ℕ) (t : TaskState) → FinishesRun o (run_ends.Trapped cause pc) t → o ≡ Trapped cause pc
 finish-trapped (Done u) cause pc t h = absurd h
 finish-trapped (Trapped c p) cause pc t h = rw (h.0, h.1) refl
 
 -- the steps of a task that has done nothing are its run
-pub steps-begun : (image : ImageValue) (budget : ℕ) (ctx : Ctx) (entry ts : ℕ) (args memory before : List ℕ) (task : TaskState) → ctx.ts ≡ ts → before ≡ memory → task ≡ begun image.version entry ts args before
-    → steps image budget ctx (budget - task.core.used) task ≡ task_run image budget ctx entry args memory
+pub after_instructions-task_at_start : (image : ImageValue) (budget : ℕ) (ctx : Ctx) (entry ts : ℕ) (args memory before : List ℕ) (task : TaskState) → ctx.ts ≡ ts → before ≡ memory → task ≡ task_at_start image.version entry ts args before
+    → after_instructions image budget ctx (budget - task.core.used) task ≡ task_run image budget ctx entry args memory
 unfolding task_run
-steps-begun image budget ctx entry ts args memory before task at same is =
+after_instructions-task_at_start image budget ctx entry ts args memory before task at same is =
     let all : budget - 0 ≡ budget = omega arith in
-    ap (λ t. steps image budget ctx (budget - t.core.used) t) is
-    ∙ ap (λ k. steps image budget ctx k (begun image.version entry ts args before)) all
-    ∙ ap (λ m. steps image budget ctx budget (begun image.version entry ts args m)) same
-    ∙ ap (λ t. steps image budget ctx budget (begun image.version entry t args memory)) (sym at)
+    ap (λ t. after_instructions image budget ctx (budget - t.core.used) t) is
+    ∙ ap (λ k. after_instructions image budget ctx k (task_at_start image.version entry ts args before)) all
+    ∙ ap (λ m. after_instructions image budget ctx budget (task_at_start image.version entry ts args m)) same
+    ∙ ap (λ t. after_instructions image budget ctx budget (task_at_start image.version entry t args memory)) (sym at)
 
 -- the emptied bags go
 pub IsStack-inner : (stack : List BagValue) → IsStack stack → IsStack (inner stack)
@@ -115,19 +115,20 @@ older-at place count stack named = go place stack (all-older count stack named) 
 
 -- the stack after a turn, as the code makes it
 pub stack-after : (stack two outer : List Bag) (bag : Bag) (new : List BagValue) (name : Name) (place n ts depth : ℕ) (spawns : List Spawn) (sub : Option Kind) → two ≡ stack → drop place two ≡ bag ∷ outer → depth ≡ bag.depth
-    → new ≡ settled name n spawns (sub_bags (depth + 1) ts n (children Sub n spawns) sub) (drop place (bags stack))
+    → new ≡ stack_behind_turn name n spawns (sub_bags (depth + 1) ts n (children Sub n spawns) sub)
+    (drop place (bags stack))
     → new ≡ stack_after (bag_value bag) (bags outer) name n ts spawns sub
 unfolding stack_after
 stack-after stack two outer bag new name place n ts depth spawns sub f stands deep is =
     is
-    ∙ ap (settled name n spawns (sub_bags (depth + 1) ts n (children Sub n spawns) sub)) (sym (ap bags (sym stands) ∙ bags-drop place two ∙ ap (λ s. drop place (bags s)) f))
-    ∙ ap (λ d. settled name n spawns (sub_bags (d + 1) ts n (children Sub n spawns) sub) (bag_value bag ∷ bags outer)) deep
+    ∙ ap (stack_behind_turn name n spawns (sub_bags (depth + 1) ts n (children Sub n spawns) sub)) (sym (ap bags (sym stands) ∙ bags-drop place two ∙ ap (λ s. drop place (bags s)) f))
+    ∙ ap (λ d. stack_behind_turn name n spawns (sub_bags (d + 1) ts n (children Sub n spawns) sub) (bag_value bag ∷ bags outer)) deep
 
 -- the turn of a task that is done
-pub turn-taken : (image : ImageValue) (budget : ℕ) (s : State) (name : Name) (bag : BagValue) (outer stack : List BagValue) (task : PendingTask) (ctx : Ctx) (memory output : List ℕ) (t : TaskState)
-    → MayTurn s.stack name bag outer task → ctx ≡ context_of image.version bag outer task → task_run image budget ctx task.entry task.args s.memory ≡ Done t
+pub turn-taken : (image : ImageValue) (budget : ℕ) (s : SerialState) (name : Name) (bag : BagValue) (outer stack : List BagValue) (task : PendingTask) (ctx : Ctx) (memory output : List ℕ) (t : TaskState)
+    → MayTurn s.stack name bag outer task → ctx ≡ context_in_bag image.version bag outer task → task_run image budget ctx task.entry task.args s.memory ≡ Done t
     → stack ≡ stack_after bag outer name (s.count + 1) task.ts t.spawns t.sub → memory ≡ t.memory → output ≡ s.output ++ t.bytes
     → turn image budget s name ≡ Some (record { stack = stack; memory = memory; output = output; count = s.count + 1 }, record { name = name; depth = ctx.depth; ts = task.ts })
 turn-taken image budget s name bag outer stack task ctx memory output t may at ran left kept told =
-    let run : run_of image budget s bag outer task ≡ Done t = ap (λ x. task_run image budget x task.entry task.args s.memory) (sym at) ∙ ran in
+    let run : run_in_bag image budget s bag outer task ≡ Done t = ap (λ x. task_run image budget x task.entry task.args s.memory) (sym at) ∙ ran in
     rw (left, kept, told, ap (λ x. x.depth) at) (turn-done image budget s name bag outer task t may run)

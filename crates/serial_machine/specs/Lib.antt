@@ -1,3 +1,4 @@
+-- Contracts mean all but Stack, which serves this crate alone.
 pub mod BagValue
 pub mod TaskState
 pub mod TaskRun

@@ -9,7 +9,7 @@ use Rattle.pending_list.specs.declared.task.PendingTask.{PendingTask}
 use Rattle.run_journal.specs.declared.journal.Entry.{Entry}
 use Rattle.run_journal.specs.declared.end.End.{End}
 use Rattle.run_journal.specs.declared.end.End.TheVariants as ends
-use Rattle.serial_machine.specs.State.{State}
+use Rattle.serial_machine.specs.State.{SerialState}
 use Rattle.serial_machine.specs.Turn.{turn, inner, TrapsSo}
 
 -- the image's task at a place, pending in the root domain
@@ -26,7 +26,7 @@ abbrev pub opening_memory : ImageValue → List ℕ
 opening_memory image = image.initial ++ replicate (image.data_size - length image.initial) 0
 
 -- the state before the first turn: the image's tasks pend in the root domain
-abbrev pub opening : ImageValue → State
+abbrev pub opening : ImageValue → SerialState
 opening image = record {
   stack = record {
     depth = 1;
@@ -41,17 +41,17 @@ opening image = record {
 }
 
 -- the turns of these entries lead from one state to another, each with the entry's depth and timestamp
-abbrev pub Runs : ImageValue → ℕ → State → List Entry → State → Type 0
+abbrev pub Runs : ImageValue → ℕ → SerialState → List Entry → SerialState → Type 0
 Runs image budget s [] after = s ≡ after
 Runs image budget s (e ∷ es) after =
-    (mid : State) × (turn image budget s e.name ≡ Some (mid, e)) × Runs image budget mid es after
+    (mid : SerialState) × (turn image budget s e.name ≡ Some (mid, e)) × Runs image budget mid es after
 
 -- a journal is a run of the image: its turns lead from the opening to this state
-abbrev pub IsRun : ImageValue → ℕ → List Entry → State → Type 0
+abbrev pub IsRun : ImageValue → ℕ → List Entry → SerialState → Type 0
 IsRun image budget journal after = Runs image budget (opening image) journal after
 
 -- a run of at most `commits` turns that led to this state ends so
-abbrev pub IsEnd : ImageValue → ℕ → ℕ → List Entry → State → End → Type 0
+abbrev pub IsEnd : ImageValue → ℕ → ℕ → List Entry → SerialState → End → Type 0
 IsEnd image budget commits journal s ends.Normal = inner s.stack ≡ []
 IsEnd image budget commits journal s ends.Limit = (inner s.stack ≢ []) × (length journal ≡ commits)
 IsEnd image budget commits journal s (ends.Trap name cause pc) =

@@ -8,10 +8,11 @@ use Rattle.serial_machine.specs.BagValue.{BagValue}
 use Rattle.pending_list.specs.declared.task.PendingTask.{PendingTask}
 use Rattle.serial_machine.specs.declared.fault.TurnFault.{TurnFault}
 use Rattle.serial_machine.specs.declared.fault.TurnFault.TheVariants as faults
-use Rattle.serial_machine.specs.State.{State}
-use Rattle.serial_machine.specs.Turn.{inner, without, children, with_super, is_pending, MayTurn, IsNotTop, IsNotLeast}
+use Rattle.serial_machine.specs.State.{SerialState}
+use Rattle.serial_machine.specs.Turn.{inner, without_name, children, with_super, is_pending, MayTurn, IsNotTop}
+use Rattle.serial_machine.specs.Turn.{IsNotLeast}
 
--- what a bag says, whatever room it has
+-- what a bag says, whatever is spare in it
 abbrev pub bag_value : Bag → BagValue
 bag_value bag =
     record { depth = bag.depth; kind = bag.kind; floor = bag.floor; owner = bag.owner; tasks = bag.tasks.tasks }
@@ -20,7 +21,7 @@ abbrev pub bags : List Bag → List BagValue
 bags stack = map bag_value stack
 
 -- the state that the parts of a machine say
-abbrev pub state_of : List Bag → List ℕ → List ℕ → ℕ → State
+abbrev pub state_of : List Bag → List ℕ → List ℕ → ℕ → SerialState
 state_of stack memory output count = record { stack = bags stack; memory = memory; output = output; count = count }
 
 -- the innermost bag that isn't empty stands at this place
@@ -32,10 +33,10 @@ abbrev pub new_bags : Option Bag → List BagValue
 new_bags None = []
 new_bags (Some bag) = bag_value bag ∷ []
 
--- each bag has room for so many more tasks
-abbrev pub HaveRoom : ℕ → List Bag → Type 0
-HaveRoom more [] = Unit {0}
-HaveRoom more (bag ∷ stack) = (more ≤ bag.tasks.room) × HaveRoom more stack
+-- in each bag so many more tasks are spare
+abbrev pub HaveSpare : ℕ → List Bag → Type 0
+HaveSpare more [] = Unit {0}
+HaveSpare more (bag ∷ stack) = (more ≤ bag.tasks.room) × HaveSpare more stack
 
 -- the tasks were made by turns before this one
 abbrev pub AreOlder : ℕ → List PendingTask → Type 0
@@ -47,10 +48,10 @@ AreAllOlder turn [] = Unit {0}
 AreAllOlder turn (bag ∷ outer) = AreOlder turn bag.tasks × AreAllOlder turn outer
 
 -- the stack after a name left the first bag and the children joined their domains, of which the new ones come first
-abbrev pub settled : Name → ℕ → List Spawn → List BagValue → List BagValue → List BagValue
-settled name owner spawns new [] = new
-settled name owner spawns new (bag ∷ outer) =
-    new ++ record bag { tasks = without name bag.tasks ++ children Same owner spawns }
+abbrev pub stack_behind_turn : Name → ℕ → List Spawn → List BagValue → List BagValue → List BagValue
+stack_behind_turn name owner spawns new [] = new
+stack_behind_turn name owner spawns new (bag ∷ outer) =
+    new ++ record bag { tasks = without_name name bag.tasks ++ children Same owner spawns }
     ∷ with_super (children Super owner spawns) outer
 
 -- the first of these bags holds the task of a name, which may take the next turn of a stack

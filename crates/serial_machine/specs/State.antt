@@ -4,7 +4,7 @@ use Rattle.task_desc.specs.declared.calls.TheConstants.{MAX_DEPTH}
 use Rattle.serial_machine.specs.BagValue.{BagValue}
 
 -- the stack of bags, innermost first, the memory, the output and the number of turns
-pub record State : Type 0 where
+pub record SerialState : Type 0 where
   pub stack : List BagValue
   pub memory : List ℕ
   pub output : List ℕ
@@ -12,7 +12,7 @@ pub record State : Type 0 where
 
 -- what contracts see of a machine: its state, and the budget of each task
 pub record SerialValue : Type 0 where
-  pub state : State
+  pub state : SerialState
   pub budget : ℕ
 
 -- the depths of a stack fall by one down to 1, and none is above the greatest

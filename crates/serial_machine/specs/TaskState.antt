@@ -1,2 +1,2 @@
 -- A task in progress.
-pub use Rattle.task_step.specs.TaskState.{TaskState}
+pub use Rattle.task_request.specs.TaskState.{TaskState}

@@ -10,12 +10,12 @@ use Rattle.task_desc.specs.declared.desc.Ctx.{Ctx}
 use Rattle.task_desc.specs.declared.desc.Place.{Place}
 use Rattle.task_desc.specs.declared.desc.Place.TheVariants.{Same, Sub, Super}
 use Rattle.pending_list.specs.declared.task.PendingTask.{PendingTask}
-pub use Rattle.pending_list.specs.Pending.{is_named, find_named, without}
+pub use Rattle.pending_list.specs.Pending.{is_named, find_named, without_name}
 use Rattle.run_journal.specs.declared.journal.Entry.{Entry}
 use Rattle.serial_machine.specs.declared.fault.TurnFault.{TurnFault}
 use Rattle.serial_machine.specs.declared.fault.TurnFault.TheVariants as faults
 use Rattle.serial_machine.specs.BagValue.{BagValue}
-use Rattle.serial_machine.specs.State.{State}
+use Rattle.serial_machine.specs.State.{SerialState}
 use Rattle.serial_machine.specs.TaskRun.{task_run, TaskEnd, Done, Trapped}
 
 -- whether no task has a smaller timestamp
@@ -37,8 +37,8 @@ kind_outside [] = None
 kind_outside (bag ∷ outer) = Some bag.kind
 
 -- what the calls of a task of a bag depend on as it starts, in an image of this version
-abbrev pub context_of : ℕ → BagValue → List BagValue → PendingTask → Ctx
-context_of version bag outer task = record {
+abbrev pub context_in_bag : ℕ → BagValue → List BagValue → PendingTask → Ctx
+context_in_bag version bag outer task = record {
   version = version;
   depth = bag.depth;
   own = bag.kind;
@@ -83,16 +83,17 @@ with_super tasks (bag ∷ outer) = record bag { tasks = bag.tasks ++ tasks } ∷
 unfoldable pub stack_after : BagValue → List BagValue → Name → ℕ → ℕ → List Spawn → Option Kind → List BagValue
 stack_after bag outer name n ts spawns sub =
     sub_bags (bag.depth + 1) ts n (children Sub n spawns) sub
-    ++ record bag { tasks = without name bag.tasks ++ children Same n spawns }
+    ++ record bag { tasks = without_name name bag.tasks ++ children Same n spawns }
     ∷ with_super (children Super n spawns) outer
 
 -- the run of a task of a bag, on the memory of the state
-abbrev pub run_of : ImageValue → ℕ → State → BagValue → List BagValue → PendingTask → TaskEnd
-run_of image budget s bag outer task =
-    task_run image budget (context_of image.version bag outer task) task.entry task.args s.memory
+abbrev pub run_in_bag : ImageValue → ℕ → SerialState → BagValue → List BagValue → PendingTask → TaskEnd
+run_in_bag image budget s bag outer task =
+    task_run image budget (context_in_bag image.version bag outer task) task.entry task.args s.memory
 
 -- a task that traps takes no turn
-abbrev pub after_run : State → Name → BagValue → List BagValue → PendingTask → TaskEnd → Option (State × Entry)
+abbrev pub after_run : SerialState → Name → BagValue → List BagValue → PendingTask → TaskEnd
+    → Option (SerialState × Entry)
 after_run s name bag outer task (Trapped cause pc) = None
 after_run s name bag outer task (Done t) =
     Some (
@@ -105,22 +106,24 @@ after_run s name bag outer task (Done t) =
       record { name = name; depth = bag.depth; ts = task.ts },
     )
 
-abbrev pub chosen : ImageValue → ℕ → State → Name → BagValue → List BagValue → Option PendingTask
-    → Option (State × Entry)
-chosen image budget s name bag outer None = None
-chosen image budget s name bag outer (Some task) =
-    if is_least task.ts bag.tasks then after_run s name bag outer task (run_of image budget s bag outer task) else None
+abbrev pub turn_of_task : ImageValue → ℕ → SerialState → Name → BagValue → List BagValue → Option PendingTask
+    → Option (SerialState × Entry)
+turn_of_task image budget s name bag outer None = None
+turn_of_task image budget s name bag outer (Some task) =
+    if is_least task.ts bag.tasks then after_run s name bag outer task
+    (run_in_bag image budget s bag outer task) else None
 
-abbrev pub turned : ImageValue → ℕ → State → Name → List BagValue → Option (State × Entry)
-turned image budget s name [] = None
-turned image budget s name (bag ∷ outer) = chosen image budget s name bag outer (find_named name bag.tasks)
+abbrev pub turn_from_stack : ImageValue → ℕ → SerialState → Name → List BagValue → Option (SerialState × Entry)
+turn_from_stack image budget s name [] = None
+turn_from_stack image budget s name (bag ∷ outer) =
+    turn_of_task image budget s name bag outer (find_named name bag.tasks)
 
 -- the state after the turn of a name, and its entry in the journal; none where the name may take no turn
-unfoldable pub turn : ImageValue → ℕ → State → Name → Option (State × Entry)
-turn image budget s name = turned image budget s name (inner s.stack)
+unfoldable pub turn : ImageValue → ℕ → SerialState → Name → Option (SerialState × Entry)
+turn image budget s name = turn_from_stack image budget s name (inner s.stack)
 
 -- the turn of a name leads from one state to another, and has this entry
-abbrev pub TakesTurn : ImageValue → ℕ → State → Name → State → Entry → Type 0
+abbrev pub TakesTurn : ImageValue → ℕ → SerialState → Name → SerialState → Entry → Type 0
 TakesTurn image budget before name after entry = turn image budget before name ≡ Some (after, entry)
 
 -- the task of a name may take the next turn: it stands in the innermost bag that isn't empty, with a least
@@ -151,17 +154,17 @@ pub record IsNotLeast (stack : List BagValue) (name : Name) (ts : ℕ) : Type 0 
   pub stands : Contains (map (λ t. t.ts) bag.tasks) ts
 
 -- the task of a name may take the next turn, and its run ends in this trap
-pub record TrapsSo (image : ImageValue) (budget : ℕ) (s : State) (name : Name) (cause pc : ℕ) : Type 0 where
+pub record TrapsSo (image : ImageValue) (budget : ℕ) (s : SerialState) (name : Name) (cause pc : ℕ) : Type 0 where
   pub bag : BagValue
   pub outer : List BagValue
   pub task : PendingTask
   pub may : MayTurn s.stack name bag outer task
-  pub run : run_of image budget s bag outer task ≡ Trapped cause pc
+  pub run : run_in_bag image budget s bag outer task ≡ Trapped cause pc
 
 -- why a name takes no turn; the cases exclude each other
-abbrev pub Refuses : ImageValue → ℕ → State → Name → TurnFault → Type 0
-Refuses image budget s name faults.NotPending = is_pending name s.stack ≡ false
-Refuses image budget s name (faults.NotTop depth) = IsNotTop s.stack name depth
-Refuses image budget s name (faults.NotLeast ts) = IsNotLeast s.stack name ts
-Refuses image budget s name (faults.Trap cause pc) = TrapsSo image budget s name cause pc
-Refuses image budget s name faults.Memory = Unit {0}
+abbrev pub RefusesTurn : ImageValue → ℕ → SerialState → Name → TurnFault → Type 0
+RefusesTurn image budget s name faults.NotPending = is_pending name s.stack ≡ false
+RefusesTurn image budget s name (faults.NotTop depth) = IsNotTop s.stack name depth
+RefusesTurn image budget s name (faults.NotLeast ts) = IsNotLeast s.stack name ts
+RefusesTurn image budget s name (faults.Trap cause pc) = TrapsSo image budget s name cause pc
+RefusesTurn image budget s name faults.Memory = Unit {0}

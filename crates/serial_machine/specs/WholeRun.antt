@@ -7,17 +7,17 @@ use Rattle.run_journal.specs.declared.journal.Entry.{Entry}
 use Rattle.task_desc.specs.declared.desc.Name.{Name}
 use Rattle.serial_machine.specs.declared.fault.TurnFault.{TurnFault}
 use Rattle.serial_machine.specs.declared.fault.TurnFault.TheVariants as faults
-use Rattle.serial_machine.specs.declared.whole_run.Advance.{Advance}
-use Rattle.serial_machine.specs.declared.whole_run.Advance.TheVariants as advances
+use Rattle.serial_machine.specs.declared.whole_run.TurnAnswer.{TurnAnswer}
+use Rattle.serial_machine.specs.declared.whole_run.TurnAnswer.TheVariants as advances
 use Rattle.serial_machine.specs.declared.whole_run.SerialRun.{SerialRun}
 use Rattle.serial_machine.specs.Run.{IsEnd, IsRun}
-use Rattle.serial_machine.specs.State.{State, SerialValue}
+use Rattle.serial_machine.specs.State.{SerialState, SerialValue}
 use Rattle.serial_machine.specs.Turn.{turn, inner, TrapsSo}
 
 -- the journal is a run of the image of at most so many turns, which led to this memory and this output, and ended
 -- so if it has an end
 pub record IsRunOf (image : ImageValue) (commits budget : ℕ) (run : SerialRun) : Type 0 where
-  pub state : State
+  pub state : SerialState
   pub is_run : IsRun image budget run.journal state
   pub within : length run.journal ≤ commits
   pub memory_is : run.memory ≡ state.memory
@@ -40,10 +40,11 @@ IsStop image serial ends.Limit = ⊥
 IsStop image serial ends.Unfinished = ⊥
 
 -- what a turn came to, from one machine and journal to another
-abbrev pub Advances : ImageValue → (old new : SerialValue) → (journal journal' : List Entry) → Advance → Type 0
-Advances image old new journal journal' advances.Taken = IsTaken image old new journal journal'
-Advances image old new journal journal' (advances.Over end) = IsStop image old end × (new ≡ old) × (journal' ≡ journal)
-Advances image old new journal journal' advances.Wanting = (new ≡ old) × (journal' ≡ journal)
+abbrev pub TurnAdvances : ImageValue → (old new : SerialValue) → (journal journal' : List Entry) → TurnAnswer → Type 0
+TurnAdvances image old new journal journal' advances.Taken = IsTaken image old new journal journal'
+TurnAdvances image old new journal journal' (advances.Over end) = IsStop image old end × (new ≡ old)
+    × (journal' ≡ journal)
+TurnAdvances image old new journal journal' advances.Wanting = (new ≡ old) × (journal' ≡ journal)
 
 -- a trap, or want of memory
 abbrev pub IsTrapOrMemory : TurnFault → Type 0
@@ -54,7 +55,7 @@ IsTrapOrMemory (faults.Trap cause pc) = Unit {0}
 IsTrapOrMemory faults.Memory = Unit {0}
 
 -- a trap ends the run, and want of memory stops it
-abbrev pub IsStopOf : Name → TurnFault → Advance → Type 0
+abbrev pub IsStopOf : Name → TurnFault → TurnAnswer → Type 0
 IsStopOf name faults.NotPending found = ⊥
 IsStopOf name (faults.NotTop depth) found = ⊥
 IsStopOf name (faults.NotLeast ts) found = ⊥
@@ -62,7 +63,7 @@ IsStopOf name (faults.Trap cause pc) found = found ≡ advances.Over (ends.Trap 
 IsStopOf name faults.Memory found = found ≡ advances.Wanting
 
 -- as many turns as may be were taken: a task is pending, or none is
-abbrev pub IsLimitEnd : State → End → Type 0
+abbrev pub IsLimitEnd : SerialState → End → Type 0
 IsLimitEnd s ends.Normal = inner s.stack ≡ []
 IsLimitEnd s ends.Limit = inner s.stack ≢ []
 IsLimitEnd s (ends.Trap name cause pc) = ⊥

@@ -2,8 +2,9 @@
 //!
 //! A turn takes a task of least timestamp from the innermost bag that isn't empty and runs it whole. A turn costs
 //! the instructions of its task and, for itself and each child, the logarithm of the number of tasks in a bag; no
-//! data is copied, and a turn that is refused takes back its own stores. It stands on `rv_core`, `task_step`, logs
-//! and pending lists; reports are checked by it, and all laws speak of it.
+//! data is copied, and a turn that is refused takes back its own stores. It stands on `rv_core`, `task_request`, logs
+//! and pending lists; reports are checked by it, all laws speak of it, and the speculative machine has its ends and
+//! limits from it.
 #![tactic(auto)]
 
 mod bag;

@@ -1,7 +1,7 @@
 //! A task in progress.
 
 ghost use Rattle.std.specs.Prelude.{◌≡◌};
-ghost use Rattle.task_step.specs.TaskState.{begun};
+ghost use Rattle.task_request.specs.TaskState.{task_at_start};
 
 use guest_image::{Image, Kind};
 use pending_list::PendingTask;
@@ -11,7 +11,7 @@ use std::marker::Model;
 use task_desc::Spawn;
 use undo_log::{Log, Memory, undo};
 
-/// Where a step leads.
+/// Where an instruction leads.
 #[derive(Clone, Copy, Debug, PartialEq, Eq)]
 pub(crate) enum Flow {
     Continues,
@@ -55,9 +55,14 @@ impl Model for Progress {
 }
 
 /// A task of the image at its start, on this memory.
-pub(crate) fn started(alloc: Global, image: &Image, task: &PendingTask, memory: Memory) -> Progress
+pub(crate) fn progress_at_start(
+    alloc: Global,
+    image: &Image,
+    task: &PendingTask,
+    memory: Memory,
+) -> Progress
     ensures { let task = task.now in
-        result ≡ record { task = begun image.now.version task.entry task.ts task.args memory; first = memory } }
+        result ≡ record { task = task_at_start image.now.version task.entry task.ts task.args memory; first = memory } }
 {
     Progress {
         core: Core::start(image.version(), task.entry, task.ts, task.args),

@@ -1,19 +1,20 @@
 //! The run of a task, leg by leg.
 
 ghost use Rattle.std.specs.Prelude.{◌≡◌, ◌≤◌, ◌<◌, ◌^◌, ℕ, IfOk, length};
-ghost use Rattle.rv_core.specs.Legs.{IsInside};
-ghost use Rattle.task_step.specs.Conditions.{IsInData, HasRoom};
-ghost use Rattle.task_step.specs.Requests.{request_at};
-ghost use Rattle.task_step.specs.Steps.{passed, after_request, after_stop};
-ghost use Rattle.task_step.specs.TaskState.{context};
-ghost use Rattle.serial_machine.specs.Legs.{Leads, CanCount, StopCanCount, CanPerform, Finishes, LegLeads, end_of};
+ghost use Rattle.rv_core.specs.Legs.{StopIsInData};
+ghost use Rattle.task_request.specs.Conditions.{IsInData, KeepsLimits};
+ghost use Rattle.task_request.specs.Requests.{request_at};
+ghost use Rattle.task_request.specs.Effects.{task_at_next, after_request, after_stop};
+ghost use Rattle.task_request.specs.TaskState.{context};
+ghost use Rattle.serial_machine.specs.Legs.{Leads, CanCount, StopCanCount, CanPerform, FinishesRun, LegLeads};
+ghost use Rattle.serial_machine.specs.Legs.{end_of_task};
 
 use crate::progress::{Flow, Progress};
 use guest_image::Image;
-use rv_core::{Stop, after_load, after_other, bytes_of_load, run_plain_within};
+use rv_core::{Stop, after_load, after_other, run_plain_within, width_of_load};
 use std::alloc::AllocError;
 use task_desc::Ctx;
-use task_step::{Request, request_of};
+use task_request::{Request, request_of};
 use undo_log::{Memory, store};
 
 /// The greatest number of plain instructions in one leg.
@@ -34,7 +35,7 @@ fn context_now(task: &Progress, ctx: &Ctx) -> Ctx
 /// Goes on to the task's next instruction.
 fn pass(task: &mut Progress)
     requires { CanCount task.old.task.core.used }
-    ensures passed { task.new.task ≡ passed task.old.task }
+    ensures task_at_next { task.new.task ≡ task_at_next task.old.task }
     ensures first { task.new.first ≡ task.old.first }
 {
     task.core = after_other(&task.core);
@@ -49,15 +50,15 @@ fn perform(task: &mut Progress, request: Request) -> Result<Flow, AllocError>
     match request {
         Request::Continue => {}
         Request::Load { width, rd, offset } => {
-            let raw = task.memory.number(offset, bytes_of_load(width));
+            let raw = task.memory.number(offset, width_of_load(width));
             task.core = after_load(&task.core, width, rd, raw);
         }
         Request::Store {
             offset,
-            bytes,
+            width,
             value,
         } => {
-            store(&mut task.memory, &mut task.log, offset, bytes, value)?;
+            store(&mut task.memory, &mut task.log, offset, width, value)?;
             pass(task);
         }
         Request::Enqueue(child) => {
@@ -88,8 +89,8 @@ fn perform(task: &mut Progress, request: Request) -> Result<Flow, AllocError>
 fn request_now(task: &Progress, ctx: &Ctx, stop: &Stop) -> Request
     ensures request { let now = context ctx.now task.now.task in
         result ≡ request_at now task.now.task.core stop.now }
-    ensures data { (size : ℕ) → IsInside size stop.now → IsInData size result }
-    ensures room { HasRoom (context ctx.now task.now.task) result }
+    ensures data { (size : ℕ) → StopIsInData size stop.now → IsInData size result }
+    ensures room { KeepsLimits (context ctx.now task.now.task) result }
 {
     let now = context_now(task, ctx);
     request_of(&now, &task.core, stop)
@@ -98,7 +99,7 @@ fn request_now(task: &Progress, ctx: &Ctx, stop: &Stop) -> Request
 /// Does what a task asks for at the stop of its leg.
 fn obey(task: &mut Progress, ctx: &Ctx, stop: &Stop) -> Result<Flow, AllocError>
     requires used { StopCanCount task.old.task.core.used stop.now }
-    requires inside { IsInside (length task.old.task.memory) stop.now }
+    requires inside { StopIsInData (length task.old.task.memory) stop.now }
     ensures leads { IfOk result (λ flow. Leads (after_stop ctx.now task.old.task stop.now) flow task.new.task) }
     ensures first { task.new.first ≡ task.old.first }
 {
@@ -143,7 +144,8 @@ pub(crate) fn run(
 ) -> Result<RunEnd, AllocError>
     requires used { task.old.task.core.used ≤ budget }
     requires size { length task.old.task.memory < 2 ^ 32 }
-    ensures finishes { IfOk result (λ end. Finishes (end_of image.now budget ctx.now task.old.task) end task.new.task) }
+    ensures finishes { IfOk result
+        (λ end. FinishesRun (end_of_task image.now budget ctx.now task.old.task) end task.new.task) }
     ensures first { task.new.first ≡ task.old.first }
 {
     'legs: loop {

@@ -6,7 +6,7 @@ ghost use Rattle.std.specs.List.{enumerate_from};
 ghost use Rattle.serial_machine.specs.Names.{next_in, IsNext};
 ghost use Rattle.serial_machine.specs.Run.{opening, image_task};
 ghost use Rattle.serial_machine.specs.Stack.{bags};
-ghost use Rattle.serial_machine.specs.Turn.{inner, Refuses, TakesTurn};
+ghost use Rattle.serial_machine.specs.Turn.{inner, RefusesTurn, TakesTurn};
 
 use crate::bag::Bag;
 use crate::fault::TurnFault;
@@ -80,7 +80,7 @@ impl Serial {
         ensures ok { IfOk result (TakesTurn image.now self.old.budget self.old.state name self.new.state) }
         ensures named { IfOk result (λ entry. entry.name ≡ name) }
         ensures counted { OnOk result (self.new.state.count ≡ self.old.state.count + 1) }
-        ensures refused { IfErr result (Refuses image.now self.old.budget self.old.state name) }
+        ensures refused { IfErr result (RefusesTurn image.now self.old.budget self.old.state name) }
         ensures unchanged { OnErr result (self.new ≡ self.old) }
         ensures budget { self.new.budget ≡ self.old.budget }
     {

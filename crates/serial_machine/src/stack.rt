@@ -7,7 +7,8 @@ ghost use Rattle.std.specs.List.{list_any};
 ghost use Rattle.task_desc.specs.declared.calls.TheConstants.{MAX_CHILDREN};
 ghost use Rattle.serial_machine.specs.Turn.{is_named, is_least, inner, is_pending, place_number, children};
 ghost use Rattle.serial_machine.specs.Turn.{sub_bags, with_super};
-ghost use Rattle.serial_machine.specs.Stack.{bags, new_bags, AreOlder, AreAllOlder, HaveRoom, IsTopAt, settled};
+ghost use Rattle.serial_machine.specs.Stack.{bags, new_bags, AreOlder, AreAllOlder, HaveSpare, IsTopAt};
+ghost use Rattle.serial_machine.specs.Stack.{stack_behind_turn};
 
 use crate::bag::Bag;
 use guest_image::Kind;
@@ -91,7 +92,7 @@ fn number(place: Place) -> u8
     }
 }
 
-/// The children for a domain join the tasks, which have room for them and were made before.
+/// The children for a domain join the tasks, which have memory for them and were made before.
 #[tactic(auto, unfolding(crate::specs::Turn::children))]
 fn join(tasks: &mut PendingList, place: Place, owner: u32, spawns: &[Spawn])
     requires few { length spawns.now ≤ MAX_CHILDREN }
@@ -145,11 +146,11 @@ pub(crate) fn subdomain(
     }))
 }
 
-/// Makes room for one more bag, and for so many more tasks in each.
-pub(crate) fn make_room(stack: &mut Vec<Bag>, more: usize) -> Result<(), AllocError>
+/// Takes memory for one more bag, and for so many more tasks in each.
+pub(crate) fn reserve_tasks(stack: &mut Vec<Bag>, more: usize) -> Result<(), AllocError>
     ensures same { bags stack.new.items ≡ bags stack.old.items }
     ensures spare { OnOk result (vec_len stack.new < vec_capacity stack.new) }
-    ensures room { OnOk result (HaveRoom more stack.new.items) }
+    ensures room { OnOk result (HaveSpare more stack.new.items) }
 {
     stack.reserve(1)?;
     widen(stack, more)
@@ -157,7 +158,7 @@ pub(crate) fn make_room(stack: &mut Vec<Bag>, more: usize) -> Result<(), AllocEr
 
 fn widen(stack: &mut [Bag], more: usize) -> Result<(), AllocError>
     ensures same { bags stack.new ≡ bags stack.old }
-    ensures room { OnOk result (HaveRoom more stack.new) }
+    ensures room { OnOk result (HaveSpare more stack.new) }
 {
     for bag in stack.iter_mut() {
         bag.tasks.reserve(more)?;
@@ -200,7 +201,7 @@ fn drop_first(stack: &mut Vec<Bag>, count: usize)
 /// The children for the superdomain join the first bag, if there is one.
 fn join_outside(stack: &mut Vec<Bag>, owner: u32, spawns: &[Spawn])
     requires few { length spawns.now ≤ MAX_CHILDREN }
-    requires room { HaveRoom (length spawns.now) stack.old.items }
+    requires room { HaveSpare (length spawns.now) stack.old.items }
     requires older { AreAllOlder owner (bags stack.old.items) }
     ensures joined { bags stack.new.items ≡ with_super (children Place.Super owner spawns.now) (bags stack.old.items) }
     ensures len { vec_len stack.new ≡ vec_len stack.old }
@@ -227,9 +228,10 @@ pub(crate) fn settle(
     requires top { top < vec_len stack.old }
     requires few { length spawns.now ≤ MAX_CHILDREN }
     requires spare { vec_len stack.old < vec_capacity stack.old }
-    requires room { HaveRoom (length spawns.now) stack.old.items }
+    requires room { HaveSpare (length spawns.now) stack.old.items }
     requires older { AreAllOlder owner (bags (drop top stack.old.items)) }
-    ensures { bags stack.new.items ≡ settled name owner spawns.now (new_bags new) (bags (drop top stack.old.items)) }
+    ensures { bags stack.new.items
+        ≡ stack_behind_turn name owner spawns.now (new_bags new) (bags (drop top stack.old.items)) }
 {
     drop_first(stack, top);
     let mut bag = take_first(stack);

@@ -2,21 +2,21 @@
 
 ghost use Rattle.std.specs.Prelude.{◌≡◌, ◌≤◌, ◌<◌, ◌+◌, ◌++◌, ◌∷◌, ◌^◌, ℕ, length, drop, IfOk, IfErr, OnOk, OnErr};
 ghost use Rattle.std.specs.Prelude.{Some, IsSome, ◌↔◌, MatchBool};
-ghost use Rattle.serial_machine.specs.Legs.{SubFits, Finishes, RunFails};
+ghost use Rattle.serial_machine.specs.Legs.{SubFits, FinishesRun, RunFails};
 ghost use Rattle.serial_machine.specs.Names.{AreNamed};
-ghost use Rattle.serial_machine.specs.Stack.{bag_value, bags, new_bags, settled, IsSelected, IsUnselected};
+ghost use Rattle.serial_machine.specs.Stack.{bag_value, bags, new_bags, stack_behind_turn, IsSelected, IsUnselected};
 ghost use Rattle.serial_machine.specs.Stack.{AreAllOlder, state_of};
 ghost use Rattle.serial_machine.specs.State.{IsStack};
 ghost use Rattle.serial_machine.specs.TaskRun.{task_run, Done};
-ghost use Rattle.serial_machine.specs.Turn.{TakesTurn, Refuses, context_of, children, sub_bags, IsNotTop};
+ghost use Rattle.serial_machine.specs.Turn.{TakesTurn, RefusesTurn, context_in_bag, children, sub_bags, IsNotTop};
 ghost use Rattle.serial_machine.specs.Turn.{is_pending, kind_outside};
 
 use crate::bag::Bag;
 use crate::fault::TurnFault;
 use crate::limits::MAX_COMMITS;
-use crate::progress::{Progress, started, taken_back};
+use crate::progress::{Progress, progress_at_start, taken_back};
 use crate::running::{RunEnd, run};
-use crate::stack::{bag_at, make_room, pending, settle, smaller, subdomain, top};
+use crate::stack::{bag_at, pending, reserve_tasks, settle, smaller, subdomain, top};
 use guest_image::{Image, Kind};
 use pending_list::PendingTask;
 use run_journal::Entry;
@@ -66,7 +66,7 @@ fn kind_of_first(outer: &[Bag]) -> Option<Kind>
 
 /// What the calls of a task of the image depend on as it starts.
 fn context(image: &Image, bag: &Bag, outer: &[Bag], task: &PendingTask) -> Ctx
-    ensures { result ≡ context_of image.now.version (bag_value bag.now) (bags outer.now) task.now }
+    ensures { result ≡ context_in_bag image.now.version (bag_value bag.now) (bags outer.now) task.now }
 {
     Ctx {
         version: image.version(),
@@ -105,7 +105,7 @@ fn run_done(
     let Ok(empty) = Memory::new(alloc, &[], 0) else {
         return Err(TurnFault::Memory);
     };
-    let mut progress = started(alloc, image, task, replace(memory, empty));
+    let mut progress = progress_at_start(alloc, image, task, replace(memory, empty));
     match run(&mut progress, image, budget, ctx) {
         Ok(RunEnd::Done) => Ok(progress),
         Ok(RunEnd::Trapped { cause, pc }) => {
@@ -137,7 +137,7 @@ fn join_all(
         let inside = children Place.Sub owner spawns in
         let new = sub_bags (entry.depth + 1) entry.ts owner inside done.now.task.sub in
         let old = drop place (bags stack.old.items) in
-        OnOk result (bags stack.new.items ≡ settled entry.name owner spawns new old) }
+        OnOk result (bags stack.new.items ≡ stack_behind_turn entry.name owner spawns new old) }
     ensures output { OnOk result (output.new.items ≡ output.old.items ++ done.now.task.bytes) }
     ensures stack_unchanged { OnErr result (bags stack.new.items ≡ bags stack.old.items) }
     ensures output_unchanged { OnErr result (output.new.items ≡ output.old.items) }
@@ -150,7 +150,7 @@ fn join_all(
         done.sub,
         &done.spawns,
     )?;
-    make_room(stack, done.spawns.len())?;
+    reserve_tasks(stack, done.spawns.len())?;
     output.extend_from_slice(&done.bytes)?;
     settle(stack, place, entry.name, owner, new, &done.spawns);
     Ok(())
@@ -176,7 +176,7 @@ pub(crate) fn take_turn(
         IfOk result (TakesTurn image.now budget before name after) }
     ensures told { IfOk result (λ entry. entry.name ≡ name) }
     ensures refused { let before = state_of stack.old.items memory.old output.old.items count in
-        IfErr result (Refuses image.now budget before name) }
+        IfErr result (RefusesTurn image.now budget before name) }
     ensures stack_unchanged { OnErr result (bags stack.new.items ≡ bags stack.old.items) }
     ensures memory_unchanged { OnErr result (memory.new ≡ memory.old) }
     ensures output_unchanged { OnErr result (output.new.items ≡ output.old.items) }

@@ -2,7 +2,7 @@
 
 ghost use Rattle.std.specs.Prelude.{◌≡◌, ◌≢◌, ◌≤◌, ◌<◌, [], length, IfOk, IfSome, Some};
 ghost use Rattle.serial_machine.specs.Run.{IsEnd, IsRun, opening};
-ghost use Rattle.serial_machine.specs.WholeRun.{Advances, IsLimitEnd, IsRunOf, IsStopOf, IsTrapOrMemory};
+ghost use Rattle.serial_machine.specs.WholeRun.{TurnAdvances, IsLimitEnd, IsRunOf, IsStopOf, IsTrapOrMemory};
 
 use crate::fault::TurnFault;
 use crate::limits::MAX_COMMITS;
@@ -27,7 +27,7 @@ pub struct SerialRun {
 
 /// What comes of a turn.
 #[derive(Clone, Copy, Debug)]
-pub(crate) enum Advance {
+pub(crate) enum TurnAnswer {
     /// A task took its turn.
     Taken,
     /// No task takes a turn any more.
@@ -77,43 +77,43 @@ fn take_turns(
 {
     for _ in 0..commits {
         match take_one(image, serial, journal) {
-            Advance::Taken => {}
-            Advance::Over(end) => return Some(end),
-            Advance::Wanting => return None,
+            TurnAnswer::Taken => {}
+            TurnAnswer::Over(end) => return Some(end),
+            TurnAnswer::Wanting => return None,
         }
     }
     Some(end_at_limit(serial))
 }
 
 /// One turn; where none is taken the machine and the journal are as they were.
-fn take_one(image: &Image, serial: &mut Serial, journal: &mut Vec<Entry>) -> Advance
+fn take_one(image: &Image, serial: &mut Serial, journal: &mut Vec<Entry>) -> TurnAnswer
     requires { serial.old.state.count < MAX_COMMITS }
-    ensures { Advances image.now serial.old serial.new journal.old.items journal.new.items result }
+    ensures { TurnAdvances image.now serial.old serial.new journal.old.items journal.new.items result }
 {
     let Some(name) = serial.next() else {
-        return Advance::Over(End::Normal);
+        return TurnAnswer::Over(End::Normal);
     };
     if journal.reserve(1).is_err() {
-        return Advance::Wanting;
+        return TurnAnswer::Wanting;
     }
     match serial.turn(image, name) {
         Ok(entry) => {
             // There is room for it.
             let _ = journal.push(entry);
-            Advance::Taken
+            TurnAnswer::Taken
         }
         Err(fault) => stopped_by(name, fault),
     }
 }
 
 /// What comes of a trap, or of running out of memory.
-fn stopped_by(name: Name, fault: TurnFault) -> Advance
+fn stopped_by(name: Name, fault: TurnFault) -> TurnAnswer
     requires { IsTrapOrMemory fault }
     ensures { IsStopOf name fault result }
 {
     match fault {
-        TurnFault::Trap { cause, pc } => Advance::Over(End::Trap { name, cause, pc }),
-        TurnFault::Memory => Advance::Wanting,
+        TurnFault::Trap { cause, pc } => TurnAnswer::Over(End::Trap { name, cause, pc }),
+        TurnFault::Memory => TurnAnswer::Wanting,
         TurnFault::NotPending | TurnFault::NotTop { .. } | TurnFault::NotLeast { .. } => {
             unreachable!()
         }

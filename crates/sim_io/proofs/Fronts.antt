@@ -3,12 +3,12 @@ use Rattle.std.proofs.Common.{◌≡◌, ◌+◌, ◌≤◌, List, ℕ, ◌++◌
 use Rattle.std.proofs.lemmas.List.{take-append-le}
 use Rattle.std.proofs.Math.Seq.{take-append-add}
 use Rattle.std.proofs.KnownBytes.{Appends-trans}
-use Rattle.sim_io.specs.Parts.{Takes, TakesFront, Writes}
+use Rattle.sim_io.specs.Parts.{SinkTakes, TakesFront, Writes}
 use Rattle.sim_io.specs.Streams.{SinkState}
 
 -- one text and then another
-pub Takes-trans : (a b c : SinkState) (x y : List ℕ) → Takes a b x → Takes b c y → Takes a c (x ++ y)
-Takes-trans a b c x y first second = Appends-trans a.taken b.taken c.taken x y first second
+pub SinkTakes-trans : (a b c : SinkState) (x y : List ℕ) → SinkTakes a b x → SinkTakes b c y → SinkTakes a c (x ++ y)
+SinkTakes-trans a b c x y first second = Appends-trans a.taken b.taken c.taken x y first second
 
 -- a front of the first text is a front of both
 pub TakesFront-more : (a b : SinkState) (x y : List ℕ) → TakesFront a b x → TakesFront a b (x ++ y)
@@ -18,14 +18,14 @@ TakesFront-more a b x y h =
     record { count = k; within = omega (arith, length-append x y); front = rw (take-append-le k x y le) h.front }
 
 -- the first text, and a front of the second
-pub TakesFront-then : (a b c : SinkState) (x y : List ℕ) → Takes a b x → TakesFront b c y → TakesFront a c (x ++ y)
+pub TakesFront-then : (a b c : SinkState) (x y : List ℕ) → SinkTakes a b x → TakesFront b c y → TakesFront a c (x ++ y)
 TakesFront-then a b c x y first h =
     let k = h.count in
     let le : k ≤ length y = h.within in
     record {
       count = length x + k;
       within = omega (arith, length-append x y);
-      front = rw (take-append-add x y k) (Takes-trans a b c x (take k y) first h.front);
+      front = rw (take-append-add x y k) (SinkTakes-trans a b c x (take k y) first h.front);
     }
 
 -- a call behind one that wrote its text
@@ -33,7 +33,7 @@ pub writes_then : {E F : Type 0} (a b c : SinkState) (r : Result (Unit {0}) E) (
     → r ≡ Ok tt → Writes a b r x → Writes b c q y → Writes a c q (x ++ y)
 writes_then a b c (Err e) q x y p h k = let z : ⊥ = cc in absurd z
 writes_then a b c (Ok u) (Ok v) x y p h k = record {
-  ok = Takes-trans a b c x y h.ok k.ok;
+  ok = SinkTakes-trans a b c x y h.ok k.ok;
   err = tt;
   cause = record { later = omega (arith, h.cause.later, k.cause.later); failed = tt };
 }

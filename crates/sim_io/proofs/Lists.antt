@@ -3,13 +3,13 @@ use Rattle.std.proofs.Common.{◌≡◌, ℕ, zero, suc, ◌+◌, ◌<◌, ◌�
 use Rattle.std.proofs.Math.Seq.{take-length}
 use Rattle.std.specs.List.{flat_map}
 use Rattle.std.proofs.KnownBytes.{Appends-nil}
-use Rattle.sim_io.specs.Parts.{Takes, Writes}
+use Rattle.sim_io.specs.Parts.{SinkTakes, Writes}
 use Rattle.sim_io.specs.Streams.{SinkState}
-use Rattle.sim_io.proofs.Fronts.{Takes-trans, TakesFront-more, TakesFront-then}
+use Rattle.sim_io.proofs.Fronts.{SinkTakes-trans, TakesFront-more, TakesFront-then}
 
 -- this text was written so far, and the count of faults didn't fall
 pub record Wrote (old new : SinkState) (text : List ℕ) : Type 0 where
-  pub taken : Takes old new text
+  pub taken : SinkTakes old new text
   pub later : old.faults ≤ new.faults
 
 pub wrote_nothing : (a : SinkState) → Wrote a a []
@@ -17,7 +17,7 @@ wrote_nothing a = record { taken = Appends-nil a.taken; later = omega arith }
 
 -- and then another one
 pub wrote_more : {E : Type 0} (a b c : SinkState) (x y : List ℕ) → Wrote a b x → Writes {E = E} b c (Ok tt) y → Wrote a c (x ++ y)
-wrote_more a b c x y w h = record { taken = Takes-trans a b c x y w.taken h.ok; later = omega (arith, w.later, h.cause.later) }
+wrote_more a b c x y w h = record { taken = SinkTakes-trans a b c x y w.taken h.ok; later = omega (arith, w.later, h.cause.later) }
 
 -- and then a front of another one, with more to come
 pub wrote_front : {E : Type 0} (a b c : SinkState) (e : E) (x y z : List ℕ) → Wrote a b x → Writes b c (Err e) y → Writes a c (Err e) (x ++ (y ++ z))

@@ -2,13 +2,13 @@
 use Rattle.std.proofs.Common.{◌≡◌, ℕ, ◌+◌, ◌≤◌, List, ◌++◌, take, drop, length, ap, sym, ◌∙◌, arith}
 use Rattle.std.proofs.lemmas.List.{take_at, drop-drop, take-append-drop, length-drop, length-take-le}
 use Rattle.std.proofs.Math.Seq.{take-add, take-length}
-use Rattle.sim_io.specs.Parts.{Takes, TakesFront}
+use Rattle.sim_io.specs.Parts.{SinkTakes, TakesFront}
 use Rattle.sim_io.specs.Streams.{SinkState}
-use Rattle.sim_io.proofs.Fronts.{Takes-trans}
+use Rattle.sim_io.proofs.Fronts.{SinkTakes-trans}
 
 -- the bytes of one piece that two writes took
-pub Takes-take : (a b c : SinkState) (piece : List ℕ) (k n : ℕ) → Takes a b (take k piece) → Takes b c (take n (drop k piece)) → Takes a c (take (k + n) piece)
-Takes-take a b c piece k n first second = rw (take-add k n piece) (Takes-trans a b c _ _ first second)
+pub SinkTakes-take : (a b c : SinkState) (piece : List ℕ) (k n : ℕ) → SinkTakes a b (take k piece) → SinkTakes b c (take n (drop k piece)) → SinkTakes a c (take (k + n) piece)
+SinkTakes-take a b c piece k n first second = rw (take-add k n piece) (SinkTakes-trans a b c _ _ first second)
 
 -- the bytes from a place on are those copied, and the rest
 pub drop-copied : (bytes buf part : List ℕ) (at n : ℕ) → at + n ≤ length bytes → part ≡ take n (drop at bytes) → drop at bytes ≡ take n (part ++ drop n buf) ++ drop (at + n) bytes
@@ -20,9 +20,9 @@ drop-copied bytes buf part at n fits is =
     ∙ take-append-drop n (drop at bytes))
 
 -- a whole text is a front of itself
-pub front_whole : (a b : SinkState) (xs : List ℕ) → Takes a b xs → TakesFront a b xs
+pub front_whole : (a b : SinkState) (xs : List ℕ) → SinkTakes a b xs → TakesFront a b xs
 front_whole a b xs h = record { count = length xs; within = omega arith; front = rw (take-length xs) h }
 
 -- a front by its length
-pub front_of : (a b : SinkState) (xs : List ℕ) (k : ℕ) → k ≤ length xs → Takes a b (take k xs) → TakesFront a b xs
+pub front_of : (a b : SinkState) (xs : List ℕ) (k : ℕ) → k ≤ length xs → SinkTakes a b (take k xs) → TakesFront a b xs
 front_of a b xs k le h = record { count = k; within = le; front = h }

@@ -23,17 +23,17 @@ pub record ReadsSome (old new : SourceState) (limit : ℕ) : Type 0 where
   pub within : length found ≤ limit
 
 -- the sink took this text and no other byte
-abbrev pub Takes : SinkState → SinkState → List ℕ → Type 0
-Takes old new text = Appends old.taken new.taken text
+abbrev pub SinkTakes : SinkState → SinkState → List ℕ → Type 0
+SinkTakes old new text = Appends old.taken new.taken text
 
 -- the sink took the first bytes of the text and no other byte
 pub record TakesFront (old new : SinkState) (text : List ℕ) : Type 0 where
   pub count : ℕ
   pub within : count ≤ length text
-  pub front : Takes old new (take count text)
+  pub front : SinkTakes old new (take count text)
 
 -- a call wrote this text; after a fault the sink has a front of it
 pub record Writes {E : Type 0} (old new : SinkState) (result : Result (Unit {0}) E) (text : List ℕ) : Type 0 where
-  pub ok : OnOk result (Takes old new text)
+  pub ok : OnOk result (SinkTakes old new text)
   pub err : OnErr result (TakesFront old new text)
   pub cause : HasCause old.faults new.faults result

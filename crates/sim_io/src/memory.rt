@@ -16,7 +16,7 @@ use std::marker::Model;
 #[derive(Drop)]
 pub struct MemSource {
     bytes: Vec<u8>,
-    at: usize,
+    given: usize,
     piece: usize,
     fail_at: Vec<u32>,
     calls: u64,
@@ -30,14 +30,14 @@ impl Model for MemSource {
     ghost Value = { MemSourceValue };
 
     ghost view = { λ s. record {
-      left = drop s.at s.bytes.items;
+      left = drop s.given s.bytes.items;
       piece = s.piece;
       fail_at = s.fail_at.items;
       calls = s.calls;
       faults = s.faults;
     } };
 
-    ghost invariant = { λ s. (s.at ≤ vec_len s.bytes) × (1 ≤ s.piece) };
+    ghost invariant = { λ s. (s.given ≤ vec_len s.bytes) × (1 ≤ s.piece) };
 }
 
 impl MemSource {
@@ -49,7 +49,7 @@ impl MemSource {
     {
         MemSource {
             bytes,
-            at: 0,
+            given: 0,
             piece,
             fail_at,
             calls: 0,
@@ -76,8 +76,8 @@ impl Source for MemSource {
             self.faults = self.faults.saturating_add(1);
             return Err(Failed);
         }
-        let count = copy_from(&self.bytes, self.at, self.piece, buf);
-        self.at += count;
+        let count = copy_from(&self.bytes, self.given, self.piece, buf);
+        self.given += count;
         Ok(count)
     }
 }
@@ -86,7 +86,7 @@ impl Source for MemSource {
 #[derive(Drop)]
 pub struct CleanSource {
     bytes: Vec<u8>,
-    at: usize,
+    given: usize,
 }
 
 impl Model for CleanSource {
@@ -94,9 +94,9 @@ impl Model for CleanSource {
 
     ghost Value = { List ℕ };
 
-    ghost view = { λ s. drop s.at s.bytes.items };
+    ghost view = { λ s. drop s.given s.bytes.items };
 
-    ghost invariant = { λ s. s.at ≤ vec_len s.bytes };
+    ghost invariant = { λ s. s.given ≤ vec_len s.bytes };
 }
 
 impl CleanSource {
@@ -104,7 +104,7 @@ impl CleanSource {
     pub fn new(bytes: Vec<u8>) -> CleanSource
         ensures { result ≡ bytes.items }
     {
-        CleanSource { bytes, at: 0 }
+        CleanSource { bytes, given: 0 }
     }
 }
 
@@ -112,13 +112,14 @@ impl Source for CleanSource {
     ghost state = { λ s. record { left = Some s; faults = 0 } };
 
     fn read(&mut self, buf: &mut [u8]) -> Result<usize, Failed> {
-        let count = copy_from(&self.bytes, self.at, usize::MAX, buf);
-        self.at += count;
+        let count = copy_from(&self.bytes, self.given, usize::MAX, buf);
+        self.given += count;
         Ok(count)
     }
 }
 
-/// A sink into memory, which takes a piece at a time and fails at the calls that it is told and where it is full.
+/// A sink into memory, which takes a piece at a time and fails at the calls that it is told and where it is full,
+/// also at a write of no bytes.
 #[derive(Drop)]
 pub struct MemSink {
     bytes: Vec<u8>,

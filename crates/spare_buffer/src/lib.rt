@@ -1,4 +1,4 @@
-//! Room that is taken before it is needed, for lists that contracts see without their capacity.
+//! Memory that is taken before it is needed, for lists that contracts see without their capacity.
 //!
 //! A `Buffer` is an empty vector of a capacity that contracts see. A list that is full moves its items into the
 //! buffer, and the two vectors change places: so a push after a reservation takes no memory, whichever list it is.
@@ -13,7 +13,7 @@ use std::alloc::{AllocError, Global};
 use std::marker::Model;
 use std::mem;
 
-/// Room that a list can grow into. Contracts see how many items it has room for.
+/// Spare memory that a list can grow into. Contracts see for how many items.
 #[derive(Drop)]
 pub struct Buffer<T> {
     empty: Vec<T>,
@@ -30,21 +30,21 @@ impl<T> Model for Buffer<T> {
 }
 
 impl<T> Buffer<T> {
-    /// No room, which grows in `alloc`.
+    /// Nothing spare; what is reserved comes from `alloc`.
     pub fn new(alloc: Global) -> Self {
         Buffer {
             empty: Vec::new(alloc),
         }
     }
 
-    /// How many items it has room for.
-    pub fn room(&self) -> usize
+    /// For how many items memory is spare.
+    pub fn spare_capacity(&self) -> usize
         ensures { result ≡ self.now }
     {
         self.empty.capacity()
     }
 
-    /// Makes room for so many items. Where there is as much, no memory is taken; after an error there is as much as
+    /// Makes so many items spare. Where there is as much, no memory is taken; after an error there is as much as
     /// before.
     pub fn reserve(&mut self, items: usize) -> Result<(), AllocError>
         ensures room { OnOk result (items ≤ self.new) }
@@ -55,9 +55,9 @@ impl<T> Buffer<T> {
         self.empty.reserve(items)
     }
 
-    /// Sees to it that the list has room for `more` items: where it has not, its items move into the buffer's room,
-    /// and the buffer keeps what room the list had. It takes no memory.
-    pub fn make_room_in(&mut self, list: &mut Vec<T>, more: usize)
+    /// Sees to it that the list has memory for `more` items: where it has not, its items move into the spare one,
+    /// and the buffer keeps what the list had. It takes no memory.
+    pub fn lend_spare(&mut self, list: &mut Vec<T>, more: usize)
         requires { vec_len list.old + more ≤ self.old }
         ensures items { list.new.items ≡ list.old.items }
         ensures room { vec_len list.new + more ≤ vec_capacity list.new }

@@ -8,13 +8,13 @@ use Rattle.memory_law.specs.Notes.{notes_of}
 use Rattle.memory_law.proofs.Proved.{notes_of-append}
 use Rattle.rv_core.specs.declared.state.Core.{Core}
 use Rattle.rv_core.specs.LegValue.{LegValue}
-use Rattle.rv_core.specs.Legs.{IsInside}
-use Rattle.task_step.specs.declared.request.Request.{Request}
-use Rattle.task_step.specs.Conditions.{IsInData}
-use Rattle.task_step.proofs.Proved.{request_at-reaches}
+use Rattle.rv_core.specs.Legs.{StopIsInData}
+use Rattle.task_request.specs.declared.request.Request.{Request}
+use Rattle.task_request.specs.Conditions.{IsInData}
+use Rattle.task_request.proofs.Proved.{request_at-reaches}
 use Rattle.undo_log.specs.declared.access.Access.{Access}
 use Rattle.undo_log.specs.Number.{IsAccessible}
-use Rattle.undo_log.specs.Undo.{Call, access_of, after_call, AllAccessible}
+use Rattle.undo_log.specs.Undo.{MemoryCall, access_of, after_call, AllAccessible}
 use Rattle.spec_state.specs.declared.task.Task.{Task}
 use Rattle.spec_state.specs.View.{View, task_at}
 use Rattle.spec_state.specs.Tasks.{context_of}
@@ -25,7 +25,7 @@ use Rattle.spec_state.proofs.Proved.{others_set, task_set}
 
 -- what is asked for at a stop inside the data lies in the data
 pub asks_inside : (size : ℕ) (view : View) (leg : LegValue) (id : ℕ) (request : Request) → Asks view leg id request
-    → IsInside size leg.stop → IsInData size request
+    → StopIsInData size leg.stop → IsInData size request
 asks_inside size view leg id request asks inside =
     subst (IsInData size) asks.asks
     (request_at-reaches (context_of view.version asks.task) leg.to leg.stop size size (omega arith) inside)
@@ -49,7 +49,7 @@ noted : (line : ℕ) (log : List Access) (access : Access) (was now : Lines)
 noted line log access was now marked had = subst (HasNotes now) (sym (notes_of-append line log (access ∷ [])))
     (marked (notes_of line log) had)
 
-module _ (id : ℕ) (found task : Task) (call : Call) (core : List ℕ → Core) (at : Core) (log : List Access)
+module _ (id : ℕ) (found task : Task) (call : MemoryCall) (core : List ℕ → Core) (at : Core) (log : List Access)
     (lines : Lines) (memory : List ℕ) where
   abbrev done : View → View
   done view = record view
@@ -73,7 +73,7 @@ module _ (id : ℕ) (found task : Task) (call : Call) (core : List ℕ → Core)
           others = others_set view.tasks id (record found { core = at; log = log; lines = lines });
         };
         memory = memory_is;
-        rest = refl;
+        frame = refl;
       })
 
   -- the access of the task that takes a leg, in a state that is seen as the view

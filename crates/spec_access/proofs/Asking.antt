@@ -2,9 +2,9 @@
 use Rattle.std.proofs.Common.{◌≡◌, ℕ, Some, sym, ap, subst, ◌∙◌}
 use Rattle.std.proofs.lemmas.Option.{same_Some}
 use Rattle.rv_core.specs.LegValue.{LegValue}
-use Rattle.task_step.specs.Conditions.{HasRoom}
-use Rattle.task_step.specs.declared.request.Request.{Request}
-use Rattle.task_step.proofs.Proved.{allowed_by-room, AllowedBy, request_at-allowed}
+use Rattle.task_request.specs.Conditions.{KeepsLimits}
+use Rattle.task_request.specs.declared.request.Request.{Request}
+use Rattle.task_request.proofs.Proved.{allowed_by-room, AllowedBy, request_at-allowed_spawn}
 use Rattle.spec_state.specs.declared.task.Task.{Task}
 use Rattle.spec_state.specs.View.{View, task_at}
 use Rattle.spec_state.specs.Tasks.{context_of}
@@ -24,7 +24,7 @@ module _ (view seen : View) (leg : LegValue) (id : ℕ) (request : Request) (tas
   -- its rules allow what it asks for
   pub asked_allowed : AllowedBy (context_of view.version task) request
   asked_allowed = subst (AllowedBy (context_of view.version task)) asked_is
-      (request_at-allowed (context_of view.version task) leg.to leg.stop)
+      (request_at-allowed_spawn (context_of view.version task) leg.to leg.stop)
 
-  pub asks_room : HasRoom (context_of view.version task) request
+  pub asks_room : KeepsLimits (context_of view.version task) request
   asks_room = allowed_by-room (context_of view.version task) request asked_allowed

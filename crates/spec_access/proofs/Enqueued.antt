@@ -16,7 +16,7 @@ use Rattle.task_desc.specs.declared.desc.Place.{Place}
 use Rattle.task_desc.specs.declared.desc.Place.TheVariants.{Same, Sub, Super}
 use Rattle.task_desc.specs.declared.desc.Spawn.{Spawn}
 use Rattle.task_desc.specs.Calls.{allowed_at, allowed_sub}
-use Rattle.task_step.specs.declared.request.Request.TheVariants.{Enqueue}
+use Rattle.task_request.specs.declared.request.Request.TheVariants.{Enqueue}
 use Rattle.spec_state.specs.declared.task.Creator.TheVariants.{Live}
 use Rattle.spec_state.specs.declared.task.Task.{Task}
 use Rattle.spec_state.specs.View.{View, task_at, queued_last}
@@ -24,7 +24,7 @@ use Rattle.spec_state.specs.Tasks.{depth_of, sub_bit, child_domain, child_kinds,
 use Rattle.spec_state.specs.Tasks.{idle_task, context_of}
 use Rattle.spec_state.specs.Stored.{IsWellFormed}
 use Rattle.spec_state.specs.Opening.{Adds}
-use Rattle.spec_state.specs.Changes.{Keeps, Enqueues, passed}
+use Rattle.spec_state.specs.Changes.{Keeps, Enqueues, task_past_leg}
 use Rattle.spec_access.specs.Asking.{Asks}
 use Rattle.spec_access.proofs.Asking.{asked_allowed}
 
@@ -101,13 +101,14 @@ child_formed size commits version tile index parent child spawn id formed made i
 -- the task goes on with one child more, and then the child comes to be
 pub enqueued : (old mid new : View) (id child : ℕ) (task made : Task) (leg : LegValue) (spawn : Spawn) (tile : ℕ)
     → task_at old id ≡ Some task
-    → Keeps id (record (passed task leg) { spawns = task.spawns ++ spawn ∷ [] }) old mid → Adds child made mid new
+    → Keeps id (record (task_past_leg task leg) { spawns = task.spawns ++ spawn ∷ [] }) old mid
+    → Adds child made mid new
     → made ≡ idle_task old.version (child_descriptor task spawn) (Live (record { 0 = id }) (length task.spawns)) tile
     → Enqueues id task leg spawn tile old new
 enqueued old mid new id child task made leg spawn tile there keeps adds is =
     let other : child ≢ id = λ same. absurd (cc (adds.vacant, ap (task_at mid) same, keeps.changes.changed)) in
     let queued : queued_last mid made.tile child ≡ queued_last old tile child =
-    ap (λ v. queued_last v made.tile child) keeps.rest ∙ ap (λ t. queued_last old t child) (ap (λ t. t.tile) is) in
+    ap (λ v. queued_last v made.tile child) keeps.frame ∙ ap (λ t. queued_last old t child) (ap (λ t. t.tile) is) in
     let after : View → View = λ (v : View). record v { tasks = new.tasks; queues = new.queues } in
     record {
       child = child;
@@ -116,7 +117,7 @@ enqueued old mid new id child task made leg spawn tile there keeps adds is =
       made = adds.changes.changed ∙ ap Some is;
       others = λ k apart far. adds.changes.others k far ∙ keeps.changes.others k apart;
       queues = adds.queues ∙ queued;
-      rest = adds.rest ∙ ap after keeps.rest;
+      frame = adds.frame ∙ ap after keeps.frame;
     }
 
 -- one child more is within the bound

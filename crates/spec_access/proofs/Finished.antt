@@ -13,13 +13,13 @@ use Rattle.tile_queues.specs.Queue.{QueueValue}
 use Rattle.spec_state.specs.declared.settings.Settings.{Settings}
 use Rattle.spec_state.specs.Fits.{HasTiles}
 use Rattle.spec_state.specs.View.{View, task_at, core_ids, finished_at, cores_at, ChangesTask}
-use Rattle.spec_state.specs.Stored.{HasCore, IsThere, IsWellFormed, IsStored}
+use Rattle.spec_state.specs.Stored.{HasCore, HasTask, IsWellFormed, IsStored}
 use Rattle.spec_state.specs.Changes.{with_core, TakesLeg, Finishes}
 use Rattle.rv_core.specs.declared.state.Core.{Core}
 use Rattle.rv_core.specs.LegValue.{LegValue}
 use Rattle.rv_core.specs.Legs.{after_other_of}
 use Rattle.spec_state.proofs.Proved.{others_set, set_here, set_there, task_set, within_lists}
-use Rattle.spec_access.specs.Asking.{HasCommitEntry}
+use Rattle.spec_access.specs.Asking.{CommitQueueHasRoom}
 use Rattle.spec_access.proofs.Kept.{place_forth, place_back, formed_all}
 
 module _ (size : ℕ) (old : View) (id tile core : ℕ) (task now : Task) (stored : IsStored size old)
@@ -66,7 +66,7 @@ module _ (size : ℕ) (old : View) (id tile core : ℕ) (task now : Task) (store
 
   module _ (same : now.tile ≡ task.tile) (ended : now.status ≡ Finished)
       (formed : IsWellFormed size (length old.history) now) where
-    finished_forth : (t k : ℕ) → Contains (finished_at new t) k → IsThere new t k (λ status. status ≡ Finished)
+    finished_forth : (t k : ℕ) → Contains (finished_at new t) k → HasTask new t k (λ status. status ≡ Finished)
     finished_forth t k has = elim (cases_eq t tile) [
       | inl own ↦ elim (Contains-push_cases (finished_at old tile) id k
           (subst (λ ids. Contains ids k) own_finished (subst (λ n. Contains (finished_at new n) k) own has))) [
@@ -91,7 +91,7 @@ module _ (size : ℕ) (old : View) (id tile core : ℕ) (task now : Task) (store
       | inr other ↦ subst (λ ids. Contains ids k) (sym (other_finished t other)) has
     ]
 
-    finished_back : (t k : ℕ) → IsThere new t k (λ status. status ≡ Finished) → Contains (finished_at new t) k
+    finished_back : (t k : ℕ) → HasTask new t k (λ status. status ≡ Finished) → Contains (finished_at new t) k
     finished_back t k has = elim (cases_eq k id) [
       | inl own ↦
           let it : has.0 ≡ now = same_Some has.0 now (sym has.1 ∙ ap (task_at new) own ∙ changes.changed) in
@@ -105,7 +105,7 @@ module _ (size : ℕ) (old : View) (id tile core : ℕ) (task now : Task) (store
 
     -- the core on which it ran is no place of another task
     held_forth : (t c k : ℕ) → slice_get (cores_at new t) c ≡ Some (Some k)
-        → IsThere new t k (λ status. HasCore status c)
+        → HasTask new t k (λ status. HasCore status c)
     held_forth t c k held =
         let apart : (t ≡ tile) × (c ≡ core) → ⊥ = λ own. (
         let at : slice_get (cores_at new tile) core ≡ Some (Some k) = ap (λ n. slice_get (cores_at new n) core)
@@ -122,7 +122,7 @@ module _ (size : ℕ) (old : View) (id tile core : ℕ) (task now : Task) (store
           | inr other ↦ (was.0, changes.others k other ∙ was.1, was.2, was.3)
         ]
 
-    held_back : (t c k : ℕ) → IsThere new t k (λ status. HasCore status c)
+    held_back : (t c k : ℕ) → HasTask new t k (λ status. HasCore status c)
         → slice_get (cores_at new t) c ≡ Some (Some k)
     held_back t c k has = elim (cases_eq k id) [
       | inl own ↦
@@ -199,11 +199,11 @@ module _ (size : ℕ) (view : View) (id : ℕ) (task : Task) (stored : IsStored 
       let was = (stored.held_are tile core id).0 held in
       sym was.2 ∙ ap (λ x. x.tile) (same_Some was.0 task (sym was.1 ∙ there))
 
-  pub has_entry : (old : View) → view ≡ old → HasCommitEntry old id
+  pub has_entry : (old : View) → view ≡ old → CommitQueueHasRoom old id
       → length (finished_at view task.tile) < view.settings.commit_queue
-  has_entry old same free = at (subst (λ v. HasCommitEntry v id) (sym same) free)
+  has_entry old same free = at (subst (λ v. CommitQueueHasRoom v id) (sym same) free)
     where
-      at : HasCommitEntry view id → length (finished_at view task.tile) < view.settings.commit_queue
+      at : CommitQueueHasRoom view id → length (finished_at view task.tile) < view.settings.commit_queue
       at entry = subst (λ tile. length (finished_at view tile) < view.settings.commit_queue)
           (tile_is entry.0 entry.1 entry.3.held) entry.4
 
@@ -239,7 +239,7 @@ ends size old seen id core held tile found task leg at finished cores same store
       };
       finished = finished_is ∙ ap (λ t. slice_set seen.finished t (finished_at seen t ++ id ∷ [])) on_tile;
       cores = cores_is ∙ ap (λ t. with_core seen t held None) on_tile ∙ ap (λ c. with_core seen tile c None) on;
-      rest = refl;
+      frame = refl;
     })
   where
     now : Task

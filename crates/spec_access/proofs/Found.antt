@@ -5,14 +5,14 @@ use Rattle.guest_image.specs.declared.image.Kind.{Kind}
 use Rattle.rv_core.specs.LegValue.{LegValue}
 use Rattle.rv_table.specs.declared.instr.LoadWidth.{LoadWidth}
 use Rattle.task_desc.specs.declared.desc.Spawn.{Spawn}
-use Rattle.task_step.specs.declared.request.Request.{Request}
-use Rattle.task_step.specs.declared.request.Request.TheVariants.{Continue, Load, Store, Enqueue, MakeSub, Emit}
-use Rattle.task_step.specs.declared.request.Request.TheVariants.{Trap}
+use Rattle.task_request.specs.declared.request.Request.{Request}
+use Rattle.task_request.specs.declared.request.Request.TheVariants.{Continue, Load, Store, Enqueue, MakeSub, Emit}
+use Rattle.task_request.specs.declared.request.Request.TheVariants.{Trap}
 use Rattle.spec_state.specs.declared.task.Task.{Task}
 use Rattle.memory_law.specs.Notes.{notes_of}
 use Rattle.spec_state.specs.View.{View}
 use Rattle.spec_state.specs.Filters.{HasNotes}
-use Rattle.spec_state.specs.Changes.{TakesLeg, request_of, Loads, Stores, Enqueues, MakesSub, Emits}
+use Rattle.spec_state.specs.Changes.{TakesLeg, request_of, LoadsFrom, StoresTo, Enqueues, MakesSub, Emits}
 use Rattle.spec_access.specs.Asking.{Asks, AsksForNothing}
 use Rattle.spec_access.proofs.Asking.{asked_is}
 
@@ -31,11 +31,11 @@ module _ (view : View) (leg : LegValue) (id : ℕ) (found : Request) (asks : Ask
 
 -- what a request comes to, where it is one of this kind
 abbrev LoadsSo : ℕ → Task → LegValue → View → View → Request → Type 0
-LoadsSo id task leg old new (Load width rd offset) = Loads id task leg width rd offset old new
+LoadsSo id task leg old new (Load width rd offset) = LoadsFrom id task leg width rd offset old new
 LoadsSo id task leg old new other = Unit {0}
 
 abbrev StoresSo : ℕ → Task → LegValue → View → View → Request → Type 0
-StoresSo id task leg old new (Store offset bytes value) = Stores id task leg offset bytes value old new
+StoresSo id task leg old new (Store offset bytes value) = StoresTo id task leg offset bytes value old new
 StoresSo id task leg old new other = Unit {0}
 
 abbrev EnqueuesSo : ℕ → Task → LegValue → ℕ → View → View → Request → Type 0
@@ -52,11 +52,11 @@ EmitsSo id task leg old new other = Unit {0}
 
 module _ (id : ℕ) (task : Task) (leg : LegValue) (old new : View) where
   pub same_load : (width other : LoadWidth) (rd to offset at : ℕ) → Load width rd offset ≡ Load other to at
-      → Loads id task leg width rd offset old new → Loads id task leg other to at old new
+      → LoadsFrom id task leg width rd offset old new → LoadsFrom id task leg other to at old new
   same_load width other rd to offset at same does = subst (LoadsSo id task leg old new) same does
 
   pub same_store : (offset at bytes count value other : ℕ) → Store offset bytes value ≡ Store at count other
-      → Stores id task leg offset bytes value old new → Stores id task leg at count other old new
+      → StoresTo id task leg offset bytes value old new → StoresTo id task leg at count other old new
   same_store offset at bytes count value other same does = subst (StoresSo id task leg old new) same does
 
   pub same_child : (tile : ℕ) (child other : Spawn) → Enqueue child ≡ Enqueue other
@@ -76,10 +76,10 @@ module _ {T E : Type 0} (view new : View) (leg : LegValue) (id : ℕ) (found : R
     (asks : Asks view leg id found) where
   pub loads_found : (result : Result T E) (width : LoadWidth) (rd offset : ℕ) → found ≡ Load width rd offset
       → OnOk result ((tile core : ℕ) (t : Task) → TakesLeg view tile core leg id t
-      → HasNotes t.lines (notes_of view.settings.line t.log) → Loads id t leg width rd offset view new)
+      → HasNotes t.lines (notes_of view.settings.line t.log) → LoadsFrom id t leg width rd offset view new)
       → OnOk result ((tile core : ℕ) (t : Task) (w : LoadWidth) (r o : ℕ) → TakesLeg view tile core leg id t
       → request_of view t leg ≡ Load w r o
-      → HasNotes t.lines (notes_of view.settings.line t.log) → Loads id t leg w r o view new)
+      → HasNotes t.lines (notes_of view.settings.line t.log) → LoadsFrom id t leg w r o view new)
   loads_found (Ok value) width rd offset is does = λ tile core t w r o takes asked noted.
       same_load id t leg view new width w rd r offset o
       (sym is ∙ found_is view leg id found asks tile core t (Load w r o) takes asked) (does tile core t takes noted)
@@ -87,10 +87,10 @@ module _ {T E : Type 0} (view new : View) (leg : LegValue) (id : ℕ) (found : R
 
   pub stores_found : (result : Result T E) (offset bytes value : ℕ) → found ≡ Store offset bytes value
       → OnOk result ((tile core : ℕ) (t : Task) → TakesLeg view tile core leg id t
-      → HasNotes t.lines (notes_of view.settings.line t.log) → Stores id t leg offset bytes value view new)
+      → HasNotes t.lines (notes_of view.settings.line t.log) → StoresTo id t leg offset bytes value view new)
       → OnOk result ((tile core : ℕ) (t : Task) (o b v : ℕ) → TakesLeg view tile core leg id t
       → request_of view t leg ≡ Store o b v
-      → HasNotes t.lines (notes_of view.settings.line t.log) → Stores id t leg o b v view new)
+      → HasNotes t.lines (notes_of view.settings.line t.log) → StoresTo id t leg o b v view new)
   stores_found (Ok done) offset bytes value is does = λ tile core t o b v takes asked noted.
       same_store id t leg view new offset o bytes b value v
       (sym is ∙ found_is view leg id found asks tile core t (Store o b v) takes asked) (does tile core t takes noted)

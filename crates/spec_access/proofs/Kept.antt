@@ -9,13 +9,13 @@ use Rattle.spec_state.specs.declared.task.Status.TheVariants.{Running}
 use Rattle.spec_state.specs.declared.task.Task.{Task}
 use Rattle.spec_state.specs.View.{View, task_at, ChangesTask}
 use Rattle.spec_state.specs.Tasks.{kept_core}
-use Rattle.spec_state.specs.Stored.{IsThere, IsWellFormed, IsStored}
+use Rattle.spec_state.specs.Stored.{HasTask, IsWellFormed, IsStored}
 
 module _ (id : ℕ) (old new : View) (task now : Task) (there : task_at old id ≡ Some task)
     (changes : ChangesTask old new id (Some now)) where
   -- where each task was, it is
   pub place_forth : (kind : Status → Type 0) (tile k : ℕ) → now.tile ≡ task.tile
-      → (kind task.status → kind now.status) → IsThere old tile k kind → IsThere new tile k kind
+      → (kind task.status → kind now.status) → HasTask old tile k kind → HasTask new tile k kind
   place_forth kind tile k same forth has = elim (cases_eq k id) [
     | inl own ↦
         let it : has.0 ≡ task = same_Some has.0 task (sym has.1 ∙ ap (task_at old) own ∙ there) in (
@@ -29,7 +29,7 @@ module _ (id : ℕ) (old new : View) (task now : Task) (there : task_at old id �
   ]
 
   pub place_back : (kind : Status → Type 0) (tile k : ℕ) → now.tile ≡ task.tile
-      → (kind now.status → kind task.status) → IsThere new tile k kind → IsThere old tile k kind
+      → (kind now.status → kind task.status) → HasTask new tile k kind → HasTask old tile k kind
   place_back kind tile k same back has = elim (cases_eq k id) [
     | inl own ↦
         let it : has.0 ≡ now = same_Some has.0 now (sym has.1 ∙ ap (task_at new) own ∙ changes.changed) in (

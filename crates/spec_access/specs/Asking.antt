@@ -4,8 +4,8 @@ use Rattle.guest_image.specs.declared.image.Kind.{Kind}
 use Rattle.rv_core.specs.LegValue.{LegValue}
 use Rattle.rv_table.specs.declared.instr.LoadWidth.{LoadWidth}
 use Rattle.task_desc.specs.declared.desc.Spawn.{Spawn}
-use Rattle.task_step.specs.declared.request.Request.{Request}
-use Rattle.task_step.specs.declared.request.Request.TheVariants.{Continue, Load, Store, Enqueue, MakeSub, Emit, Trap}
+use Rattle.task_request.specs.declared.request.Request.{Request}
+use Rattle.task_request.specs.declared.request.Request.TheVariants.{Continue, Load, Store, Enqueue, MakeSub, Emit, Trap}
 use Rattle.spec_state.specs.declared.task.Task.{Task}
 use Rattle.spec_state.specs.View.{View, finished_at}
 use Rattle.spec_state.specs.Queries.{IsOnCore}
@@ -19,9 +19,9 @@ pub record Asks (view : View) (leg : LegValue) (id : ℕ) (request : Request) : 
   pub takes : TakesLeg view tile core leg id task
   pub asks : request_of view task leg ≡ request
 
--- the commit queue of the tile on whose core the task of this id stands has a free entry
-abbrev pub HasCommitEntry : View → ℕ → Type 0
-HasCommitEntry view id =
+-- the commit queue of the tile on whose core the task of this id stands has a free place
+abbrev pub CommitQueueHasRoom : View → ℕ → Type 0
+CommitQueueHasRoom view id =
     (tile core : ℕ) × (task : Task)
     × IsOnCore view tile core id task × (length (finished_at view tile) < view.settings.commit_queue)
 
@@ -31,7 +31,7 @@ AsksToLoad view leg id = (width : LoadWidth) × (rd offset : ℕ) × Asks view l
 
 -- for a store
 abbrev pub AsksToStore : View → LegValue → ℕ → Type 0
-AsksToStore view leg id = (offset bytes value : ℕ) × Asks view leg id (Store offset bytes value)
+AsksToStore view leg id = (offset width value : ℕ) × Asks view leg id (Store offset width value)
 
 -- for a child
 abbrev pub AsksForChild : View → LegValue → ℕ → Type 0

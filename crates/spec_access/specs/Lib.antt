@@ -1,1 +1,2 @@
+-- Contracts mean it.
 pub mod Asking

@@ -1,29 +1,29 @@
-//! Loads and stores. Each takes its room first, so that nothing has changed where memory runs
+//! Loads and stores. Each takes its memory first, so that nothing has changed where memory runs
 //! out.
 
 ghost use Rattle.std.specs.Prelude.{◌≡◌, ℕ, IsOk, IsSome, OnOk, OnErr};
 ghost use Rattle.memory_law.specs.Notes.{notes_of};
-ghost use Rattle.task_step.specs.declared.request.Request.TheVariants.{Load, Store};
+ghost use Rattle.task_request.specs.declared.request.Request.TheVariants.{Load, Store};
 ghost use Rattle.spec_state.specs.declared.task.Task.{Task};
 ghost use Rattle.spec_state.specs.View.{task_at};
 ghost use Rattle.spec_state.specs.StateValue.{CoversLog};
 ghost use Rattle.spec_state.specs.Filters.{HasNotes};
-ghost use Rattle.spec_state.specs.Changes.{TakesLeg, Loads, Stores};
+ghost use Rattle.spec_state.specs.Changes.{TakesLeg, LoadsFrom, StoresTo};
 ghost use Rattle.spec_access.specs.Asking.{Asks};
 
 use crate::calling::put_behind;
-use rv_core::{Leg, Naming, bytes_of_load};
+use rv_core::{Leg, Naming, width_of_load};
 use rv_table::{LoadWidth, Reg};
 use spec_state::{State, TaskId};
 use std::alloc::AllocError;
 use undo_log::{load_with, store_with};
 
-/// Makes room for one access more of the task.
+/// Sees to it that one access more of the task is spare.
 #[inline]
 fn reserve_access<N: Naming>(state: &mut State<N>, id: TaskId) -> Result<(), AllocError>
     requires live { IsSome (task_at state.old.view id.0) }
     ensures view { state.new.view ≡ state.old.view }
-    ensures room { state.new.room ≡ record state.old.room { log = state.new.room.log } }
+    ensures room { state.new.spare ≡ record state.old.spare { log = state.new.spare.log } }
     ensures covers { OnOk result (CoversLog state.new id.0) }
     ensures enough { CoversLog state.old id.0 → IsOk result }
     ensures err { OnErr result (state.new ≡ state.old) }
@@ -32,7 +32,7 @@ fn reserve_access<N: Naming>(state: &mut State<N>, id: TaskId) -> Result<(), All
     state.buffers.log.reserve(made + 1)
 }
 
-/// Loads where the access has room.
+/// Loads where the access is spare.
 #[inline]
 fn load_reserved<N: Naming>(
     state: &mut State<N>,
@@ -47,8 +47,8 @@ fn load_reserved<N: Naming>(
     ensures loads { (tile core : ℕ) (task : Task)
         → TakesLeg state.old.view tile core leg.now id.0 task
         → HasNotes task.lines (notes_of state.old.view.settings.line task.log)
-        → Loads id.0 task leg.now width rd offset state.old.view state.new.view }
-    ensures room { state.new.room ≡ record state.old.room { log = state.new.room.log } }
+        → LoadsFrom id.0 task leg.now width rd offset state.old.view state.new.view }
+    ensures room { state.new.spare ≡ record state.old.spare { log = state.new.spare.log } }
 {
     let _to = leg.to();
     let line = offset / state.settings.line;
@@ -58,7 +58,7 @@ fn load_reserved<N: Naming>(
         &mut task.log,
         &mut state.buffers.log,
         offset,
-        bytes_of_load(width),
+        width_of_load(width),
     );
     task.lines.mark(line, false);
     leg.put_after_load(&mut task.core, width, rd, raw);
@@ -79,33 +79,33 @@ pub fn load_at<N: Naming>(
     ensures loads { OnOk result ((tile core : ℕ) (task : Task)
         → TakesLeg state.old.view tile core leg.now id.0 task
         → HasNotes task.lines (notes_of state.old.view.settings.line task.log)
-        → Loads id.0 task leg.now width rd offset state.old.view state.new.view) }
+        → LoadsFrom id.0 task leg.now width rd offset state.old.view state.new.view) }
     ensures err { OnErr result (state.new ≡ state.old) }
     ensures covered { CoversLog state.old id.0 → IsOk result }
-    ensures room { state.new.room ≡ record state.old.room { log = state.new.room.log } }
+    ensures room { state.new.spare ≡ record state.old.spare { log = state.new.spare.log } }
 {
     reserve_access(state, id)?;
     load_reserved(state, id, leg, width, rd, offset);
     Ok(())
 }
 
-/// Stores where the access has room.
+/// Stores where the access is spare.
 #[inline]
 fn store_reserved<N: Naming>(
     state: &mut State<N>,
     id: TaskId,
     leg: &Leg<N>,
     offset: u32,
-    bytes: u8,
+    width: u8,
     value: u32,
 )
-    requires asks { Asks state.old.view leg.now id.0 (Store offset bytes value) }
+    requires asks { Asks state.old.view leg.now id.0 (Store offset width value) }
     requires covers { CoversLog state.old id.0 }
     ensures stores { (tile core : ℕ) (task : Task)
         → TakesLeg state.old.view tile core leg.now id.0 task
         → HasNotes task.lines (notes_of state.old.view.settings.line task.log)
-        → Stores id.0 task leg.now offset bytes value state.old.view state.new.view }
-    ensures room { state.new.room ≡ record state.old.room { log = state.new.room.log } }
+        → StoresTo id.0 task leg.now offset width value state.old.view state.new.view }
+    ensures room { state.new.spare ≡ record state.old.spare { log = state.new.spare.log } }
 {
     let budget = state.settings.budget;
     let to = leg.to();
@@ -116,7 +116,7 @@ fn store_reserved<N: Naming>(
         &mut task.log,
         &mut state.buffers.log,
         offset,
-        bytes,
+        width,
         value,
     );
     task.lines.mark(line, true);
@@ -131,19 +131,19 @@ pub fn store_at<N: Naming>(
     id: TaskId,
     leg: &Leg<N>,
     offset: u32,
-    bytes: u8,
+    width: u8,
     value: u32,
 ) -> Result<(), AllocError>
-    requires asks { Asks state.old.view leg.now id.0 (Store offset bytes value) }
+    requires asks { Asks state.old.view leg.now id.0 (Store offset width value) }
     ensures stores { OnOk result ((tile core : ℕ) (task : Task)
         → TakesLeg state.old.view tile core leg.now id.0 task
         → HasNotes task.lines (notes_of state.old.view.settings.line task.log)
-        → Stores id.0 task leg.now offset bytes value state.old.view state.new.view) }
+        → StoresTo id.0 task leg.now offset width value state.old.view state.new.view) }
     ensures err { OnErr result (state.new ≡ state.old) }
     ensures covered { CoversLog state.old id.0 → IsOk result }
-    ensures room { state.new.room ≡ record state.old.room { log = state.new.room.log } }
+    ensures room { state.new.spare ≡ record state.old.spare { log = state.new.spare.log } }
 {
     reserve_access(state, id)?;
-    store_reserved(state, id, leg, offset, bytes, value);
+    store_reserved(state, id, leg, offset, width, value);
     Ok(())
 }

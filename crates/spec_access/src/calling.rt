@@ -2,11 +2,11 @@
 
 ghost use Rattle.std.specs.Prelude.{◌≡◌, ◌<◌, ◌-◌, ◌^◌, ◌∷◌, ◌++◌, [], ℕ};
 ghost use Rattle.rv_core.specs.Legs.{after_other_of};
-ghost use Rattle.task_step.specs.declared.request.Request.TheVariants.{Continue, MakeSub};
-ghost use Rattle.task_step.specs.declared.request.Request.TheVariants.{Emit, Trap};
+ghost use Rattle.task_request.specs.declared.request.Request.TheVariants.{Continue, MakeSub};
+ghost use Rattle.task_request.specs.declared.request.Request.TheVariants.{Emit, Trap};
 ghost use Rattle.spec_state.specs.declared.task.Status.TheVariants.{Running};
 ghost use Rattle.spec_state.specs.declared.task.Task.{Task};
-ghost use Rattle.spec_state.specs.Changes.{TakesLeg, GoesOn, KeepsTrap, MakesSub, Emits};
+ghost use Rattle.spec_state.specs.Changes.{TakesLeg, KeepsQuantum, KeepsTrap, MakesSub, Emits};
 ghost use Rattle.spec_access.specs.Asking.{Asks};
 
 use guest_image::Kind;
@@ -42,8 +42,8 @@ pub fn end_quantum<N: Naming>(state: &mut State<N>, id: TaskId, leg: &Leg<N>)
     requires asks { Asks state.old.view leg.now id.0 Continue }
     ensures goes_on { (tile core : ℕ) (task : Task)
         → TakesLeg state.old.view tile core leg.now id.0 task
-        → GoesOn id.0 task leg.now state.old.view state.new.view }
-    ensures room { state.new.room ≡ state.old.room }
+        → KeepsQuantum id.0 task leg.now state.old.view state.new.view }
+    ensures room { state.new.spare ≡ state.old.spare }
 {
     leg.put_end(&mut state.tasks[id.0].core);
 }
@@ -55,7 +55,7 @@ pub fn call_trap<N: Naming>(state: &mut State<N>, id: TaskId, leg: &Leg<N>, caus
     ensures traps { (tile core : ℕ) (task : Task)
         → TakesLeg state.old.view tile core leg.now id.0 task
         → KeepsTrap id.0 task leg.now core cause state.old.view state.new.view }
-    ensures room { state.new.room ≡ state.old.room }
+    ensures room { state.new.spare ≡ state.old.spare }
 {
     let task = &mut state.tasks[id.0];
     let core = held_core(task.status);
@@ -69,7 +69,7 @@ pub fn open_sub<N: Naming>(state: &mut State<N>, id: TaskId, leg: &Leg<N>, kind:
     ensures makes { (tile core : ℕ) (task : Task)
         → TakesLeg state.old.view tile core leg.now id.0 task
         → MakesSub id.0 task leg.now kind state.old.view state.new.view }
-    ensures room { state.new.room ≡ state.old.room }
+    ensures room { state.new.spare ≡ state.old.spare }
 {
     let budget = state.settings.budget;
     let task = &mut state.tasks[id.0];
@@ -83,7 +83,7 @@ pub fn put_byte<N: Naming>(state: &mut State<N>, id: TaskId, leg: &Leg<N>, byte:
     ensures emits { (tile core : ℕ) (task : Task)
         → TakesLeg state.old.view tile core leg.now id.0 task
         → Emits id.0 task leg.now byte state.old.view state.new.view }
-    ensures room { state.new.room ≡ state.old.room }
+    ensures room { state.new.spare ≡ state.old.spare }
 {
     let budget = state.settings.budget;
     let task = &mut state.tasks[id.0];

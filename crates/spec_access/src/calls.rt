@@ -1,24 +1,24 @@
-//! The steps of a running task by its leg alone: each call finds out itself what the task asks for at the leg's end.
+//! The changes of a running task by its leg alone: each call finds out itself what the task asks for at the leg's end.
 
 ghost use Rattle.std.specs.Prelude.{◌≡◌, ◌<◌, ℕ, IsOk, OnOk, OnErr};
 ghost use Rattle.guest_image.specs.declared.image.Kind.{Kind};
 ghost use Rattle.memory_law.specs.Notes.{notes_of};
 ghost use Rattle.rv_table.specs.declared.instr.LoadWidth.{LoadWidth};
 ghost use Rattle.task_desc.specs.declared.desc.Spawn.{Spawn};
-ghost use Rattle.task_step.specs.declared.request.Request.TheVariants.{Continue, Load, Store};
-ghost use Rattle.task_step.specs.declared.request.Request.TheVariants.{Enqueue, MakeSub, Emit, Trap};
+ghost use Rattle.task_request.specs.declared.request.Request.TheVariants.{Continue, Load, Store};
+ghost use Rattle.task_request.specs.declared.request.Request.TheVariants.{Enqueue, MakeSub, Emit, Trap};
 ghost use Rattle.spec_state.specs.declared.task.Task.{Task};
 ghost use Rattle.spec_state.specs.StateValue.{CoversLog, CoversChild};
 ghost use Rattle.spec_state.specs.Filters.{HasNotes};
-ghost use Rattle.spec_state.specs.Room.{HasFreeEntry};
-ghost use Rattle.spec_state.specs.Changes.{TakesLeg, request_of, Loads, Stores, Enqueues};
-ghost use Rattle.spec_state.specs.Changes.{MakesSub, Emits, GoesOn, KeepsTrap};
+ghost use Rattle.spec_state.specs.Room.{QueueHasRoom};
+ghost use Rattle.spec_state.specs.Changes.{TakesLeg, request_of, LoadsFrom, StoresTo, Enqueues};
+ghost use Rattle.spec_state.specs.Changes.{MakesSub, Emits, KeepsQuantum, KeepsTrap};
 ghost use Rattle.spec_access.specs.Asking.{AsksToLoad, AsksToStore, AsksForChild};
 ghost use Rattle.spec_access.specs.Asking.{AsksForSubdomain, AsksToEmit, AsksForNothing};
 
 use crate::accessing::{load_at, store_at};
 use crate::calling::{call_trap, end_quantum, open_sub, put_byte};
-use crate::requests::{asked, byte_of, cause_of, kind_of, load_of, spawn_of, store_of};
+use crate::requests::{byte_of, cause_of, kind_of, load_of, request_of_task, spawn_of, store_of};
 use crate::spawning::enqueue_child;
 use rv_core::{Leg, Naming};
 use spec_state::{State, TaskId};
@@ -32,12 +32,12 @@ pub fn read<N: Naming>(state: &mut State<N>, task: TaskId, leg: &Leg<N>) -> Resu
         → TakesLeg state.old.view tile core leg.now task.0 t
         → request_of state.old.view t leg.now ≡ Load width rd offset
         → HasNotes t.lines (notes_of state.old.view.settings.line t.log)
-        → Loads task.0 t leg.now width rd offset state.old.view state.new.view) }
+        → LoadsFrom task.0 t leg.now width rd offset state.old.view state.new.view) }
     ensures err { OnErr result (state.new ≡ state.old) }
     ensures covered { CoversLog state.old task.0 → IsOk result }
-    ensures room { state.new.room ≡ record state.old.room { log = state.new.room.log } }
+    ensures room { state.new.spare ≡ record state.old.spare { log = state.new.spare.log } }
 {
-    let (width, rd, offset) = load_of(asked(state, task, leg));
+    let (width, rd, offset) = load_of(request_of_task(state, task, leg));
     load_at(state, task, leg, width, rd, offset)
 }
 
@@ -45,21 +45,21 @@ pub fn read<N: Naming>(state: &mut State<N>, task: TaskId, leg: &Leg<N>) -> Resu
 /// its lines. `AllocError` where memory runs out; nothing has changed then.
 pub fn write<N: Naming>(state: &mut State<N>, task: TaskId, leg: &Leg<N>) -> Result<(), AllocError>
     requires asks { AsksToStore state.old.view leg.now task.0 }
-    ensures stores { OnOk result ((tile core : ℕ) (t : Task) (offset bytes value : ℕ)
+    ensures stores { OnOk result ((tile core : ℕ) (t : Task) (offset width value : ℕ)
         → TakesLeg state.old.view tile core leg.now task.0 t
-        → request_of state.old.view t leg.now ≡ Store offset bytes value
+        → request_of state.old.view t leg.now ≡ Store offset width value
         → HasNotes t.lines (notes_of state.old.view.settings.line t.log)
-        → Stores task.0 t leg.now offset bytes value state.old.view state.new.view) }
+        → StoresTo task.0 t leg.now offset width value state.old.view state.new.view) }
     ensures err { OnErr result (state.new ≡ state.old) }
     ensures covered { CoversLog state.old task.0 → IsOk result }
-    ensures room { state.new.room ≡ record state.old.room { log = state.new.room.log } }
+    ensures room { state.new.spare ≡ record state.old.spare { log = state.new.spare.log } }
 {
-    let (offset, bytes, value) = store_of(asked(state, task, leg));
-    store_at(state, task, leg, offset, bytes, value)
+    let (offset, width, value) = store_of(request_of_task(state, task, leg));
+    store_at(state, task, leg, offset, width, value)
 }
 
 /// Enqueues the child that a task asks for at its leg's end: an idle task, which stands last in the task queue of
-/// this tile, where an entry is free. `AllocError` where memory runs out; nothing has changed then.
+/// this tile, where a place is free. `AllocError` where memory runs out; nothing has changed then.
 pub fn spawn<N: Naming>(
     state: &mut State<N>,
     task: TaskId,
@@ -68,16 +68,16 @@ pub fn spawn<N: Naming>(
 ) -> Result<(), AllocError>
     requires asks { AsksForChild state.old.view leg.now task.0 }
     requires tile { tile < state.old.view.settings.tiles }
-    requires free { HasFreeEntry state.old.view tile }
+    requires free { QueueHasRoom state.old.view tile }
     ensures enqueues { OnOk result ((from core : ℕ) (t : Task) (child : Spawn)
         → TakesLeg state.old.view from core leg.now task.0 t
         → request_of state.old.view t leg.now ≡ Enqueue child
         → Enqueues task.0 t leg.now child tile state.old.view state.new.view) }
     ensures err { OnErr result (state.new ≡ state.old) }
     ensures covered { CoversChild state.old task.0 → IsOk result }
-    ensures room { state.new.room ≡ record state.old.room { spawns = state.new.room.spawns } }
+    ensures room { state.new.spare ≡ record state.old.spare { spawns = state.new.spare.spawns } }
 {
-    let child = spawn_of(asked(state, task, leg));
+    let child = spawn_of(request_of_task(state, task, leg));
     enqueue_child(state, task, leg, child, tile)
 }
 
@@ -88,9 +88,9 @@ pub fn make_sub<N: Naming>(state: &mut State<N>, task: TaskId, leg: &Leg<N>)
         → TakesLeg state.old.view tile core leg.now task.0 t
         → request_of state.old.view t leg.now ≡ MakeSub kind
         → MakesSub task.0 t leg.now kind state.old.view state.new.view }
-    ensures room { state.new.room ≡ state.old.room }
+    ensures room { state.new.spare ≡ state.old.spare }
 {
-    let kind = kind_of(asked(state, task, leg));
+    let kind = kind_of(request_of_task(state, task, leg));
     open_sub(state, task, leg, kind);
 }
 
@@ -101,9 +101,9 @@ pub fn emit<N: Naming>(state: &mut State<N>, task: TaskId, leg: &Leg<N>)
         → TakesLeg state.old.view tile core leg.now task.0 t
         → request_of state.old.view t leg.now ≡ Emit byte
         → Emits task.0 t leg.now byte state.old.view state.new.view }
-    ensures room { state.new.room ≡ state.old.room }
+    ensures room { state.new.spare ≡ state.old.spare }
 {
-    let byte = byte_of(asked(state, task, leg));
+    let byte = byte_of(request_of_task(state, task, leg));
     put_byte(state, task, leg, byte);
 }
 
@@ -114,14 +114,14 @@ pub fn keep<N: Naming>(state: &mut State<N>, task: TaskId, leg: &Leg<N>)
     ensures goes_on { (tile core : ℕ) (t : Task)
         → TakesLeg state.old.view tile core leg.now task.0 t
         → request_of state.old.view t leg.now ≡ Continue
-        → GoesOn task.0 t leg.now state.old.view state.new.view }
+        → KeepsQuantum task.0 t leg.now state.old.view state.new.view }
     ensures traps { (tile core cause : ℕ) (t : Task)
         → TakesLeg state.old.view tile core leg.now task.0 t
         → request_of state.old.view t leg.now ≡ Trap cause
         → KeepsTrap task.0 t leg.now core cause state.old.view state.new.view }
-    ensures room { state.new.room ≡ state.old.room }
+    ensures room { state.new.spare ≡ state.old.spare }
 {
-    match cause_of(asked(state, task, leg)) {
+    match cause_of(request_of_task(state, task, leg)) {
         None => end_quantum(state, task, leg),
         Some(cause) => call_trap(state, task, leg, cause),
     }

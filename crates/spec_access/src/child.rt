@@ -32,7 +32,7 @@ fn domain_of(parent: &Task, place: Place) -> Vt
     ensures { result ≡ child_domain parent.now place }
 {
     match place {
-        Place::Same => parent.key.domain.copied(),
+        Place::Same => parent.key.domain.copy(),
         Place::Sub => as_domain(&parent.key),
         Place::Super => superdomain(&parent.key.domain),
     }

@@ -2,19 +2,19 @@
 
 ghost use Rattle.std.specs.Prelude.{◌≡◌, ◌<◌, ◌∷◌, ◌++◌, [], ℕ, All, Contains, None, length, map};
 ghost use Rattle.std.specs.Prelude.{vec_len, slice_index_or, slice_set};
-ghost use Rattle.task_step.specs.declared.request.Request.TheVariants.{End};
+ghost use Rattle.task_request.specs.declared.request.Request.TheVariants.{End};
 ghost use Rattle.spec_state.specs.declared.task.Task.{Task};
 ghost use Rattle.spec_state.specs.Fits.{ids_in};
 ghost use Rattle.spec_state.specs.View.{core_ids};
 ghost use Rattle.spec_state.specs.Changes.{TakesLeg, Finishes};
-ghost use Rattle.spec_access.specs.Asking.{Asks, HasCommitEntry};
+ghost use Rattle.spec_access.specs.Asking.{Asks, CommitQueueHasRoom};
 
 use crate::calling::{held_core, put_behind};
 use rv_core::{Leg, Naming};
 use spec_state::{State, Status, TaskId};
 use tile_queues::CommitQueue;
 
-/// Puts an id that is not there into a queue with a free entry, as the last one.
+/// Puts an id that is not there into a queue with a free place, as the last one.
 fn put_last(queue: &mut CommitQueue, id: usize)
     requires absent { ¬ Contains queue.old.ids id }
     requires free { length queue.old.ids < queue.old.capacity }
@@ -23,7 +23,7 @@ fn put_last(queue: &mut CommitQueue, id: usize)
     let _ = queue.put(id);
 }
 
-/// Puts an id that is not there into the commit queue of a tile, which has a free entry, as the
+/// Puts an id that is not there into the commit queue of a tile, which has a free place, as the
 /// last one.
 fn put_finished(queues: &mut Vec<CommitQueue>, tile: usize, id: usize)
     requires tile { tile < vec_len queues.old }
@@ -54,15 +54,15 @@ fn free_core(cores: &mut Vec<Vec<Option<TaskId>>>, tile: usize, core: usize)
     cores[tile][core] = None;
 }
 
-/// A task that asks to end leaves its core for the commit queue of its tile, where an entry is
+/// A task that asks to end leaves its core for the commit queue of its tile, where a place is
 /// free.
 pub fn finish<N: Naming>(state: &mut State<N>, id: TaskId, leg: &Leg<N>)
     requires asks { Asks state.old.view leg.now id.0 End }
-    requires free { HasCommitEntry state.old.view id.0 }
+    requires free { CommitQueueHasRoom state.old.view id.0 }
     ensures finishes { (tile core : ℕ) (task : Task)
         → TakesLeg state.old.view tile core leg.now id.0 task
         → Finishes tile core id.0 task leg.now state.old.view state.new.view }
-    ensures room { state.new.room ≡ state.old.room }
+    ensures room { state.new.spare ≡ state.old.spare }
 {
     let budget = state.settings.budget;
     let task = &mut state.tasks[id.0];

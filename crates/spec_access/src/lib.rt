@@ -1,13 +1,14 @@
-//! The forward steps of one running task: each does the one change that the task asks for at the
+//! The forward changes of one running task: each does the one change that the task asks for at the
 //! end of its leg.
 //!
-//! What a step may wait for is forced before it: its caller has taken back what conflicts, and made
-//! a free entry. A call that lengthens a list takes the room for it before its first change, and
-//! needs no memory where the state has that room; no other call takes any. None copies the data: an
-//! access costs one read or write of it, and a child one entry of the index.
-//! `read`, `write`, `spawn`, `make_sub`, `emit` and `keep` find out by `asked` what the task asks for; what stands
+//! What a change may wait for is forced before it: its caller has taken back what conflicts, and made
+//! a free place. A call that lengthens a list takes the memory for it before its first change, and
+//! needs no memory where that is spare; no other call takes any. None copies the data: an
+//! access costs one read or write of it, and a child one candidate of the index.
+//! `read`, `write`, `spawn`, `make_sub`, `emit` and `keep` find out by `request_of_task` what the task asks for; what
+//! stands
 //! behind them is told, by a caller that knows.
-//! It stands on the state; `book_step` calls it. The dispatch, which begins a task, is handed on from `spec_dispatch`.
+//! It stands on the state; `event_step` calls it. The dispatch, which begins a task, is handed on from `spec_dispatch`.
 #![tactic(auto)]
 
 mod accessing;
@@ -22,6 +23,6 @@ pub use accessing::{load_at, store_at};
 pub use calling::{call_trap, end_quantum, open_sub, put_byte};
 pub use calls::{emit, keep, make_sub, read, spawn, write};
 pub use finishing::finish;
-pub use requests::asked;
+pub use requests::request_of_task;
 pub use spawning::enqueue_child;
 pub use spec_dispatch::dispatch;

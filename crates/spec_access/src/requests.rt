@@ -4,8 +4,8 @@ ghost use Rattle.std.specs.Prelude.{◌≡◌, ◌⊎◌, ℕ, IsNone, IfSome};
 ghost use Rattle.guest_image.specs.declared.image.Kind.{Kind};
 ghost use Rattle.rv_table.specs.declared.instr.LoadWidth.{LoadWidth};
 ghost use Rattle.task_desc.specs.declared.desc.Spawn.{Spawn};
-ghost use Rattle.task_step.specs.declared.request.Request.TheVariants.{Continue, Load, Store};
-ghost use Rattle.task_step.specs.declared.request.Request.TheVariants.{Enqueue, MakeSub, Emit, Trap};
+ghost use Rattle.task_request.specs.declared.request.Request.TheVariants.{Continue, Load, Store};
+ghost use Rattle.task_request.specs.declared.request.Request.TheVariants.{Enqueue, MakeSub, Emit, Trap};
 ghost use Rattle.spec_state.specs.declared.task.Task.{Task};
 ghost use Rattle.spec_state.specs.Changes.{TakesLeg};
 ghost use Rattle.spec_access.specs.Asking.{Asks};
@@ -15,10 +15,10 @@ use rv_core::{Leg, Naming};
 use rv_table::{LoadWidth, Reg};
 use spec_state::{State, TaskId};
 use task_desc::Spawn;
-use task_step::{Request, request_of, request_of_stop};
+use task_request::{Request, request_of, request_of_stop};
 
 /// What a task asks for at the end of the leg that it takes.
-pub fn asked<N: Naming>(state: &State<N>, id: TaskId, leg: &Leg<N>) -> Request
+pub fn request_of_task<N: Naming>(state: &State<N>, id: TaskId, leg: &Leg<N>) -> Request
     requires takes { let view = state.now.view in
         (tile core : ℕ) × (task : Task) × TakesLeg view tile core leg.now id.0 task }
     ensures { Asks state.now.view leg.now id.0 result }
@@ -40,17 +40,17 @@ pub(crate) fn load_of(request: Request) -> (LoadWidth, Reg, u32)
     }
 }
 
-/// The offset, the number of bytes and the value of a store.
+/// The offset, the width and the value of a store.
 pub(crate) fn store_of(request: Request) -> (u32, u8, u32)
-    requires { (offset bytes value : ℕ) × (request ≡ Store offset bytes value) }
+    requires { (offset width value : ℕ) × (request ≡ Store offset width value) }
     ensures { request ≡ Store result.0 result.1 result.2 }
 {
     match request {
         Request::Store {
             offset,
-            bytes,
+            width,
             value,
-        } => (offset, bytes, value),
+        } => (offset, width, value),
         _ => unreachable!(),
     }
 }

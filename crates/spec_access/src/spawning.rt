@@ -1,12 +1,12 @@
-//! An enqueue. It takes its room first, so that nothing has changed where memory runs out.
+//! An enqueue. It takes its memory first, so that nothing has changed where memory runs out.
 
 ghost use Rattle.std.specs.Prelude.{◌≡◌, ◌<◌, ◌∷◌, ◌++◌, [], ℕ, length, IsOk, IsSome, OnOk, OnErr};
-ghost use Rattle.task_step.specs.declared.request.Request.TheVariants.{Enqueue};
+ghost use Rattle.task_request.specs.declared.request.Request.TheVariants.{Enqueue};
 ghost use Rattle.spec_state.specs.declared.task.Task.{Task};
 ghost use Rattle.spec_state.specs.View.{task_at};
 ghost use Rattle.spec_state.specs.StateValue.{CoversChild};
-ghost use Rattle.spec_state.specs.Room.{HasFreeEntry};
-ghost use Rattle.spec_state.specs.Changes.{TakesLeg, Keeps, Enqueues, passed};
+ghost use Rattle.spec_state.specs.Room.{QueueHasRoom};
+ghost use Rattle.spec_state.specs.Changes.{TakesLeg, Keeps, Enqueues, task_past_leg};
 ghost use Rattle.spec_access.specs.Asking.{Asks};
 
 use crate::calling::put_behind;
@@ -16,12 +16,12 @@ use spec_state::{State, TaskId};
 use std::alloc::AllocError;
 use task_desc::Spawn;
 
-/// Makes room for one child more of the task.
+/// Sees to it that one child more of the task is spare.
 #[inline]
 fn reserve_child<N: Naming>(state: &mut State<N>, id: TaskId) -> Result<(), AllocError>
     requires live { IsSome (task_at state.old.view id.0) }
     ensures view { state.new.view ≡ state.old.view }
-    ensures room { state.new.room ≡ record state.old.room { spawns = state.new.room.spawns } }
+    ensures room { state.new.spare ≡ record state.old.spare { spawns = state.new.spare.spawns } }
     ensures covers { OnOk result (CoversChild state.new id.0) }
     ensures enough { CoversChild state.old id.0 → IsOk result }
     ensures err { OnErr result (state.new ≡ state.old) }
@@ -35,9 +35,9 @@ fn add_spawn<N: Naming>(state: &mut State<N>, id: TaskId, leg: &Leg<N>, spawn: S
     requires asks { Asks state.old.view leg.now id.0 (Enqueue spawn) }
     requires covers { CoversChild state.old id.0 }
     ensures keeps { (task : Task) → task_at state.old.view id.0 ≡ Some task
-        → Keeps id.0 (record (passed task leg.now) { spawns = task.spawns ++ spawn ∷ [] })
+        → Keeps id.0 (record (task_past_leg task leg.now) { spawns = task.spawns ++ spawn ∷ [] })
         state.old.view state.new.view }
-    ensures room { state.new.room ≡ record state.old.room { spawns = state.new.room.spawns } }
+    ensures room { state.new.spare ≡ record state.old.spare { spawns = state.new.spare.spawns } }
 {
     let budget = state.settings.budget;
     let task = &mut state.tasks[id.0];
@@ -45,7 +45,7 @@ fn add_spawn<N: Naming>(state: &mut State<N>, id: TaskId, leg: &Leg<N>, spawn: S
     put_behind(&mut task.core, budget, leg);
 }
 
-/// Enqueues where the child has room.
+/// Enqueues where the child is spare.
 fn spawn_reserved<N: Naming>(
     state: &mut State<N>,
     id: TaskId,
@@ -55,12 +55,12 @@ fn spawn_reserved<N: Naming>(
 )
     requires asks { Asks state.old.view leg.now id.0 (Enqueue spawn) }
     requires tile { tile < state.old.view.settings.tiles }
-    requires free { HasFreeEntry state.old.view tile }
+    requires free { QueueHasRoom state.old.view tile }
     requires covers { CoversChild state.old id.0 }
     ensures enqueues { (from core : ℕ) (task : Task)
         → TakesLeg state.old.view from core leg.now id.0 task
         → Enqueues id.0 task leg.now spawn tile state.old.view state.new.view }
-    ensures room { state.new.room ≡ record state.old.room { spawns = state.new.room.spawns } }
+    ensures room { state.new.spare ≡ record state.old.spare { spawns = state.new.spare.spawns } }
 {
     let child = child_of(state.version, &state.tasks[id.0], id, &spawn, tile);
     add_spawn(state, id, leg, spawn);
@@ -68,7 +68,7 @@ fn spawn_reserved<N: Naming>(
 }
 
 /// A task enqueues a child: an idle task, which stands last in the task queue of this tile, where
-/// an entry is free. `AllocError` where memory runs out; nothing has changed then.
+/// a place is free. `AllocError` where memory runs out; nothing has changed then.
 pub fn enqueue_child<N: Naming>(
     state: &mut State<N>,
     id: TaskId,
@@ -78,13 +78,13 @@ pub fn enqueue_child<N: Naming>(
 ) -> Result<(), AllocError>
     requires asks { Asks state.old.view leg.now id.0 (Enqueue spawn) }
     requires tile { tile < state.old.view.settings.tiles }
-    requires free { HasFreeEntry state.old.view tile }
+    requires free { QueueHasRoom state.old.view tile }
     ensures enqueues { OnOk result ((from core : ℕ) (task : Task)
         → TakesLeg state.old.view from core leg.now id.0 task
         → Enqueues id.0 task leg.now spawn tile state.old.view state.new.view) }
     ensures err { OnErr result (state.new ≡ state.old) }
     ensures covered { CoversChild state.old id.0 → IsOk result }
-    ensures room { state.new.room ≡ record state.old.room { spawns = state.new.room.spawns } }
+    ensures room { state.new.spare ≡ record state.old.spare { spawns = state.new.spare.spawns } }
 {
     reserve_child(state, id)?;
     spawn_reserved(state, id, leg, spawn, tile);

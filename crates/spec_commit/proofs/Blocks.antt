@@ -5,15 +5,15 @@ use Rattle.std.specs.Prelude.{Result, Ok, Err, OnOk}
 use Rattle.std.specs.declared.alloc.AllocError.{AllocError}
 use Rattle.fractal_vt.specs.declared.level.Level.{Level}
 use Rattle.run_journal.specs.declared.journal.Entry.{Entry}
-use Rattle.spill_store.specs.Entries.{Entry as Spilled, BlockValue, TakesLeast, pushed}
+use Rattle.spill_store.specs.SpilledTasks.{Spilled, BlockValue, TakesLeast, after_push}
 use Rattle.tile_queues.specs.Queue.{QueueValue}
 use Rattle.spec_state.specs.declared.settings.Settings.{Settings}
 use Rattle.spec_state.specs.declared.task.Task.{Task}
 use Rattle.spec_state.specs.View.{View}
-use Rattle.spec_state.specs.Fits.{seen, entries_in}
-use Rattle.spec_state.specs.StateValue.{Spare, HasNoLessRoom}
+use Rattle.spec_state.specs.Fits.{view_of_parts, entries_in}
+use Rattle.spec_state.specs.StateValue.{Spare, HasNoLessSpare}
 use Rattle.spec_state.proofs.Proved.{same_entries, spare_at, spare_before, spare_grows}
-use Rattle.spec_commit.specs.Spilling.{KeepsOtherRoom}
+use Rattle.spec_commit.specs.Spilling.{KeepsOtherSpare}
 
 -- what stands in the place of a block now
 pub entries_now : (blocks : List BlockValue) (tile : ℕ) (after : BlockValue) → tile < length blocks → slice_index_or (entries_in (slice_set blocks tile after)) tile [] ≡ after.entries
@@ -42,44 +42,44 @@ taken_seen blocks tile block after s within is takes lists same =
 -- all else of the view stays
 pub block_seen : (version : ℕ) (settings : Settings) (tasks : List (Option Task)) (memory : List ℕ) (history : List Entry) (output : List ℕ) (next : ℕ) (path : List Level)
     (queues finished : List QueueValue) (cores : List (List (Option ℕ))) (blocks : List BlockValue) (tile : ℕ) (after : BlockValue) → tile < length blocks
-    → (view : View) → seen version settings tasks memory history output next path queues finished cores (entries_in blocks) ≡ view
-    → seen version settings tasks memory history output next path queues finished cores (entries_in (slice_set blocks tile after))
+    → (view : View) → view_of_parts version settings tasks memory history output next path queues finished cores (entries_in blocks) ≡ view
+    → view_of_parts version settings tasks memory history output next path queues finished cores (entries_in (slice_set blocks tile after))
     ≡ record view { blocks = slice_set view.blocks tile (slice_index_or (entries_in (slice_set blocks tile after)) tile []) }
 block_seen version settings tasks memory history output next path queues finished cores blocks tile after within view same =
-    subst (λ (view : View). seen version settings tasks memory history output next path queues finished cores (entries_in (slice_set blocks tile after))
+    subst (λ (view : View). view_of_parts version settings tasks memory history output next path queues finished cores (entries_in (slice_set blocks tile after))
     ≡ record view { blocks = slice_set view.blocks tile (slice_index_or (entries_in (slice_set blocks tile after)) tile []) }) same
-    (ap (seen version settings tasks memory history output next path queues finished cores) (entries_set blocks tile after within))
+    (ap (view_of_parts version settings tasks memory history output next path queues finished cores) (entries_set blocks tile after within))
 
 -- no room is less where that block has no less
 pub room_seen : (log spawns output : ℕ) (blocks : List BlockValue) (tile : ℕ) (block after : BlockValue) → block ≡ slice_index_or blocks tile block → block.spare ≤ after.spare
     → (room : Spare) → record { log = log; spawns = spawns; output = output; blocks = map (λ b. b.spare) blocks } ≡ room
-    → HasNoLessRoom room (record { log = log; spawns = spawns; output = output; blocks = map (λ b. b.spare) (slice_set blocks tile after) })
+    → HasNoLessSpare room (record { log = log; spawns = spawns; output = output; blocks = map (λ b. b.spare) (slice_set blocks tile after) })
 room_seen log spawns output blocks tile block after is more room same =
-    subst (λ (room : Spare). HasNoLessRoom room (record { log = log; spawns = spawns; output = output; blocks = map (λ (b : BlockValue). b.spare) (slice_set blocks tile after) })) same
+    subst (λ (room : Spare). HasNoLessSpare room (record { log = log; spawns = spawns; output = output; blocks = map (λ (b : BlockValue). b.spare) (slice_set blocks tile after) })) same
     (record { log = omega arith; spawns = omega arith; output = omega arith; blocks = spare_grows blocks tile block after is more })
 
 -- an entry is pushed into that block
 pub push_seen : (version : ℕ) (settings : Settings) (tasks : List (Option Task)) (memory : List ℕ) (history : List Entry) (output : List ℕ) (next : ℕ) (path : List Level)
     (queues finished : List QueueValue) (cores : List (List (Option ℕ))) (blocks : List BlockValue) (tile : ℕ) (block after : BlockValue) (s : Spilled) → tile < length blocks
-    → block ≡ slice_index_or blocks tile block → after.entries ≡ pushed block.entries s
-    → (view : View) → seen version settings tasks memory history output next path queues finished cores (entries_in blocks) ≡ view
-    → seen version settings tasks memory history output next path queues finished cores (entries_in (slice_set blocks tile after))
-    ≡ record view { blocks = slice_set view.blocks tile (pushed (slice_index_or view.blocks tile []) s) }
+    → block ≡ slice_index_or blocks tile block → after.entries ≡ after_push block.entries s
+    → (view : View) → view_of_parts version settings tasks memory history output next path queues finished cores (entries_in blocks) ≡ view
+    → view_of_parts version settings tasks memory history output next path queues finished cores (entries_in (slice_set blocks tile after))
+    ≡ record view { blocks = slice_set view.blocks tile (after_push (slice_index_or view.blocks tile []) s) }
 push_seen version settings tasks memory history output next path queues finished cores blocks tile block after s within is pushes view same =
-    subst (λ (view : View). seen version settings tasks memory history output next path queues finished cores (entries_in (slice_set blocks tile after))
-    ≡ record view { blocks = slice_set view.blocks tile (pushed (slice_index_or view.blocks tile []) s) }) same
-    (ap (seen version settings tasks memory history output next path queues finished cores)
+    subst (λ (view : View). view_of_parts version settings tasks memory history output next path queues finished cores (entries_in (slice_set blocks tile after))
+    ≡ record view { blocks = slice_set view.blocks tile (after_push (slice_index_or view.blocks tile []) s) }) same
+    (ap (view_of_parts version settings tasks memory history output next path queues finished cores)
     (map-set (λ (b : BlockValue). b.entries) blocks tile after
-    ∙ ap (slice_set (entries_in blocks) tile) (pushes ∙ ap (λ entries. pushed entries s) (sym (entries_was blocks tile block within is)))))
+    ∙ ap (slice_set (entries_in blocks) tile) (pushes ∙ ap (λ entries. after_push entries s) (sym (entries_was blocks tile block within is)))))
 
 -- its entries stay
 pub same_seen : (version : ℕ) (settings : Settings) (tasks : List (Option Task)) (memory : List ℕ) (history : List Entry) (output : List ℕ) (next : ℕ) (path : List Level)
     (queues finished : List QueueValue) (cores : List (List (Option ℕ))) (blocks : List BlockValue) (tile : ℕ) (block after : BlockValue)
     → block ≡ slice_index_or blocks tile block → after.entries ≡ block.entries
-    → (view : View) → seen version settings tasks memory history output next path queues finished cores (entries_in blocks) ≡ view
-    → seen version settings tasks memory history output next path queues finished cores (entries_in (slice_set blocks tile after)) ≡ view
+    → (view : View) → view_of_parts version settings tasks memory history output next path queues finished cores (entries_in blocks) ≡ view
+    → view_of_parts version settings tasks memory history output next path queues finished cores (entries_in (slice_set blocks tile after)) ≡ view
 same_seen version settings tasks memory history output next path queues finished cores blocks tile block after is stays view same =
-    ap (seen version settings tasks memory history output next path queues finished cores) (same_entries blocks tile block after is stays) ∙ same
+    ap (view_of_parts version settings tasks memory history output next path queues finished cores) (same_entries blocks tile block after is stays) ∙ same
 
 -- how many pushes the block has to spare
 pub spare_seen : (blocks : List BlockValue) (tile : ℕ) (block after : BlockValue) → tile < length blocks → block ≡ slice_index_or blocks tile block → block.spare ≤ after.spare + 1
@@ -96,22 +96,23 @@ covers_seen spares tile spare is (Err error) enough = tt
 -- the room of other tiles stays
 pub other_room : (log spawns output : ℕ) (blocks : List BlockValue) (tile : ℕ) (after : BlockValue) (room : Spare)
     → record { log = log; spawns = spawns; output = output; blocks = map (λ (b : BlockValue). b.spare) blocks } ≡ room
-    → KeepsOtherRoom tile room (record { log = log; spawns = spawns; output = output; blocks = map (λ (b : BlockValue). b.spare) (slice_set blocks tile after) })
+    → KeepsOtherSpare tile room (record { log = log; spawns = spawns; output = output; blocks = map (λ (b : BlockValue). b.spare) (slice_set blocks tile after) })
 other_room log spawns output blocks tile after room same =
-    subst (λ (room : Spare). KeepsOtherRoom tile room (record { log = log; spawns = spawns; output = output; blocks = map (λ (b : BlockValue). b.spare) (slice_set blocks tile after) })) same
+    subst (λ (room : Spare). KeepsOtherSpare tile room (record { log = log; spawns = spawns; output = output; blocks = map (λ (b : BlockValue). b.spare) (slice_set blocks tile after) })) same
     (record {
       other_blocks = λ t other.
           ap (λ spares. slice_index_or spares t 0) (map-set (λ (b : BlockValue). b.spare) blocks tile after)
           ∙ get_or-set_other (map (λ (b : BlockValue). b.spare) blocks) tile t after.spare 0 other;
-      rest = refl;
+      frame = refl;
     })
 
 -- blocks that are an equal list
 pub in_blocks : (version : ℕ) (settings : Settings) (tasks : List (Option Task)) (memory : List ℕ) (history : List Entry) (output : List ℕ) (next : ℕ) (path : List Level)
     (queues finished : List QueueValue) (cores : List (List (Option ℕ))) (new blocks : List BlockValue) → new ≡ blocks
-    → seen version settings tasks memory history output next path queues finished cores (entries_in new) ≡ seen version settings tasks memory history output next path queues finished cores (entries_in blocks)
+    → view_of_parts version settings tasks memory history output next path queues finished cores (entries_in new) ≡ view_of_parts version settings tasks memory history output next path queues finished cores (entries_in blocks)
 in_blocks version settings tasks memory history output next path queues finished cores new blocks same =
-    ap (λ bs. seen version settings tasks memory history output next path queues finished cores (entries_in bs)) same
+    ap (λ bs. view_of_parts version settings tasks memory history output next path queues finished cores
+    (entries_in bs)) same
 
 pub in_spares : (new blocks : List BlockValue) (P : List ℕ → Type 0) → new ≡ blocks → P (map (λ (b : BlockValue). b.spare) blocks) → P (map (λ (b : BlockValue). b.spare) new)
 in_spares new blocks P same = subst (λ bs. P (map (λ (b : BlockValue). b.spare) bs)) (sym same)
@@ -129,10 +130,11 @@ on_after (Err error) new blocks tile after is within all = tt
 
 pub rest_seen : (version : ℕ) (settings : Settings) (tasks : List (Option Task)) (memory : List ℕ) (history : List Entry) (output : List ℕ) (next : ℕ) (path : List Level)
     (queues finished : List QueueValue) (cores : List (List (Option ℕ))) (blocks new : List BlockValue) (tile : ℕ) (after : BlockValue) → new ≡ slice_set blocks tile after → tile < length blocks
-    → (view : View) → seen version settings tasks memory history output next path queues finished cores (entries_in blocks) ≡ view
-    → seen version settings tasks memory history output next path queues finished cores (entries_in new)
+    → (view : View) → view_of_parts version settings tasks memory history output next path queues finished cores (entries_in blocks) ≡ view
+    → view_of_parts version settings tasks memory history output next path queues finished cores (entries_in new)
     ≡ record view { blocks = slice_set view.blocks tile (slice_index_or (entries_in new) tile []) }
 rest_seen version settings tasks memory history output next path queues finished cores blocks new tile after is within view same =
-    subst (λ bs. seen version settings tasks memory history output next path queues finished cores (entries_in bs)
+    subst (λ bs. view_of_parts version settings tasks memory history output next path queues finished cores
+    (entries_in bs)
     ≡ record view { blocks = slice_set view.blocks tile (slice_index_or (entries_in bs) tile []) }) (sym is)
     (block_seen version settings tasks memory history output next path queues finished cores blocks tile after within view same)

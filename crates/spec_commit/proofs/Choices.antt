@@ -6,10 +6,11 @@ use Rattle.std.proofs.lemmas.Option.{slice_get-get_or, slice_get_within}
 use Rattle.tile_queues.specs.Queue.{AreDistinct}
 use Rattle.spec_state.specs.declared.task.Status.TheVariants.{Idle}
 use Rattle.spec_state.specs.declared.task.Task.{Task}
+use Rattle.spec_state.specs.declared.reserving.TheConstants.{MAX_MOVED}
 use Rattle.spec_state.specs.View.{View, task_at, queue_at}
 use Rattle.spec_state.specs.Least.{IsHeir, Precedes}
 use Rattle.spec_state.specs.Fronts.{IsFirmBy}
-use Rattle.spec_state.specs.Room.{IsMovable, AreChosen, most_moved}
+use Rattle.spec_state.specs.Room.{IsMovable, AreChosen}
 use Rattle.spec_state.specs.Stored.{IsStored}
 use Rattle.spec_state.proofs.Proved.{by_firm, firm_by, held_at}
 use Rattle.spec_commit.specs.Latest.{HasLessKey, MayMove, AreLatest, with_one}
@@ -25,14 +26,14 @@ pub live_at : (size : ℕ) (view : View) (tile i id : ℕ) → IsStored size vie
 live_at size view tile i id stored at = ap is_some ((stored.queued_are tile id).0 (held_at (queue_at view tile) i id at)).1
 
 -- as each of the chosen is
-pub live_chosen : (view : View) (tile count : ℕ) (ids slice : List ℕ) (k other : ℕ) → AreLatest (Precedes view tile) (MayMove view tile count) most_moved ids → slice ≡ ids
+pub live_chosen : (view : View) (tile count : ℕ) (ids slice : List ℕ) (k other : ℕ) → AreLatest (Precedes view tile) (MayMove view tile count) MAX_MOVED ids → slice ≡ ids
     → slice_get slice k ≡ Some other → IsSome (task_at view other)
 live_chosen view tile count ids slice k other was same at =
-    ap is_some (was.each other (held_at ids k other (subst (λ xs. slice_get xs k ≡ Some other) same at))).1.1.this.there
+    ap is_some (was.each other (held_at ids k other (subst (λ xs. slice_get xs k ≡ Some other) same at))).1.1.idle.there
 
 module _ (view : View) (tile : ℕ) (distinct : AreDistinct (queue_at view tile)) (heir : Option ℕ) (is_heir : IsHeir view heir) (seen i id : ℕ)
     (at_place : i + seen + 1 ≡ length (queue_at view tile)) (item : slice_get (queue_at view tile) i ≡ Some id)
-    (task : Task) (there : task_at view id ≡ Some task) (chosen : List ℕ) (was : AreLatest (Precedes view tile) (MayMove view tile seen) most_moved chosen) where
+    (task : Task) (there : task_at view id ≡ Some task) (chosen : List ℕ) (was : AreLatest (Precedes view tile) (MayMove view tile seen) MAX_MOVED chosen) where
   abbrev Before : ℕ → ℕ → Type 0
   Before = Precedes view tile
 
@@ -46,7 +47,7 @@ module _ (view : View) (tile : ℕ) (distinct : AreDistinct (queue_at view tile)
   ]
 
   -- where the task may not move they stay
-  pub passed_over : (task.status ≡ Idle × IsFirmBy heir task.creator → ⊥) → AreLatest Before (MayMove view tile (seen + 1)) most_moved chosen
+  pub passed_over : (task.status ≡ Idle × IsFirmBy heir task.creator → ⊥) → AreLatest Before (MayMove view tile (seen + 1)) MAX_MOVED chosen
   passed_over not = record {
     each = λ k has. grows k (was.each k has);
     few = was.few;
@@ -57,9 +58,9 @@ module _ (view : View) (tile : ℕ) (distinct : AreDistinct (queue_at view tile)
     where
       cannot : (k : ℕ) → id ≡ k → IsMovable view tile k → ⊥
       cannot k same moves =
-          let both : Some moves.0 ≡ Some task = sym moves.1.this.there ∙ ap (task_at view) (sym same) ∙ there in
+          let both : Some moves.0 ≡ Some task = sym moves.1.idle.there ∙ ap (task_at view) (sym same) ∙ there in
           let one : moves.0 ≡ task = cc in
-          not (subst (λ (t : Task). (t.status ≡ Idle) × IsFirmBy heir t.creator) one (moves.1.this.idle, by_firm view heir moves.0 is_heir moves.1.firm))
+          not (subst (λ (t : Task). (t.status ≡ Idle) × IsFirmBy heir t.creator) one (moves.1.idle.idle, by_firm view heir moves.0 is_heir moves.1.firm))
 
       back : (k : ℕ) → MayMove view tile (seen + 1) k → MayMove view tile seen k
       back k may = elim (which k may) [ inl old ↦ old | inr same ↦ absurd (cannot k same may.1) ]
@@ -73,14 +74,14 @@ module _ (view : View) (tile : ℕ) (distinct : AreDistinct (queue_at view tile)
       (
         task,
         record {
-          this = record { queued = held_at (queue_at view tile) i id item; there = there; idle = moves.0 };
+          idle = record { queued = held_at (queue_at view tile) i id item; there = there; idle = moves.0 };
           firm = firm_by view heir task is_heir moves.1;
         },
       ),
     )
 
     along : (p q : ℕ) → MayMove view tile seen p → MayMove view tile seen q → Before p q → Before q id → Before p id
-    along p q first second = precedes_trans view tile distinct p q id second.0.0 second.1.0 (record { queued = second.0.2; there = second.1.1.this.there })
+    along p q first second = precedes_trans view tile distinct p q id second.0.0 second.1.0 (record { queued = second.0.2; there = second.1.1.idle.there })
 
     lower : (y : ℕ) → Contains (take place chosen) y → Before y id
     lower y has =
@@ -103,18 +104,18 @@ module _ (view : View) (tile : ℕ) (distinct : AreDistinct (queue_at view tile)
               let z : ℕ = slice_index_or chosen place 0 in
               let at_z : slice_get chosen place ≡ Some z = slice_get-get_or chosen place 0 (let within = slice_get_within chosen k y at in omega (arith, within, upto)) in
               let may = was.each z (held_at chosen place z at_z) in
-              precedes_trans view tile distinct id z y may.0.0 may.1.0 (record { queued = may.0.2; there = may.1.1.this.there })
+              precedes_trans view tile distinct id z y may.0.0 may.1.0 (record { queued = may.0.2; there = may.1.1.idle.there })
               (first_behind z at_z)
               (pairs_at Before chosen place k z y was.rising (omega (arith, upto, other)) at_z at)
         ]
 
     -- and where it may it is put among them
-    pub taken : (after : List ℕ) → after ≡ with_one chosen place id → AreLatest Before (MayMove view tile (seen + 1)) most_moved after
-    taken after is = subst (AreLatest Before (MayMove view tile (seen + 1)) most_moved) (sym is)
+    pub taken : (after : List ℕ) → after ≡ with_one chosen place id → AreLatest Before (MayMove view tile (seen + 1)) MAX_MOVED after
+    taken after is = subst (AreLatest Before (MayMove view tile (seen + 1)) MAX_MOVED) (sym is)
         (one_more Before (MayMove view tile seen) (MayMove view tile (seen + 1)) id chosen place was grows comes which lower upper along)
 
 -- once all places are looked at they are the chosen ones
-pub all_looked_at : (view : View) (tile count : ℕ) (ids chosen : List ℕ) → ids ≡ queue_at view tile → length ids ≤ count → AreLatest (Precedes view tile) (MayMove view tile count) most_moved chosen
+pub all_looked_at : (view : View) (tile count : ℕ) (ids chosen : List ℕ) → ids ≡ queue_at view tile → length ids ≤ count → AreLatest (Precedes view tile) (MayMove view tile count) MAX_MOVED chosen
     → AreChosen view tile chosen
 all_looked_at view tile count ids chosen same past is = record {
   movable = λ id has. (is.each id has).1;
@@ -126,6 +127,6 @@ all_looked_at view tile count ids chosen same past is = record {
   where
     may : (id : ℕ) → IsMovable view tile id → MayMove view tile count id
     may id moves =
-        let has = moves.1.this.queued in
+        let has = moves.1.idle.queued in
         let long : length (queue_at view tile) ≤ count = subst (λ xs. length xs ≤ count) same past in
         ((has.0, omega (arith, long), slice_get-get_or (queue_at view tile) has.0 id has.1 ∙ ap Some has.2), moves)

@@ -4,7 +4,7 @@ use Rattle.std.specs.Prelude.{IsTrue, count_by, is_some, if◌then◌else◌}
 use Rattle.std.proofs.lemmas.Bool.{cases_eq, ne_eqb}
 use Rattle.std.proofs.lemmas.Bool.Decides.{nat_tests}
 use Rattle.std.proofs.lemmas.List.{length_push}
-use Rattle.commit_arbiter.specs.declared.entry.Entry.{Entry as Indexed}
+use Rattle.commit_arbiter.specs.declared.candidate.Candidate.{Candidate}
 use Rattle.fractal_vt.specs.declared.level.Level.{Level}
 use Rattle.run_journal.specs.declared.journal.Entry.{Entry}
 use Rattle.tile_queues.specs.Queue.{QueueValue}
@@ -15,14 +15,14 @@ use Rattle.spec_state.specs.declared.task.Status.TheVariants.{Finished}
 use Rattle.spec_state.specs.declared.task.Task.{Task}
 use Rattle.spec_state.specs.Changes.{Commits, creator_after, after_commit}
 use Rattle.spec_state.specs.Children.{AreNoted, ChildrenValue, IsChildAt, noted_of}
-use Rattle.spec_state.specs.Fits.{HasSlots}
+use Rattle.spec_state.specs.Fits.{HasSlots, SlotCounts}
 use Rattle.spec_state.specs.Least.{IsLeastTask}
-use Rattle.spec_state.specs.Leaving.{Leaves}
+use Rattle.spec_state.specs.Leaving.{TaskLeaves}
 use Rattle.spec_state.specs.Stored.{IsStored, IsWellFormed, IsIndexed}
 use Rattle.spec_state.specs.Tasks.{depth_of, own_level}
 use Rattle.spec_state.specs.View.{View, task_at}
 use Rattle.spec_state.proofs.Proved.{AreKept, formed_later, indexed_kept, keeps_none, KeepsKey, KeepsPlace, kept_all, same_place, slots_kept, stored_kept}
-use Rattle.spec_commit.specs.Committing.{IsAdoptedOrSame, adopted}
+use Rattle.spec_commit.specs.Committing.{IsAdoptedOrSame, after_adoption}
 use Rattle.spec_commit.proofs.Moving.{cores_stay}
 
 -- with more in the history what is stored is stored still
@@ -37,7 +37,7 @@ stored_longer size view history output path stored longer =
 abbrev child_of : ℕ → ℕ → Task → Task
 child_of id n task = record task { creator = creator_after id n task.creator }
 
-was_adopted : (id n : ℕ) (o : Option Task) (t : Task) → adopted id n o ≡ Some t → (x : Task) × (o ≡ Some x) × (child_of id n x ≡ t)
+was_adopted : (id n : ℕ) (o : Option Task) (t : Task) → after_adoption id n o ≡ Some t → (x : Task) × (o ≡ Some x) × (child_of id n x ≡ t)
 was_adopted id n None t is = absurd (cc (is))
 was_adopted id n (Some x) t is = (x, refl, (let same : child_of id n x ≡ t = cc in same))
 
@@ -59,12 +59,12 @@ once id n (Live task index) = go (task.0 == id) refl
     go true is = refl
     go false is = ap (λ t. cond t (Committed n index) (Live task index)) is
 
-pub adopted_once : (id n : ℕ) (o : Option Task) → adopted id n (adopted id n o) ≡ adopted id n o
+pub adopted_once : (id n : ℕ) (o : Option Task) → after_adoption id n (after_adoption id n o) ≡ after_adoption id n o
 adopted_once id n None = refl
 adopted_once id n (Some t) = ap (λ creator. Some (record t { creator = creator })) (once id n t.creator)
 
 -- what is adopted is no child any more
-pub adopted_is_no_child : (id n place : ℕ) (o : Option Task) → IsChildAt id place (adopted id n o) → ⊥
+pub adopted_is_no_child : (id n place : ℕ) (o : Option Task) → IsChildAt id place (after_adoption id n o) → ⊥
 adopted_is_no_child id n place None is = absurd (cc (is.there))
 adopted_is_no_child id n place (Some t) is =
     let same : child_of id n t ≡ is.child = cc (is.there) in
@@ -82,7 +82,7 @@ adopted_is_no_child id n place (Some t) is =
             absurd (cc (was, is))
 
 -- a task is a child of this one, at some place, or it is the same once it is adopted
-pub child_or_same : (id n : ℕ) (o : Option Task) → ((place : ℕ) × IsChildAt id place o) ⊎ (adopted id n o ≡ o)
+pub child_or_same : (id n : ℕ) (o : Option Task) → ((place : ℕ) × IsChildAt id place o) ⊎ (after_adoption id n o ≡ o)
 child_or_same id n None = inr refl
 child_or_same id n (Some t) = by_creator t.creator refl
   where
@@ -99,8 +99,8 @@ child_or_same id n (Some t) = by_creator t.creator refl
 pub all_adopted : (id n : ℕ) (tasks now : List (Option Task)) (children : ChildrenValue) (keys : List ℕ) → AreNoted tasks children
     → IsTrue children.complete → keys ≡ noted_of children id
     → ((k : ℕ) → IsAdoptedOrSame id n (slice_index_or tasks k None) (slice_index_or now k None))
-    → ((place k : ℕ) → slice_get keys place ≡ Some k → slice_index_or now k None ≡ adopted id n (slice_index_or tasks k None))
-    → (k : ℕ) → slice_index_or now k None ≡ adopted id n (slice_index_or tasks k None)
+    → ((place k : ℕ) → slice_get keys place ≡ Some k → slice_index_or now k None ≡ after_adoption id n (slice_index_or tasks k None))
+    → (k : ℕ) → slice_index_or now k None ≡ after_adoption id n (slice_index_or tasks k None)
 all_adopted id n tasks now children keys noted complete are each found k = elim (each k) [
   | inr is ↦ is
   | inl same ↦ elim (child_or_same id n (slice_index_or tasks k None)) [
@@ -110,7 +110,7 @@ all_adopted id n tasks now children keys noted complete are each found k = elim 
 ]
 
 -- what is a child once others are adopted was one before
-was_child : (id n c place : ℕ) (o : Option Task) → IsChildAt c place (adopted id n o) → IsChildAt c place o
+was_child : (id n c place : ℕ) (o : Option Task) → IsChildAt c place (after_adoption id n o) → IsChildAt c place o
 was_child id n c place None is = is
 was_child id n c place (Some t) is =
     let same : child_of id n t ≡ is.child = cc (is.there) in
@@ -126,38 +126,39 @@ was_child id n c place (Some t) is =
 
 -- the children of all others are noted as before
 pub noted_adopted : (id n : ℕ) (tasks now : List (Option Task)) (children after : ChildrenValue)
-    → ((k : ℕ) → slice_index_or now k None ≡ adopted id n (slice_index_or tasks k None))
+    → ((k : ℕ) → slice_index_or now k None ≡ after_adoption id n (slice_index_or tasks k None))
     → after.complete ≡ children.complete → ((k : ℕ) → k ≢ id → noted_of after k ≡ noted_of children k)
     → AreNoted tasks children → AreNoted now after
 noted_adopted id n tasks now children after each same others noted complete k c place is =
-    let here : IsChildAt c place (adopted id n (slice_index_or tasks k None)) = subst (IsChildAt c place) (each k) is in
+    let here : IsChildAt c place (after_adoption id n (slice_index_or tasks k None)) =
+    subst (IsChildAt c place) (each k) is in
     elim (cases_eq c id) [
-      | inl own ↦ absurd (adopted_is_no_child id n place (slice_index_or tasks k None) (subst (λ j. IsChildAt j place (adopted id n (slice_index_or tasks k None))) own here))
+      | inl own ↦ absurd (adopted_is_no_child id n place (slice_index_or tasks k None) (subst (λ j. IsChildAt j place (after_adoption id n (slice_index_or tasks k None))) own here))
       | inr other ↦
           ap (λ ids. slice_get ids place) (others c other)
           ∙ noted (subst IsTrue same complete) k c place (was_child id n c place (slice_index_or tasks k None) here)
     ]
 
 -- the children that were adopted so far, and then all: all are
-pub then_all : (id n : ℕ) (old mid new : Option Task) → IsAdoptedOrSame id n old mid → new ≡ adopted id n mid → new ≡ adopted id n old
-then_all id n old mid new (inl same) is = is ∙ ap (adopted id n) same
-then_all id n old mid new (inr was) is = is ∙ ap (adopted id n) was ∙ adopted_once id n old
+pub then_all : (id n : ℕ) (old mid new : Option Task) → IsAdoptedOrSame id n old mid → new ≡ after_adoption id n mid → new ≡ after_adoption id n old
+then_all id n old mid new (inl same) is = is ∙ ap (after_adoption id n) same
+then_all id n old mid new (inr was) is = is ∙ ap (after_adoption id n) was ∙ adopted_once id n old
 
 -- what was done to the slots of a state is done to the tasks of its view
 pub adopts_seen : (slots now : List (Option Task)) (view : View) (id n : ℕ) → slots ≡ view.tasks → n ≡ length view.history
-    → ((k : ℕ) → slice_index_or now k None ≡ adopted id n (slice_index_or slots k None))
-    → (k : ℕ) → slice_index_or now k None ≡ adopted id (length view.history) (task_at view k)
+    → ((k : ℕ) → slice_index_or now k None ≡ after_adoption id n (slice_index_or slots k None))
+    → (k : ℕ) → slice_index_or now k None ≡ after_adoption id (length view.history) (task_at view k)
 adopts_seen slots now view id n same turn adopts k =
     adopts k
-    ∙ ap (λ t. adopted id t (slice_index_or slots k None)) turn
-    ∙ ap (λ tasks. adopted id (length view.history) (slice_index_or tasks k None)) same
+    ∙ ap (λ t. after_adoption id t (slice_index_or slots k None)) turn
+    ∙ ap (λ tasks. after_adoption id (length view.history) (slice_index_or tasks k None)) same
 
 -- what stands under one more key is adopted
 module _ (id n place key : ℕ) (keys : List ℕ) (old now new : ℕ → Option Task) (here : slice_get keys place ≡ Some key)
     (each : (k : ℕ) → IsAdoptedOrSame id n (old k) (now k))
-    (noted : (p k : ℕ) → p < place → slice_get keys p ≡ Some k → now k ≡ adopted id n (old k))
-    (changed : new key ≡ adopted id n (now key)) (others : (k : ℕ) → k ≢ key → new k ≡ now k) where
-  own : new key ≡ adopted id n (old key)
+    (noted : (p k : ℕ) → p < place → slice_get keys p ≡ Some k → now k ≡ after_adoption id n (old k))
+    (changed : new key ≡ after_adoption id n (now key)) (others : (k : ℕ) → k ≢ key → new k ≡ now k) where
+  own : new key ≡ after_adoption id n (old key)
   own = then_all id n (old key) (now key) (new key) (each key) changed
 
   pub each_more : (k : ℕ) → IsAdoptedOrSame id n (old k) (new k)
@@ -166,9 +167,9 @@ module _ (id n place key : ℕ) (keys : List ℕ) (old now new : ℕ → Option 
     | inr other ↦ subst (IsAdoptedOrSame id n (old k)) (sym (others k other)) (each k)
   ]
 
-  pub noted_more : (p k : ℕ) → p < place + 1 → slice_get keys p ≡ Some k → new k ≡ adopted id n (old k)
+  pub noted_more : (p k : ℕ) → p < place + 1 → slice_get keys p ≡ Some k → new k ≡ after_adoption id n (old k)
   noted_more p k below at = elim (cases_eq k key) [
-    | inl same ↦ subst (λ j. new j ≡ adopted id n (old j)) (sym same) own
+    | inl same ↦ subst (λ j. new j ≡ after_adoption id n (old j)) (sym same) own
     | inr other ↦ elim (cases_eq p place) [
       | inl last ↦
           let both : Some k ≡ Some key = sym at ∙ ap (slice_get keys) last ∙ here in
@@ -183,7 +184,7 @@ module _ (id n : ℕ) (tasks now : List (Option Task)) (each : (k : ℕ) → IsA
   adopted_kept stands stays so = record {
     forth = λ k t at. elim (each k) [
       | inl same ↦ (t, same ∙ at, stays t)
-      | inr is ↦ (child_of id n t, is ∙ ap (adopted id n) at, so t)
+      | inr is ↦ (child_of id n t, is ∙ ap (after_adoption id n) at, so t)
     ];
     back = λ k m at. elim (each k) [
       | inl same ↦ (m, sym same ∙ at, stays m)
@@ -191,7 +192,7 @@ module _ (id n : ℕ) (tasks now : List (Option Task)) (each : (k : ℕ) → IsA
     ];
   }
 
-  pub indexed_adopted : (queues : List (List ℕ)) (arrivals : List ℕ) (next : ℕ) (entries : List Indexed)
+  pub indexed_adopted : (queues : List (List ℕ)) (arrivals : List ℕ) (next : ℕ) (entries : List Candidate)
       → IsIndexed tasks queues arrivals next entries → IsIndexed now queues arrivals next entries
   indexed_adopted queues arrivals next entries =
       indexed_kept tasks now queues arrivals next entries (adopted_kept KeepsKey (λ x. record { tile = refl; key = refl }) (λ x. record { tile = refl; key = refl }))
@@ -219,14 +220,15 @@ stored_adopted size id n old now each upto stored =
     }
 
 -- slots and entries are as many as they should be
-pub slots_adopted : (settings : Settings) (tasks now : List (Option Task)) (slots slots_now : ℕ) (queues : List QueueValue) (indexed entries marks members arrivals room : ℕ)
-    → HasSlots settings tasks slots queues indexed entries marks members arrivals room → count_by is_some now ≡ count_by is_some tasks → slots_now ≡ slots
-    → HasSlots settings now slots_now queues indexed entries marks members arrivals room
-slots_adopted settings tasks now slots slots_now queues indexed entries marks members arrivals room has same capacity =
-    subst (λ n. HasSlots settings now n queues indexed entries marks members arrivals room) (sym capacity)
-    (slots_kept settings tasks now slots queues indexed indexed entries entries marks members arrivals room has same (omega arith) refl)
+pub slots_adopted : (settings : Settings) (tasks now : List (Option Task)) (queues : List QueueValue)
+    (counts : SlotCounts) (slots_now : ℕ) → HasSlots settings tasks queues counts
+    → count_by is_some now ≡ count_by is_some tasks → slots_now ≡ counts.slots
+    → HasSlots settings now queues (record counts { slots = slots_now })
+slots_adopted settings tasks now queues counts slots_now has same same_slots =
+    subst (λ n. HasSlots settings now queues (record counts { slots = n })) (sym same_slots)
+    (slots_kept settings tasks now queues counts counts.indexed counts.capacity has same (omega arith) refl)
 
-after_others : (id n k : ℕ) (o : Option Task) → k ≢ id → after_commit id n k o ≡ adopted id n o
+after_others : (id n k : ℕ) (o : Option Task) → k ≢ id → after_commit id n k o ≡ after_adoption id n o
 after_others id n k None other = refl
 after_others id n k (Some t) other = ap (λ b. cond b None (Some (child_of id n t))) (ne_eqb k id other)
 
@@ -234,33 +236,33 @@ after_own : (id n k : ℕ) (o : Option Task) → k ≡ id → after_commit id n 
 after_own id n k None same = refl
 after_own id n k (Some t) same = (let is : (k == id) ≡ true = grind (arith, nat_tests) in ap (λ b. cond b None (Some (child_of id n t))) is)
 
-module _ (size id : ℕ) (old left noted new : View) (task : Task) (entry : Entry) (stored : IsStored size old) (there : task_at old id ≡ Some task) (leaves : Leaves id old left)
+module _ (size id : ℕ) (old left noted new : View) (task : Task) (entry : Entry) (stored : IsStored size old) (there : task_at old id ≡ Some task) (leaves : TaskLeaves id old left)
     (noted_is : noted ≡ record left { history = left.history ++ entry ∷ []; output = left.output ++ task.bytes; path = task.key.domain ++ own_level task ∷ [] })
-    (adopts : (k : ℕ) → task_at new k ≡ adopted id (length noted.history) (task_at noted k))
+    (adopts : (k : ℕ) → task_at new k ≡ after_adoption id (length noted.history) (task_at noted k))
     (rest : new ≡ record noted { tasks = new.tasks })
     (named : (turn index : ℕ) → task.creator ≡ Committed turn index → entry ≡ record { name = record { creator = turn; index = index }; depth = depth_of task; ts = task.key.ts }) where
   noted_at : (k : ℕ) → task_at noted k ≡ task_at left k
   noted_at k = ap (λ v. task_at v k) noted_is
 
   count : length noted.history ≡ length old.history + 1
-  count = ap (λ (v : View). length v.history) noted_is ∙ length_push left.history entry ∙ ap (λ (v : View). length v.history + 1) leaves.rest
+  count = ap (λ (v : View). length v.history) noted_is ∙ length_push left.history entry ∙ ap (λ (v : View). length v.history + 1) leaves.frame
 
   each : (k : ℕ) → task_at new k ≡ after_commit id (length old.history + 1) k (task_at old k)
   each k =
       adopts k
-      ∙ ap (λ n. adopted id n (task_at noted k)) count
-      ∙ ap (adopted id (length old.history + 1)) (noted_at k)
+      ∙ ap (λ n. after_adoption id n (task_at noted k)) count
+      ∙ ap (after_adoption id (length old.history + 1)) (noted_at k)
       ∙ go (cases_eq k id)
     where
-      go : (k ≡ id) ⊎ (k ≢ id) → adopted id (length old.history + 1) (task_at left k) ≡ after_commit id (length old.history + 1) k (task_at old k)
-      go (inl same) = ap (adopted id (length old.history + 1)) (ap (task_at left) same ∙ leaves.changes.changed) ∙ sym (after_own id (length old.history + 1) k (task_at old k) same)
-      go (inr other) = ap (adopted id (length old.history + 1)) (leaves.changes.others k other) ∙ sym (after_others id (length old.history + 1) k (task_at old k) other)
+      go : (k ≡ id) ⊎ (k ≢ id) → after_adoption id (length old.history + 1) (task_at left k) ≡ after_commit id (length old.history + 1) k (task_at old k)
+      go (inl same) = ap (after_adoption id (length old.history + 1)) (ap (task_at left) same ∙ leaves.changes.changed) ∙ sym (after_own id (length old.history + 1) k (task_at old k) same)
+      go (inr other) = ap (after_adoption id (length old.history + 1)) (leaves.changes.others k other) ∙ sym (after_others id (length old.history + 1) k (task_at old k) other)
 
   history : new.history ≡ old.history ++ entry ∷ []
-  history = ap (λ (v : View). v.history) rest ∙ ap (λ (v : View). v.history) noted_is ∙ ap (λ (v : View). v.history ++ entry ∷ []) leaves.rest
+  history = ap (λ (v : View). v.history) rest ∙ ap (λ (v : View). v.history) noted_is ∙ ap (λ (v : View). v.history ++ entry ∷ []) leaves.frame
 
   output : new.output ≡ old.output ++ task.bytes
-  output = ap (λ (v : View). v.output) rest ∙ ap (λ (v : View). v.output) noted_is ∙ ap (λ (v : View). v.output ++ task.bytes) leaves.rest
+  output = ap (λ (v : View). v.output) rest ∙ ap (λ (v : View). v.output) noted_is ∙ ap (λ (v : View). v.output ++ task.bytes) leaves.frame
 
   path : new.path ≡ task.key.domain ++ own_level task ∷ []
   path = ap (λ (v : View). v.path) rest ∙ ap (λ (v : View). v.path) noted_is
@@ -289,49 +291,49 @@ module _ (size id : ℕ) (old left noted new : View) (task : Task) (entry : Entr
           path = path;
           queues = queues ∙ leaves.queues;
           finished = finished ∙ leaves.finished;
-          rest = ap (λ (v : View). record v { tasks = new.tasks; history = new.history; output = new.output; path = new.path; queues = new.queues; finished = new.finished }) rest
+          frame = ap (λ (v : View). record v { tasks = new.tasks; history = new.history; output = new.output; path = new.path; queues = new.queues; finished = new.finished }) rest
               ∙ ap (λ (v : View). record v { tasks = new.tasks; history = new.history; output = new.output; path = new.path; queues = new.queues; finished = new.finished }) noted_is
-              ∙ ap (λ (v : View). record v { tasks = new.tasks; history = new.history; output = new.output; path = new.path; queues = new.queues; finished = new.finished }) leaves.rest
+              ∙ ap (λ (v : View). record v { tasks = new.tasks; history = new.history; output = new.output; path = new.path; queues = new.queues; finished = new.finished }) leaves.frame
               ∙ ap (λ cores. record old { tasks = new.tasks; history = new.history; output = new.output; path = new.path; queues = new.queues; finished = new.finished; cores = cores }) cores;
         },
         history,
       )
 
 -- a commit by its parts
-pub commits : (size id : ℕ) (old made left noted new : View) (task : Task) (entry : Entry) → made ≡ old → IsStored size made → task_at made id ≡ Some task → Leaves id made left
+pub commits : (size id : ℕ) (old made left noted new : View) (task : Task) (entry : Entry) → made ≡ old → IsStored size made → task_at made id ≡ Some task → TaskLeaves id made left
     → noted ≡ record left { history = left.history ++ entry ∷ []; output = left.output ++ task.bytes; path = task.key.domain ++ own_level task ∷ [] }
-    → ((k : ℕ) → task_at new k ≡ adopted id (length noted.history) (task_at noted k))
+    → ((k : ℕ) → task_at new k ≡ after_adoption id (length noted.history) (task_at noted k))
     → new ≡ record noted { tasks = new.tasks }
     → ((turn index : ℕ) → task.creator ≡ Committed turn index → entry ≡ record { name = record { creator = turn; index = index }; depth = depth_of task; ts = task.key.ts })
     → (t : Task) × IsLeastTask old id t × (t.status ≡ Finished) × ((turn : ℕ) × (index : ℕ) × (t.creator ≡ Committed turn index))
     → Commits old new × (new.history ≡ old.history ++ entry ∷ [])
 commits size id old made left noted new task entry same stored there leaves noted_is adopts rest named least =
     let there_old : task_at old id ≡ Some task = subst (λ v. task_at v id ≡ Some task) same there in
-    let both : Some least.0 ≡ Some task = sym least.1.at.there ∙ there_old in
+    let both : Some least.0 ≡ Some task = sym least.1.queued_at.there ∙ there_old in
     let one : least.0 ≡ task = cc in
-    committed_task size id old left noted new task entry (subst (IsStored size) same stored) there_old (subst (λ v. Leaves id v left) same leaves) noted_is adopts rest named
+    committed_task size id old left noted new task entry (subst (IsStored size) same stored) there_old (subst (λ v. TaskLeaves id v left) same leaves) noted_is adopts rest named
     (subst (IsLeastTask old id) one least.1) (ap (λ (t : Task). t.status) (sym one) ∙ least.2) least.3.0 least.3.1 (ap (λ (t : Task). t.creator) (sym one) ∙ least.3.2)
 
 -- a commit that is recorded before its task leaves
 pub commits_recorded : (size id : ℕ) (old made recorded left new : View) (task : Task) (entry : Entry) → made ≡ old → IsStored size made → task_at made id ≡ Some task
     → recorded ≡ record made { history = made.history ++ entry ∷ []; output = made.output ++ task.bytes; path = task.key.domain ++ own_level task ∷ [] }
-    → Leaves id recorded left
-    → ((k : ℕ) → task_at new k ≡ adopted id (length left.history) (task_at left k))
+    → TaskLeaves id recorded left
+    → ((k : ℕ) → task_at new k ≡ after_adoption id (length left.history) (task_at left k))
     → new ≡ record left { tasks = new.tasks }
     → ((turn index : ℕ) → task.creator ≡ Committed turn index → entry ≡ record { name = record { creator = turn; index = index }; depth = depth_of task; ts = task.key.ts })
     → (t : Task) × IsLeastTask old id t × (t.status ≡ Finished) × ((turn : ℕ) × (index : ℕ) × (t.creator ≡ Committed turn index))
     → Commits old new × (new.history ≡ old.history ++ entry ∷ [])
 commits_recorded size id old made recorded left new task entry same stored there recorded_is leaves adopts rest named least =
     let noted = record made { history = made.history ++ entry ∷ []; output = made.output ++ task.bytes; path = task.key.domain ++ own_level task ∷ [] } in
-    let goes : Leaves id noted left = subst (λ v. Leaves id v left) recorded_is leaves in
+    let goes : TaskLeaves id noted left = subst (λ v. TaskLeaves id v left) recorded_is leaves in
     let before : View = record left { history = made.history; output = made.output; path = made.path } in
-    let gone : Leaves id made before = record {
+    let gone : TaskLeaves id made before = record {
       changes = record { changed = goes.changes.changed; others = goes.changes.others };
       queues = goes.queues;
       finished = goes.finished;
       cores = goes.cores;
-      rest = ap (λ (v : View). record v { history = made.history; output = made.output; path = made.path }) goes.rest;
+      frame = ap (λ (v : View). record v { history = made.history; output = made.output; path = made.path }) goes.frame;
     } in
     let after : left ≡ record before { history = before.history ++ entry ∷ []; output = before.output ++ task.bytes; path = task.key.domain ++ own_level task ∷ [] } =
-    goes.rest ∙ sym (ap (λ (v : View). record v { history = made.history ++ entry ∷ []; output = made.output ++ task.bytes; path = task.key.domain ++ own_level task ∷ [] }) goes.rest) in
+    goes.frame ∙ sym (ap (λ (v : View). record v { history = made.history ++ entry ∷ []; output = made.output ++ task.bytes; path = task.key.domain ++ own_level task ∷ [] }) goes.frame) in
     commits size id old made before left new task entry same stored there gone after adopts rest named least

@@ -15,7 +15,7 @@ module _ (size : ℕ) (view : View) (stored : IsStored size view) where
   -- it is dispatched
   runs : (a : ℕ) (task : Task) → IsLeastTask view a task → task.status ≡ Finished → is_dispatched task ≡ true
   runs a task least finished =
-      (stored.tasks a task least.at.there).dispatched ∙ ap (λ s. is_some (kept_core s task.core)) finished
+      (stored.tasks a task least.queued_at.there).dispatched ∙ ap (λ s. is_some (kept_core s task.core)) finished
 
   -- so it is the heir, as a child of it would be firm
   pub heir_is : (a : ℕ) (task : Task) → IsLeastTask view a task → task.status ≡ Finished

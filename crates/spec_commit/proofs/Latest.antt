@@ -7,9 +7,9 @@ use Rattle.std.proofs.lemmas.List.{take-append-drop}
 use Rattle.std.proofs.lemmas.List.Elements.{All-contains, All-contains_itself, Contains-append_left, Contains-append_right, Contains-append_cases}
 use Rattle.std.proofs.lemmas.List.Kept.{AllPairs-cons}
 use Rattle.fractal_vt.proofs.Proved.{AllPairs-head, AllPairs-tail}
+use Rattle.spec_state.specs.declared.reserving.TheConstants.{MAX_MOVED}
 use Rattle.spec_state.proofs.Proved.{has_head, head_or_tail, in_tail}
 use Rattle.std.proofs.lemmas.Option.{slice_get_within, get_or_from_slice_get, slice_get-get_or}
-use Rattle.spec_state.specs.Room.{most_moved}
 use Rattle.spec_commit.specs.Latest.{AreLatest, with_one}
 
 -- what holds of each that a list contains holds of all
@@ -147,25 +147,25 @@ pairs_at R xs i j a b pairs less at then =
     subst (λ y. R y b) (get_or_from_slice_get xs i a b at) (subst (R (slice_index_or xs i b)) (get_or_from_slice_get xs j b b then) (pairs i j b less (slice_get_within xs j b then)))
 
 -- one more, at its place among the latest, of which the first one leaves where they are too many
-pub one_more : (R : ℕ → ℕ → Type 0) (may now : ℕ → Type 0) (x : ℕ) (ids : List ℕ) (place : ℕ) → AreLatest R may most_moved ids → ((id : ℕ) → may id → now id) → now x
+pub one_more : (R : ℕ → ℕ → Type 0) (may now : ℕ → Type 0) (x : ℕ) (ids : List ℕ) (place : ℕ) → AreLatest R may MAX_MOVED ids → ((id : ℕ) → may id → now id) → now x
     → ((id : ℕ) → now id → may id ⊎ (x ≡ id)) → ((y : ℕ) → Contains (take place ids) y → R y x) → ((y : ℕ) → Contains (drop place ids) y → R x y)
-    → ((p q : ℕ) → may p → may q → R p q → R q x → R p x) → AreLatest R now most_moved (with_one ids place x)
-one_more R may now x ids place was grows comes which lower upper along = elim (cases_lt (length ids) most_moved) [
+    → ((p q : ℕ) → may p → may q → R p q → R q x → R p x) → AreLatest R now MAX_MOVED (with_one ids place x)
+one_more R may now x ids place was grows comes which lower upper along = elim (cases_lt (length ids) MAX_MOVED) [
   | inl room ↦
-      let none : length ids + 1 - most_moved ≡ 0 = omega (arith, room) in
-      subst (λ n. AreLatest R now most_moved (drop n (insert ids place x))) (sym none)
-      (short R may now most_moved x (take place ids) (drop place ids) (subst (AreLatest R may most_moved) (sym (take-append-drop place ids)) was) grows comes which lower upper along
-      (subst (λ xs. length xs < most_moved) (sym (take-append-drop place ids)) room))
+      let none : length ids + 1 - MAX_MOVED ≡ 0 = omega (arith, room) in
+      subst (λ n. AreLatest R now MAX_MOVED (drop n (insert ids place x))) (sym none)
+      (short R may now MAX_MOVED x (take place ids) (drop place ids) (subst (AreLatest R may MAX_MOVED) (sym (take-append-drop place ids)) was) grows comes which lower upper along
+      (subst (λ xs. length xs < MAX_MOVED) (sym (take-append-drop place ids)) room))
   | inr full ↦
-      let one : length ids + 1 - most_moved ≡ 1 = (let few = was.few in omega (arith, full, few)) in
-      subst (λ n. AreLatest R now most_moved (drop n (insert ids place x))) (sym one) (leaves ids place was lower upper full)
+      let one : length ids + 1 - MAX_MOVED ≡ 1 = (let few = was.few in omega (arith, full, few)) in
+      subst (λ n. AreLatest R now MAX_MOVED (drop n (insert ids place x))) (sym one) (leaves ids place was lower upper full)
 ]
   where
-    leaves : (ids : List ℕ) (place : ℕ) → AreLatest R may most_moved ids → ((y : ℕ) → Contains (take place ids) y → R y x) → ((y : ℕ) → Contains (drop place ids) y → R x y)
-        → most_moved ≤ length ids → AreLatest R now most_moved (drop 1 (insert ids place x))
-    leaves ids zero was lower upper full = skipped R may now most_moved x ids was grows which upper full
+    leaves : (ids : List ℕ) (place : ℕ) → AreLatest R may MAX_MOVED ids → ((y : ℕ) → Contains (take place ids) y → R y x) → ((y : ℕ) → Contains (drop place ids) y → R x y)
+        → MAX_MOVED ≤ length ids → AreLatest R now MAX_MOVED (drop 1 (insert ids place x))
+    leaves ids zero was lower upper full = skipped R may now MAX_MOVED x ids was grows which upper full
     leaves [] (suc p) was lower upper full = absurd (omega (arith, full))
     leaves (h ∷ t) (suc p) was lower upper full =
         let both : t ≡ take p t ++ drop p t = sym (take-append-drop p t) in
-        replaced R may now most_moved x h (take p t) (drop p t) (subst (λ xs. AreLatest R may most_moved (h ∷ xs)) both was) grows comes which lower upper along
-        (subst (λ xs. most_moved ≤ length (h ∷ xs)) both full)
+        replaced R may now MAX_MOVED x h (take p t) (drop p t) (subst (λ xs. AreLatest R may MAX_MOVED (h ∷ xs)) both was) grows comes which lower upper along
+        (subst (λ xs. MAX_MOVED ≤ length (h ∷ xs)) both full)

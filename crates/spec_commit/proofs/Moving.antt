@@ -14,19 +14,20 @@ use Rattle.fractal_vt.specs.declared.key.Key.{Key}
 use Rattle.fractal_vt.proofs.Proved.{key_cmp_total}
 use Rattle.run_journal.specs.declared.journal.Entry.{Entry}
 use Rattle.spec_state.proofs.Proved.{all_same, freed_other, has_head, head_or_tail, held_at, held_place, in_tail, keeps_none, same_tile}
-use Rattle.spill_store.specs.Entries.{Entry as Spilled, pushed}
-use Rattle.spill_store.specs.Pushing.{all_pushed}
-use Rattle.tile_queues.specs.Queue.{without}
-use Rattle.tile_queues.proofs.Proved.{without-absent}
-use Rattle.turn_law.specs.Room.{Waiting, queue_after, kept_by}
+use Rattle.spill_store.specs.SpilledTasks.{Spilled, after_push}
+use Rattle.spill_store.specs.Pushing.{after_pushes}
+use Rattle.tile_queues.specs.Queue.{ids_but}
+use Rattle.tile_queues.proofs.Proved.{ids_but-absent}
+use Rattle.task_law.specs.Room.{RoomTask, queue_after, kept_by}
 use Rattle.spec_state.specs.declared.task.Status.TheVariants.{Idle, Finished}
 use Rattle.spec_state.specs.declared.task.Status.{Status}
 use Rattle.spec_state.specs.declared.task.Task.{Task}
+use Rattle.spec_state.specs.declared.reserving.TheConstants.{MAX_MOVED}
 use Rattle.spec_state.specs.Fronts.{name_given}
-use Rattle.spec_state.specs.Groups.{waiting, waiting_task}
+use Rattle.spec_state.specs.Groups.{room_tasks, room_task}
 use Rattle.spec_state.specs.Least.{IsFirm, HasName, Queued, ranked_cmp, Precedes, IsQueuedAt}
-use Rattle.spec_state.specs.Leaving.{Leaves, freed_of}
-use Rattle.spec_state.specs.Room.{IsMovable, AreChosen, IsSpilledAs, Coalesces, most_moved}
+use Rattle.spec_state.specs.Leaving.{TaskLeaves, freed_of}
+use Rattle.spec_state.specs.Room.{IsMovable, AreChosen, IsSpilledAs, Coalesces}
 use Rattle.spec_state.specs.Stored.{HasCore, IsStored}
 use Rattle.spec_state.specs.Tasks.{descriptor_of, spilled_as}
 use Rattle.spec_state.specs.View.{View, task_at, queue_at, finished_at, cores_at, block_at}
@@ -41,8 +42,8 @@ module _ (size : ℕ) (view : View) (stored : IsStored size view) (id : ℕ) (ta
       let same : x ≡ task = cc in
       none (subst kind (ap (λ (t : Task). t.status) same ∙ idle) is)
 
-  pub finished_same : map (without id) view.finished ≡ view.finished
-  finished_same = sym (all_same (without id) view.finished [] (λ j. without-absent id (finished_at view j) (λ has.
+  pub finished_same : map (ids_but id) view.finished ≡ view.finished
+  finished_same = sym (all_same (ids_but id) view.finished [] (λ j. ids_but-absent id (finished_at view j) (λ has.
       (let is = (stored.finished_are j id).0 has in not_as (λ s. s ≡ Finished) (λ same. absurd (cc (same))) is.0 is.1 is.3))))
 
 -- a task that keeps no core stands on none
@@ -56,10 +57,10 @@ cores_stay size view stored id task there none =
     none k (subst (λ (t : Task). HasCore t.status k) same is.3)))))))
 
 -- so its lists are left but for its queue
-pub left_idle : (size : ℕ) (old mid : View) (id : ℕ) (task : Task) → IsStored size old → task_at old id ≡ Some task → task.status ≡ Idle → Leaves id old mid
+pub left_idle : (size : ℕ) (old mid : View) (id : ℕ) (task : Task) → IsStored size old → task_at old id ≡ Some task → task.status ≡ Idle → TaskLeaves id old mid
     → mid ≡ record old { tasks = mid.tasks; queues = mid.queues }
 left_idle size old mid id task stored there idle leaves =
-    leaves.rest ∙ λ i. record old {
+    leaves.frame ∙ λ i. record old {
       tasks = mid.tasks;
       queues = mid.queues;
       finished = (leaves.finished ∙ finished_same size old stored id task there idle) i;
@@ -67,9 +68,9 @@ left_idle size old mid id task stored there idle leaves =
     }
 
 spills_from : (tile id : ℕ) (old new : View) (tasks : List (Option Task)) (queues : List (List ℕ)) (task : Task) (s : Spilled) → task_at old id ≡ Some task
-    → slice_index_or tasks id None ≡ None → ((k : ℕ) → k ≢ id → slice_index_or tasks k None ≡ task_at old k) → queues ≡ map (without id) old.queues
+    → slice_index_or tasks id None ≡ None → ((k : ℕ) → k ≢ id → slice_index_or tasks k None ≡ task_at old k) → queues ≡ map (ids_but id) old.queues
     → s ≡ spilled_as (name_given task.creator (length old.history)) (descriptor_of task)
-    → new ≡ record old { tasks = tasks; queues = queues; blocks = slice_set old.blocks tile (pushed (block_at old tile) s) } → Spills tile id old new
+    → new ≡ record old { tasks = tasks; queues = queues; blocks = slice_set old.blocks tile (after_push (block_at old tile) s) } → Spills tile id old new
 spills_from tile id old new tasks queues task s there vacant others without_it is new_is =
     subst (Spills tile id old) (sym new_is)
     (record {
@@ -77,36 +78,37 @@ spills_from tile id old new tasks queues task s there vacant others without_it i
       there = there;
       changes = record { changed = vacant; others = others };
       queues = without_it;
-      blocks = ap (λ s. slice_set old.blocks tile (pushed (block_at old tile) s)) is;
-      rest = refl;
+      blocks = ap (λ s. slice_set old.blocks tile (after_push (block_at old tile) s)) is;
+      frame = refl;
     })
 
 -- a task that leaves and is pushed
-pub spills : (size tile id : ℕ) (old mid new : View) (task : Task) (s : Spilled) (count : ℕ) → IsStored size old → IsIdleTask old id → task_at old id ≡ Some task → Leaves id old mid
+pub spills : (size tile id : ℕ) (old mid new : View) (task : Task) (s : Spilled) (count : ℕ) → IsStored size old → IsIdleTask old id → task_at old id ≡ Some task → TaskLeaves id old mid
     → count ≡ length old.history → s ≡ spilled_as (name_given task.creator count) (descriptor_of task)
-    → new ≡ record mid { blocks = slice_set mid.blocks tile (pushed (block_at mid tile) s) } → Spills tile id old new
+    → new ≡ record mid { blocks = slice_set mid.blocks tile (after_push (block_at mid tile) s) }
+    → Spills tile id old new
 spills size tile id old mid new task s count stored idle there leaves same is pushes =
     let both : Some task ≡ Some idle.task = sym there ∙ idle.there in
     let one : task ≡ idle.task = cc in
     spills_from tile id old new mid.tasks mid.queues task s there leaves.changes.changed leaves.changes.others leaves.queues
     (is ∙ ap (λ n. spilled_as (name_given task.creator n) (descriptor_of task)) same)
-    (pushes ∙ ap (λ (m : View). record m { blocks = slice_set m.blocks tile (pushed (block_at m tile) s) })
+    (pushes ∙ ap (λ (m : View). record m { blocks = slice_set m.blocks tile (after_push (block_at m tile) s) })
     (left_idle size old mid id task stored there (ap (λ (t : Task). t.status) one ∙ idle.idle) leaves))
 
 -- a queue whose ids are all tasks' stays
-all_stay : (tasks : ℕ → Option Waiting) (ids : List ℕ) → ((k : ℕ) → Contains ids k → is_some (tasks k) ≡ true) → queue_after tasks ids ≡ ids
+all_stay : (tasks : ℕ → Option RoomTask) (ids : List ℕ) → ((k : ℕ) → Contains ids k → is_some (tasks k) ≡ true) → queue_after tasks ids ≡ ids
 all_stay tasks [] live = refl
 all_stay tasks (k ∷ ids) live =
     ap (λ b. kept_by b k (queue_after tasks ids)) (live k (has_head k ids)) ∙ ap (λ rest. k ∷ rest) (all_stay tasks ids (λ j has. live j (in_tail k ids j has)))
 
 -- without the id of one more task that has gone
-without_other : (id k : ℕ) (ids : List ℕ) → k ≢ id → without id (k ∷ ids) ≡ k ∷ without id ids
-without_other id k ids other = ap (λ test. cond (not test) (k ∷ without id ids) (without id ids)) (ne_eqb k id other)
+without_other : (id k : ℕ) (ids : List ℕ) → k ≢ id → ids_but id (k ∷ ids) ≡ k ∷ ids_but id ids
+without_other id k ids other = ap (λ test. cond (not test) (k ∷ ids_but id ids) (ids_but id ids)) (ne_eqb k id other)
 
-without_own : (id k : ℕ) (ids : List ℕ) → k ≡ id → without id (k ∷ ids) ≡ without id ids
-without_own id k ids same = (let is : eqb k id ≡ true = grind (arith, nat_tests) in ap (λ test. cond (not test) (k ∷ without id ids) (without id ids)) is)
+without_own : (id k : ℕ) (ids : List ℕ) → k ≡ id → ids_but id (k ∷ ids) ≡ ids_but id ids
+without_own id k ids same = (let is : eqb k id ≡ true = grind (arith, nat_tests) in ap (λ test. cond (not test) (k ∷ ids_but id ids) (ids_but id ids)) is)
 
-without_after : (id : ℕ) (was now : ℕ → Option Waiting) → now id ≡ None → ((k : ℕ) → k ≢ id → now k ≡ was k) → (ids : List ℕ) → without id (queue_after was ids) ≡ queue_after now ids
+without_after : (id : ℕ) (was now : ℕ → Option RoomTask) → now id ≡ None → ((k : ℕ) → k ≢ id → now k ≡ was k) → (ids : List ℕ) → ids_but id (queue_after was ids) ≡ queue_after now ids
 without_after id was now gone others [] = refl
 without_after id was now gone others (k ∷ ids) = elim (cases_eq k id) [
   | inl same ↦
@@ -117,27 +119,27 @@ without_after id was now gone others (k ∷ ids) = elim (cases_eq k id) [
       ∙ sym (ap (λ o. kept_by (is_some o) k (queue_after now ids)) (others k other))
 ]
   where
-    own : (b : Bool) → k ≡ id → without id (queue_after was ids) ≡ queue_after now ids → without id (kept_by b k (queue_after was ids)) ≡ queue_after now ids
+    own : (b : Bool) → k ≡ id → ids_but id (queue_after was ids) ≡ queue_after now ids → ids_but id (kept_by b k (queue_after was ids)) ≡ queue_after now ids
     own true same more = without_own id k (queue_after was ids) same ∙ more
     own false same more = more
 
-    rest : (b : Bool) → k ≢ id → without id (queue_after was ids) ≡ queue_after now ids → without id (kept_by b k (queue_after was ids)) ≡ kept_by b k (queue_after now ids)
+    rest : (b : Bool) → k ≢ id → ids_but id (queue_after was ids) ≡ queue_after now ids → ids_but id (kept_by b k (queue_after was ids)) ≡ kept_by b k (queue_after now ids)
     rest true other more = without_other id k (queue_after was ids) other ∙ ap (λ xs. k ∷ xs) more
     rest false other more = more
 
-queues_after : (id : ℕ) (was now : ℕ → Option Waiting) → now id ≡ None → ((k : ℕ) → k ≢ id → now k ≡ was k) → (queues : List (List ℕ))
-    → map (without id) (map (queue_after was) queues) ≡ map (queue_after now) queues
+queues_after : (id : ℕ) (was now : ℕ → Option RoomTask) → now id ≡ None → ((k : ℕ) → k ≢ id → now k ≡ was k) → (queues : List (List ℕ))
+    → map (ids_but id) (map (queue_after was) queues) ≡ map (queue_after now) queues
 queues_after id was now gone others [] = refl
 queues_after id was now gone others (ids ∷ queues) = λ i. without_after id was now gone others ids i ∷ queues_after id was now gone others queues i
 
 -- one more is pushed behind the others
-pushed_more : (entries moved : List Spilled) (s : Spilled) → all_pushed entries (moved ++ s ∷ []) ≡ pushed (all_pushed entries moved) s
+pushed_more : (entries moved : List Spilled) (s : Spilled) → after_pushes entries (moved ++ s ∷ []) ≡ after_push (after_pushes entries moved) s
 pushed_more entries [] s = refl
-pushed_more entries (x ∷ moved) s = pushed_more (pushed entries x) moved s
+pushed_more entries (x ∷ moved) s = pushed_more (after_push entries x) moved s
 
 -- into the block that has been changed before
 set_again : (blocks : List (List Spilled)) (tile : ℕ) (entries : List Spilled) (s : Spilled)
-    → slice_set (slice_set blocks tile entries) tile (pushed (slice_index_or (slice_set blocks tile entries) tile []) s) ≡ slice_set blocks tile (pushed entries s)
+    → slice_set (slice_set blocks tile entries) tile (after_push (slice_index_or (slice_set blocks tile entries) tile []) s) ≡ slice_set blocks tile (after_push entries s)
 set_again [] tile entries s = refl
 set_again (b ∷ blocks) zero entries s = refl
 set_again (b ∷ blocks) (suc tile) entries s = ap (λ rest. b ∷ rest) (set_again blocks tile entries s)
@@ -162,8 +164,8 @@ pub record HaveMoved (tile : ℕ) (ids : List ℕ) (old now : View) (count : ℕ
   pub spilled : AllZip (IsSpilledAs old) (take count ids) moved
   pub gone : (id : ℕ) → Contains (take count ids) id → task_at now id ≡ None
   pub others : (id : ℕ) → (Contains (take count ids) id → ⊥) → task_at now id ≡ task_at old id
-  pub queues : now.queues ≡ map (queue_after (waiting now)) old.queues
-  pub blocks : now.blocks ≡ slice_set old.blocks tile (all_pushed (block_at old tile) moved)
+  pub queues : now.queues ≡ map (queue_after (room_tasks now)) old.queues
+  pub blocks : now.blocks ≡ slice_set old.blocks tile (after_pushes (block_at old tile) moved)
   pub rest : now ≡ record old { tasks = now.tasks; queues = now.queues; blocks = now.blocks }
 
 pub none_moved : (size tile : ℕ) (ids : List ℕ) (old : View) → IsStored size old → HaveMoved tile ids old old 0
@@ -172,8 +174,9 @@ none_moved size tile ids old stored = record {
   spilled = tt;
   gone = λ id has. absurd (omega (arith, has.1));
   others = λ id not. refl;
-  queues = all_same (queue_after (waiting old)) old.queues [] (λ j. all_stay (waiting old) (queue_at old j) (λ k has.
-      ap (λ o. is_some (option_map waiting_task o)) ((stored.queued_are j k).0 has).1));
+  queues =
+      all_same (queue_after (room_tasks old)) old.queues [] (λ j. all_stay (room_tasks old) (queue_at old j) (λ k has.
+      ap (λ o. is_some (option_map room_task o)) ((stored.queued_are j k).0 has).1));
   blocks = sym (set-get_or old.blocks tile []);
   rest = refl;
 }
@@ -194,8 +197,8 @@ module _ (size tile : ℕ) (ids : List ℕ) (old : View) (stored : IsStored size
 
   not_self : (k : ℕ) → IsMovable old tile k → Precedes old tile k k → ⊥
   not_self k moves before =
-      let has = moves.1.this.queued in
-      let at : IsQueuedAt old tile has.0 k moves.0 = record { queued = slice_get-get_or (queue_at old tile) has.0 k has.1 ∙ ap Some has.2; there = moves.1.this.there } in
+      let has = moves.1.idle.queued in
+      let at : IsQueuedAt old tile has.0 k moves.0 = record { queued = slice_get-get_or (queue_at old tile) has.0 k has.1 ∙ ap Some has.2; there = moves.1.idle.there } in
       let less : ranked_cmp moves.0.key (Queued tile has.0) moves.0.key (Queued tile has.0) ≡ Less = before has.0 has.0 moves.0 moves.0 at at in
       let equal : ranked_cmp moves.0.key (Queued tile has.0) moves.0.key (Queued tile has.0) ≡ Equal = same_rank moves.0.key has.0 in
       let both : Less ≡ Equal = sym less ∙ equal in
@@ -206,18 +209,18 @@ module _ (size tile : ℕ) (ids : List ℕ) (old : View) (stored : IsStored size
 
   module _ (now : View) (moved : HaveMoved tile ids old now count) where
     still_there : task_at now id ≡ Some movable.0
-    still_there = moved.others id not_yet ∙ movable.1.this.there
+    still_there = moved.others id not_yet ∙ movable.1.idle.there
 
     -- the next one is idle
     pub next_idle : IsIdleTask now id
-    next_idle = record { task = movable.0; there = still_there; idle = movable.1.this.idle }
+    next_idle = record { task = movable.0; there = still_there; idle = movable.1.idle.idle }
 
     module _ (new : View) (spills : Spills tile id now new) where
       same_task : spills.task ≡ movable.0
       same_task = let both : Some spills.task ≡ Some movable.0 = sym spills.there ∙ still_there in cc
 
       named : HasName old movable.0.creator (name_given movable.0.creator (length old.history))
-      named = firm_named size old id movable.0 stored movable.1.this.there movable.1.firm
+      named = firm_named size old id movable.0 stored movable.1.idle.there movable.1.firm
 
       abbrev s : Spilled
       s = spilled_as (name_given movable.0.creator (length old.history)) (descriptor_of movable.0)
@@ -249,17 +252,17 @@ module _ (size tile : ℕ) (ids : List ℕ) (old : View) (stored : IsStored size
           spills.changes.others k (λ same. not (subst (λ xs. Contains xs k) (sym longer) (Contains-append_right (take count ids) (id ∷ []) k (subst (Contains (id ∷ [])) (sym same) (has_head id [])))))
           ∙ moved.others k (λ has. not (subst (λ xs. Contains xs k) (sym longer) (Contains-append_left (take count ids) (id ∷ []) k has)))
 
-      queues_now : new.queues ≡ map (queue_after (waiting new)) old.queues
-      queues_now = spills.queues ∙ ap (map (without id)) moved.queues
-          ∙ queues_after id (waiting now) (waiting new) (ap (option_map waiting_task) spills.changes.changed) (λ k other. ap (option_map waiting_task) (spills.changes.others k other)) old.queues
+      queues_now : new.queues ≡ map (queue_after (room_tasks new)) old.queues
+      queues_now = spills.queues ∙ ap (map (ids_but id)) moved.queues
+          ∙ queues_after id (room_tasks now) (room_tasks new) (ap (option_map room_task) spills.changes.changed) (λ k other. ap (option_map room_task) (spills.changes.others k other)) old.queues
 
-      blocks_now : new.blocks ≡ slice_set old.blocks tile (all_pushed (block_at old tile) (moved.moved ++ s ∷ []))
-      blocks_now = spills.blocks ∙ ap (λ x. slice_set now.blocks tile (pushed (block_at now tile) x)) pushed_is ∙ go now.blocks moved.blocks
+      blocks_now : new.blocks ≡ slice_set old.blocks tile (after_pushes (block_at old tile) (moved.moved ++ s ∷ []))
+      blocks_now = spills.blocks ∙ ap (λ x. slice_set now.blocks tile (after_push (block_at now tile) x)) pushed_is ∙ go now.blocks moved.blocks
         where
-          go : (blocks : List (List Spilled)) → blocks ≡ slice_set old.blocks tile (all_pushed (block_at old tile) moved.moved)
-              → slice_set blocks tile (pushed (slice_index_or blocks tile []) s) ≡ slice_set old.blocks tile (all_pushed (block_at old tile) (moved.moved ++ s ∷ []))
-          go blocks is = subst (λ bs. slice_set bs tile (pushed (slice_index_or bs tile []) s) ≡ slice_set old.blocks tile (all_pushed (block_at old tile) (moved.moved ++ s ∷ []))) (sym is)
-              (set_again old.blocks tile (all_pushed (block_at old tile) moved.moved) s ∙ ap (slice_set old.blocks tile) (sym (pushed_more (block_at old tile) moved.moved s)))
+          go : (blocks : List (List Spilled)) → blocks ≡ slice_set old.blocks tile (after_pushes (block_at old tile) moved.moved)
+              → slice_set blocks tile (after_push (slice_index_or blocks tile []) s) ≡ slice_set old.blocks tile (after_pushes (block_at old tile) (moved.moved ++ s ∷ []))
+          go blocks is = subst (λ bs. slice_set bs tile (after_push (slice_index_or bs tile []) s) ≡ slice_set old.blocks tile (after_pushes (block_at old tile) (moved.moved ++ s ∷ []))) (sym is)
+              (set_again old.blocks tile (after_pushes (block_at old tile) moved.moved) s ∙ ap (slice_set old.blocks tile) (sym (pushed_more (block_at old tile) moved.moved s)))
 
       -- one more has moved
       pub one_more_moved : HaveMoved tile ids old new (count + 1)
@@ -267,12 +270,12 @@ module _ (size tile : ℕ) (ids : List ℕ) (old : View) (stored : IsStored size
         moved = moved.moved ++ s ∷ [];
         spilled = subst (λ xs. AllZip (IsSpilledAs old) xs (moved.moved ++ s ∷ [])) (sym longer)
             (zip_more (IsSpilledAs old) (take count ids) moved.moved id s moved.spilled
-            (record { task = movable.0; there = movable.1.this.there; name = name_given movable.0.creator (length old.history); named = named; is = refl }));
+            (record { task = movable.0; there = movable.1.idle.there; name = name_given movable.0.creator (length old.history); named = named; spilled_is = refl }));
         gone = gone_now;
         others = others_now;
         queues = queues_now;
         blocks = blocks_now;
-        rest = spills.rest ∙ ap (λ (v : View). record v { tasks = new.tasks; queues = new.queues; blocks = new.blocks }) moved.rest;
+        rest = spills.frame ∙ ap (λ (v : View). record v { tasks = new.tasks; queues = new.queues; blocks = new.blocks }) moved.rest;
       }
 
 -- once all have moved it is a coalescing
@@ -293,7 +296,7 @@ all_moved tile ids old now count chosen some past moved = go (take count ids) (t
         others = others;
         queues = moved.queues;
         blocks = moved.blocks;
-        rest = moved.rest;
+        frame = moved.rest;
       },
       same,
     )
@@ -310,6 +313,6 @@ some_chosen tile old mid items slice same moves chosen is none =
   where
     go : (items : List ℕ) → items ≡ [] → AreChosen old tile items → ⊥
     go items empty chosen =
-        let has = chosen.all (subst (λ xs. length xs < most_moved) (sym empty) (omega arith)) moves.0 moves.1 in
+        let has = chosen.all (subst (λ xs. length xs < MAX_MOVED) (sym empty) (omega arith)) moves.0 moves.1 in
         let nothing : Contains [] moves.0 = subst (λ xs. Contains xs moves.0) empty has in
         absurd (omega (arith, nothing.1))

@@ -3,7 +3,7 @@ use Rattle.std.proofs.Common.{◌≡◌, ◌<◌, ◌+◌, ℕ, List, length, Op
 use Rattle.std.specs.Prelude.{Contains, IsSome}
 use Rattle.std.proofs.lemmas.Option.{slice_get_within, get_or_from_slice_get}
 use Rattle.task_desc.specs.declared.desc.Name.{Name}
-use Rattle.spill_store.specs.Entries.{Entry as Spilled, TakesLeast}
+use Rattle.spill_store.specs.SpilledTasks.{Spilled, TakesLeast}
 use Rattle.spec_state.specs.declared.task.Creator.{Creator}
 use Rattle.spec_state.specs.declared.task.Creator.TheVariants.{Committed, Live}
 use Rattle.spec_state.specs.declared.task.TaskId.{TaskId}

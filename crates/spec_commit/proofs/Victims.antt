@@ -1,4 +1,4 @@
--- The latest task of a queue but for one, as one place of it after another is looked at.
+-- The victim, which is the latest task of a queue other than the asker, as one place after another is looked at.
 use Rattle.std.proofs.Common.{◌≡◌, ◌≢◌, ◌⊎◌, ◌≤◌, ◌+◌, ℕ, Bool, true, false, List, length, Option, Some, None, refl, sym, ap, subst, ◌∙◌, inl, inr, arith, slice_get, slice_index_or}
 use Rattle.std.specs.Prelude.{◌↔◌, IsSome, IsNone, IfSome, IsTrue, is_some}
 use Rattle.std.proofs.lemmas.Bool.{cases_eq}
@@ -116,7 +116,7 @@ is_victim size view tile asker count v ids stored same past latest found some =
       },
     )
 
--- there is one, where two tasks are queued
+-- where four tasks are queued not all of them ask
 pub one_is_other : (view : View) (tile : ℕ) (asker : Asker) (count : ℕ) (ids : List ℕ) → AreDistinct (queue_at view tile) → ids ≡ queue_at view tile → 4 ≤ length ids → length ids ≤ count
     → ((k : ℕ) → IsAmong view tile count k → asker ≡ Enqueuer k) → ⊥
 one_is_other view tile asker count ids distinct same long past all =

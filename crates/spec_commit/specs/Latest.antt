@@ -4,9 +4,10 @@ use Rattle.std.specs.List.{insert}
 use Rattle.std.specs.declared.cmp.Ordering.TheVariants.{Less}
 use Rattle.fractal_vt.specs.Keys.{key_cmp}
 use Rattle.spec_state.specs.declared.task.Task.{Task}
+use Rattle.spec_state.specs.declared.reserving.TheConstants.{MAX_MOVED}
 use Rattle.spec_state.specs.View.{View, task_at, queue_at}
 use Rattle.spec_state.specs.Least.{Precedes}
-use Rattle.spec_state.specs.Room.{Asker, Enqueuer, IsMovable, most_moved}
+use Rattle.spec_state.specs.Room.{Asker, Enqueuer, IsMovable}
 
 -- of two tasks the first has the lesser key
 pub record HasLessKey (view : View) (a b : ℕ) : Type 0 where
@@ -39,7 +40,7 @@ pub record AreLatest (comes_before : ℕ → ℕ → Type 0) (kind : ℕ → Typ
 
 -- the last of the ids, as many as move at once, once one more stands at this place
 abbrev pub with_one : List ℕ → ℕ → ℕ → List ℕ
-with_one ids place id = drop (length ids + 1 - most_moved) (insert ids place id)
+with_one ids place id = drop (length ids + 1 - MAX_MOVED) (insert ids place id)
 
 -- of the first places' ids other than the asker's, the latest
 pub record IsLatestOther (view : View) (tile : ℕ) (asker : Asker) (count id : ℕ) : Type 0 where

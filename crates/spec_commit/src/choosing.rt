@@ -2,22 +2,23 @@
 
 ghost use Rattle.std.specs.Prelude.{◌≡◌, ◌<◌, ◌≤◌, ◌+◌, ◌↔◌, ℕ, length, Some, IsSome, IsTrue, option_map, slice_get};
 ghost use Rattle.spec_state.specs.declared.task.Status.TheVariants.{Idle};
+ghost use Rattle.spec_state.specs.declared.reserving.TheConstants.{MAX_MOVED};
 ghost use Rattle.spec_state.specs.View.{task_at};
 ghost use Rattle.spec_state.specs.Fronts.{IsFirmBy};
 ghost use Rattle.spec_state.specs.Least.{Precedes};
-ghost use Rattle.spec_state.specs.Room.{AreChosen, most_moved};
+ghost use Rattle.spec_state.specs.Room.{AreChosen};
 ghost use Rattle.spec_commit.specs.Latest.{HasLessKey, MayMove, AreLatest, with_one};
 
-use crate::queue::{is_less, queued};
+use crate::queue::{is_less, queue_ids};
 use arrayvec::ArrayVec;
 use rv_core::Naming;
 use spec_state::{Creator, MAX_MOVED, State, Status, Task, TaskId};
 
 /// Room for the ids that move, and for one more.
-const ROOM: usize = MAX_MOVED + 1;
+const MAX_LISTED: usize = MAX_MOVED + 1;
 
 /// The ids of the tasks that move, the least first.
-pub(crate) type Chosen = ArrayVec<usize, ROOM>;
+pub(crate) type Chosen = ArrayVec<usize, MAX_LISTED>;
 
 /// Whether the task is idle and firm, where this is the heir.
 fn is_movable(task: &Task, heir: Option<TaskId>) -> bool
@@ -50,7 +51,7 @@ fn place_for<N: Naming>(state: &State<N>, chosen: &[usize], id: usize) -> usize
 /// Puts an id among the chosen ones, of which the first one leaves where they are too many then.
 fn put_among(chosen: &mut Chosen, place: usize, id: usize)
     requires place { place ≤ length chosen.old.items }
-    requires few { length chosen.old.items ≤ most_moved }
+    requires few { length chosen.old.items ≤ MAX_MOVED }
     ensures { chosen.new.items ≡ with_one chosen.old.items place id }
 {
     // One that came first of too many would leave again.
@@ -65,13 +66,13 @@ fn put_among(chosen: &mut Chosen, place: usize, id: usize)
 
 /// The latest idle firm tasks of the tile, the least of them first: all, or as many as move at once. It looks from the
 /// last task of the queue on: where keys tie the first ones that it sees are the latest, and the rest are passed over.
-pub(crate) fn chosen<N: Naming>(state: &State<N>, tile: u32) -> Chosen
+pub(crate) fn chosen_tasks<N: Naming>(state: &State<N>, tile: u32) -> Chosen
     requires { tile < state.now.view.settings.tiles }
     ensures { AreChosen state.now.view tile result.items }
 {
     state.is_stored();
     let heir = state.heir();
-    let ids = queued(state, tile);
+    let ids = queue_ids(state, tile);
     let mut chosen = Chosen::new();
     for seen in 0..ids.len() {
         let id = ids[ids.len() - 1 - seen];

@@ -4,15 +4,16 @@ ghost use Rattle.std.specs.Prelude.{◌≡◌, ◌≢◌, ◌<◌, ◌≤◌, �
 ghost use Rattle.std.specs.Prelude.{slice_index_or, slice_set};
 ghost use Rattle.task_desc.specs.declared.calls.TheConstants.{MAX_DEPTH};
 ghost use Rattle.task_desc.specs.Record.{IsDesc};
-ghost use Rattle.spill_store.specs.Entries.{pushed};
+ghost use Rattle.spill_store.specs.SpilledTasks.{after_push};
+ghost use Rattle.spec_state.specs.declared.reserving.TheConstants.{MAX_MOVED};
 ghost use Rattle.spec_state.specs.View.{block_at};
 ghost use Rattle.spec_state.specs.StateValue.{CoversPushes};
 ghost use Rattle.spec_state.specs.Tasks.{depth_of, descriptor_of, spilled_as};
 ghost use Rattle.spec_state.specs.Fronts.{name_given};
 ghost use Rattle.spec_state.specs.Room.{IsMovable, AreChosen, Coalesces};
-ghost use Rattle.spec_commit.specs.Spilling.{IsIdleTask, Spills, KeepsOtherRoom};
+ghost use Rattle.spec_commit.specs.Spilling.{IsIdleTask, Spills, KeepsOtherSpare};
 
-use crate::choosing::chosen;
+use crate::choosing::chosen_tasks;
 use fractal_vt::Vt;
 use rv_core::Naming;
 use spec_state::{MAX_MOVED, State, Task, TaskId, name_given};
@@ -38,15 +39,15 @@ fn spilled_desc(task: &Task, count: u32) -> Desc
     }
 }
 
-/// Makes room for as many pushes into the block of a tile as move at once. `AllocError` where memory runs out;
+/// Makes as many pushes into the block of a tile spare as move at once. `AllocError` where memory runs out;
 /// the view stays in any case.
 fn reserve_pushes<N: Naming>(state: &mut State<N>, tile: u32) -> Result<(), AllocError>
     requires tile { tile < state.old.view.settings.tiles }
     ensures view { state.new.view ≡ state.old.view }
-    ensures covers { OnOk result (CoversPushes state.new tile 8) }
-    ensures enough { CoversPushes state.old tile 8 → IsOk result }
+    ensures covers { OnOk result (CoversPushes state.new tile MAX_MOVED) }
+    ensures enough { CoversPushes state.old tile MAX_MOVED → IsOk result }
     ensures err { OnErr result (state.new ≡ state.old) }
-    ensures room { KeepsOtherRoom tile state.old.room state.new.room }
+    ensures room { KeepsOtherSpare tile state.old.spare state.new.spare }
 {
     state.blocks.reserve(tile, MAX_MOVED)
 }
@@ -59,10 +60,10 @@ fn push_spilled<N: Naming>(state: &mut State<N>, tile: u32, desc: &Desc, domain:
     requires domain { length domain.now + 1 ≡ desc.now.depth }
     ensures view { state.new.view ≡ record state.old.view {
       blocks = slice_set state.old.view.blocks tile
-          (pushed (block_at state.old.view tile) (record { desc = desc.now; domain = domain.now }));
+          (after_push (block_at state.old.view tile) (record { desc = desc.now; domain = domain.now }));
     } }
-    ensures spare { slice_index_or state.old.room.blocks tile 0 ≤ slice_index_or state.new.room.blocks tile 0 + 1 }
-    ensures room { KeepsOtherRoom tile state.old.room state.new.room }
+    ensures spare { slice_index_or state.old.spare.blocks tile 0 ≤ slice_index_or state.new.spare.blocks tile 0 + 1 }
+    ensures room { KeepsOtherSpare tile state.old.spare state.new.spare }
 {
     state.blocks.push(tile, desc, domain);
 }
@@ -73,14 +74,14 @@ fn spill<N: Naming>(state: &mut State<N>, tile: u32, id: TaskId)
     requires idle { IsIdleTask state.old.view id.0 }
     requires spare { CoversPushes state.old tile 1 }
     ensures spills { Spills tile id.0 state.old.view state.new.view }
-    ensures spare { slice_index_or state.old.room.blocks tile 0 ≤ slice_index_or state.new.room.blocks tile 0 + 1 }
-    ensures room { KeepsOtherRoom tile state.old.room state.new.room }
+    ensures spare { slice_index_or state.old.spare.blocks tile 0 ≤ slice_index_or state.new.spare.blocks tile 0 + 1 }
+    ensures room { KeepsOtherSpare tile state.old.spare state.new.spare }
 {
     state.is_stored();
     let count = state.history.count();
     let task = state.task(id);
     let desc = spilled_desc(task, count);
-    let domain = task.key.domain.copied();
+    let domain = task.key.domain.copy();
     state.take_out(id);
     push_spilled(state, tile, &desc, &domain);
 }
@@ -90,9 +91,9 @@ fn spill_all<N: Naming>(state: &mut State<N>, tile: u32, ids: &[usize])
     requires tile { tile < state.old.view.settings.tiles }
     requires chosen { AreChosen state.old.view tile ids.now }
     requires some { ids.now ≢ [] }
-    requires spare { CoversPushes state.old tile 8 }
+    requires spare { CoversPushes state.old tile MAX_MOVED }
     ensures coalesces { (c : Coalesces tile state.old.view state.new.view) × (c.ids ≡ ids.now) }
-    ensures room { KeepsOtherRoom tile state.old.room state.new.room }
+    ensures room { KeepsOtherSpare tile state.old.spare state.new.spare }
 {
     state.is_stored();
     for id in ids {
@@ -108,11 +109,11 @@ pub fn coalesce<N: Naming>(state: &mut State<N>, tile: u32) -> Result<u32, Alloc
     ensures ok { IfOk result (λ n. (moved : Coalesces tile state.old.view state.new.view)
         × (n ≡ length moved.ids)) }
     ensures err { OnErr result (state.new ≡ state.old) }
-    ensures covered { CoversPushes state.old tile 8 → IsOk result }
-    ensures room { KeepsOtherRoom tile state.old.room state.new.room }
+    ensures covered { CoversPushes state.old tile MAX_MOVED → IsOk result }
+    ensures room { KeepsOtherSpare tile state.old.spare state.new.spare }
 {
     reserve_pushes(state, tile)?;
-    let ids = chosen(state, tile);
+    let ids = chosen_tasks(state, tile);
     spill_all(state, tile, ids.as_slice());
     Ok(ids.len() as u32)
 }

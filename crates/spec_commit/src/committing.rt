@@ -13,7 +13,7 @@ ghost use Rattle.spec_state.specs.Least.{IsLeastTask};
 ghost use Rattle.spec_state.specs.StateValue.{CoversOutput};
 ghost use Rattle.spec_state.specs.Tasks.{depth_of, own_level};
 ghost use Rattle.spec_state.specs.View.{task_at};
-ghost use Rattle.spec_commit.specs.Committing.{IsAdoptedOrSame, adopted};
+ghost use Rattle.spec_commit.specs.Committing.{IsAdoptedOrSame, after_adoption};
 
 use fractal_vt::as_domain;
 use kept_slab::KeptSlab;
@@ -40,7 +40,7 @@ fn adopt_one(task: &mut Task, id: usize, turn: u32)
 
 /// The same for what stands under one key.
 fn adopt_at(tasks: &mut KeptSlab<Task>, key: usize, id: usize, turn: u32)
-    ensures changed { get tasks.new key ≡ adopted id turn (get tasks.old key) }
+    ensures changed { get tasks.new key ≡ after_adoption id turn (get tasks.old key) }
     ensures others { (k : ℕ) → k ≢ key → get tasks.new k ≡ get tasks.old k }
     ensures len { slab_len tasks.new ≡ slab_len tasks.old }
     ensures capacity { tasks.new.capacity ≡ tasks.old.capacity }
@@ -52,7 +52,7 @@ fn adopt_at(tasks: &mut KeptSlab<Task>, key: usize, id: usize, turn: u32)
 
 /// The same for all tasks. It costs a look at each slot.
 fn adopt_all(tasks: &mut KeptSlab<Task>, id: usize, turn: u32)
-    ensures each { (k : ℕ) → get tasks.new k ≡ adopted id turn (get tasks.old k) }
+    ensures each { (k : ℕ) → get tasks.new k ≡ after_adoption id turn (get tasks.old k) }
     ensures len { slab_len tasks.new ≡ slab_len tasks.old }
     ensures capacity { tasks.new.capacity ≡ tasks.old.capacity }
 {
@@ -65,7 +65,7 @@ fn adopt_all(tasks: &mut KeptSlab<Task>, id: usize, turn: u32)
 fn adopt_noted(tasks: &mut KeptSlab<Task>, keys: &[u32], id: usize, turn: u32)
     ensures each { (k : ℕ) → IsAdoptedOrSame id turn (get tasks.old k) (get tasks.new k) }
     ensures noted { (place k : ℕ) → slice_get keys.now place ≡ Some k
-        → get tasks.new k ≡ adopted id turn (get tasks.old k) }
+        → get tasks.new k ≡ after_adoption id turn (get tasks.old k) }
     ensures len { slab_len tasks.new ≡ slab_len tasks.old }
     ensures capacity { tasks.new.capacity ≡ tasks.old.capacity }
 {
@@ -78,7 +78,7 @@ fn adopt_noted(tasks: &mut KeptSlab<Task>, keys: &[u32], id: usize, turn: u32)
 /// aren't complete, at each slot.
 fn adopt(tasks: &mut KeptSlab<Task>, children: &Children, id: usize, turn: u32)
     requires noted { AreNoted tasks.old.slots children.now }
-    ensures each { (k : ℕ) → get tasks.new k ≡ adopted id turn (get tasks.old k) }
+    ensures each { (k : ℕ) → get tasks.new k ≡ after_adoption id turn (get tasks.old k) }
     ensures len { slab_len tasks.new ≡ slab_len tasks.old }
     ensures capacity { tasks.new.capacity ≡ tasks.old.capacity }
 {
@@ -91,9 +91,9 @@ fn adopt(tasks: &mut KeptSlab<Task>, children: &Children, id: usize, turn: u32)
 /// The same for the children of a task in a state from which it has just gone.
 fn adopt_children<N: Naming>(state: &mut State<N>, id: TaskId)
     ensures each { (k : ℕ) → task_at state.new.view k
-        ≡ adopted id.0 (length state.old.view.history) (task_at state.old.view k) }
+        ≡ after_adoption id.0 (length state.old.view.history) (task_at state.old.view k) }
     ensures rest { state.new.view ≡ record state.old.view { tasks = state.new.view.tasks } }
-    ensures room { state.new.room ≡ state.old.room }
+    ensures room { state.new.spare ≡ state.old.spare }
 {
     let turn = state.history.count();
     adopt(&mut state.tasks, &state.children, id.0, turn);
@@ -124,15 +124,15 @@ fn entry_of(task: &Task) -> Entry
     }
 }
 
-/// Makes room in the output for the bytes of a task. `AllocError` where memory runs out; the view stays in any case.
+/// Takes memory in the output for the bytes of a task. `AllocError` where memory runs out; the view stays in any case.
 fn reserve_output<N: Naming>(state: &mut State<N>, id: TaskId) -> Result<(), AllocError>
     requires live { IsSome (task_at state.old.view id.0) }
     ensures view { state.new.view ≡ state.old.view }
     ensures covers { OnOk result (IfSome (task_at state.old.view id.0) (λ t.
-        length state.old.view.output + length t.bytes ≤ state.new.room.output)) }
+        length state.old.view.output + length t.bytes ≤ state.new.spare.output)) }
     ensures enough { CoversOutput state.old id.0 → IsOk result }
     ensures err { OnErr result (state.new ≡ state.old) }
-    ensures room { state.new.room ≡ record state.old.room { output = state.new.room.output } }
+    ensures room { state.new.spare ≡ record state.old.spare { output = state.new.spare.output } }
 {
     let wanted = state.output.as_slice().len() + state.task(id).bytes.as_slice().len();
     state.buffers.output.reserve(wanted)
@@ -158,7 +158,7 @@ fn record_commit<N: Naming>(state: &mut State<N>, id: TaskId) -> Entry
       output = state.old.view.output ++ task.bytes;
       path = task.key.domain ++ own_level task ∷ [];
     }) }
-    ensures room { state.new.room ≡ record state.old.room { output = state.new.room.output } }
+    ensures room { state.new.spare ≡ record state.old.spare { output = state.new.spare.output } }
 {
     let task = &state.tasks[id.0];
     let entry = entry_of(task);
@@ -181,7 +181,7 @@ pub fn commit_task<N: Naming>(state: &mut State<N>, id: TaskId) -> Result<Entry,
         × (state.new.view.history ≡ state.old.view.history ++ entry ∷ [])) }
     ensures err { OnErr result (state.new ≡ state.old) }
     ensures enough { CoversOutput state.old id.0 → IsOk result }
-    ensures room { state.new.room ≡ record state.old.room { output = state.new.room.output } }
+    ensures room { state.new.spare ≡ record state.old.spare { output = state.new.spare.output } }
 {
     reserve_output(state, id)?;
     state.is_stored();

@@ -49,7 +49,7 @@ pub fn commit<N: Naming>(state: &mut State<N>) -> Result<Entry, AllocError>
     ensures err { OnErr result (state.new ≡ state.old) }
     ensures enough { (id : ℕ) (task : Task) → IsLeastTask state.old.view id task → task.status ≡ status.Finished
         → HasCommittedCreator task → CoversOutput state.old id → IsOk result }
-    ensures room { state.new.room ≡ record state.old.room { output = state.new.room.output } }
+    ensures room { state.new.spare ≡ record state.old.spare { output = state.new.spare.output } }
 {
     state.is_stored();
     let id = finished_least(state);

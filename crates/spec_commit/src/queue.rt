@@ -11,7 +11,7 @@ use rv_core::Naming;
 use spec_state::{State, TaskId};
 
 /// The ids in the task queue of a tile, in order of arrival.
-pub(crate) fn queued<N: Naming>(state: &State<N>, tile: u32) -> &[usize]
+pub(crate) fn queue_ids<N: Naming>(state: &State<N>, tile: u32) -> &[usize]
     requires { tile < state.now.view.settings.tiles }
     ensures ids { result.now ≡ queue_at state.now.view tile }
     ensures distinct { AreDistinct (queue_at state.now.view tile) }

@@ -3,16 +3,16 @@
 ghost use Rattle.std.specs.Prelude.{◌≡◌, ◌≢◌, ◌<◌, ◌≤◌, ◌+◌, [], ℕ, length, IsOk, IsSome, OnOk, OnErr, Contains};
 ghost use Rattle.std.specs.Prelude.{option_map, slice_set};
 ghost use Rattle.task_desc.specs.Record.{IsDesc};
-ghost use Rattle.spill_store.specs.Entries.{Entry as Spilled, TakesLeast};
+ghost use Rattle.spill_store.specs.SpilledTasks.{Spilled, TakesLeast};
 ghost use Rattle.spec_state.specs.declared.task.Creator.{Creator};
 ghost use Rattle.spec_state.specs.declared.task.Creator.TheVariants.{Committed};
 ghost use Rattle.spec_state.specs.View.{block_at};
-ghost use Rattle.spec_state.specs.StateValue.{HasNoLessRoom};
+ghost use Rattle.spec_state.specs.StateValue.{HasNoLessSpare};
 ghost use Rattle.spec_state.specs.Tasks.{idle_task, spilled_descriptor};
 ghost use Rattle.spec_state.specs.Least.{HasName};
 ghost use Rattle.spec_state.specs.Fronts.{IsFirmBy, name_given};
-ghost use Rattle.spec_state.specs.Room.{HasFreeEntry, Splits};
-ghost use Rattle.spec_commit.specs.Spilling.{KeepsOtherRoom};
+ghost use Rattle.spec_state.specs.Room.{QueueHasRoom, Splits};
+ghost use Rattle.spec_commit.specs.Spilling.{KeepsOtherSpare};
 
 use fractal_vt::Vt;
 use rv_core::Naming;
@@ -67,8 +67,8 @@ fn take_spilled<N: Naming>(state: &mut State<N>, tile: u32) -> (Desc, Vt)
     ensures rest { state.new.view ≡ record state.old.view {
       blocks = slice_set state.old.view.blocks tile (block_at state.new.view tile);
     } }
-    ensures room { KeepsOtherRoom tile state.old.room state.new.room }
-    ensures stays { HasNoLessRoom state.old.room state.new.room }
+    ensures room { KeepsOtherSpare tile state.old.spare state.new.spare }
+    ensures stays { HasNoLessSpare state.old.spare state.new.spare }
 {
     match state.blocks.take_least(tile) {
         Some(taken) => taken,
@@ -76,19 +76,19 @@ fn take_spilled<N: Naming>(state: &mut State<N>, tile: u32) -> (Desc, Vt)
     }
 }
 
-/// Brings the least task of a tile's block back, idle, as the last one of its task queue, which has a free entry.
+/// Brings the least task of a tile's block back, idle, as the last one of its task queue, which has a free place.
 /// It takes no memory, and never answers `AllocError`.
 pub fn split<N: Naming>(state: &mut State<N>, tile: u32) -> Result<(), AllocError>
     requires tile { tile < state.old.view.settings.tiles }
     requires some { block_at state.old.view tile ≢ [] }
-    requires free { HasFreeEntry state.old.view tile }
+    requires free { QueueHasRoom state.old.view tile }
     requires named { (s : Spilled) → Contains (block_at state.old.view tile) s
         → (creator : Creator) × HasName state.old.view creator s.desc.name }
     ensures ok { OnOk result (Splits tile state.old.view state.new.view) }
     ensures err { OnErr result (state.new ≡ state.old) }
     ensures covered { IsOk result }
-    ensures room { KeepsOtherRoom tile state.old.room state.new.room }
-    ensures stays { HasNoLessRoom state.old.room state.new.room }
+    ensures room { KeepsOtherSpare tile state.old.spare state.new.spare }
+    ensures stays { HasNoLessSpare state.old.spare state.new.spare }
 {
     let heir = state.heir();
     let (desc, domain) = take_spilled(state, tile);

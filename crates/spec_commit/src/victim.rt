@@ -8,7 +8,7 @@ ghost use Rattle.spec_state.specs.Least.{IsFirm};
 ghost use Rattle.spec_state.specs.Room.{IsFull, IsVictim, IsTakenFor, Enqueuer, asker_of};
 ghost use Rattle.spec_commit.specs.Latest.{HasLessKey};
 
-use crate::queue::{is_less, queued};
+use crate::queue::{is_less, queue_ids};
 use rv_core::Naming;
 use spec_state::{Creator, State, TaskId};
 
@@ -41,7 +41,7 @@ fn latest_other<N: Naming>(state: &State<N>, tile: u32, asker: Option<TaskId>) -
 {
     state.is_stored();
     let mut latest = None;
-    for id in queued(state, tile) {
+    for id in queue_ids(state, tile) {
         if !is_asker(asker, *id) {
             latest = Some(later(state, latest, *id));
         }

@@ -6,8 +6,8 @@ use Rattle.spec_state.specs.declared.task.Status.TheVariants.{Idle, Running, Fin
 use Rattle.spec_state.specs.declared.task.Task.{Task}
 use Rattle.spec_state.specs.View.{View, task_at, cores_at}
 use Rattle.spec_state.specs.Changes.{Dispatches, with_core}
-use Rattle.spec_state.specs.Stored.{HasCore, IsThere, IsWellFormed, IsStored}
-use Rattle.spec_dispatch.specs.Started.{started}
+use Rattle.spec_state.specs.Stored.{HasCore, HasTask, IsWellFormed, IsStored}
+use Rattle.spec_dispatch.specs.Started.{started_task}
 use Rattle.spec_state.proofs.Proved.{holder_now, others_now, this_or_other}
 
 module _ (old new : View) (tile : ℕ) (d : Dispatches tile old new) (size : ℕ) (stored : IsStored size old) where
@@ -17,11 +17,11 @@ module _ (old new : View) (tile : ℕ) (d : Dispatches tile old new) (size : ℕ
 
   -- the task as it is then
   abbrev now : Task
-  now = started old.version d.core old.next d.task
+  now = started_task old.version d.core old.next d.task
 
   -- a task of this id was this one
   was_this : (k : ℕ) (t : Task) → k ≡ d.id → task_at old k ≡ Some t → t ≡ d.task
-  was_this k t same there = let both : Some t ≡ Some d.task = sym there ∙ ap (task_at old) same ∙ d.least.this.there in cc
+  was_this k t same there = let both : Some t ≡ Some d.task = sym there ∙ ap (task_at old) same ∙ d.least.idle.there in cc
 
   -- each task is the dispatched one, or was there
   which : (k : ℕ) (t : Task) → task_at new k ≡ Some t → ((k ≡ d.id) × (t ≡ now)) ⊎ ((k ≢ d.id) × (task_at old k ≡ Some t))
@@ -33,39 +33,39 @@ module _ (old new : View) (tile : ℕ) (d : Dispatches tile old new) (size : ℕ
   -- it is of this tile
   own_tile : d.task.tile ≡ tile
   own_tile =
-      let has = (stored.queued_are tile d.id).0 d.least.this.queued in
+      let has = (stored.queued_are tile d.id).0 d.least.idle.queued in
       sym (ap (λ t. t.tile) (was_this d.id has.0 refl has.1)) ∙ has.2
 
   -- a task whose status is none of an idle one is another one, and stays
-  busy_stays : (kind : Status → Type 0) → (kind Idle → ⊥) → (at k : ℕ) → IsThere old at k kind → IsThere after at k kind
+  busy_stays : (kind : Status → Type 0) → (kind Idle → ⊥) → (at k : ℕ) → HasTask old at k kind → HasTask after at k kind
   busy_stays kind none at k has = (has.0, d.changes.others k other ∙ has.1, has.2, has.3)
     where
       other : k ≢ d.id
-      other same = none (subst kind (ap (λ t. t.status) (was_this k has.0 same has.1) ∙ d.least.this.idle) has.3)
+      other same = none (subst kind (ap (λ t. t.status) (was_this k has.0 same has.1) ∙ d.least.idle.idle) has.3)
 
   -- a task whose status is none of a running one was there
-  not_started : (kind : Status → Type 0) → (kind (Running d.core) → ⊥) → (at k : ℕ) → IsThere after at k kind → IsThere old at k kind
+  not_started : (kind : Status → Type 0) → (kind (Running d.core) → ⊥) → (at k : ℕ) → HasTask after at k kind → HasTask old at k kind
   not_started kind none at k has = elim (which k has.0 has.1) [
     | inl here ↦ absurd (none (subst kind (ap (λ t. t.status) here.1) has.3))
     | inr there ↦ (has.0, there.1, has.2, has.3)
   ]
 
   -- each task is in its tile still
-  queued_forth : (at k : ℕ) → IsThere old at k (λ status. Unit {0}) → IsThere after at k (λ status. Unit {0})
+  queued_forth : (at k : ℕ) → HasTask old at k (λ status. Unit {0}) → HasTask after at k (λ status. Unit {0})
   queued_forth at k has = elim (cases_eq k d.id) [
     | inl same ↦ (now, ap (task_at new) same ∙ d.changes.changed, sym (ap (λ t. t.tile) (was_this k has.0 same has.1)) ∙ has.2, tt)
     | inr other ↦ (has.0, d.changes.others k other ∙ has.1, has.2, tt)
   ]
 
   -- and was so before
-  queued_back : (at k : ℕ) → IsThere after at k (λ status. Unit {0}) → IsThere old at k (λ status. Unit {0})
+  queued_back : (at k : ℕ) → HasTask after at k (λ status. Unit {0}) → HasTask old at k (λ status. Unit {0})
   queued_back at k has = elim (which k has.0 has.1) [
-    | inl here ↦ (d.task, ap (task_at old) here.0 ∙ d.least.this.there, sym (ap (λ t. t.tile) here.1) ∙ has.2, tt)
+    | inl here ↦ (d.task, ap (task_at old) here.0 ∙ d.least.idle.there, sym (ap (λ t. t.tile) here.1) ∙ has.2, tt)
     | inr there ↦ (has.0, there.1, has.2, tt)
   ]
 
   -- each core that is held is held by its task
-  held_forth : (at c k : ℕ) → slice_get (cores_at after at) c ≡ Some (Some k) → IsThere after at k (λ status. HasCore status c)
+  held_forth : (at c k : ℕ) → slice_get (cores_at after at) c ≡ Some (Some k) → HasTask after at k (λ status. HasCore status c)
   held_forth at c k held = elim (this_or_other at tile c d.core) [
     | inl this ↦
         let both : Some (Some k) ≡ Some (Some d.id) =
@@ -78,7 +78,7 @@ module _ (old new : View) (tile : ℕ) (d : Dispatches tile old new) (size : ℕ
   ]
 
   -- and each task that has a core holds it
-  held_back : (at c k : ℕ) → IsThere after at k (λ status. HasCore status c) → slice_get (cores_at after at) c ≡ Some (Some k)
+  held_back : (at c k : ℕ) → HasTask after at k (λ status. HasCore status c) → slice_get (cores_at after at) c ≡ Some (Some k)
   held_back at c k has = elim (which k has.0 has.1) [
     | inl here ↦
         let here_tile : tile ≡ at = sym own_tile ∙ sym (ap (λ t. t.tile) here.1) ∙ has.2 in
@@ -96,7 +96,7 @@ module _ (old new : View) (tile : ℕ) (d : Dispatches tile old new) (size : ℕ
   formed : (k : ℕ) (t : Task) → task_at after k ≡ Some t → IsWellFormed size (length old.history) t
   formed k t at = elim (which k t at) [
     | inl here ↦
-        let was = stored.tasks d.id d.task d.least.this.there in
+        let was = stored.tasks d.id d.task d.least.idle.there in
         subst (IsWellFormed size (length old.history)) (sym here.1)
         (record {
           depth = was.depth;
@@ -111,7 +111,7 @@ module _ (old new : View) (tile : ℕ) (d : Dispatches tile old new) (size : ℕ
   ]
 
   is_after : new ≡ after
-  is_after = d.rest ∙ (λ i. record old { tasks = new.tasks; next = d.next i; cores = d.cores i })
+  is_after = d.frame ∙ (λ i. record old { tasks = new.tasks; next = d.next i; cores = d.cores i })
 
   pub stored_dispatched : IsStored size new
   stored_dispatched = subst (IsStored size) (sym is_after)

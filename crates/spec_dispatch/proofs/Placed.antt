@@ -8,23 +8,23 @@ use Rattle.std.proofs.lemmas.List.Elements.{All-set}
 use Rattle.std.proofs.lemmas.Option.{slice_get_within, same_Some}
 use Rattle.fractal_vt.specs.declared.level.Level.{Level}
 use Rattle.run_journal.specs.declared.journal.Entry.{Entry}
-use Rattle.spill_store.specs.Entries.{Entry as Spilled}
+use Rattle.spill_store.specs.SpilledTasks.{Spilled}
 use Rattle.tile_queues.specs.Queue.{QueueValue}
-use Rattle.commit_arbiter.specs.Indexed.{entry_cmp, without, IsOpenIn, IsTied}
-use Rattle.commit_arbiter.specs.declared.entry.Entry.{Entry as Indexed}
-use Rattle.fractal_vt.specs.Sorted.{inserted}
+use Rattle.commit_arbiter.specs.Indexed.{candidate_cmp, without_candidate, IsOpenIn, IsTied}
+use Rattle.commit_arbiter.specs.declared.candidate.Candidate.{Candidate}
+use Rattle.fractal_vt.specs.Sorted.{after_insert}
 use Rattle.spec_state.specs.declared.settings.Settings.{Settings}
 use Rattle.spec_state.specs.declared.task.Task.{Task}
 use Rattle.spec_state.specs.declared.task.TaskId.{TaskId}
 use Rattle.spec_state.specs.declared.task.Status.TheVariants.{Idle}
 use Rattle.spec_state.specs.Tasks.{kept_core}
 use Rattle.spec_state.specs.View.{View, core_ids, task_at}
-use Rattle.spec_state.specs.Fits.{seen}
+use Rattle.spec_state.specs.Fits.{view_of_parts}
 use Rattle.spec_state.specs.Changes.{Dispatches}
 use Rattle.spec_state.specs.Queries.{IsLeastIdle, IsLowestFree}
-use Rattle.spec_state.specs.Stored.{entry_of, IsIndexed, IsStored, IsWellFormed}
+use Rattle.spec_state.specs.Stored.{candidate_of, IsIndexed, IsStored, IsWellFormed}
 use Rattle.spec_state.proofs.Proved.{others_set, task_set}
-use Rattle.spec_dispatch.specs.Started.{started}
+use Rattle.spec_dispatch.specs.Started.{started_task}
 use Rattle.spec_dispatch.proofs.Rekeyed.{rekeyed}
 
 -- the cores of a tile
@@ -73,40 +73,40 @@ no_number task size commits formed idle =
 
 pub open_here : (old view : View) → old ≡ view → (size tile id : ℕ) (task was : Task) → IsLeastIdle view tile id task → task_at old id ≡ Some was → IsStored size old → was.key.tb ≡ None
 open_here old view same size tile id task was least there stored =
-    let one : was ≡ task = same_Some was task (sym there ∙ ap (λ (v : View). task_at v id) same ∙ least.this.there) in
-    no_number was size (length old.history) (stored.tasks id was there) (ap (λ (t : Task). t.status) one ∙ least.this.idle)
+    let one : was ≡ task = same_Some was task (sym there ∙ ap (λ (v : View). task_at v id) same ∙ least.idle.there) in
+    no_number was size (length old.history) (stored.tasks id was there) (ap (λ (t : Task). t.status) one ∙ least.idle.idle)
 
 -- it has its entry in the index, with its tiebreaker open
-pub open_in : (tasks : List (Option Task)) (lists : List (List ℕ)) (arrivals : List ℕ) (next id : ℕ) (entries : List Indexed) (task : Task)
+pub open_in : (tasks : List (Option Task)) (lists : List (List ℕ)) (arrivals : List ℕ) (next id : ℕ) (entries : List Candidate) (task : Task)
     → IsIndexed tasks lists arrivals next entries → slice_index_or tasks id None ≡ Some task → task.key.tb ≡ None → IsOpenIn id entries
 open_in tasks lists arrivals next id entries task is there none = record {
-  entry = entry_of arrivals id task;
+  entry = candidate_of arrivals id task;
   there = is.all id task there;
-  is = refl;
+  id_is = refl;
   open_tie = none;
 }
 
 -- and closed
-pub indexed_closed : (version : ℕ) (tasks : List (Option Task)) (lists : List (List ℕ)) (arrivals : List ℕ) (next id core number : ℕ) (entries entries_now : List Indexed) (task now : Task)
-    → IsIndexed tasks lists arrivals next entries → slice_index_or tasks id None ≡ Some task → now ≡ started version core number task → IsTied id (Some number) entries entries_now
+pub indexed_closed : (version : ℕ) (tasks : List (Option Task)) (lists : List (List ℕ)) (arrivals : List ℕ) (next id core number : ℕ) (entries entries_now : List Candidate) (task now : Task)
+    → IsIndexed tasks lists arrivals next entries → slice_index_or tasks id None ≡ Some task → now ≡ started_task version core number task → IsTied id (Some number) entries entries_now
     → IsIndexed (slice_set tasks id (Some now)) lists arrivals next entries_now
 indexed_closed version tasks lists arrivals next id core number entries entries_now task now is there starts tie =
     subst (IsIndexed (slice_set tasks id (Some now)) lists arrivals next)
-    (sym (tie (entry_of arrivals id task) (is.all id task there) refl ∙ ap (λ (t : Task). inserted entry_cmp (entry_of arrivals id t) (without id entries)) (sym starts)))
+    (sym (tie (candidate_of arrivals id task) (is.all id task there) refl ∙ ap (λ (t : Task). after_insert candidate_cmp (candidate_of arrivals id t) (without_candidate id entries)) (sym starts)))
     (rekeyed tasks (slice_set tasks id (Some now)) lists arrivals next id entries now is (task_set tasks id task now there) (others_set tasks id now))
 
 -- the dispatch, by the parts
 pub dispatches_seen : (version : ℕ) (settings : Settings) (tasks : List (Option Task)) (memory : List ℕ) (history : List Entry) (output : List ℕ) (next : ℕ) (path : List Level)
     (queues finished : List QueueValue) (cores : List Cores) (blocks : List (List Spilled)) (tile core : ℕ) (id : TaskId) (was now : Task) (held : Cores)
-    → tile < length cores → held ≡ slice_index_or cores tile held → slice_index_or tasks id.0 None ≡ Some was → now ≡ started version core next was
-    → (view : View) → seen version settings tasks memory history output next path queues finished (held_ids cores) blocks ≡ view
+    → tile < length cores → held ≡ slice_index_or cores tile held → slice_index_or tasks id.0 None ≡ Some was → now ≡ started_task version core next was
+    → (view : View) → view_of_parts version settings tasks memory history output next path queues finished (held_ids cores) blocks ≡ view
     → (task : Task) → IsLeastIdle view tile id.0 task → IsLowestFree view tile core
-    → Dispatches tile view (seen version settings (slice_set tasks id.0 (Some now)) memory history output (next + 1) path queues finished (held_ids (slice_set cores tile (with_item held core (Some id)))) blocks)
+    → Dispatches tile view (view_of_parts version settings (slice_set tasks id.0 (Some now)) memory history output (next + 1) path queues finished (held_ids (slice_set cores tile (with_item held core (Some id)))) blocks)
 dispatches_seen version settings tasks memory history output next path queues finished cores blocks tile core id was now held within is there starts view same task least free =
     subst (λ v. IsLeastIdle v tile id.0 task → IsLowestFree v tile core
-    → Dispatches tile v (seen version settings (slice_set tasks id.0 (Some now)) memory history output (next + 1) path queues finished (held_ids (slice_set cores tile (with_item held core (Some id)))) blocks)) same
+    → Dispatches tile v (view_of_parts version settings (slice_set tasks id.0 (Some now)) memory history output (next + 1) path queues finished (held_ids (slice_set cores tile (with_item held core (Some id)))) blocks)) same
     (λ its_least its_free.
-    (let one : was ≡ task = same_Some was task (sym there ∙ its_least.this.there) in
+    (let one : was ≡ task = same_Some was task (sym there ∙ its_least.idle.there) in
     record {
       id = id.0;
       task = task;
@@ -114,10 +114,10 @@ dispatches_seen version settings tasks memory history output next path queues fi
       core = core;
       free = its_free;
       changes = record {
-        changed = task_set tasks id.0 was now there ∙ ap Some (starts ∙ ap (started version core next) one);
+        changed = task_set tasks id.0 was now there ∙ ap Some (starts ∙ ap (started_task version core next) one);
         others = others_set tasks id.0 now;
       };
       next = refl;
       cores = cores_set cores tile core id held within is;
-      rest = refl;
+      frame = refl;
     })) least free

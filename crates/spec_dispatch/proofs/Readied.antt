@@ -14,7 +14,7 @@ use Rattle.spec_dispatch.proofs.Renumbers.{now, was}
 
 module _ (old new : View) (r : Renumbers old new) where
   same_queue : (tile : ℕ) → queue_at new tile ≡ queue_at old tile
-  same_queue tile = ap (λ v. queue_at v tile) r.rest
+  same_queue tile = ap (λ v. queue_at v tile) r.frame
 
   -- where a task stood it stands, but for its numbers
   stood : (tile place id : ℕ) (x : Task) → IsQueuedAt new tile place id x → (w : Task) × IsQueuedAt old tile place id w × (x ≡ renumbered_task r.table w)
@@ -45,10 +45,10 @@ module _ (old new : View) (r : Renumbers old new) where
 
   least_renumbered : (tile id : ℕ) (task : Task) → IsLeastIdle old tile id task → IsLeastIdle new tile id (renumbered_task r.table task)
   least_renumbered tile id task least = record {
-    this = record {
-      queued = subst (λ ids. Contains ids id) (sym (same_queue tile)) least.this.queued;
-      there = now old new r id task least.this.there;
-      idle = least.this.idle;
+    idle = record {
+      queued = subst (λ ids. Contains ids id) (sym (same_queue tile)) least.idle.queued;
+      there = now old new r id task least.idle.there;
+      idle = least.idle.idle;
     };
     least = λ k x other idle. (let one = idle_was tile k x idle in precedes tile id k (least.least k one.0 other one.1));
   }
@@ -64,4 +64,4 @@ least_still old new tile id (renumbers after high r) least = (renumbered_task r.
 -- a free core is still free
 pub free_still : (old new : View) (tile core : ℕ) → FreesNumber old new → IsFreeCore old tile core → IsFreeCore new tile core
 free_still old new tile core (has_free low) free = free
-free_still old new tile core (renumbers after high r) free = subst (λ v. IsFreeCore v tile core) (sym r.rest) free
+free_still old new tile core (renumbers after high r) free = subst (λ v. IsFreeCore v tile core) (sym r.frame) free

@@ -6,12 +6,12 @@ use Rattle.std.specs.List.Sorted.{IsStrictlyIncreasing}
 use Rattle.std.proofs.lemmas.List.{length-map, get_or_default, take_at}
 use Rattle.std.proofs.lemmas.List.Elements.{All-nil, All-cons, Contains-append_left, Contains-append_right}
 use Rattle.std.proofs.lemmas.List.Sums.{sum_by-cons, sum_by-le}
-use Rattle.commit_arbiter.specs.declared.entry.Entry.{Entry as Indexed}
-use Rattle.commit_arbiter.specs.Indexed.{HoldsEntries as HoldsIndexed, renumbered_entry as renumbered_indexed}
+use Rattle.commit_arbiter.specs.declared.candidate.Candidate.{Candidate}
+use Rattle.commit_arbiter.specs.Indexed.{HoldsCandidates, renumbered_candidate}
 use Rattle.fractal_vt.specs.declared.level.Level.{Level}
 use Rattle.run_journal.specs.declared.journal.Entry.{Entry}
-use Rattle.fractal_vt.specs.Renumbered.{place_in, renumbered, renumbered_level, HoldsKey}
-use Rattle.spill_store.specs.Entries.{Entry as Spilled, BlockValue, HoldsEntries, open_key, renumbered_entry}
+use Rattle.fractal_vt.specs.Renumbered.{place_in, renumbered_levels, renumbered_level, HoldsKey}
+use Rattle.spill_store.specs.SpilledTasks.{Spilled, BlockValue, HoldsSpilled, open_key, renumbered_spilled}
 use Rattle.slab.specs.Slab.{Slab}
 use Rattle.tile_queues.specs.Queue.{QueueValue}
 use Rattle.spec_state.specs.declared.settings.Settings.{Settings}
@@ -21,10 +21,10 @@ use Rattle.spec_state.specs.declared.task.Task.{Task}
 use Rattle.spec_state.specs.View.{View, task_at}
 use Rattle.spec_state.specs.Settings.{IsValid}
 use Rattle.spec_state.specs.Tasks.{depth_of}
-use Rattle.spec_state.specs.Fits.{seen, entries_in, queued_count, HasTiles, HasSlots}
+use Rattle.spec_state.specs.Fits.{view_of_parts, entries_in, queued_count, HasTiles, HasSlots, SlotCounts}
 use Rattle.spec_state.specs.Children.{AreNoted, ChildrenValue, IsChildAt}
 use Rattle.spec_state.specs.Numbers.{IsInUse, IsPathsOrTasks, IsNumberTable, Renumbers, renumbered_task, on_path, of_task}
-use Rattle.spec_state.specs.Stored.{HasCore, IsThere, IsWellFormed, IsStored, IsIndexed, entry_of}
+use Rattle.spec_state.specs.Stored.{HasCore, HasTask, IsWellFormed, IsStored, IsIndexed, candidate_of}
 use Rattle.spec_state.proofs.Proved.{noted_back, table_holds_spilled, table_holds_task}
 use Rattle.spec_dispatch.specs.Table.{held_numbers}
 use Rattle.spec_dispatch.proofs.Tabled.{held_are}
@@ -56,9 +56,11 @@ as_many_mapped f (t ∷ tasks) =
     omega (arith, now, was, same, rest)
 
 -- no more tasks are there than the task queues hold at most
-pub few_tasks : (settings : Settings) (tasks : List (Option Task)) (queues finished : List QueueValue) (core_lists block_lists slots indexed entries marks members arrivals room : ℕ) → IsValid settings
-    → HasTiles settings queues finished core_lists block_lists → HasSlots settings tasks slots queues indexed entries marks members arrivals room → count_by is_some tasks ≤ 4096
-few_tasks settings tasks queues finished core_lists block_lists slots indexed entries marks members arrivals room valid tiles has =
+pub few_tasks : (settings : Settings) (tasks : List (Option Task)) (queues finished : List QueueValue)
+    (core_lists block_lists : ℕ) (counts : SlotCounts) → IsValid settings
+    → HasTiles settings queues finished core_lists block_lists → HasSlots settings tasks queues counts
+    → count_by is_some tasks ≤ 4096
+few_tasks settings tasks queues finished core_lists block_lists counts valid tiles has =
     let fits : queued_count queues ≤ length queues * settings.task_queue = sum_by-le (λ q. length q.ids) settings.task_queue queues has.short in
     let most : length queues * settings.task_queue ≤ 4096 = product (length queues) settings.task_queue (omega (arith, tiles.queue_count, valid.tiles.1)) valid.task_queue.1 in
     omega (arith, fits, most, has.used)
@@ -90,48 +92,52 @@ is_table_here view now tasks table filled same slots is rising exact held =
     subst (IsNumberTable view) (sym is) (is_table view filled tasks slots rising exact (subst (λ v. (n : ℕ) → IsInUse v n → IsPathsOrTasks v n) (sym same) held))
 
 -- slots and entries are as many as they should be
-pub slots_renumbered : (settings : Settings) (tasks : List (Option Task)) (queues : List QueueValue) (slots indexed entries marks members arrivals room : ℕ)
-    → HasSlots settings tasks slots queues indexed entries marks members arrivals room → (table : List ℕ) (now : List (Option Task)) (slots_now indexed_now entries_now room_now : ℕ)
-    → now ≡ map (option_map (renumbered_task table)) tasks → slots_now ≡ slots → indexed_now ≡ indexed → entries_now ≡ entries → room ≤ room_now
-    → HasSlots settings now slots_now queues indexed_now entries_now marks members arrivals room_now
-slots_renumbered settings tasks queues slots indexed entries marks members arrivals room has table now slots_now indexed_now entries_now room_now is same_slots same_indexed same_entries upto = record {
-  enough = omega (arith, has.enough, same_slots);
-  used = ap (count_by is_some) is ∙ as_many_mapped (renumbered_task table) tasks ∙ has.used;
-  short = has.short;
-  index = same_entries ∙ has.index;
-  indexed_are = omega (arith, has.indexed_are, same_indexed);
-  marks = has.marks ∙ sym same_slots;
-  members = has.members ∙ sym same_slots;
-  arrivals = has.arrivals ∙ sym same_slots;
-  numbers = omega (arith, has.numbers, upto);
-}
+pub slots_renumbered : (settings : Settings) (tasks : List (Option Task)) (queues : List QueueValue)
+    (counts : SlotCounts) → HasSlots settings tasks queues counts
+    → (table : List ℕ) (now : List (Option Task)) (slots_now indexed_now capacity_now numbers_now : ℕ)
+    → now ≡ map (option_map (renumbered_task table)) tasks → slots_now ≡ counts.slots → indexed_now ≡ counts.indexed
+    → capacity_now ≡ counts.capacity → counts.numbers ≤ numbers_now
+    → HasSlots settings now queues
+    (record counts { slots = slots_now; indexed = indexed_now; capacity = capacity_now; numbers = numbers_now })
+slots_renumbered settings tasks queues counts has table now slots_now indexed_now capacity_now numbers_now is same_slots
+    same_indexed same_capacity upto = record {
+      enough = omega (arith, has.enough, same_slots);
+      used = ap (count_by is_some) is ∙ as_many_mapped (renumbered_task table) tasks ∙ has.used;
+      short = has.short;
+      index = same_capacity ∙ has.index;
+      indexed_are = omega (arith, has.indexed_are, same_indexed);
+      marks = has.marks ∙ sym same_slots;
+      members = has.members ∙ sym same_slots;
+      arrivals = has.arrivals ∙ sym same_slots;
+      numbers = omega (arith, has.numbers, upto);
+    }
 
 -- the renumbering, by the parts
 pub renumbers_seen : (version : ℕ) (settings : Settings) (tasks : List (Option Task)) (memory : List ℕ) (history : List Entry) (output : List ℕ) (next : ℕ) (path : List Level)
     (queues finished : List QueueValue) (cores : List (List (Option ℕ))) (blocks : List (List Spilled)) (table : List ℕ) (tasks_now : List (Option Task)) (path_now : List Level)
     (blocks_now : List (List Spilled)) (next_now : ℕ)
-    → tasks_now ≡ map (option_map (renumbered_task table)) tasks → path_now ≡ renumbered table path → blocks_now ≡ map (map (renumbered_entry table)) blocks → next_now ≡ length table
-    → (view : View) → seen version settings tasks memory history output next path queues finished cores blocks ≡ view → IsNumberTable (seen version settings tasks memory history output next path queues finished cores blocks) table
-    → Renumbers view (seen version settings tasks_now memory history output next_now path_now queues finished cores blocks_now)
+    → tasks_now ≡ map (option_map (renumbered_task table)) tasks → path_now ≡ renumbered_levels table path → blocks_now ≡ map (map (renumbered_spilled table)) blocks → next_now ≡ length table
+    → (view : View) → view_of_parts version settings tasks memory history output next path queues finished cores blocks ≡ view → IsNumberTable (view_of_parts version settings tasks memory history output next path queues finished cores blocks) table
+    → Renumbers view (view_of_parts version settings tasks_now memory history output next_now path_now queues finished cores blocks_now)
 renumbers_seen version settings tasks memory history output next path queues finished cores blocks table tasks_now path_now blocks_now next_now tasks_are path_is blocks_are next_is view same is =
-    subst (λ v. Renumbers v (seen version settings tasks_now memory history output next_now path_now queues finished cores blocks_now)) same
-    (record { table = table; is_table = is; tasks = tasks_are; blocks = blocks_are; path = path_is; next = next_is; rest = refl })
+    subst (λ v. Renumbers v (view_of_parts version settings tasks_now memory history output next_now path_now queues finished cores blocks_now)) same
+    (record { table = table; is_table = is; tasks = tasks_are; blocks = blocks_are; path = path_is; next = next_is; frame = refl })
 
 module _ (view : View) (table : List ℕ) (is : IsNumberTable view table) where
   -- it holds the numbers of the index
-  pub index_held : (arrivals : List ℕ) (next : ℕ) (entries : List Indexed) → IsIndexed view.tasks view.queues arrivals next entries → HoldsIndexed table entries
+  pub index_held : (arrivals : List ℕ) (next : ℕ) (entries : List Candidate) → IsIndexed view.tasks view.queues arrivals next entries → HoldsCandidates table entries
   index_held arrivals next entries indexed = λ k d within.
       (let one = indexed.each (slice_index_or entries k d) (k, within, get_or_default entries k _ d within) in
-      subst (HoldsKey table) (sym (ap (λ (e : Indexed). e.key) one.2)) (table_holds_task view table is (slice_index_or entries k d).id one.0 one.1))
+      subst (HoldsKey table) (sym (ap (λ (e : Candidate). e.key) one.2)) (table_holds_task view table is (slice_index_or entries k d).id one.0 one.1))
 
   -- and those of all blocks
-  pub blocks_held : All (HoldsEntries table) view.blocks
+  pub blocks_held : All (HoldsSpilled table) view.blocks
   blocks_held = among view.blocks (λ s has. table_holds_spilled view table is s has)
     where
-      among : (blocks : List (List Spilled)) → ((s : Spilled) → Contains (flat_map (λ b. b) blocks) s → HoldsKey table (open_key s)) → All (HoldsEntries table) blocks
-      among [] each = All-nil (HoldsEntries table)
+      among : (blocks : List (List Spilled)) → ((s : Spilled) → Contains (flat_map (λ b. b) blocks) s → HoldsKey table (open_key s)) → All (HoldsSpilled table) blocks
+      among [] each = All-nil (HoldsSpilled table)
       among (b ∷ blocks) each =
-          All-cons (HoldsEntries table) b blocks
+          All-cons (HoldsSpilled table) b blocks
           (λ k d within. each (slice_index_or b k d) (Contains-append_left b (flat_map (λ c. c) blocks) (slice_index_or b k d) (k, within, get_or_default b k _ d within)))
           (among blocks (λ s has. each s (Contains-append_right b (flat_map (λ c. c) blocks) s has)))
 
@@ -145,10 +151,10 @@ module _ (old new : View) (r : Renumbers old new) where
   pub was : (id : ℕ) (t : Task) → task_at new id ≡ Some t → (w : Task) × (task_at old id ≡ Some w) × (t ≡ renumbered_task r.table w)
   was id t there = mapped_some (renumbered_task r.table) (task_at old id) t (sym (each id) ∙ there)
 
-  forth : (kind : Status → Type 0) (tile id : ℕ) → IsThere old tile id kind → IsThere new tile id kind
+  forth : (kind : Status → Type 0) (tile id : ℕ) → HasTask old tile id kind → HasTask new tile id kind
   forth kind tile id has = (renumbered_task r.table has.0, now id has.0 has.1, has.2, has.3)
 
-  back : (kind : Status → Type 0) (tile id : ℕ) → IsThere new tile id kind → IsThere old tile id kind
+  back : (kind : Status → Type 0) (tile id : ℕ) → HasTask new tile id kind → HasTask old tile id kind
   back kind tile id has =
       let one = was id has.0 has.1 in
       (one.0, one.1, sym (ap (λ t. t.tile) one.2) ∙ has.2, subst (λ t. kind t.status) one.2 has.3)
@@ -168,7 +174,7 @@ module _ (old new : View) (r : Renumbers old new) where
 
   -- the lists hold what they should
   pub stored_renumbered : (size : ℕ) → IsStored size old → IsStored size new
-  stored_renumbered size stored = subst (IsStored size) (sym r.rest)
+  stored_renumbered size stored = subst (IsStored size) (sym r.frame)
       (record {
         queued_are = λ tile id. (
           λ has. forth (λ status. Unit {0}) tile id ((stored.queued_are tile id).0 has),
@@ -188,36 +194,36 @@ module _ (old new : View) (r : Renumbers old new) where
       })
 
 -- the index holds the renumbered tasks
-pub indexed_renumbered : (table : List ℕ) (tasks : List (Option Task)) (lists : List (List ℕ)) (arrivals : List ℕ) (next : ℕ) (entries : List Indexed)
-    → IsIndexed tasks lists arrivals next entries → IsIndexed (map (option_map (renumbered_task table)) tasks) lists arrivals next (map (renumbered_indexed table) entries)
+pub indexed_renumbered : (table : List ℕ) (tasks : List (Option Task)) (lists : List (List ℕ)) (arrivals : List ℕ) (next : ℕ) (entries : List Candidate)
+    → IsIndexed tasks lists arrivals next entries → IsIndexed (map (option_map (renumbered_task table)) tasks) lists arrivals next (map (renumbered_candidate table) entries)
 indexed_renumbered table tasks lists arrivals next entries is = record {
   all = λ id t there.
       (let one = mapped_some (renumbered_task table) (slice_index_or tasks id None) t (sym (option_mapped (renumbered_task table) tasks id) ∙ there) in
-      subst (λ x. Contains (map (renumbered_indexed table) entries) (entry_of arrivals id x)) (sym one.2) (into entries (entry_of arrivals id one.0) (is.all id one.0 one.1)));
+      subst (λ x. Contains (map (renumbered_candidate table) entries) (candidate_of arrivals id x)) (sym one.2) (into entries (candidate_of arrivals id one.0) (is.all id one.0 one.1)));
   each = λ e has.
       (let one = from entries e has in
       let task = is.each one.0 one.1 in
-      let ids : e.id ≡ one.0.id = ap (λ (x : Indexed). x.id) one.2 in (
+      let ids : e.id ≡ one.0.id = ap (λ (x : Candidate). x.id) one.2 in (
         renumbered_task table task.0,
         option_mapped (renumbered_task table) tasks e.id ∙ ap (λ j. option_map (renumbered_task table) (slice_index_or tasks j None)) ids ∙ ap (option_map (renumbered_task table)) task.1,
-        one.2 ∙ ap (renumbered_indexed table) task.2 ∙ ap (λ j. entry_of arrivals j (renumbered_task table task.0)) (sym ids),
+        one.2 ∙ ap (renumbered_candidate table) task.2 ∙ ap (λ j. candidate_of arrivals j (renumbered_task table task.0)) (sym ids),
       ));
   early = is.early;
   rising = is.rising;
 }
   where
-    into : (es : List Indexed) (e : Indexed) → Contains es e → Contains (map (renumbered_indexed table) es) (renumbered_indexed table e)
+    into : (es : List Candidate) (e : Candidate) → Contains es e → Contains (map (renumbered_candidate table) es) (renumbered_candidate table e)
     into [] e has = absurd (omega (arith, has.1))
-    into (x ∷ es) e (zero, low, at) = (zero, omega arith, ap (renumbered_indexed table) at)
+    into (x ∷ es) e (zero, low, at) = (zero, omega arith, ap (renumbered_candidate table) at)
     into (x ∷ es) e (suc k, low, at) = (let more = into es e (k, omega (arith, low), at) in (suc more.0, (let below = more.1 in omega (arith, below)), more.2))
 
-    from : (es : List Indexed) (e : Indexed) → Contains (map (renumbered_indexed table) es) e → (x : Indexed) × Contains es x × (e ≡ renumbered_indexed table x)
+    from : (es : List Candidate) (e : Candidate) → Contains (map (renumbered_candidate table) es) e → (x : Candidate) × Contains es x × (e ≡ renumbered_candidate table x)
     from [] e has = absurd (omega (arith, has.1))
     from (x ∷ es) e (zero, low, at) = (x, (zero, omega arith, refl), sym at)
     from (x ∷ es) e (suc k, low, at) = (let more = from es e (k, omega (arith, low), at) in (more.0, (suc more.1.0, (let below = more.1.1 in omega (arith, below)), more.1.2), more.2))
 
-pub indexed_after : (table : List ℕ) (tasks now : List (Option Task)) (lists : List (List ℕ)) (arrivals : List ℕ) (next : ℕ) (entries entries_now : List Indexed)
-    → IsIndexed tasks lists arrivals next entries → now ≡ map (option_map (renumbered_task table)) tasks → entries_now ≡ map (renumbered_indexed table) entries
+pub indexed_after : (table : List ℕ) (tasks now : List (Option Task)) (lists : List (List ℕ)) (arrivals : List ℕ) (next : ℕ) (entries entries_now : List Candidate)
+    → IsIndexed tasks lists arrivals next entries → now ≡ map (option_map (renumbered_task table)) tasks → entries_now ≡ map (renumbered_candidate table) entries
     → IsIndexed now lists arrivals next entries_now
 indexed_after table tasks now lists arrivals next entries entries_now is tasks_are entries_are =
     subst (λ ts. IsIndexed ts lists arrivals next entries_now) (sym tasks_are)
@@ -237,7 +243,8 @@ noted_after table tasks now children is = noted_back tasks now children back
 
 -- what the blocks hold, once they were lent as a slice
 pub blocks_after : (table : List ℕ) (blocks lent now : List BlockValue) (count : ℕ) → lent ≡ blocks → length lent ≡ count → length now ≡ length lent
-    → entries_in now ≡ map (map (renumbered_entry table)) (entries_in lent)
-    → entries_in (take count (now ++ drop (length now) blocks)) ≡ map (map (renumbered_entry table)) (entries_in blocks)
+    → entries_in now ≡ map (map (renumbered_spilled table)) (entries_in lent)
+    → entries_in (take count (now ++ drop (length now) blocks))
+    ≡ map (map (renumbered_spilled table)) (entries_in blocks)
 blocks_after table blocks lent now count same long stays is =
-    ap entries_in (take_at now (drop (length now) blocks) count (stays ∙ long)) ∙ is ∙ ap (λ bs. map (map (renumbered_entry table)) (entries_in bs)) same
+    ap entries_in (take_at now (drop (length now) blocks) count (stays ∙ long)) ∙ is ∙ ap (λ bs. map (map (renumbered_spilled table)) (entries_in bs)) same

@@ -3,7 +3,7 @@ use Rattle.std.proofs.Common.{◌≡◌, ◌<◌, ◌+◌, ◌∷◌, ◌++◌, 
 use Rattle.std.specs.Prelude.{All, slice_set}
 use Rattle.std.proofs.lemmas.List.{length-map, map-set, get_or-map}
 use Rattle.std.proofs.lemmas.List.Edits.{map_over_more}
-use Rattle.spill_store.specs.Entries.{BlockValue, renumbered_entry, HoldsEntries}
+use Rattle.spill_store.specs.SpilledTasks.{BlockValue, renumbered_spilled, HoldsSpilled}
 use Rattle.spec_state.specs.Fits.{entries_in}
 
 -- the first items are replaced, and the others stand as they did
@@ -46,7 +46,7 @@ module _ {X : Type 0} (f : X → X) where
       ∙ some_next xs i x (ap (λ zs. slice_index_or zs i None) (sym is) ∙ at) ∙ ap (over (option_map f) xs) next
 
 module _ (table : List ℕ) (first blocks : List BlockValue) (tile : ℕ) (block : BlockValue) (within : tile < length blocks) (long : length blocks ≡ length first)
-    (is : entries_in blocks ≡ over (map (renumbered_entry table)) (entries_in first) tile) (at : block ≡ slice_index_or blocks tile block) where
+    (is : entries_in blocks ≡ over (map (renumbered_spilled table)) (entries_in first) tile) (at : block ≡ slice_index_or blocks tile block) where
   in_lists : tile < length (entries_in first)
   in_lists = omega (arith, within, long, length-map first (λ (b : BlockValue). b.entries))
 
@@ -54,17 +54,17 @@ module _ (table : List ℕ) (first blocks : List BlockValue) (tile : ℕ) (block
   own_entries = ap (λ (b : BlockValue). b.entries) at ∙ sym (get_or-map (λ (b : BlockValue). b.entries) blocks tile block block.entries within)
 
   -- the table holds the numbers of a block to which the walk comes
-  pub block_held : All (HoldsEntries table) (entries_in first) → HoldsEntries table block.entries
+  pub block_held : All (HoldsSpilled table) (entries_in first) → HoldsSpilled table block.entries
   block_held all =
-      subst (HoldsEntries table) (sym (own_entries ∙ ap (λ lists. slice_index_or lists tile block.entries) is ∙ behind (map (renumbered_entry table)) (entries_in first) tile block.entries))
+      subst (HoldsSpilled table) (sym (own_entries ∙ ap (λ lists. slice_index_or lists tile block.entries) is ∙ behind (map (renumbered_spilled table)) (entries_in first) tile block.entries))
       (all tile block.entries in_lists)
 
   -- its tasks are renumbered
-  pub entries_more : (after : BlockValue) → after.entries ≡ map (renumbered_entry table) block.entries
-      → entries_in (slice_set blocks tile after) ≡ over (map (renumbered_entry table)) (entries_in first) (tile + 1)
+  pub entries_more : (after : BlockValue) → after.entries ≡ map (renumbered_spilled table) block.entries
+      → entries_in (slice_set blocks tile after) ≡ over (map (renumbered_spilled table)) (entries_in first) (tile + 1)
   entries_more after renumbered =
       map-set (λ (b : BlockValue). b.entries) blocks tile after ∙ ap (slice_set (entries_in blocks) tile) renumbered
-      ∙ map_over_more (map (renumbered_entry table)) (entries_in first) (entries_in blocks) tile block.entries in_lists is own_entries
+      ∙ map_over_more (map (renumbered_spilled table)) (entries_in first) (entries_in blocks) tile block.entries in_lists is own_entries
 
 -- and its room stays
 pub spare_same : (blocks : List BlockValue) (tile : ℕ) (block after : BlockValue) → block ≡ slice_index_or blocks tile block → after.spare ≡ block.spare

@@ -5,8 +5,8 @@ use Rattle.spec_state.specs.declared.task.Status.TheVariants.{Running}
 use Rattle.spec_state.specs.declared.task.Task.{Task}
 
 -- the task on a core, at its start, with a dispatch number
-abbrev pub started : ℕ → ℕ → ℕ → Task → Task
-started version core number task = record task {
+abbrev pub started_task : ℕ → ℕ → ℕ → Task → Task
+started_task version core number task = record task {
   key = record task.key { tb = Some number };
   status = Running core;
   core = start_of version task.entry task.key.ts task.args;

@@ -5,9 +5,9 @@ use Rattle.slab.specs.Slab.{Slab, entries}
 use Rattle.spec_state.specs.declared.task.Task.{Task}
 
 -- the numbers of those of these tasks that are dispatched
-abbrev pub numbers_of : List (ℕ × Task) → List ℕ
-numbers_of tasks = filter_map (λ entry. entry.1.key.tb) tasks
+abbrev pub dispatch_numbers_of : List (ℕ × Task) → List ℕ
+dispatch_numbers_of tasks = filter_map (λ entry. entry.1.key.tb) tasks
 
 -- the tiebreakers of the path, and then the numbers of the dispatched tasks
 abbrev pub held_numbers : List Level → Slab Task → List ℕ
-held_numbers path tasks = map (λ level. level.tb) path ++ numbers_of (entries tasks)
+held_numbers path tasks = map (λ level. level.tb) path ++ dispatch_numbers_of (entries tasks)

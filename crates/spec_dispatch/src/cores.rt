@@ -1,3 +1,5 @@
+//! The free cores of a tile.
+
 ghost use Rattle.std.specs.Prelude.{◌≡◌, ◌<◌, ◌↔◌, ℕ, IsNone, IfSome, length};
 ghost use Rattle.spec_state.specs.View.{cores_at};
 ghost use Rattle.spec_state.specs.Queries.{IsFreeCore, IsLowestFree};

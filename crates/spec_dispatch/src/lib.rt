@@ -2,9 +2,9 @@
 //! all numbers are given, those in use are renumbered first.
 //!
 //! It stands on the state of the machine, whose lists, index and tasks it changes. `dispatch` finds out which task
-//! goes; `dispatch_task` is told, by a caller that knows. Whether a core is free `free_core` tells. `book_move` calls
+//! goes; `dispatch_task` is told, by a caller that knows. `free_core` tells a free core. `event_move` and the book call
 //! it. A dispatch costs a look at each core of its tile and one change of the index; a renumbering costs a walk over
-//! all tasks. No call takes memory: the state keeps room for the table of a renumbering.
+//! all tasks. No call takes memory: the state keeps memory for the table of a renumbering.
 #![tactic(auto)]
 
 mod cores;

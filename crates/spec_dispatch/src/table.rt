@@ -5,7 +5,7 @@ ghost use Rattle.std.specs.Prelude.{vec_capacity};
 ghost use Rattle.std.specs.List.Sorted.{IsStrictlyIncreasing};
 ghost use Rattle.fractal_vt.specs.declared.vt.TheConstants.{MAX_LEVELS};
 ghost use Rattle.slab.specs.Slab.{slab_len, entries};
-ghost use Rattle.spec_dispatch.specs.Table.{numbers_of, held_numbers};
+ghost use Rattle.spec_dispatch.specs.Table.{dispatch_numbers_of, held_numbers};
 
 use fractal_vt::Vt;
 use kept_slab::KeptSlab;
@@ -37,7 +37,7 @@ fn note_path(numbers: &mut Vec<u64>, path: &Vt)
 /// Adds the numbers of the dispatched tasks.
 fn note_tasks(numbers: &mut Vec<u64>, tasks: &KeptSlab<Task>)
     requires room { vec_len numbers.old + slab_len tasks.now ≤ vec_capacity numbers.old }
-    ensures items { numbers.new.items ≡ numbers.old.items ++ numbers_of (entries tasks.now) }
+    ensures items { numbers.new.items ≡ numbers.old.items ++ dispatch_numbers_of (entries tasks.now) }
     ensures few { vec_len numbers.new ≤ vec_len numbers.old + slab_len tasks.now }
     ensures capacity { vec_capacity numbers.old ≤ vec_capacity numbers.new }
 {

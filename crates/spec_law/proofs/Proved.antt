@@ -1,4 +1,4 @@
--- What the proofs of this crate give to those above: nothing else of them is cited there.
+-- What the proofs of this crate give to those above, but for what `outcome_law` names by its file.
 pub use Rattle.spec_law.proofs.Aborted.Cascades.{cascade_is_later, conflicts_spare_asker}
 pub use Rattle.spec_law.proofs.Aborted.KeptHeir.{abort_keeps_heir, upto_of}
 pub use Rattle.spec_law.proofs.Aborted.KeptSound.{abort_for_room_is_sound, abort_of_conflicts_is_sound, abort_of_later_is_sound}

@@ -2,19 +2,20 @@
 use Rattle.std.specs.Prelude.{◌≡◌, ◌/◌, ℕ, ◌<◌, Bool, true, false, length, Some}
 use Rattle.guest_image.specs.declared.image.Kind.{Kind}
 use Rattle.guest_image.specs.ImageValue.{ImageValue}
-use Rattle.rv_core.specs.LegValue.{LegValue, IsRun}
+use Rattle.rv_core.specs.LegValue.{LegValue, IsLegOfImage}
 use Rattle.rv_table.specs.declared.instr.LoadWidth.{LoadWidth}
 use Rattle.serial_machine.specs.Turn.{turn}
 use Rattle.task_desc.specs.declared.desc.Spawn.{Spawn}
 use Rattle.spec_state.specs.declared.numbers.TheConstants.{DISPATCH_NUMBERS}
-use Rattle.task_step.specs.declared.request.Request.{Request}
-use Rattle.task_step.specs.declared.request.Request.TheVariants.{Load, Store, Enqueue, MakeSub, Emit, End, Trap}
+use Rattle.task_request.specs.declared.request.Request.{Request}
+use Rattle.task_request.specs.declared.request.Request.TheVariants.{Load, Store, Enqueue, MakeSub, Emit, End, Trap}
 use Rattle.spec_state.specs.declared.task.Task.{Task}
 use Rattle.spec_state.specs.View.{View, finished_at}
 use Rattle.spec_state.specs.Tasks.{depth_of}
 use Rattle.spec_state.specs.Queries.{Conflicts}
-use Rattle.spec_state.specs.Room.{Coalesces, Splits, HasFreeEntry}
-use Rattle.spec_state.specs.Changes.{Dispatches, TakesLeg, request_of, GoesOn, KeepsTrap, Loads, Stores, Enqueues}
+use Rattle.spec_state.specs.Room.{Coalesces, Splits, QueueHasRoom}
+use Rattle.spec_state.specs.Changes.{Dispatches, TakesLeg, request_of, KeepsQuantum, KeepsTrap, LoadsFrom, StoresTo}
+use Rattle.spec_state.specs.Changes.{Enqueues}
 use Rattle.spec_state.specs.Changes.{MakesSub, Emits, Finishes, Commits}
 use Rattle.spec_law.specs.Sound.{Sound, StaysSound}
 
@@ -28,7 +29,7 @@ DispatchStaysSound =
 pub record IsLegOf (image : ImageValue) (view : View) (tile core : ℕ) (leg : LegValue) (id : ℕ)
     (task : Task) : Type 0 where
   pub takes : TakesLeg view tile core leg id task
-  pub run : IsRun image view.settings.budget leg
+  pub run : IsLegOfImage image view.settings.budget leg
 
 -- the leg is one of a running task, which asks for this at its end
 pub record AsksAt (image : ImageValue) (view : View) (tile core : ℕ) (leg : LegValue) (id : ℕ) (task : Task)
@@ -40,7 +41,7 @@ pub record AsksAt (image : ImageValue) (view : View) (tile core : ℕ) (leg : Le
 abbrev pub QuantumStaysSound : Type 0
 QuantumStaysSound =
     (image : ImageValue) (old new : View) (sound : Sound image old) (tile core id : ℕ) (leg : LegValue) (task : Task)
-    → IsLegOf image old tile core leg id task → GoesOn id task leg old new → StaysSound image old sound new
+    → IsLegOf image old tile core leg id task → KeepsQuantum id task leg old new → StaysSound image old sound new
 
 -- a trap, or a call that traps, keeps a view sound
 abbrev pub TrapStaysSound : Type 0
@@ -60,22 +61,22 @@ LoadStaysSound =
     (image : ImageValue) (old new : View) (sound : Sound image old) (tile core id : ℕ) (leg : LegValue) (task : Task)
     (width : LoadWidth) (rd offset : ℕ)
     → AsksAt image old tile core leg id task (Load width rd offset) → NoneConflicts old task offset false
-    → Loads id task leg width rd offset old new → StaysSound image old sound new
+    → LoadsFrom id task leg width rd offset old new → StaysSound image old sound new
 
 -- a store with which no task conflicts keeps a view sound
 abbrev pub StoreStaysSound : Type 0
 StoreStaysSound =
     (image : ImageValue) (old new : View) (sound : Sound image old) (tile core id : ℕ) (leg : LegValue) (task : Task)
-    (offset bytes value : ℕ)
-    → AsksAt image old tile core leg id task (Store offset bytes value) → NoneConflicts old task offset true
-    → Stores id task leg offset bytes value old new → StaysSound image old sound new
+    (offset width value : ℕ)
+    → AsksAt image old tile core leg id task (Store offset width value) → NoneConflicts old task offset true
+    → StoresTo id task leg offset width value old new → StaysSound image old sound new
 
--- an enqueue, to a tile whose task queue has a free entry, keeps a view sound
+-- an enqueue, to a tile whose task queue has a free place, keeps a view sound
 abbrev pub EnqueueStaysSound : Type 0
 EnqueueStaysSound =
     (image : ImageValue) (old new : View) (sound : Sound image old) (tile core id target : ℕ) (leg : LegValue)
     (task : Task) (spawn : Spawn)
-    → AsksAt image old tile core leg id task (Enqueue spawn) → target < old.settings.tiles → HasFreeEntry old target
+    → AsksAt image old tile core leg id task (Enqueue spawn) → target < old.settings.tiles → QueueHasRoom old target
     → Enqueues id task leg spawn target old new → StaysSound image old sound new
 
 -- a call that makes a subdomain keeps a view sound
@@ -94,7 +95,7 @@ ByteStaysSound =
     → AsksAt image old tile core leg id task (Emit byte) → Emits id task leg byte old new
     → StaysSound image old sound new
 
--- an end call, where the commit queue has a free entry, keeps a view sound
+-- an end call, where the commit queue has a free place, keeps a view sound
 abbrev pub EndStaysSound : Type 0
 EndStaysSound =
     (image : ImageValue) (old new : View) (sound : Sound image old) (tile core id : ℕ) (leg : LegValue) (task : Task)
@@ -106,11 +107,11 @@ abbrev pub CoalesceStaysSound : Type 0
 CoalesceStaysSound = (image : ImageValue) (old new : View) (sound : Sound image old) (tile : ℕ)
     → Coalesces tile old new → StaysSound image old sound new
 
--- a split, where the task queue has a free entry, keeps a view sound
+-- a split, where the task queue has a free place, keeps a view sound
 abbrev pub SplitStaysSound : Type 0
 SplitStaysSound =
     (image : ImageValue) (old new : View) (sound : Sound image old) (tile : ℕ)
-    → tile < old.settings.tiles → HasFreeEntry old tile → Splits tile old new → StaysSound image old sound new
+    → tile < old.settings.tiles → QueueHasRoom old tile → Splits tile old new → StaysSound image old sound new
 
 -- a commit, while fewer tasks have committed than may, is a turn of the serial machine, and its view is sound
 -- against the state after that turn

@@ -5,8 +5,8 @@ use Rattle.abort_cascade.specs.Cascade.{Marked}
 use Rattle.fractal_vt.specs.Keys.{key_cmp}
 use Rattle.guest_image.specs.ImageValue.{ImageValue}
 use Rattle.serial_machine.specs.BagValue.{BagValue}
-use Rattle.spill_store.specs.Entries.{Entry as Spilled}
-use Rattle.turn_law.specs.Commit.{HasTurn}
+use Rattle.spill_store.specs.SpilledTasks.{Spilled}
+use Rattle.task_law.specs.Commit.{HasTurn}
 use Rattle.spec_state.specs.declared.task.Creator.{Creator}
 use Rattle.spec_state.specs.declared.task.Creator.TheVariants.{Committed}
 use Rattle.spec_state.specs.declared.task.Task.{Task}
@@ -15,9 +15,9 @@ use Rattle.spec_state.specs.Tasks.{depth_of}
 use Rattle.spec_state.specs.Groups.{all_spilled, bag_task, bag_spilled}
 use Rattle.spec_state.specs.Least.{Spot, Spilled_at, IsLeastSpot, IsLeastTask, HasName}
 use Rattle.spec_state.specs.Queries.{Conflicts}
-use Rattle.spec_state.specs.Aborts.{IsCascade, IsUndone, Only, UndoesAll}
+use Rattle.spec_state.specs.Aborts.{IsCascade, IsUndone, OnlyNode, UndoesAll}
 use Rattle.spec_law.specs.Sound.{Sound}
-use Rattle.turn_law.specs.Tasks.{pending}
+use Rattle.task_law.specs.Tasks.{pending}
 
 -- there is one least task at most: two spots of least tasks are one
 abbrev pub LeastIsOne : Type 0
@@ -55,7 +55,7 @@ SpilledAreFirm =
 abbrev pub CascadeIsLater : Type 0
 CascadeIsLater =
     (image : ImageValue) (view : View) (first : ℕ) (task : Task) (marks : List Bool)
-    → Sound image view → task_at view first ≡ Some task → IsCascade view (Only first) marks
+    → Sound image view → task_at view first ≡ Some task → IsCascade view (OnlyNode first) marks
     → (id : ℕ) → Marked marks id → id ≢ first
     → (x : Task) × (task_at view id ≡ Some x) × (key_cmp task.key x.key ≡ Less)
 

@@ -1,3 +1,4 @@
+-- Contracts mean all of these.
 pub mod Sound
 pub mod Laws
 pub mod AbortLaws

@@ -7,15 +7,15 @@ use Rattle.guest_image.specs.ImageValue.{ImageValue}
 use Rattle.order_law.specs.Events.{IsPlaced}
 use Rattle.rv_core.specs.LegValue.{LegValue}
 use Rattle.task_desc.specs.declared.desc.Spawn.{Spawn}
-use Rattle.task_step.specs.declared.request.Request.TheVariants.{Enqueue}
-use Rattle.turn_law.specs.Room as room
+use Rattle.task_request.specs.declared.request.Request.TheVariants.{Enqueue}
+use Rattle.task_law.specs.Room as room
 use Rattle.spec_state.specs.declared.task.Creator.TheVariants.{Live}
 use Rattle.spec_state.specs.declared.task.Task.{Task}
 use Rattle.spec_state.specs.View.{View, task_at, queue_at, block_at}
 use Rattle.spec_state.specs.Tasks.{is_dispatched, child_descriptor, idle_task}
-use Rattle.spec_state.specs.Groups.{keyed_task, waiting_task, waiting}
+use Rattle.spec_state.specs.Groups.{keyed_task, room_task, room_tasks}
 use Rattle.spec_state.specs.Least.{IsFirm, IsLeastTask, IsLeastSpilled}
-use Rattle.spec_state.specs.Room.{Asker, Enqueuer, Splitter, IsMovable, Coalesces, Splits, HasFreeEntry, NoneMoves}
+use Rattle.spec_state.specs.Room.{Asker, Enqueuer, Splitter, IsMovable, Coalesces, Splits, QueueHasRoom, NoneMoves}
 use Rattle.spec_state.specs.Room.{IsVictim, MakesRoom, IsTakenFor}
 use Rattle.spec_state.specs.Changes.{TakesLeg, request_of}
 use Rattle.spec_law.specs.Sound.{Sound}
@@ -24,13 +24,13 @@ use Rattle.spec_law.specs.Sound.{Sound}
 abbrev pub FirmIsFirm : Type 0
 FirmIsFirm =
     (image : ImageValue) (view : View) (sound : Sound image view) (task : Task)
-    → IsFirm view task ↔ room.IsFirm sound.heir (waiting_task task)
+    → IsFirm view task ↔ room.IsFirmInQueue sound.heir (room_task task)
 
 -- in a sound view a task of a tile's queue may move exactly where the laws of room let it
 abbrev pub MovableIsMovable : Type 0
 MovableIsMovable =
     (image : ImageValue) (view : View) (sound : Sound image view) (tile id : ℕ)
-    → IsMovable view tile id ↔ room.IsMovable (waiting view) sound.heir (queue_at view tile) id
+    → IsMovable view tile id ↔ room.IsMovableInQueue (room_tasks view) sound.heir (queue_at view tile) id
 
 -- the task that asks, if a task does
 abbrev pub asking_task : Asker → Option ℕ
@@ -42,7 +42,7 @@ abbrev pub VictimIsVictim : Type 0
 VictimIsVictim =
     (view : View) (tile : ℕ) (asker : Asker) (id : ℕ) (task : Task)
     → IsVictim view tile asker id task
-    → room.IsVictim (waiting view) (queue_at view tile) (asking_task asker) id (waiting_task task)
+    → room.IsVictimInQueue (room_tasks view) (queue_at view tile) (asking_task asker) id (room_task task)
 
 -- who asks does so for the least task, whose key this is: it asks itself, dispatched, or is spilled in this tile
 abbrev pub AsksAsLeast : View → ℕ → Asker → Key → Type 0
@@ -74,11 +74,11 @@ CoalesceMakesRoom =
     → (length (queue_at new tile) < length (queue_at old tile))
     × ((other : ℕ) → length (queue_at new other) ≤ length (queue_at old other))
 
--- in a sound view a tile's queue has a free entry once room was made in it, by whichever rule
+-- in a sound view a tile's queue has room once it was made in it, by whichever rule
 abbrev pub RoomIsMade : Type 0
 RoomIsMade =
     (image : ImageValue) (tile aborted : ℕ) (asker : Asker) (old new : View)
-    → Sound image old → MakesRoom tile asker old aborted new → HasFreeEntry new tile
+    → Sound image old → MakesRoom tile asker old aborted new → QueueHasRoom new tile
 
 -- the task of this id has this key
 abbrev pub HasKeyAt : View → ℕ → Key → Type 0
@@ -89,7 +89,7 @@ HasKeyAt view id key = (task : Task) × (task_at view id ≡ Some task) × (task
 abbrev pub SplitReturnsLeast : Type 0
 SplitReturnsLeast =
     (tile : ℕ) (old new : View) (least : IsLeastSpilled old tile) (splits : Splits tile old new)
-    → (slice_get (block_at old tile) least.place ≡ Some splits.s) × HasKeyAt new splits.id least.least.key
+    → (slice_get (block_at old tile) least.place ≡ Some splits.spilled) × HasKeyAt new splits.id least.least.key
 
 -- in a sound view, where the least task is spilled in a tile, the task that comes back by a split is the least one
 -- from then on

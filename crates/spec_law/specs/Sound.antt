@@ -2,25 +2,25 @@
 -- would be left.
 use Rattle.std.specs.Prelude.{◌≡◌, ◌↔◌, ◌+◌, ◌^◌, ℕ, ◌<◌, ◌≤◌, [], length, map, All, Contains, Option, Some, IsSome}
 use Rattle.std.specs.Prelude.{is_some, unwrap_or, slice_get}
-use Rattle.fractal_vt.specs.Levels.{closed}
+use Rattle.fractal_vt.specs.Levels.{closed_level}
 use Rattle.guest_image.specs.ImageValue.{ImageValue}
 use Rattle.memory_law.specs.Chain.{IsChained}
 use Rattle.memory_law.specs.Notes.{notes_of}
 use Rattle.order_law.specs.Ordered.{IsOrdered}
 use Rattle.serial_machine.specs.Run.{IsRun}
-use Rattle.serial_machine.specs.State.{State}
-use Rattle.spill_store.specs.Entries.{Entry as Spilled}
+use Rattle.serial_machine.specs.State.{SerialState}
+use Rattle.spill_store.specs.SpilledTasks.{Spilled}
 use Rattle.task_desc.specs.declared.desc.Spawn.{Spawn}
 use Rattle.task_desc.specs.Record.{IsDesc}
-use Rattle.task_step.specs.declared.request.Request.{Request}
-use Rattle.task_step.specs.declared.request.Request.TheVariants.{End, Trap}
-use Rattle.task_step.specs.Steps.{passed}
-use Rattle.task_step.specs.TaskState.{TaskState, begun}
+use Rattle.task_request.specs.declared.request.Request.{Request}
+use Rattle.task_request.specs.declared.request.Request.TheVariants.{End, Trap}
+use Rattle.task_request.specs.Effects.{task_at_next}
+use Rattle.task_request.specs.TaskState.{TaskState, task_at_start}
 use Rattle.tile_queues.specs.Queue.{AreDistinct}
-use Rattle.turn_law.specs.Commit.{Matches}
-use Rattle.turn_law.specs.Domains.{FitsBags}
-use Rattle.turn_law.specs.Logged.{Asks, LoggedRun}
-use Rattle.turn_law.specs.Sound.{AreSound}
+use Rattle.task_law.specs.Commit.{Matches}
+use Rattle.task_law.specs.Domains.{FitsBags}
+use Rattle.task_law.specs.Logged.{Asks, LoggedRun}
+use Rattle.task_law.specs.Sound.{AreSound}
 use Rattle.spec_state.specs.declared.emitted.TheConstants.{MAX_EMITTED}
 use Rattle.spec_state.specs.declared.numbers.TheConstants.{DISPATCH_NUMBERS}
 use Rattle.spec_state.specs.declared.task.Creator.TheVariants.{Committed, Live}
@@ -33,17 +33,18 @@ use Rattle.spec_state.specs.View.{View, version_of, task_at, finished_at, cores_
 use Rattle.spec_state.specs.Filters.{HasNotes}
 use Rattle.spec_state.specs.Tasks.{Descriptor, depth_of, start_context, progress_at, idle_again, descriptor_of}
 use Rattle.spec_state.specs.Tasks.{spilled_descriptor, child_descriptor}
-use Rattle.spec_state.specs.Groups.{all_keyed, all_spilled, logged, bag_tasks, bags_spilled, domains_of}
+use Rattle.spec_state.specs.Groups.{all_keyed, all_spilled, logged_tasks, bag_tasks, bags_spilled, domains_of}
 use Rattle.spec_state.specs.Least.{IsHeir}
 use Rattle.spec_state.specs.Queries.{IsQueued}
+use Rattle.spec_state.specs.Stored.{HasCore, HasTask}
 
 module _ (image : ImageValue) (version budget : ℕ) where
-  -- the task's steps from its start on led to this state; its loads found the values of its log, and its stores are
+  -- its instructions from its start on led to this state; its loads found the values of its log, and its stores are
   -- those of its log
   abbrev pub RanTo : Task → TaskState → Type 0
   RanTo task =
       LoggedRun image budget image.data_size (start_context version task)
-      (begun version task.entry task.key.ts task.args []) task.log
+      (task_at_start version task.entry task.key.ts task.args []) task.log
 
   -- what the task has done so far, its loads and stores aside
   abbrev pub done_so_far : Task → TaskState
@@ -53,17 +54,17 @@ module _ (image : ImageValue) (version budget : ℕ) where
   abbrev pub AsksNext : Task → TaskState → Request → Type 0
   AsksNext task = Asks image budget image.data_size (start_context version task)
 
-  -- the task's next step is this trap
+  -- the task's next instruction is this trap
   pub record TrapsNext (task : Task) (cause : ℕ) : Type 0 where
     pub ran : RanTo task (done_so_far task)
     pub traps : AsksNext task (done_so_far task) (Trap cause)
 
-  -- the task's last step was its end call
+  -- the task's last instruction was its end call
   pub record HasEnded (task : Task) : Type 0 where
     pub before : TaskState
     pub ran : RanTo task before
     pub ends : AsksNext task before End
-    pub leaves : done_so_far task ≡ passed before
+    pub leaves : done_so_far task ≡ task_at_next before
 
   -- an idle task has done nothing, and a dispatched one what its status says
   abbrev pub StandsAs : Task → Status → Type 0
@@ -78,14 +79,14 @@ pub record IsMadeBy (view : View) (id index : ℕ) (d : Descriptor) : Type 0 whe
   pub there : task_at view id ≡ Some creator
   pub spawn : Spawn
   pub made : slice_get creator.spawns index ≡ Some spawn
-  pub is : d ≡ child_descriptor creator spawn
+  pub descriptor_is : d ≡ child_descriptor creator spawn
 
 -- the group of tasks, against the serial machine's state after the history: the history is no longer than it may
 -- be; the output is that of the run; names are apart, families whole and spilled tasks firm; the tasks of committed
 -- creators are, at each depth, the pending tasks of the bag there, and their kinds and floors are those of the
 -- bags; each task has done what its status says; and each child is as its creator made it. That names are apart,
 -- and those of spilled tasks as a list, is kept for the proof alone
-pub record SoundTasks (image : ImageValue) (view : View) (heir : Option ℕ) (serial : State) : Type 0 where
+pub record SoundTasks (image : ImageValue) (view : View) (heir : Option ℕ) (serial : SerialState) : Type 0 where
   pub few : length view.history ≤ view.settings.commits
   pub output : view.output ≡ serial.output
   pub names : AreSound (length view.history) (unwrap_or heir 0) (is_some heir) (bag_tasks view) (bags_spilled view)
@@ -105,8 +106,8 @@ pub record SoundTasks (image : ImageValue) (view : View) (heir : Option ℕ) (se
 
 -- the group of memory: for each byte the accesses of the dispatched tasks chain from the serial machine's memory to
 -- the view's, and each task's filter has the notes of its log
-pub record SoundMemory (view : View) (serial : State) : Type 0 where
-  pub chained : IsChained view.settings.line (logged view) serial.memory view.memory
+pub record SoundMemory (view : View) (serial : SerialState) : Type 0 where
+  pub chained : IsChained view.settings.line (logged_tasks view) serial.memory view.memory
   pub noted : (id : ℕ) (task : Task) → task_at view id ≡ Some task
       → HasNotes task.lines (notes_of view.settings.line task.log)
 
@@ -114,19 +115,8 @@ pub record SoundMemory (view : View) (serial : State) : Type 0 where
 -- at most how many there are. Kept for the proof alone: that no task has a number of the path, that keys fit and
 -- the path is no longer, that timestamps of unordered domains are 0, and all that it says of spilled children
 pub record SoundOrder (view : View) (heir : Option ℕ) : Type 0 where
-  pub order : IsOrdered (all_keyed view heir) (map closed view.path) view.next
+  pub order : IsOrdered (all_keyed view heir) (map closed_level view.path) view.next
   pub numbers : view.next ≤ DISPATCH_NUMBERS
-
--- the status has this core
-abbrev pub HoldsCore : Status → ℕ → Type 0
-HoldsCore Idle core = ⊥
-HoldsCore (Running held) core = held ≡ core
-HoldsCore (Trapped held cause) core = held ≡ core
-HoldsCore Finished core = ⊥
-
--- the task of this id, which is in this tile, has a status of this kind
-abbrev pub HasTask : View → ℕ → ℕ → (Status → Type 0) → Type 0
-HasTask view tile id kind = (task : Task) × (task_at view id ≡ Some task) × (task.tile ≡ tile) × kind task.status
 
 -- the group of sizes: the settings are in their ranges; each tile has its lists, none of which holds more than it
 -- may, nor one task twice; its task queue holds its tasks, its commit queue the finished ones of them, and its
@@ -145,7 +135,7 @@ pub record SoundSizes (view : View) : Type 0 where
   pub finished_are : (tile id : ℕ)
       → Contains (finished_at view tile) id ↔ HasTask view tile id (λ status. status ≡ Finished)
   pub held_are : (tile core id : ℕ)
-      → (slice_get (cores_at view tile) core ≡ Some (Some id)) ↔ HasTask view tile id (λ status. HoldsCore status core)
+      → (slice_get (cores_at view tile) core ≡ Some (Some id)) ↔ HasTask view tile id (λ status. HasCore status core)
   pub kinds : (id : ℕ) (task : Task) → task_at view id ≡ Some task → task.kinds < 2 ^ depth_of task
   pub bytes : (id : ℕ) (task : Task) → task_at view id ≡ Some task → length task.bytes ≤ MAX_EMITTED
   pub spilled : (s : Spilled) → Contains (all_spilled view) s → IsDesc s.desc × (length s.domain + 1 ≡ s.desc.depth)
@@ -153,7 +143,7 @@ pub record SoundSizes (view : View) : Type 0 where
 -- the view is sound: its history is a run of the serial machine, the groups hold of the state that this run led to, and
 -- its version is that of the image
 pub record Sound (image : ImageValue) (view : View) : Type 0 where
-  pub serial : State
+  pub serial : SerialState
   pub is_run : IsRun image view.settings.budget view.history serial
   pub heir : Option ℕ
   pub is_heir : IsHeir view heir

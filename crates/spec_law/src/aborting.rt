@@ -1,7 +1,8 @@
 //! What an abort is to the laws of order, of tasks and of memory. Each is the contract of a function that does nothing.
 
-ghost use Rattle.spec_law.specs.AbortLaws.{AbortKeepsHeir, AbortKeepsMemory, AbortKeepsOrder, AbortKeepsSizes};
-ghost use Rattle.spec_law.specs.AbortLaws.{AbortKeepsSound, AbortKeepsTasks, AbortForRoomIsSound};
+ghost use Rattle.spec_law.specs.AbortLaws.{AbortKeepsHeirOfView, AbortKeepsSoundMemory, AbortKeepsSoundOrder};
+ghost use Rattle.spec_law.specs.AbortLaws.{AbortKeepsSoundSizes};
+ghost use Rattle.spec_law.specs.AbortLaws.{AbortKeepsSound, AbortKeepsSoundTasks, AbortForRoomIsSound};
 ghost use Rattle.spec_law.specs.AbortLaws.{AbortOfConflictsIsSound, AbortOfLaterIsSound, AbortOfOneIsSound};
 ghost use Rattle.spec_law.specs.AbortLaws.{AbortTakesMarked, CascadeSparesHeir, ConflictsSpareHeir};
 ghost use Rattle.spec_law.specs.AbortLaws.{ConflictsTakeMarked, MarkedAreAborted, MarkedAreIdle, MarkedLeaveMemory};
@@ -33,8 +34,8 @@ pub fn marked_leave_memory()
 {}
 
 /// The group of memory holds after an abort in a sound view, against the same state of the serial machine.
-pub fn abort_keeps_memory()
-    ensures { AbortKeepsMemory }
+pub fn abort_keeps_sound_memory()
+    ensures { AbortKeepsSoundMemory }
 {}
 
 /// An abort of a task other than the heir spares the heir.
@@ -48,23 +49,23 @@ pub fn conflicts_spare_heir()
 {}
 
 /// An abort that spares the heir keeps the order of all uncommitted tasks.
-pub fn abort_keeps_order()
-    ensures { AbortKeepsOrder }
+pub fn abort_keeps_sound_order()
+    ensures { AbortKeepsSoundOrder }
 {}
 
 /// An abort that spares the heir keeps the group of tasks, against the same state of the serial machine.
-pub fn abort_keeps_tasks()
-    ensures { AbortKeepsTasks }
+pub fn abort_keeps_sound_tasks()
+    ensures { AbortKeepsSoundTasks }
 {}
 
 /// An abort keeps the group of sizes.
-pub fn abort_keeps_sizes()
-    ensures { AbortKeepsSizes }
+pub fn abort_keeps_sound_sizes()
+    ensures { AbortKeepsSoundSizes }
 {}
 
 /// An abort that spares the heir leaves it the heir, and makes none where there was none.
-pub fn abort_keeps_heir()
-    ensures { AbortKeepsHeir }
+pub fn abort_keeps_heir_of_view()
+    ensures { AbortKeepsHeirOfView }
 {}
 
 /// An abort that spares the heir keeps a view sound, against the same state of the serial machine.

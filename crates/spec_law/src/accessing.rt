@@ -13,7 +13,7 @@ pub fn store_stays_sound()
     ensures { StoreStaysSound }
 {}
 
-/// An enqueue that is allowed, to a tile whose task queue has a free entry, keeps a view sound.
+/// An enqueue that is allowed, to a tile whose task queue has a free place, keeps a view sound.
 pub fn enqueue_stays_sound()
     ensures { EnqueueStaysSound }
 {}

@@ -8,7 +8,7 @@ pub fn coalesce_stays_sound()
     ensures { CoalesceStaysSound }
 {}
 
-/// A split, where the task queue has a free entry, keeps a view sound.
+/// A split, where the task queue has a free place, keeps a view sound.
 pub fn split_stays_sound()
     ensures { SplitStaysSound }
 {}

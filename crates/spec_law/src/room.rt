@@ -31,7 +31,7 @@ pub fn coalesce_makes_room()
     ensures { CoalesceMakesRoom }
 {}
 
-/// In a sound view a tile's queue has a free entry once room was made in it, by whichever rule.
+/// In a sound view a tile's queue has room once it was made in it, by whichever rule.
 pub fn room_is_made()
     ensures { RoomIsMade }
 {}

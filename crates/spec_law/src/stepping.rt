@@ -1,4 +1,4 @@
-//! Each step of one running task alone keeps a sound view sound. Each law is the contract of a function that does
+//! Each change by one running task alone keeps a sound view sound. Each law is the contract of a function that does
 //! nothing.
 
 ghost use Rattle.spec_law.specs.Keeping.{ByteStaysSound, EndStaysSound, QuantumStaysSound, SubStaysSound};
@@ -24,7 +24,7 @@ pub fn byte_stays_sound()
     ensures { ByteStaysSound }
 {}
 
-/// An end call, where the commit queue has a free entry, keeps a view sound.
+/// An end call, where the commit queue has a free place, keeps a view sound.
 pub fn end_stays_sound()
     ensures { EndStaysSound }
 {}

@@ -8,7 +8,7 @@ use Rattle.abort_cascade.specs.Cascade.{Marked, Reached, start, step, IsLeastClo
 use Rattle.memory_law.specs.Tasks.{IsByKey, undone_set}
 use Rattle.spec_state.specs.declared.task.Task.{Task}
 use Rattle.spec_state.specs.View.{View, task_at}
-use Rattle.spec_state.specs.Groups.{logged, live_creator}
+use Rattle.spec_state.specs.Groups.{logged_tasks, live_creator}
 use Rattle.spec_state.specs.Stored.{IsStored}
 use Rattle.spec_state.specs.Tasks.{idle_again}
 use Rattle.spec_state.specs.Aborts.{is_marked, is_marked_creator, taken_back, freed_core, Aborts}
@@ -52,7 +52,7 @@ aborts_of firsts others old aborted new same aborts = record {
   queues = aborts.queues;
   finished = aborts.finished;
   cores = aborts.cores;
-  rest = aborts.rest;
+  frame = aborts.frame;
 }
 
 -- what stands under an unmarked id stays
@@ -77,24 +77,25 @@ module _ (firsts : ℕ → Type 0) (old : View) (marks : List Bool) (found : ℕ
     (counted : found ≡ count_by (λ mark. mark) marks) where
   pub aborts_by : (memory : List ℕ) (new : View)
       → TakesThese marks (is_marked marks) (record old { memory = memory }) new
-      → (ids : List ℕ) → IsByKey (logged old) ids → memory ≡ undone_set (is_marked marks) (logged old) ids old.memory
+      → (ids : List ℕ) → IsByKey (logged_tasks old) ids
+      → memory ≡ undone_set (is_marked marks) (logged_tasks old) ids old.memory
       → Aborts firsts old found new
   aborts_by memory new takes ids by_key undone =
-      let kept : new.memory ≡ memory = ap (λ (v : View). v.memory) takes.rest in
+      let kept : new.memory ≡ memory = ap (λ (v : View). v.memory) takes.frame in
       record {
         marks = marks;
         cascade = record { pull = pull_in old.tasks; pulls = pull_is old; size = size; least = least };
         counted = counted;
         each = λ id. takes.each id ∙ one_taken old.version marks id (task_at old id);
-        memory = record { ids = ids; by_key = by_key; is = kept ∙ undone };
+        memory = record { ids = ids; by_key = by_key; memory_is = kept ∙ undone };
         queues = takes.queues;
         finished = takes.finished;
         cores =
             takes.cores
             ∙ maps_same (map (freed_of_these (is_marked marks))) (map (freed_core marks)) old.cores
             (λ cores. maps_same (freed_of_these (is_marked marks)) (freed_core marks) cores (one_freed marks));
-        rest =
-            takes.rest
+        frame =
+            takes.frame
             ∙ ap (λ (m : List ℕ). record old
             { tasks = new.tasks; memory = m; queues = new.queues; finished = new.finished; cores = new.cores })
             (sym kept);
@@ -105,9 +106,9 @@ pub aborts_from : (firsts : ℕ → Type 0) (old mid new : View) (marks : List B
     → length old.tasks ≤ length marks → IsLeastClosed (length marks) (pull_in old.tasks) firsts marks
     → found ≡ count_by (λ mark. mark) marks → mid ≡ record old { memory = mid.memory }
     → TakesThese marks (is_marked marks) mid new
-    → ((ids : List ℕ) → IsByKey (logged old) ids
-    → mid.memory ≡ undone_set (is_marked marks) (logged old) ids old.memory)
-    → (ids : List ℕ) → IsByKey (logged old) ids → Aborts firsts old found new
+    → ((ids : List ℕ) → IsByKey (logged_tasks old) ids
+    → mid.memory ≡ undone_set (is_marked marks) (logged_tasks old) ids old.memory)
+    → (ids : List ℕ) → IsByKey (logged_tasks old) ids → Aborts firsts old found new
 aborts_from firsts old mid new marks found size least counted rest takes undone ids by_key =
     aborts_by firsts old marks found size least counted mid.memory new
     (subst (λ v. TakesThese marks (is_marked marks) v new) rest takes) ids by_key (undone ids by_key)
@@ -130,7 +131,8 @@ off_marks n id = elim (cases_lt id n) [
 
 nothing_by : (size : ℕ) (view : View) → IsStored size view → (firsts : ℕ → Type 0) → ((id : ℕ) → firsts id → ⊥)
     → (marks : List Bool) → length view.tasks ≤ length marks
-    → ((id : ℕ) → is_marked marks id ≡ false) → (ids : List ℕ) → IsByKey (logged view) ids → Aborts firsts view 0 view
+    → ((id : ℕ) → is_marked marks id ≡ false) → (ids : List ℕ) → IsByKey (logged_tasks view) ids
+    → Aborts firsts view 0 view
 nothing_by size view stored firsts none marks long off ids by_key =
     let least : IsLeastClosed (length marks) (pull_in view.tasks) firsts marks = record {
       holds = λ id is. absurd (none id is);
@@ -141,11 +143,11 @@ nothing_by size view stored firsts none marks long off ids by_key =
     let takes : TakesThese marks (is_marked marks) view view =
     subst (λ these. TakesThese marks these view view) (λ i id. sym (off id) i) (none_taken size view stored marks) in
     aborts_by firsts view marks 0 long least counted view.memory view takes ids by_key
-    (sym (nothing_back (is_marked marks) (logged view) ids view.memory off))
+    (sym (nothing_back (is_marked marks) (logged_tasks view) ids view.memory off))
 
 -- where there is no first task nothing is taken back
 pub nothing_aborted : (size : ℕ) (view : View) → IsStored size view → (firsts : ℕ → Type 0)
-    → ((id : ℕ) → firsts id → ⊥) → (ids : List ℕ) → IsByKey (logged view) ids → Aborts firsts view 0 view
+    → ((id : ℕ) → firsts id → ⊥) → (ids : List ℕ) → IsByKey (logged_tasks view) ids → Aborts firsts view 0 view
 nothing_aborted size view stored firsts none =
     let marks = replicate (length view.tasks) false in
     nothing_by size view stored firsts none marks
@@ -154,23 +156,23 @@ nothing_aborted size view stored firsts none =
 -- the task of this id, where it is there, has an abort of its access
 abbrev AbortsFor : (Task → ℕ → Type 0) → View → View → ℕ → ℕ → Type 0
 AbortsFor firsts old new aborted id = IfSome (task_at old id)
-    (λ t. (ids : List ℕ) → IsByKey (logged old) ids → Aborts (firsts t) old aborted new)
+    (λ t. (ids : List ℕ) → IsByKey (logged_tasks old) ids → Aborts (firsts t) old aborted new)
 
 -- what was found conflicts, and was taken back
 pub conflicts_aborted : (old mid new : View) (aborted line : ℕ) (write found : Bool) (marks : List Bool) (id : ℕ)
     → mid ≡ old → found ≡ true
     → IfSome (task_at old id) (λ t. FindsConflicts old t line write found marks)
-    → ((ids : List ℕ) → IsByKey (logged mid) ids → Aborts (Marked marks) mid aborted new)
+    → ((ids : List ℕ) → IsByKey (logged_tasks mid) ids → Aborts (Marked marks) mid aborted new)
     → AbortsFor (λ t. Conflicts old t line write) old new aborted id
 conflicts_aborted old mid new aborted line write found marks id same is finds aborts = by_slot (task_at old id) finds
   where
     by_slot : (slot : Option Task) → IfSome slot (λ t. FindsConflicts old t line write found marks)
-        → IfSome slot (λ t. (ids : List ℕ) → IsByKey (logged old) ids
+        → IfSome slot (λ t. (ids : List ℕ) → IsByKey (logged_tasks old) ids
         → Aborts (Conflicts old t line write) old aborted new)
     by_slot None finds = tt
     by_slot (Some t) finds = λ ids by_key.
         aborts_of (Marked marks) (Conflicts old t line write) old aborted new (finds.some is)
-        (subst (λ (v : View). (ids : List ℕ) → IsByKey (logged v) ids → Aborts (Marked marks) v aborted new) same
+        (subst (λ (v : View). (ids : List ℕ) → IsByKey (logged_tasks v) ids → Aborts (Marked marks) v aborted new) same
         aborts ids by_key)
 
 -- none was found
@@ -181,7 +183,8 @@ pub no_conflict_aborted : (size : ℕ) (old new : View) (line : ℕ) (write foun
 no_conflict_aborted size old new line write found marks id stored same is finds = by_slot (task_at old id) finds
   where
     by_slot : (slot : Option Task) → IfSome slot (λ t. FindsConflicts old t line write found marks)
-        → IfSome slot (λ t. (ids : List ℕ) → IsByKey (logged old) ids → Aborts (Conflicts old t line write) old 0 new)
+        → IfSome slot
+        (λ t. (ids : List ℕ) → IsByKey (logged_tasks old) ids → Aborts (Conflicts old t line write) old 0 new)
     by_slot None finds = tt
     by_slot (Some t) finds = λ ids by_key.
         subst (Aborts (Conflicts old t line write) old 0) (sym same)

@@ -14,7 +14,7 @@ use Rattle.spec_state.specs.Stored.{IsStored, HasCore}
 use Rattle.spec_state.specs.Tasks.{is_dispatched, kept_core}
 use Rattle.spec_state.specs.Queries.{Conflicts, HasLine}
 use Rattle.spec_state.proofs.Proved.{within_lists}
-use Rattle.spec_rollback.specs.Marking.{has_line, conflicts, conflicts_at, IsInTile, IsInTiles, IsFound, Finds}
+use Rattle.spec_rollback.specs.Marking.{has_line, conflicts, conflicts_at, IsInTile, IsInTiles, IsMarkedIfFound, Finds}
 use Rattle.spec_rollback.specs.Marking.{FindsConflicts}
 use Rattle.spec_rollback.proofs.Pulled.{less_is}
 
@@ -102,7 +102,7 @@ found_conflicts size view stored count all task line write found old new finds =
           dispatched_in_tile size view stored id c.other c.later.there c.later.dispatched,
         )
 
-    is_found : (id : ℕ) → Conflicts view task line write id → IsFound found new id
+    is_found : (id : ℕ) → Conflicts view task line write id → IsMarkedIfFound found new id
     is_found id c = (finds.exact id).1 (inr (in_tiles id c, finds_conflict view task line write id c))
 
     none : found ≡ false → (id : ℕ) → Conflicts view task line write id → ⊥

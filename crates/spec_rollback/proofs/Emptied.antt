@@ -6,13 +6,13 @@ use Rattle.std.proofs.lemmas.List.Elements.{All-tail, All-head, All-cons}
 use Rattle.std.proofs.lemmas.List.{length-map}
 use Rattle.memory_law.specs.Tasks.{Logged, IsByKey, undone_set}
 use Rattle.memory_law.proofs.Proved.{member_runs}
-use Rattle.spill_store.specs.Entries.{Entry as Spilled}
+use Rattle.spill_store.specs.SpilledTasks.{Spilled}
 use Rattle.spec_state.specs.declared.task.Status.{Status}
 use Rattle.spec_state.specs.declared.task.Status.TheVariants.{Finished}
 use Rattle.spec_state.specs.declared.task.Task.{Task}
 use Rattle.spec_state.specs.View.{View, task_at}
-use Rattle.spec_state.specs.Groups.{logged, logged_task}
-use Rattle.spec_state.specs.Stored.{IsStored, IsThere, HasCore}
+use Rattle.spec_state.specs.Groups.{logged_tasks, logged_task}
+use Rattle.spec_state.specs.Stored.{IsStored, HasTask, HasCore}
 use Rattle.spec_state.specs.Aborts.{is_marked, UndoesAll}
 use Rattle.spec_rollback.specs.Lists.{HasLists}
 use Rattle.spec_rollback.specs.Removed.{RemovesThese}
@@ -79,7 +79,7 @@ module _ (size : ℕ) (old undone removed last : View) (marks : List Bool) (list
           by_mark false = refl
       by_slot (Some t) at there = ap (λ b. if b then None else task_at undone id) (there refl)
 
-  nobody : (tile id : ℕ) (kind : Status → Type 0) → IsThere removed tile id kind → ⊥
+  nobody : (tile id : ℕ) (kind : Status → Type 0) → HasTask removed tile id kind → ⊥
   nobody tile id kind there = absurd (cc (there.1, none_left id))
 
   -- what the lists of the tiles are then
@@ -110,24 +110,24 @@ module _ (size : ℕ) (old undone removed last : View) (marks : List Bool) (list
   blocks_are : replicate (length removed.blocks) [] ≡ replicate {A = List Spilled} old.settings.tiles []
   blocks_are =
       ap (λ n. replicate n [])
-      (ap (λ (v : View). length v.blocks) removes.rest ∙ ap (λ (v : View). length v.blocks) undo ∙ lists.blocks)
+      (ap (λ (v : View). length v.blocks) removes.frame ∙ ap (λ (v : View). length v.blocks) undo ∙ lists.blocks)
 
-  pub all_undone : ((ids : List ℕ) → IsByKey (logged old) ids
-      → undone.memory ≡ undone_set (is_marked marks) (logged old) ids old.memory)
-      → (ids : List ℕ) → IsByKey (logged old) ids → UndoesAll old last
+  pub all_undone : ((ids : List ℕ) → IsByKey (logged_tasks old) ids
+      → undone.memory ≡ undone_set (is_marked marks) (logged_tasks old) ids old.memory)
+      → (ids : List ℕ) → IsByKey (logged_tasks old) ids → UndoesAll old last
   all_undone memory ids by_key = record {
     none = λ id. ap (λ (v : View). task_at v id) drops ∙ none_left id;
     memory = record {
       ids = ids;
       by_key = by_key;
-      is =
+      memory_is =
           kept ∙ memory ids by_key
-          ∙ same_set (is_marked marks) (λ id. true) (logged old) ids old.memory
-          (λ k at. (let runs = member_runs (logged old) k ids at by_key.ascends in marked k
+          ∙ same_set (is_marked marks) (λ id. true) (logged_tasks old) ids old.memory
+          (λ k at. (let runs = member_runs (logged_tasks old) k ids at by_key.ascends in marked k
           (is_there (task_at old k) runs.0 runs.1)));
     };
-    rest =
-        drops ∙ ap (λ (v : View). record v { blocks = replicate (length removed.blocks) [] }) removes.rest
+    frame =
+        drops ∙ ap (λ (v : View). record v { blocks = replicate (length removed.blocks) [] }) removes.frame
         ∙ ap (λ (v : View). record v {
           tasks = removed.tasks;
           queues = removed.queues;
@@ -146,7 +146,7 @@ module _ (size : ℕ) (old undone removed last : View) (marks : List Bool) (list
   }
     where
       kept : last.memory ≡ undone.memory
-      kept = ap (λ (v : View). v.memory) drops ∙ ap (λ (v : View). v.memory) removes.rest
+      kept = ap (λ (v : View). v.memory) drops ∙ ap (λ (v : View). v.memory) removes.frame
 
       tasks_are : removed.tasks ≡ last.tasks
       tasks_are = sym (ap (λ (v : View). v.tasks) drops)

@@ -20,7 +20,7 @@ use Rattle.tile_queues.specs.Queue.{QueueValue}
 use Rattle.spec_state.specs.declared.settings.Settings.{Settings}
 use Rattle.spec_state.specs.declared.task.Task.{Task}
 use Rattle.spec_state.specs.Settings.{IsValid}
-use Rattle.spec_state.specs.Fits.{queued_count, HasTiles, HasSlots}
+use Rattle.spec_state.specs.Fits.{queued_count, HasTiles, HasSlots, SlotCounts}
 
 -- how many marks are set
 abbrev count : List Bool → ℕ
@@ -123,12 +123,10 @@ fewer marks tasks there =
 
 -- a state's tasks are no more than its task queues may hold
 pub few_tasks : (settings : Settings) (tasks : List (Option Task)) (queues finished : List QueueValue)
-    (core_lists block_lists slots indexed entries marks members arrivals room : ℕ)
+    (core_lists block_lists : ℕ) (counts : SlotCounts)
     → IsValid settings → HasTiles settings queues finished core_lists block_lists
-    → HasSlots settings tasks slots queues indexed entries marks members arrivals room
-    → count_by is_some tasks ≤ 4096
-few_tasks settings tasks queues finished core_lists block_lists slots indexed entries marks members arrivals room
-    valid tiles has =
+    → HasSlots settings tasks queues counts → count_by is_some tasks ≤ 4096
+few_tasks settings tasks queues finished core_lists block_lists counts valid tiles has =
     let fits : queued_count queues ≤ length queues * settings.task_queue = sum_by-le (λ q. length q.ids)
     settings.task_queue queues has.short in
     let few : length queues ≤ 16 = (let is = tiles.queue_count in let upto = valid.tiles.1 in omega (arith, is, upto))

@@ -16,7 +16,7 @@ use Rattle.spec_state.specs.declared.task.Task.{Task}
 use Rattle.spec_state.specs.View.{View, task_at}
 use Rattle.spec_state.specs.Tasks.{is_dispatched}
 use Rattle.spec_state.specs.Groups.{live_creator}
-use Rattle.spec_state.specs.Aborts.{ReadsFrom, Pulls}
+use Rattle.spec_state.specs.Aborts.{ReadsFrom, PullsInView}
 use Rattle.spec_rollback.specs.Pulled.{is_creator, reads_from, reads_from_some, pulls_task, pull_in}
 
 -- an order that is less is Less
@@ -36,7 +36,7 @@ is_the_creator id creator is = subst (λ c. is_creator id c ≡ true) (sym is)
 module _ (view : View) (a b : ℕ) where
   -- what the test finds is taken back
   found : (first second : Option Task) → task_at view a ≡ first → task_at view b ≡ second
-      → pulls_task a first second ≡ true → Pulls view a b
+      → pulls_task a first second ≡ true → PullsInView view a b
   found first None at_a at_b is = absurd (cc)
   found first (Some y) at_a at_b is = by_case
       (or_cases (is_creator a (live_creator y.creator)) (reads_from_some first y) is)
@@ -57,13 +57,13 @@ module _ (view : View) (a b : ℕ) where
             meets = (meets_of-Meet x.lines y.lines).0 two.1;
           }
 
-      by_case : (is_creator a (live_creator y.creator) ≡ true) ⊎ (reads_from_some first y ≡ true) → Pulls view a b
+      by_case : (is_creator a (live_creator y.creator) ≡ true) ⊎ (reads_from_some first y ≡ true) → PullsInView view a b
       by_case (inl made) = inl
           (record { child = y; there = at_b; made_by = creator_is a (live_creator y.creator) made })
       by_case (inr later) = inr (reads first at_a later)
 
   -- what is taken back is found by the test
-  finds : Pulls view a b → pull_in view.tasks a b ≡ true
+  finds : PullsInView view a b → pull_in view.tasks a b ≡ true
   finds (inl child) =
       ap (pulls_task a (task_at view a)) child.there
       ∙ or_left (is_creator a (live_creator child.child.creator)) (reads_from_some (task_at view a) child.child)
@@ -82,11 +82,11 @@ module _ (view : View) (a b : ℕ) where
       ∙ or_right (is_creator a (live_creator y.creator)) (reads_from_some (task_at view a) y)
       (ap (λ o. reads_from_some o y) reads.there ∙ read)
 
-  pub pull_is : (pull_in view.tasks a b ≡ true) ↔ Pulls view a b
+  pub pull_is : (pull_in view.tasks a b ≡ true) ↔ PullsInView view a b
   pull_is = (found (task_at view a) (task_at view b) refl refl, finds)
 
 -- what is taken back with a task is there
-pulled_there : (view : View) (a b : ℕ) → Pulls view a b → IsSome (task_at view b)
+pulled_there : (view : View) (a b : ℕ) → PullsInView view a b → IsSome (task_at view b)
 pulled_there view a b (inl child) = subst IsSome (sym child.there) refl
 pulled_there view a b (inr reads) = subst IsSome (sym reads.later.there) refl
 

@@ -6,11 +6,11 @@ use Rattle.std.proofs.lemmas.Bool.{cases_eq}
 use Rattle.std.proofs.lemmas.List.{length-map}
 use Rattle.std.proofs.lemmas.Simd.{map-map}
 use Rattle.abort_cascade.specs.Cascade.{Marked}
-use Rattle.tile_queues.specs.Queue.{without}
+use Rattle.tile_queues.specs.Queue.{ids_but}
 use Rattle.spec_state.specs.StateValue.{Scratch}
 use Rattle.spec_state.specs.View.{View, task_at}
 use Rattle.spec_state.specs.Aborts.{is_marked}
-use Rattle.spec_state.specs.Leaving.{freed_of, Leaves}
+use Rattle.spec_state.specs.Leaving.{freed_of, TaskLeaves}
 use Rattle.spec_rollback.specs.Pulled.{ListsMarked}
 use Rattle.spec_rollback.specs.Removed.{RemovesThese}
 use Rattle.spec_rollback.proofs.Undone.{among}
@@ -30,15 +30,15 @@ module _ (these : ℕ → Bool) (old mid : View) (removes : RemovesThese these o
   unremoved = removes.each id ∙ ap (λ b. if b then None else task_at old id) stays
 
   -- one task more is gone
-  pub one_removed : (new : View) → Leaves id mid new → RemovesThese (more these id) old new
+  pub one_removed : (new : View) → TaskLeaves id mid new → RemovesThese (more these id) old new
   one_removed new leaves = record {
     each = each;
-    queues = ap length leaves.queues ∙ length-map mid.queues (without id) ∙ removes.queues;
-    finished = ap length leaves.finished ∙ length-map mid.finished (without id) ∙ removes.finished;
+    queues = ap length leaves.queues ∙ length-map mid.queues (ids_but id) ∙ removes.queues;
+    finished = ap length leaves.finished ∙ length-map mid.finished (ids_but id) ∙ removes.finished;
     cores = ap (map length) leaves.cores ∙ as_many (freed_of id) mid.cores ∙ removes.cores;
-    rest = leaves.rest ∙ ap
+    frame = leaves.frame ∙ ap
         (λ (v : View). record v
-        { tasks = new.tasks; queues = new.queues; finished = new.finished; cores = new.cores }) removes.rest;
+        { tasks = new.tasks; queues = new.queues; finished = new.finished; cores = new.cores }) removes.frame;
   }
     where
       each : (k : ℕ) → task_at new k ≡ (if more these id k then None else task_at old k)
@@ -53,7 +53,7 @@ module _ (these : ℕ → Bool) (old mid : View) (removes : RemovesThese these o
 
 -- at first none is gone
 pub none_removed : (view : View) → RemovesThese (among []) view view
-none_removed view = record { each = λ id. refl; queues = refl; finished = refl; cores = refl; rest = refl }
+none_removed view = record { each = λ id. refl; queues = refl; finished = refl; cores = refl; frame = refl }
 
 module _ (scratch : Scratch) (found : ℕ) (listed : ListsMarked scratch found) (place id : ℕ) (below : place < found)
     (at : slice_get scratch.members place ≡ Some id)
@@ -65,7 +65,7 @@ module _ (scratch : Scratch) (found : ℕ) (listed : ListsMarked scratch found) 
       (fresh scratch found listed place id below at once)))
       (live id (member_marked scratch found listed place id below at))
 
-  pub member_removed : (new : View) → Leaves id mid new
+  pub member_removed : (new : View) → TaskLeaves id mid new
       → RemovesThese (among (take (place + 1) scratch.members)) old new
   member_removed new leaves =
       subst (λ these. RemovesThese these old new) (λ i k. longer_is scratch found listed place id below at once k i)

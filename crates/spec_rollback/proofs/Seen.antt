@@ -6,7 +6,7 @@ use Rattle.std.proofs.lemmas.Bool.{cases_eq}
 use Rattle.std.proofs.lemmas.Option.{slice_get-map}
 use Rattle.spec_state.specs.declared.task.TaskId.{TaskId}
 use Rattle.spec_state.specs.View.{core_ids}
-use Rattle.spec_rollback.specs.Marking.{IsSeen, IsInTile, IsInTiles, IsFound, Finds}
+use Rattle.spec_rollback.specs.Marking.{IsSeen, IsInTile, IsInTiles, IsMarkedIfFound, Finds}
 
 module _ (test : ℕ → Bool) where
   -- nothing is to be found among none
@@ -24,7 +24,7 @@ module _ (test : ℕ → Bool) where
   finds_more these others all found mid now old between new one two both = record
       { exact = λ id. (to id, from id); size = two.size ∙ one.size }
     where
-      to : (id : ℕ) → IsFound now new id → IsFound found old id ⊎ (all id × (test id ≡ true))
+      to : (id : ℕ) → IsMarkedIfFound now new id → IsMarkedIfFound found old id ⊎ (all id × (test id ≡ true))
       to id is = elim ((two.exact id).0 is) [
         | inl was ↦ elim ((one.exact id).0 was) [
           | inl first ↦ inl first
@@ -33,7 +33,7 @@ module _ (test : ℕ → Bool) where
         | inr here ↦ inr ((both id).1 (inr here.0), here.1)
       ]
 
-      from : (id : ℕ) → IsFound found old id ⊎ (all id × (test id ≡ true)) → IsFound now new id
+      from : (id : ℕ) → IsMarkedIfFound found old id ⊎ (all id × (test id ≡ true)) → IsMarkedIfFound now new id
       from id (inl was) = (two.exact id).1 (inl ((one.exact id).1 (inl was)))
       from id (inr here) = elim ((both id).0 here.0) [
         | inl first ↦ (two.exact id).1 (inl ((one.exact id).1 (inr (first, here.1))))

@@ -5,14 +5,14 @@ use Rattle.std.specs.Prelude.{◌==◌, not, filter, is_some, Contains}
 use Rattle.std.proofs.lemmas.Bool.{cases_eq}
 use Rattle.std.proofs.lemmas.Bool.Decides.{nat_tests}
 use Rattle.std.proofs.lemmas.Simd.{map-map}
-use Rattle.tile_queues.specs.Queue.{without}
-use Rattle.turn_law.specs.Room.{Waiting, queue_after, kept_by}
+use Rattle.tile_queues.specs.Queue.{ids_but}
+use Rattle.task_law.specs.Room.{RoomTask, queue_after, kept_by}
 use Rattle.spec_state.specs.declared.task.Task.{Task}
 use Rattle.spec_state.specs.View.{View, task_at}
-use Rattle.spec_state.specs.Groups.{waiting, waiting_task, live_creator}
+use Rattle.spec_state.specs.Groups.{room_tasks, room_task, live_creator}
 use Rattle.spec_state.specs.Tasks.{idle_again}
 use Rattle.spec_state.specs.Aborts.{is_marked, is_marked_creator, taken_back}
-use Rattle.spec_state.specs.Leaving.{freed_of, Leaves, SetsBack}
+use Rattle.spec_state.specs.Leaving.{freed_of, TaskLeaves, SetsBack}
 use Rattle.spec_state.specs.Stored.{IsStored}
 use Rattle.spec_rollback.proofs.Marked.{contains_later, contains_first}
 use Rattle.spec_rollback.specs.TakenBack.{freed_of_these, TakesOne, TakesThese}
@@ -36,23 +36,23 @@ twice_same f g h xs same = map-map g f xs ∙ maps_same (λ x. g (f x)) h xs sam
 
 -- a commit queue without these, and then without one more
 without_more : (these : ℕ → Bool) (id : ℕ) (ids : List ℕ)
-    → without id (filter (λ k. not (these k)) ids) ≡ filter (λ k. not (more these id k)) ids
+    → ids_but id (filter (λ k. not (these k)) ids) ≡ filter (λ k. not (more these id k)) ids
 without_more these id [] = refl
 without_more these id (k ∷ ids) = by_tests (these k) (k == id) refl refl (without_more these id ids)
   where
     by_tests : (a b : Bool) → these k ≡ a → (k == id) ≡ b
-        → without id (filter (λ k. not (these k)) ids) ≡ filter (λ k. not (more these id k)) ids
-        → without id (cond (not a) (k ∷ filter (λ k. not (these k)) ids) (filter (λ k. not (these k)) ids))
+        → ids_but id (filter (λ k. not (these k)) ids) ≡ filter (λ k. not (more these id k)) ids
+        → ids_but id (cond (not a) (k ∷ filter (λ k. not (these k)) ids) (filter (λ k. not (these k)) ids))
         ≡ cond (not (if b then true else a)) (k ∷ filter (λ k. not (more these id k)) ids)
         (filter (λ k. not (more these id k)) ids)
     by_tests true true at test rest = rest
     by_tests true false at test rest = rest
     by_tests false true at test rest = ap
-        (λ t. cond (not t) (k ∷ without id (filter (λ k. not (these k)) ids))
-        (without id (filter (λ k. not (these k)) ids))) test ∙ rest
+        (λ t. cond (not t) (k ∷ ids_but id (filter (λ k. not (these k)) ids))
+        (ids_but id (filter (λ k. not (these k)) ids))) test ∙ rest
     by_tests false false at test rest =
-        ap (λ t. cond (not t) (k ∷ without id (filter (λ k. not (these k)) ids))
-        (without id (filter (λ k. not (these k)) ids))) test ∙ ap (λ ks. k ∷ ks) rest
+        ap (λ t. cond (not t) (k ∷ ids_but id (filter (λ k. not (these k)) ids))
+        (ids_but id (filter (λ k. not (these k)) ids))) test ∙ ap (λ ks. k ∷ ks) rest
 
 -- a core that none of these holds, nor one more
 freed_more : (these : ℕ → Bool) (id : ℕ) (held : Option ℕ)
@@ -68,35 +68,35 @@ freed_more these id (Some k) = by_tests (these k) (k == id) refl
     by_tests false false test = ap (λ t. if t then None else Some k) test
 
 -- a task queue after one task more has gone
-queue_without : (mid new : ℕ → Option Waiting) (id : ℕ)
+queue_without : (mid new : ℕ → Option RoomTask) (id : ℕ)
     → ((k : ℕ) → is_some (new k) ≡ (if k == id then false else is_some (mid k))) → (ids : List ℕ)
-    → without id (queue_after mid ids) ≡ queue_after new ids
+    → ids_but id (queue_after mid ids) ≡ queue_after new ids
 queue_without mid new id gone [] = refl
 queue_without mid new id gone (k ∷ ids) =
     by_tests (is_some (mid k)) (k == id) refl (queue_without mid new id gone ids)
     ∙ ap (λ b. kept_by b k (queue_after new ids)) (sym (gone k))
   where
-    by_tests : (a b : Bool) → (k == id) ≡ b → without id (queue_after mid ids) ≡ queue_after new ids
-        → without id (kept_by a k (queue_after mid ids)) ≡ kept_by (if b then false else a) k (queue_after new ids)
+    by_tests : (a b : Bool) → (k == id) ≡ b → ids_but id (queue_after mid ids) ≡ queue_after new ids
+        → ids_but id (kept_by a k (queue_after mid ids)) ≡ kept_by (if b then false else a) k (queue_after new ids)
     by_tests true true test rest = ap
-        (λ t. cond (not t) (k ∷ without id (queue_after mid ids)) (without id (queue_after mid ids))) test ∙ rest
+        (λ t. cond (not t) (k ∷ ids_but id (queue_after mid ids)) (ids_but id (queue_after mid ids))) test ∙ rest
     by_tests true false test rest = ap
-        (λ t. cond (not t) (k ∷ without id (queue_after mid ids)) (without id (queue_after mid ids))) test
+        (λ t. cond (not t) (k ∷ ids_but id (queue_after mid ids)) (ids_but id (queue_after mid ids))) test
         ∙ ap (λ ks. k ∷ ks) rest
     by_tests false true test rest = rest
     by_tests false false test rest = rest
 
 -- the same tasks are there, so the same ids stay
-queue_same : (mid new : ℕ → Option Waiting) → ((k : ℕ) → is_some (new k) ≡ is_some (mid k)) → (ids : List ℕ)
+queue_same : (mid new : ℕ → Option RoomTask) → ((k : ℕ) → is_some (new k) ≡ is_some (mid k)) → (ids : List ℕ)
     → queue_after mid ids ≡ queue_after new ids
 queue_same mid new same [] = refl
 queue_same mid new same (k ∷ ids) =
     ap (λ ks. kept_by (is_some (mid k)) k ks) (queue_same mid new same ids)
     ∙ ap (λ b. kept_by b k (queue_after new ids)) (sym (same k))
 
-is_some-waiting : (o : Option Task) → is_some (option_map waiting_task o) ≡ is_some o
-is_some-waiting None = refl
-is_some-waiting (Some t) = refl
+is_some-room_tasks : (o : Option Task) → is_some (option_map room_task o) ≡ is_some o
+is_some-room_tasks None = refl
+is_some-room_tasks (Some t) = refl
 
 module _ (marks : List Bool) (these : ℕ → Bool) (old mid new : View) (back : TakesThese marks these old mid) (id : ℕ)
     (fresh : these id ≡ false) (marked : is_marked marks id ≡ true) where
@@ -106,7 +106,7 @@ module _ (marks : List Bool) (these : ℕ → Bool) (old mid new : View) (back :
       ∙ ap (λ b. if b then taken_back old.version marks id (task_at old id) else task_at old id) fresh
 
   version_same : mid.version ≡ old.version
-  version_same = ap (λ (v : View). v.version) back.rest
+  version_same = ap (λ (v : View). v.version) back.frame
 
   -- what becomes of the one task
   taken_one : (task : Task) → task_at mid id ≡ Some task
@@ -134,10 +134,10 @@ module _ (marks : List Bool) (these : ℕ → Bool) (old mid new : View) (back :
         old k) (sym (other_id k id other))
   ]
 
-  finished_more : map (without id) mid.finished ≡ map (filter (λ k. not (more these id k))) old.finished
+  finished_more : map (ids_but id) mid.finished ≡ map (filter (λ k. not (more these id k))) old.finished
   finished_more =
-      ap (map (without id)) back.finished
-      ∙ twice_same (filter (λ k. not (these k))) (without id) (filter (λ k. not (more these id k))) old.finished
+      ap (map (ids_but id)) back.finished
+      ∙ twice_same (filter (λ k. not (these k))) (ids_but id) (filter (λ k. not (more these id k))) old.finished
       (without_more these id)
 
   cores_more : map (map (freed_of id)) mid.cores ≡ map (map (freed_of_these (more these id))) old.cores
@@ -148,29 +148,29 @@ module _ (marks : List Bool) (these : ℕ → Bool) (old mid new : View) (back :
       (freed_more these id))
 
   by_leaving : (task : Task) → task_at mid id ≡ Some task → is_marked_creator marks (live_creator task.creator) ≡ true
-      → Leaves id mid new → TakesThese marks (more these id) old new
+      → TaskLeaves id mid new → TakesThese marks (more these id) old new
   by_leaving task there creator leaves = record {
     each = each_of None leaves.changes.changed leaves.changes.others
         (sym (taken_one task there ∙ ap (λ b. if b then None else Some (idle_again old.version task)) creator));
     queues =
-        leaves.queues ∙ ap (map (without id)) back.queues
-        ∙ twice_same (queue_after (waiting mid)) (without id) (queue_after (waiting new)) old.queues
-        (queue_without (waiting mid) (waiting new) id gone);
+        leaves.queues ∙ ap (map (ids_but id)) back.queues
+        ∙ twice_same (queue_after (room_tasks mid)) (ids_but id) (queue_after (room_tasks new)) old.queues
+        (queue_without (room_tasks mid) (room_tasks new) id gone);
     finished = leaves.finished ∙ finished_more;
     cores = leaves.cores ∙ cores_more;
-    rest = leaves.rest ∙ ap
+    frame = leaves.frame ∙ ap
         (λ (v : View). record v
-        { tasks = new.tasks; queues = new.queues; finished = new.finished; cores = new.cores }) back.rest;
+        { tasks = new.tasks; queues = new.queues; finished = new.finished; cores = new.cores }) back.frame;
   }
     where
-      gone : (k : ℕ) → is_some (waiting new k) ≡ (if k == id then false else is_some (waiting mid k))
+      gone : (k : ℕ) → is_some (room_tasks new k) ≡ (if k == id then false else is_some (room_tasks mid k))
       gone k = elim (cases_eq k id) [
         | inl same ↦
-            ap (λ o. is_some (option_map waiting_task o)) (ap (task_at new) same ∙ leaves.changes.changed)
-            ∙ ap (λ b. if b then false else is_some (waiting mid k)) (sym (same_id k id same))
+            ap (λ o. is_some (option_map room_task o)) (ap (task_at new) same ∙ leaves.changes.changed)
+            ∙ ap (λ b. if b then false else is_some (room_tasks mid k)) (sym (same_id k id same))
         | inr other ↦
-            ap (λ o. is_some (option_map waiting_task o)) (leaves.changes.others k other)
-            ∙ ap (λ b. if b then false else is_some (waiting mid k)) (sym (other_id k id other))
+            ap (λ o. is_some (option_map room_task o)) (leaves.changes.others k other)
+            ∙ ap (λ b. if b then false else is_some (room_tasks mid k)) (sym (other_id k id other))
       ]
 
   by_setting_back : (task : Task) → task_at mid id ≡ Some task
@@ -182,29 +182,29 @@ module _ (marks : List Bool) (these : ℕ → Bool) (old mid new : View) (back :
         ∙ ap (λ (t : Task). Some (idle_again old.version t)) same_task
         ∙ sym (taken_one task there ∙ ap (λ b. if b then None else Some (idle_again old.version task)) creator));
     queues = same_queues ∙ back.queues
-        ∙ maps_same (queue_after (waiting mid)) (queue_after (waiting new)) old.queues
-        (queue_same (waiting mid) (waiting new) still);
+        ∙ maps_same (queue_after (room_tasks mid)) (queue_after (room_tasks new)) old.queues
+        (queue_same (room_tasks mid) (room_tasks new) still);
     finished = sets.finished ∙ finished_more;
     cores = sets.cores ∙ cores_more;
-    rest =
-        sets.rest ∙ ap (λ (q : List (List ℕ)). record mid
+    frame =
+        sets.frame ∙ ap (λ (q : List (List ℕ)). record mid
         { tasks = new.tasks; queues = q; finished = new.finished; cores = new.cores }) (sym same_queues)
         ∙ ap (λ (v : View). record v
-        { tasks = new.tasks; queues = new.queues; finished = new.finished; cores = new.cores }) back.rest;
+        { tasks = new.tasks; queues = new.queues; finished = new.finished; cores = new.cores }) back.frame;
   }
     where
       same_queues : new.queues ≡ mid.queues
-      same_queues = ap (λ (v : View). v.queues) sets.rest
+      same_queues = ap (λ (v : View). v.queues) sets.frame
 
       same_task : sets.task ≡ task
       same_task = let both : Some sets.task ≡ Some task = sym sets.there ∙ there in cc
 
-      still : (k : ℕ) → is_some (waiting new k) ≡ is_some (waiting mid k)
+      still : (k : ℕ) → is_some (room_tasks new k) ≡ is_some (room_tasks mid k)
       still k = elim (cases_eq k id) [
         | inl same ↦
-            ap (λ o. is_some (option_map waiting_task o)) (ap (task_at new) same ∙ sets.changes.changed)
-            ∙ ap (λ o. is_some (option_map waiting_task o)) (sym (ap (task_at mid) same ∙ sets.there))
-        | inr other ↦ ap (λ o. is_some (option_map waiting_task o)) (sets.changes.others k other)
+            ap (λ o. is_some (option_map room_task o)) (ap (task_at new) same ∙ sets.changes.changed)
+            ∙ ap (λ o. is_some (option_map room_task o)) (sym (ap (task_at mid) same ∙ sets.there))
+        | inr other ↦ ap (λ o. is_some (option_map room_task o)) (sets.changes.others k other)
       ]
 
   -- one marked task more is taken back
@@ -231,14 +231,14 @@ map_itself (x ∷ xs) = ap (λ ys. x ∷ ys) (map_itself xs)
 unchanged : {X : Type 0} (f : X → X) (xs : List X) → ((x : X) → x ≡ f x) → xs ≡ map f xs
 unchanged f xs same = sym (map_itself xs) ∙ maps_same (λ x. x) f xs same
 
-queue_itself : (tasks : ℕ → Option Waiting) (ids : List ℕ) → ((k : ℕ) → Contains ids k → is_some (tasks k) ≡ true)
+queue_itself : (tasks : ℕ → Option RoomTask) (ids : List ℕ) → ((k : ℕ) → Contains ids k → is_some (tasks k) ≡ true)
     → ids ≡ queue_after tasks ids
 queue_itself tasks [] there = refl
 queue_itself tasks (k ∷ ids) there =
     ap (λ ks. k ∷ ks) (queue_itself tasks ids (λ j has. there j (contains_later k ids j has)))
     ∙ ap (λ b. kept_by b k (queue_after tasks ids)) (sym (there k (contains_first k ids)))
 
-queues_itself : (tasks : ℕ → Option Waiting) (queues : List (List ℕ))
+queues_itself : (tasks : ℕ → Option RoomTask) (queues : List (List ℕ))
     → ((tile k : ℕ) → Contains (slice_index_or queues tile []) k → is_some (tasks k) ≡ true)
     → queues ≡ map (queue_after tasks) queues
 queues_itself tasks [] there = refl
@@ -249,11 +249,11 @@ pub none_taken : (size : ℕ) (view : View) → IsStored size view → (marks : 
     → TakesThese marks (λ k. false) view view
 none_taken size view stored marks = record {
   each = λ id. refl;
-  queues = queues_itself (waiting view) view.queues (λ tile k has. (
-      let there = (stored.queued_are tile k).0 has in ap (λ o. is_some (option_map waiting_task o)) there.1
+  queues = queues_itself (room_tasks view) view.queues (λ tile k has. (
+      let there = (stored.queued_are tile k).0 has in ap (λ o. is_some (option_map room_task o)) there.1
       ));
   finished = unchanged (filter (λ k. true)) view.finished (λ ids. sym (filter_all ids));
   cores = unchanged (map (freed_of_these (λ k. false))) view.cores
       (λ cores. unchanged (freed_of_these (λ k. false)) cores freed_none);
-  rest = refl;
+  frame = refl;
 }

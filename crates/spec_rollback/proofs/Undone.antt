@@ -6,12 +6,12 @@ use Rattle.std.specs.Ordering.{is_lt}
 use Rattle.std.specs.Cmp.{both_ways}
 use Rattle.std.proofs.lemmas.Bool.{cases_eq}
 use Rattle.std.proofs.lemmas.Bool.Decides.{nat_tests}
-use Rattle.memory_law.specs.Events.{IsLatest, without_one}
+use Rattle.memory_law.specs.Events.{IsLatestInLogs, without_one}
 use Rattle.memory_law.specs.Tasks.{Logged, log_of, In, Earlier, Ascends, IsByKey, undone_set}
 use Rattle.memory_law.proofs.Proved.{latest_first, member_runs, not_self}
 use Rattle.undo_log.specs.Undo.{undone}
 use Rattle.spec_state.specs.declared.task.Task.{Task}
-use Rattle.spec_state.specs.Groups.{logged, logged_task}
+use Rattle.spec_state.specs.Groups.{logged_tasks, logged_task}
 use Rattle.spec_state.specs.View.{View}
 use Rattle.spec_state.specs.Stored.{IsStored}
 use Rattle.spec_state.specs.StateValue.{Scratch}
@@ -138,7 +138,7 @@ module _ (tasks : List (Option Task)) where
           (λ k at. sym (without_other k (not_these x none k at)))
 
       is_latest : (t : Task) → slice_index_or tasks x None ≡ Some t → is_dispatched t ≡ true
-          → IsLatest (among (x ∷ list)) read x (logged_task t)
+          → IsLatestInLogs (among (x ∷ list)) read x (logged_task t)
       is_latest t at runs = record {
         there = ap (option_map logged_task) at;
         dispatched = runs;
@@ -223,8 +223,8 @@ pub marked_undone : (view : View) (tasks : List (Option Task)) (memory now : Lis
     (members : List ℕ) → tasks ≡ view.tasks → memory ≡ view.memory
     → ListsMarked (record scratch { members = members }) found → Falls tasks (take found members)
     → now ≡ undone_down tasks (take found members) memory
-    → (ids : List ℕ) → IsByKey (logged view) ids
-    → now ≡ undone_set (is_marked scratch.marks) (logged view) ids view.memory
+    → (ids : List ℕ) → IsByKey (logged_tasks view) ids
+    → now ≡ undone_set (is_marked scratch.marks) (logged_tasks view) ids view.memory
 marked_undone view tasks memory now scratch found members same_tasks same_memory listed falls is ids by_key =
     let once = members_once (record scratch { members = members }) found listed in
     is ∙ ap (undone_down tasks (take found members)) same_memory

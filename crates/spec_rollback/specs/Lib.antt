@@ -1,3 +1,4 @@
+-- These serve this crate alone; its contracts mean words of crates below.
 pub mod Pulled
 pub mod Undone
 pub mod Marking

@@ -39,13 +39,13 @@ IsInTiles cores finished count id = (tile : ℕ) × (tile < count)
     × (IsInTile (slice_index_or cores tile []) (slice_index_or finished tile []) id)
 
 -- the id is marked, where a mark was set: where none was, the marks say nothing
-abbrev pub IsFound : Bool → List Bool → ℕ → Type 0
-IsFound found marks id = (found ≡ true) × Marked marks id
+abbrev pub IsMarkedIfFound : Bool → List Bool → ℕ → Type 0
+IsMarkedIfFound found marks id = (found ≡ true) × Marked marks id
 
 -- beside what was found before, those of these ids are found that pass the test
 pub record Finds (test : ℕ → Bool) (these : ℕ → Type 0) (found : Bool) (old : List Bool) (now : Bool)
     (new : List Bool) : Type 0 where
-  pub exact : (id : ℕ) → IsFound now new id ↔ (IsFound found old id ⊎ (these id × (test id ≡ true)))
+  pub exact : (id : ℕ) → IsMarkedIfFound now new id ↔ (IsMarkedIfFound found old id ⊎ (these id × (test id ≡ true)))
   pub size : length new ≡ length old
 
 -- none conflicts with the access; or the marks are those that do

@@ -8,4 +8,4 @@ pub record RemovesThese (these : ℕ → Bool) (old new : View) : Type 0 where
   pub queues : length new.queues ≡ length old.queues
   pub finished : length new.finished ≡ length old.finished
   pub cores : map length new.cores ≡ map length old.cores
-  pub rest : new ≡ record old { tasks = new.tasks; queues = new.queues; finished = new.finished; cores = new.cores }
+  pub frame : new ≡ record old { tasks = new.tasks; queues = new.queues; finished = new.finished; cores = new.cores }

@@ -4,8 +4,8 @@ ghost use Rattle.std.specs.Prelude.{◌≡◌, ℕ, List, IsSome, IfSome};
 ghost use Rattle.abort_cascade.specs.Cascade.{Marked};
 ghost use Rattle.memory_law.specs.Tasks.{IsByKey};
 ghost use Rattle.spec_state.specs.View.{task_at};
-ghost use Rattle.spec_state.specs.Groups.{logged};
-ghost use Rattle.spec_state.specs.Aborts.{Aborts, Only};
+ghost use Rattle.spec_state.specs.Groups.{logged_tasks};
+ghost use Rattle.spec_state.specs.Aborts.{Aborts, OnlyNode};
 ghost use Rattle.spec_state.specs.Queries.{Conflicts};
 
 use crate::cascade::close_marks;
@@ -23,8 +23,8 @@ pub fn abort<N: Naming>(state: &mut State<N>, task: TaskId) -> u32
     // The dispatched tasks of a sound state have an order by key.
     ensures aborts { let old = state.old.view in
         let new = state.new.view in
-        (ids : List ℕ) → IsByKey (logged old) ids → Aborts (Only task.0) old result new }
-    ensures room { state.new.room ≡ state.old.room }
+        (ids : List ℕ) → IsByKey (logged_tasks old) ids → Aborts (OnlyNode task.0) old result new }
+    ensures room { state.new.spare ≡ state.old.spare }
 {
     mark_one(state, task);
     abort_marked(state)
@@ -36,9 +36,9 @@ pub fn abort_conflicts<N: Naming>(state: &mut State<N>, task: TaskId, line: u32,
     requires live { IsSome (task_at state.old.view task.0) }
     ensures aborts { let old = state.old.view in
         let new = state.new.view in
-        IfSome (task_at old task.0) (λ t. (ids : List ℕ) → IsByKey (logged old) ids
+        IfSome (task_at old task.0) (λ t. (ids : List ℕ) → IsByKey (logged_tasks old) ids
         → Aborts (Conflicts old t line write) old result new) }
-    ensures room { state.new.room ≡ state.old.room }
+    ensures room { state.new.spare ≡ state.old.spare }
 {
     state.is_stored();
     if mark_conflicts(state, task, line, write) {
@@ -54,8 +54,8 @@ fn abort_marked<N: Naming>(state: &mut State<N>) -> u32
         (id : ℕ) → Marked old.scratch.marks id → IsSome (task_at old.view id) }
     ensures aborts { let firsts = Marked state.old.scratch.marks in
         let old = state.old.view in
-        (ids : List ℕ) → IsByKey (logged old) ids → Aborts firsts old result state.new.view }
-    ensures room { state.new.room ≡ state.old.room }
+        (ids : List ℕ) → IsByKey (logged_tasks old) ids → Aborts firsts old result state.new.view }
+    ensures room { state.new.spare ≡ state.old.spare }
 {
     let found = close_marks(state);
     undo_marked(state, found);

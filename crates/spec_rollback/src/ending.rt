@@ -6,7 +6,7 @@ ghost use Rattle.slab.specs.Slab.{get};
 ghost use Rattle.abort_cascade.specs.Cascade.{Marked};
 ghost use Rattle.memory_law.specs.Tasks.{IsByKey};
 ghost use Rattle.spec_state.specs.View.{task_at};
-ghost use Rattle.spec_state.specs.Groups.{logged};
+ghost use Rattle.spec_state.specs.Groups.{logged_tasks};
 ghost use Rattle.spec_state.specs.Aborts.{is_marked, UndoesAll};
 ghost use Rattle.spec_rollback.specs.Pulled.{ListsMarked};
 ghost use Rattle.spec_rollback.specs.Lists.{HasLists};
@@ -77,7 +77,7 @@ fn has_lists<N: Naming>(state: &State<N>)
 pub fn undo_all<N: Naming>(state: &mut State<N>)
     // The dispatched tasks of a sound state have an order by key.
     ensures { let old = state.old.view in
-        (ids : List ℕ) → IsByKey (logged old) ids → UndoesAll old state.new.view }
+        (ids : List ℕ) → IsByKey (logged_tasks old) ids → UndoesAll old state.new.view }
 {
     has_lists(state);
     let found = list_all(state);

@@ -17,7 +17,7 @@ use tile_queues::CommitQueue;
 
 /// An access of a task, beside the tasks with which it may conflict.
 #[derive(Drop)]
-struct Access<'a> {
+struct ConflictQuery<'a> {
     tasks: &'a KeptSlab<Task>,
     task: &'a Task,
     line: u32,
@@ -36,7 +36,7 @@ fn has_line(task: &Task, line: u32, write: bool) -> bool
 }
 
 /// Whether the access conflicts with the task of this id, if there is one.
-fn conflicts(access: &Access<'_>, id: usize) -> bool
+fn conflicts(access: &ConflictQuery<'_>, id: usize) -> bool
     ensures { let a = access.now in
         result ≡ conflicts a.task.now a.line a.write (get a.tasks.now id) }
 {
@@ -52,7 +52,7 @@ fn conflicts(access: &Access<'_>, id: usize) -> bool
 
 /// Marks the id where the access conflicts with its task. The first mark of all wipes the others
 /// out. It tells whether one is set.
-fn mark_id(access: &Access<'_>, id: usize, marks: &mut [bool], found: bool) -> bool
+fn mark_id(access: &ConflictQuery<'_>, id: usize, marks: &mut [bool], found: bool) -> bool
     requires { length access.now.tasks.now.slots ≤ length marks.old }
     ensures { let a = access.now in
         let test = conflicts_at a.tasks.now.slots a.task.now a.line a.write in
@@ -69,7 +69,12 @@ fn mark_id(access: &Access<'_>, id: usize, marks: &mut [bool], found: bool) -> b
 }
 
 /// The same for the task that a core holds, if it holds one.
-fn mark_holder(access: &Access<'_>, held: Option<TaskId>, marks: &mut [bool], found: bool) -> bool
+fn mark_holder(
+    access: &ConflictQuery<'_>,
+    held: Option<TaskId>,
+    marks: &mut [bool],
+    found: bool,
+) -> bool
     requires { length access.now.tasks.now.slots ≤ length marks.old }
     ensures { let a = access.now in
         let test = conflicts_at a.tasks.now.slots a.task.now a.line a.write in
@@ -83,7 +88,7 @@ fn mark_holder(access: &Access<'_>, held: Option<TaskId>, marks: &mut [bool], fo
 
 /// The same for the cores of a tile.
 fn mark_cores(
-    access: &Access<'_>,
+    access: &ConflictQuery<'_>,
     cores: &[Option<TaskId>],
     marks: &mut [bool],
     found: bool,
@@ -102,7 +107,7 @@ fn mark_cores(
 }
 
 /// The same for the tasks of a commit queue.
-fn mark_ids(access: &Access<'_>, ids: &[usize], marks: &mut [bool], found: bool) -> bool
+fn mark_ids(access: &ConflictQuery<'_>, ids: &[usize], marks: &mut [bool], found: bool) -> bool
     requires { length access.now.tasks.now.slots ≤ length marks.old }
     ensures { let a = access.now in
         let test = conflicts_at a.tasks.now.slots a.task.now a.line a.write in
@@ -117,7 +122,7 @@ fn mark_ids(access: &Access<'_>, ids: &[usize], marks: &mut [bool], found: bool)
 
 /// The same for the cores of a tile and its commit queue.
 fn mark_tile(
-    access: &Access<'_>,
+    access: &ConflictQuery<'_>,
     cores: &[Option<TaskId>],
     ids: &[usize],
     marks: &mut [bool],
@@ -135,7 +140,7 @@ fn mark_tile(
 /// Marks the dispatched tasks of all tiles with which the access conflicts, if there are any, and
 /// tells whether there are.
 fn mark_tiles(
-    access: &Access<'_>,
+    access: &ConflictQuery<'_>,
     cores: &[Vec<Option<TaskId>>],
     finished: &[CommitQueue],
     marks: &mut [bool],
@@ -166,7 +171,7 @@ pub(crate) fn mark_one<N: Naming>(state: &mut State<N>, task: TaskId)
     requires live { IsSome (task_at state.old.view task.0) }
     ensures marks { (id : ℕ) → Marked state.new.scratch.marks id ↔ (id ≡ task.0) }
     ensures view { state.new.view ≡ state.old.view }
-    ensures room { state.new.room ≡ state.old.room }
+    ensures room { state.new.spare ≡ state.old.spare }
 {
     // Each id is below the number of slots, and there are as many marks.
     let _slots = state.tasks.capacity();
@@ -187,7 +192,7 @@ pub(crate) fn mark_conflicts<N: Naming>(
         let view = state.old.view in
         IfSome (task_at view task.0) (λ t. FindsConflicts view t line write result marks) }
     ensures view { state.new.view ≡ state.old.view }
-    ensures room { state.new.room ≡ state.old.room }
+    ensures room { state.new.spare ≡ state.old.spare }
 {
     // The tasks of a run without workers are dispatched one at a time.
     if state.is_alone(task) {
@@ -195,7 +200,7 @@ pub(crate) fn mark_conflicts<N: Naming>(
     }
     // Each id is below the number of slots, and there are as many marks.
     let _slots = state.tasks.capacity();
-    let access = Access {
+    let access = ConflictQuery {
         tasks: &state.tasks,
         task: &state.tasks[task.0],
         line,

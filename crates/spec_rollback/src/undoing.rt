@@ -6,7 +6,7 @@ ghost use Rattle.slab.specs.Slab.{get};
 ghost use Rattle.undo_log.specs.Undo.{AllAccessible};
 ghost use Rattle.spec_state.specs.declared.task.Task.{Task};
 ghost use Rattle.memory_law.specs.Tasks.{IsByKey, undone_set};
-ghost use Rattle.spec_state.specs.Groups.{logged};
+ghost use Rattle.spec_state.specs.Groups.{logged_tasks};
 ghost use Rattle.spec_state.specs.Aborts.{is_marked};
 ghost use Rattle.spec_rollback.specs.Pulled.{ListsMarked};
 ghost use Rattle.spec_rollback.specs.Undone.{ids_cmp, Falls, undone_one, undone_down};
@@ -93,7 +93,7 @@ fn undo_latest_first(
 pub(crate) fn undo_marked<N: Naming>(state: &mut State<N>, found: usize)
     requires listed { ListsMarked state.old.scratch found }
     ensures memory { let set = is_marked state.old.scratch.marks in
-        let tasks = logged state.old.view in
+        let tasks = logged_tasks state.old.view in
         let memory = state.new.view.memory in
         (ids : List ℕ) → IsByKey tasks ids
         → memory ≡ undone_set set tasks ids state.old.view.memory }
@@ -101,7 +101,7 @@ pub(crate) fn undo_marked<N: Naming>(state: &mut State<N>, found: usize)
     ensures marks { state.new.scratch.marks ≡ state.old.scratch.marks }
     ensures listed { ListsMarked state.new.scratch found }
     ensures once { AllPairs (λ a b. a ≢ b) (take found state.new.scratch.members) }
-    ensures room { state.new.room ≡ state.old.room }
+    ensures room { state.new.spare ≡ state.old.spare }
 {
     undo_latest_first(
         &state.tasks,

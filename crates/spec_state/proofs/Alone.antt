@@ -4,15 +4,15 @@ use Rattle.std.specs.Prelude.{IfSome}
 use Rattle.fractal_vt.specs.Keys.{key_cmp}
 use Rattle.fractal_vt.proofs.Proved.{equal_keys_tie}
 use Rattle.std.specs.declared.cmp.Ordering.TheVariants.{Less, Equal}
-use Rattle.commit_arbiter.specs.declared.entry.Entry.{Entry}
+use Rattle.commit_arbiter.specs.declared.candidate.Candidate.{Candidate}
 use Rattle.commit_arbiter.specs.Indexed.{closed_in}
 use Rattle.commit_arbiter.proofs.Proved.{two_there}
 use Rattle.spec_state.specs.declared.task.Task.{Task}
 use Rattle.spec_state.specs.View.{View, task_at}
 use Rattle.spec_state.specs.Queries.{Conflicts}
-use Rattle.spec_state.specs.Stored.{IsIndexed, entry_of}
+use Rattle.spec_state.specs.Stored.{IsIndexed, candidate_of}
 
-module _ (view : View) (queues : List (List ℕ)) (arrivals : List ℕ) (next : ℕ) (entries : List Entry) (indexed : IsIndexed view.tasks queues arrivals next entries) (one : closed_in entries ≡ 1)
+module _ (view : View) (queues : List (List ℕ)) (arrivals : List ℕ) (next : ℕ) (entries : List Candidate) (indexed : IsIndexed view.tasks queues arrivals next entries) (one : closed_in entries ≡ 1)
     (id : ℕ) (task : Task) (there : task_at view id ≡ Some task) (some : is_some task.key.tb ≡ true) where
   -- a task doesn't conflict with itself
   other_id : (line : ℕ) (write : Bool) (k : ℕ) → Conflicts view task line write k → id ≢ k
@@ -26,7 +26,7 @@ module _ (view : View) (queues : List (List ℕ)) (arrivals : List ℕ) (next : 
   no_conflict : (line : ℕ) (write : Bool) (k : ℕ) → Conflicts view task line write k → ⊥
   no_conflict line write k conflict =
       let two : 2 ≤ closed_in entries =
-      two_there (entry_of arrivals id task) (entry_of arrivals k conflict.other) entries (indexed.all id task there) (indexed.all k conflict.other conflict.later.there)
+      two_there (candidate_of arrivals id task) (candidate_of arrivals k conflict.other) entries (indexed.all id task there) (indexed.all k conflict.other conflict.later.there)
       (other_id line write k conflict) some conflict.later.dispatched in
       absurd (omega (arith, two, one))
 

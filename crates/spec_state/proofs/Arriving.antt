@@ -2,7 +2,7 @@
 use Rattle.std.proofs.Common.{◌≡◌, ◌<◌, ◌≤◌, ◌+◌, ℕ, List, [], length, Option, Some, sym, ap, subst, ◌∙◌, inl, inr, arith, slice_index_or}
 use Rattle.std.specs.Prelude.{Contains}
 use Rattle.std.proofs.lemmas.Bool.{cases_eq}
-use Rattle.commit_arbiter.specs.declared.entry.Entry.{Entry}
+use Rattle.commit_arbiter.specs.declared.candidate.Candidate.{Candidate}
 use Rattle.spec_state.specs.declared.task.Task.{Task}
 use Rattle.spec_state.specs.Stored.{IsIndexed, AreTheirs, AreBelow, KeepsOthers}
 use Rattle.spec_state.proofs.Joined.{within_lists}
@@ -36,7 +36,7 @@ next_tile tasks lists old new bound more t theirs was own others upto fits s id 
         sym here.2 ∙ ap (λ (x : Task). x.tile) one ∙ there.2
 
 -- where all are below a number, that is the next one
-pub all_early : (tasks : List (Option Task)) (lists : List (List ℕ)) (numbers : List ℕ) (next bound count : ℕ) (entries : List Entry) → IsIndexed tasks lists numbers next entries
+pub all_early : (tasks : List (Option Task)) (lists : List (List ℕ)) (numbers : List ℕ) (next bound count : ℕ) (entries : List Candidate) → IsIndexed tasks lists numbers next entries
     → AllBelow lists numbers bound count → length lists ≤ count → IsIndexed tasks lists numbers bound entries
 all_early tasks lists numbers next bound count entries is below all = record {
   all = is.all;

@@ -3,14 +3,14 @@ use Rattle.std.proofs.Common.{◌≡◌, ◌≤◌, ◌*◌, ◌-◌, ◌++◌, 
 use Rattle.std.specs.Prelude.{All, Contains}
 use Rattle.std.proofs.lemmas.List.Sums.{sum_by-le}
 use Rattle.std.proofs.lemmas.List.{length-append, length-replicate}
-use Rattle.commit_arbiter.specs.declared.entry.Entry.{Entry}
+use Rattle.commit_arbiter.specs.declared.candidate.Candidate.{Candidate}
 use Rattle.tile_queues.specs.Queue.{QueueValue}
 use Rattle.spec_state.specs.declared.task.Status.{Status}
 use Rattle.spec_state.specs.declared.task.Status.TheVariants.{Finished}
 use Rattle.spec_state.specs.declared.task.Task.{Task}
 use Rattle.spec_state.specs.View.{View, task_at}
 use Rattle.spec_state.specs.Fits.{queued_count}
-use Rattle.spec_state.specs.Stored.{HasCore, IsThere, IsStored, IsIndexed}
+use Rattle.spec_state.specs.Stored.{HasCore, HasTask, IsStored, IsIndexed}
 use Rattle.spec_state.proofs.Joined.{ids_at}
 
 -- of empty lists each one is empty
@@ -37,7 +37,7 @@ none_held (suc n) cores zero core id at = no_holder cores core id at
 none_held (suc n) cores (suc tile) core id at = none_held n cores tile core id at
 
 -- no task is there
-none_there : (view : View) (tile id : ℕ) (kind : Status → Type 0) → view.tasks ≡ [] → IsThere view tile id kind → ⊥
+none_there : (view : View) (tile id : ℕ) (kind : Status → Type 0) → view.tasks ≡ [] → HasTask view tile id kind → ⊥
 none_there view tile id kind empty has =
     let none : task_at view id ≡ None = ap (λ (tasks : List (Option Task)). slice_index_or tasks id None) empty in absurd (cc (none, has.1))
 
@@ -54,7 +54,7 @@ stored_empty view size tiles cores tasks queues finished held memory = record {
   memory = memory;
 }
 
-pub indexed_empty : (tasks : List (Option Task)) (queues : List (List ℕ)) (arrivals : List ℕ) (next tiles : ℕ) (entries : List Entry) → tasks ≡ [] → queues ≡ replicate tiles [] → entries ≡ []
+pub indexed_empty : (tasks : List (Option Task)) (queues : List (List ℕ)) (arrivals : List ℕ) (next tiles : ℕ) (entries : List Candidate) → tasks ≡ [] → queues ≡ replicate tiles [] → entries ≡ []
     → IsIndexed tasks queues arrivals next entries
 indexed_empty tasks queues arrivals next tiles entries none empty nothing = record {
   all = λ id task at. absurd (cc (at, ap (λ (ts : List (Option Task)). slice_index_or ts id None) none));

@@ -7,12 +7,12 @@ use Rattle.std.proofs.lemmas.List.{get_or-set_same, get_or-set_other, length_pus
 use Rattle.std.proofs.lemmas.List.Elements.{Contains-push_cases}
 use Rattle.std.proofs.lemmas.List.Sorted.{Contains-permutation, IsPermutation-sym}
 use Rattle.std.proofs.lemmas.Option.{slice_get_within, get_or_from_slice_get}
-use Rattle.commit_arbiter.specs.declared.entry.Entry.{Entry}
-use Rattle.commit_arbiter.specs.Indexed.{entry_cmp, HasId}
-use Rattle.fractal_vt.specs.Sorted.{inserted}
-use Rattle.fractal_vt.proofs.Proved.{inserted-permutes}
+use Rattle.commit_arbiter.specs.declared.candidate.Candidate.{Candidate}
+use Rattle.commit_arbiter.specs.Indexed.{candidate_cmp, HasId}
+use Rattle.fractal_vt.specs.Sorted.{after_insert}
+use Rattle.fractal_vt.proofs.Proved.{after_insert-permutes}
 use Rattle.spec_state.specs.declared.task.Task.{Task}
-use Rattle.spec_state.specs.Stored.{IsIndexed, entry_of}
+use Rattle.spec_state.specs.Stored.{IsIndexed, candidate_of}
 
 -- what stands at a place of a longer list stood there, or is the last one
 get_cases : (xs : List ℕ) (x i y : ℕ) → slice_get (xs ++ x ∷ []) i ≡ Some y → (slice_get xs i ≡ Some y) ⊎ ((i ≡ length xs) × (x ≡ y))
@@ -37,17 +37,17 @@ pub held_at : (ids : List ℕ) (p id : ℕ) → slice_get ids p ≡ Some id → 
 held_at ids p id at = (p, slice_get_within ids p id at, get_or_from_slice_get ids p id id at)
 
 -- the index holds no entry of an id that is no task's
-pub no_entry : (tasks : List (Option Task)) (queues : List (List ℕ)) (arrivals : List ℕ) (next id : ℕ) (entries : List Entry) → IsIndexed tasks queues arrivals next entries
+pub no_entry : (tasks : List (Option Task)) (queues : List (List ℕ)) (arrivals : List ℕ) (next id : ℕ) (entries : List Candidate) → IsIndexed tasks queues arrivals next entries
     → slice_index_or tasks id None ≡ None → HasId id entries → ⊥
 no_entry tasks queues arrivals next id entries is vacant (k, e, below, at, same) =
     let was = is.each e (k, below, at) in
     absurd (cc (was.1, ap (λ j. slice_index_or tasks j None) same, vacant))
 
-module _ (tasks after : List (Option Task)) (queues : List (List ℕ)) (arrivals : List ℕ) (next : ℕ) (entries : List Entry) (id : ℕ) (task : Task)
+module _ (tasks after : List (Option Task)) (queues : List (List ℕ)) (arrivals : List ℕ) (next : ℕ) (entries : List Candidate) (id : ℕ) (task : Task)
     (is : IsIndexed tasks queues arrivals next entries) (vacant : slice_index_or tasks id None ≡ None) (changed : slice_index_or after id None ≡ Some task)
     (others : (k : ℕ) → k ≢ id → slice_index_or after k None ≡ slice_index_or tasks k None) (below : id < length arrivals) (in_tiles : task.tile < length queues)
     (unqueued : (tile k : ℕ) → Contains (slice_index_or queues tile []) k → k ≢ id) where
-  abbrev own : Entry
+  abbrev own : Candidate
   own = record { key = task.key; tile = task.tile; arrival = next; id = id }
 
   abbrev numbers : List ℕ
@@ -59,8 +59,8 @@ module _ (tasks after : List (Option Task)) (queues : List (List ℕ)) (arrivals
   abbrev lists : List (List ℕ)
   lists = slice_set queues task.tile (own_queue ++ id ∷ [])
 
-  permutes : IsPermutation (own ∷ entries) (inserted entry_cmp own entries)
-  permutes = inserted-permutes entry_cmp own entries
+  permutes : IsPermutation (own ∷ entries) (after_insert candidate_cmp own entries)
+  permutes = after_insert-permutes candidate_cmp own entries
 
   own_number : slice_index_or numbers id 0 ≡ next
   own_number = get_or-set_same arrivals id next 0 below
@@ -68,31 +68,31 @@ module _ (tasks after : List (Option Task)) (queues : List (List ℕ)) (arrivals
   other_number : (k : ℕ) → k ≢ id → slice_index_or numbers k 0 ≡ slice_index_or arrivals k 0
   other_number k other = get_or-set_other arrivals id k next 0 other
 
-  own_entry : entry_of numbers id task ≡ own
+  own_entry : candidate_of numbers id task ≡ own
   own_entry = λ i. record { key = task.key; tile = task.tile; arrival = own_number i; id = id }
 
-  other_entry : (k : ℕ) (t : Task) → k ≢ id → entry_of numbers k t ≡ entry_of arrivals k t
+  other_entry : (k : ℕ) (t : Task) → k ≢ id → candidate_of numbers k t ≡ candidate_of arrivals k t
   other_entry k t other = λ i. record { key = t.key; tile = t.tile; arrival = other_number k other i; id = k }
 
-  all_in : (k : ℕ) (t : Task) → slice_index_or after k None ≡ Some t → Contains (inserted entry_cmp own entries) (entry_of numbers k t)
+  all_in : (k : ℕ) (t : Task) → slice_index_or after k None ≡ Some t → Contains (after_insert candidate_cmp own entries) (candidate_of numbers k t)
   all_in k t at = elim (cases_eq k id) [
     | inl same ↦
         let both : Some t ≡ Some task = sym at ∙ ap (λ j. slice_index_or after j None) same ∙ changed in
         let it : t ≡ task = cc in
-        let e : entry_of numbers k t ≡ own = ap (λ j. entry_of numbers j t) same ∙ ap (entry_of numbers id) it ∙ own_entry in
-        subst (Contains (inserted entry_cmp own entries)) (sym e) (Contains-permutation (own ∷ entries) (inserted entry_cmp own entries) own permutes (has_head own entries))
+        let e : candidate_of numbers k t ≡ own = ap (λ j. candidate_of numbers j t) same ∙ ap (candidate_of numbers id) it ∙ own_entry in
+        subst (Contains (after_insert candidate_cmp own entries)) (sym e) (Contains-permutation (own ∷ entries) (after_insert candidate_cmp own entries) own permutes (has_head own entries))
     | inr other ↦
         let was = is.all k t (sym (others k other) ∙ at) in
-        subst (Contains (inserted entry_cmp own entries)) (sym (other_entry k t other))
-        (Contains-permutation (own ∷ entries) (inserted entry_cmp own entries) (entry_of arrivals k t) permutes (in_tail own entries (entry_of arrivals k t) was))
+        subst (Contains (after_insert candidate_cmp own entries)) (sym (other_entry k t other))
+        (Contains-permutation (own ∷ entries) (after_insert candidate_cmp own entries) (candidate_of arrivals k t) permutes (in_tail own entries (candidate_of arrivals k t) was))
   ]
 
-  abbrev Has : Entry → Type 0
-  Has e = (t : Task) × (slice_index_or after e.id None ≡ Some t) × (e ≡ entry_of numbers e.id t)
+  abbrev Has : Candidate → Type 0
+  Has e = (t : Task) × (slice_index_or after e.id None ≡ Some t) × (e ≡ candidate_of numbers e.id t)
 
-  each_is : (e : Entry) → Contains (inserted entry_cmp own entries) e → Has e
+  each_is : (e : Candidate) → Contains (after_insert candidate_cmp own entries) e → Has e
   each_is e has =
-      elim (head_or_tail own entries e (Contains-permutation (inserted entry_cmp own entries) (own ∷ entries) e (IsPermutation-sym (own ∷ entries) (inserted entry_cmp own entries) permutes) has)) [
+      elim (head_or_tail own entries e (Contains-permutation (after_insert candidate_cmp own entries) (own ∷ entries) e (IsPermutation-sym (own ∷ entries) (after_insert candidate_cmp own entries) permutes) has)) [
         | inl head ↦ subst Has head (task, changed, sym own_entry)
         | inr tail ↦
             let was = is.each e tail in
@@ -155,5 +155,5 @@ module _ (tasks after : List (Option Task)) (queues : List (List ℕ)) (arrivals
         was_rising tile p q a b less (ap (λ ids. slice_get ids p) (sym list) ∙ at) (ap (λ ids. slice_get ids q) (sym list) ∙ bt)
   ]
 
-  pub entered : IsIndexed after lists numbers (next + 1) (inserted entry_cmp own entries)
+  pub entered : IsIndexed after lists numbers (next + 1) (after_insert candidate_cmp own entries)
   entered = record { all = all_in; each = each_is; early = early_all; rising = rising_all }

@@ -13,7 +13,7 @@ use Rattle.std.proofs.Common.{option_map, length-take-le}
 use Rattle.fractal_vt.specs.declared.key.Key.{Key}
 use Rattle.fractal_vt.specs.Keys.{key_cmp}
 use Rattle.fractal_vt.proofs.Proved.{key_cmp_total, least_at}
-use Rattle.spill_store.specs.Entries.{Entry as Spilled, BlockValue, first_key, open_key, IsLeastKey}
+use Rattle.spill_store.specs.SpilledTasks.{Spilled, BlockValue, first_key, open_key, IsLeastKey}
 use Rattle.spill_store.specs.Fronts.{IsFirstOfAll}
 use Rattle.spec_state.specs.Least.{Spilled_at, ranked_cmp, place_cmp}
 use Rattle.spec_state.specs.Fronts.{IsFirstSpilled, HoldNone}
@@ -97,7 +97,7 @@ module _ (blocks : List (List Spilled)) (n : ℕ) where
   front_and_none tile key is empty = record {
     below = omega (arith, is.below);
     place = is.place;
-    s = is.s;
+    spilled = is.spilled;
     there = is.there;
     of_task = is.of_task;
     first = λ t p x less at. elim (cases_eq t n) [
@@ -141,7 +141,7 @@ module _ (blocks : List (List Spilled)) (n : ℕ) where
     begins before = record {
       below = omega arith;
       place = least.place;
-      s = least.entry;
+      spilled = least.entry;
       there = least.least.there;
       of_task = least.of_entry;
       first = λ t p x less at. elim (cases_eq t n) [
@@ -162,7 +162,7 @@ module _ (blocks : List (List Spilled)) (n : ℕ) where
       stays_front not = record {
         below = omega (arith, is.below);
         place = is.place;
-        s = is.s;
+        spilled = is.spilled;
         there = is.there;
         of_task = is.of_task;
         first = λ t p x less at. elim (cases_eq t n) [
@@ -213,7 +213,7 @@ first_is_spilled blocks tile key is = by_list (slice_index_or blocks tile []) re
     by_list (e ∷ es) same own = record {
       below = is.within;
       place = 0;
-      s = e;
+      spilled = e;
       there = ap (λ (ls : List Spilled). slice_get ls 0) same;
       of_task = (let both : Some (open_key e) ≡ Some key = sym (ap first_key same) ∙ own in let mine : open_key e ≡ key = cc (both) in sym mine);
       first = later;

@@ -53,8 +53,8 @@ one_least view a b x y least other =
     let tie = both_ties (key_cmp least.least.key other.least.key) (place_cmp x.tile least.place y.tile other.place) (key_cmp other.least.key least.least.key) (place_cmp y.tile other.place x.tile least.place)
     (key_cmp_total.antisymm other.least.key least.least.key) (place_reverse x.tile least.place y.tile other.place) up down in
     let same = same_place x.tile least.place y.tile other.place tie in
-    let here = least.at.queued in
-    let there = other.at.queued in
+    let here = least.queued_at.queued in
+    let there = other.queued_at.queued in
     let both : Some a ≡ Some b = sym here ∙ ap (λ t. slice_get (Rattle.spec_state.specs.View.queue_at view t) least.place) same.0
     ∙ ap (slice_get (Rattle.spec_state.specs.View.queue_at view y.tile)) same.1 ∙ there in
     cc
@@ -76,7 +76,7 @@ none_committed view b y all least = all (Queued y.tile least.place) least.least.
 
 module _ (size : ℕ) (view : View) (stored : IsStored size view) where
   on_core : (id : ℕ) (task : Task) → IsLeastTask view id task → is_some (kept_core task.status task.core) ≡ true → is_dispatched task ≡ true
-  on_core id task least kept = (stored.tasks id task least.at.there).dispatched ∙ kept
+  on_core id task least kept = (stored.tasks id task least.queued_at.there).dispatched ∙ kept
 
   -- the least task that keeps a core is the heir
   pub heir_running : (id : ℕ) (task : Task) (status : Status) → IsLeastTask view id task → task.status ≡ status → is_some (kept_core status task.core) ≡ true → IsHeir view (Some id)
@@ -86,9 +86,9 @@ module _ (size : ℕ) (view : View) (stored : IsStored size view) where
   pub no_heir_idle : (id : ℕ) (task : Task) → IsLeastTask view id task → task.status ≡ Idle → IsHeir view None
   no_heir_idle id task least idle k x other runs =
       let same = one_least view k id x task other least in
-      let both : Some x ≡ Some task = sym other.at.there ∙ ap (task_at view) same ∙ least.at.there in
+      let both : Some x ≡ Some task = sym other.queued_at.there ∙ ap (task_at view) same ∙ least.queued_at.there in
       let one : x ≡ task = cc in
-      let off : is_dispatched x ≡ false = (stored.tasks k x other.at.there).dispatched ∙ ap (λ (t : Task). is_some (kept_core t.status t.core)) one ∙ ap (λ s. is_some (kept_core s task.core)) idle in
+      let off : is_dispatched x ≡ false = (stored.tasks k x other.queued_at.there).dispatched ∙ ap (λ (t : Task). is_some (kept_core t.status t.core)) one ∙ ap (λ s. is_some (kept_core s task.core)) idle in
       cc
 
 pub no_heir_spilled : (view : View) (tile : ℕ) → IsLeastSpilled view tile → IsHeir view None

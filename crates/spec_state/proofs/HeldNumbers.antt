@@ -5,19 +5,19 @@ use Rattle.std.proofs.lemmas.List.Elements.{All-append, All-cons, All-nil}
 use Rattle.fractal_vt.specs.declared.key.Key.{Key}
 use Rattle.fractal_vt.specs.declared.level.Level.{Level}
 use Rattle.fractal_vt.specs.Keys.{last}
-use Rattle.fractal_vt.specs.Levels.{closed}
+use Rattle.fractal_vt.specs.Levels.{closed_level}
 use Rattle.fractal_vt.specs.Renumbered.{HoldsDomain, HoldsKey, IsHeld}
-use Rattle.spill_store.specs.Entries.{Entry as Spilled, open_key}
+use Rattle.spill_store.specs.SpilledTasks.{Spilled, open_key}
 use Rattle.spec_state.specs.declared.task.Task.{Task}
 use Rattle.spec_state.specs.Groups.{all_spilled}
 use Rattle.spec_state.specs.Numbers.{IsNumberTable, IsTieOf, in_domain, of_spilled, of_task, on_path}
 use Rattle.spec_state.specs.View.{View, task_at}
 
 -- levels whose tiebreakers a table has are held by it
-held_levels : (table : List ℕ) (ds : List Level) → ((n : ℕ) → IsTieOf ds n → Contains table n) → All (IsHeld table) (map closed ds)
+held_levels : (table : List ℕ) (ds : List Level) → ((n : ℕ) → IsTieOf ds n → Contains table n) → All (IsHeld table) (map closed_level ds)
 held_levels table [] each = All-nil (IsHeld table)
 held_levels table (d ∷ ds) each =
-    All-cons (IsHeld table) (closed d) (map closed ds) (each d.tb (0, omega arith, refl))
+    All-cons (IsHeld table) (closed_level d) (map closed_level ds) (each d.tb (0, omega arith, refl))
     (held_levels table ds (λ n has. each n (suc has.0, (let low = has.1 in omega (arith, low)), has.2)))
 
 -- and so is an own level
@@ -34,12 +34,12 @@ module _ (view : View) (table : List ℕ) (is : IsNumberTable view table) where
 
   pub table_holds_task : (id : ℕ) (t : Task) → task_at view id ≡ Some t → HoldsKey table t.key
   table_holds_task id t there =
-      All-append (IsHeld table) (map closed t.key.domain) (last t.key ∷ [])
+      All-append (IsHeld table) (map closed_level t.key.domain) (last t.key ∷ [])
       (held_levels table t.key.domain (λ n has. (is.exact n).1 (in_domain id t there has)))
       (All-cons (IsHeld table) (last t.key) [] (held_last table t.key (λ n own. (is.exact n).1 (of_task id t there own))) (All-nil (IsHeld table)))
 
   pub table_holds_spilled : (s : Spilled) → Contains (all_spilled view) s → HoldsKey table (open_key s)
   table_holds_spilled s has =
-      All-append (IsHeld table) (map closed s.domain) (last (open_key s) ∷ [])
+      All-append (IsHeld table) (map closed_level s.domain) (last (open_key s) ∷ [])
       (held_levels table s.domain (λ n tie. (is.exact n).1 (of_spilled s has tie)))
       (All-cons (IsHeld table) (last (open_key s)) [] tt (All-nil (IsHeld table)))

@@ -34,7 +34,7 @@ module _ (view : View) (ids : List ℕ) (count id : ℕ) (task : Task) (at : sli
   -- the task at the next place is this one
   is_next : (p k : ℕ) (x : Task) → p ≡ count → IsIdleAt view ids p k x → x ≡ task
   is_next p k x same is =
-      let one : k ≡ id = same_id ids count k id (ap (slice_get ids) (sym same) ∙ is.at) at in
+      let one : k ≡ id = same_id ids count k id (ap (slice_get ids) (sym same) ∙ is.id_at) at in
       one_task view id x task (ap (task_at view) (sym one) ∙ is.there) there
 
   -- where that isn't idle, the pick stays
@@ -48,7 +48,7 @@ module _ (view : View) (ids : List ℕ) (count id : ℕ) (task : Task) (at : sli
     place = is.place;
     task = is.task;
     below = omega (arith, is.below);
-    this = is.this;
+    idle = is.idle;
     least = λ p k x below idle. elim (cases_eq p count) [
       | inl same ↦ absurd (busy (ap (λ (t : Task). t.status) (sym (is_next p k x same idle)) ∙ idle.idle))
       | inr other ↦ is.least p k x (omega (arith, below, other)) idle
@@ -64,7 +64,7 @@ module _ (view : View) (ids : List ℕ) (count id : ℕ) (task : Task) (at : sli
     place = count;
     task = task;
     below = omega arith;
-    this = record { at = at; there = there; idle = idle };
+    idle = record { id_at = at; there = there; idle = idle };
     least = λ p k x below is. elim (cases_eq p count) [
       | inl same ↦ subst (λ (t : Task). key_cmp task.key t.key ≢ Greater) (sym (is_next p k x same is))
           (by_key.itself task.key)
@@ -87,7 +87,7 @@ module _ (view : View) (ids : List ℕ) (count id : ℕ) (task : Task) (at : sli
     was_first = subst (IsIdlePick view ids count) given was
 
     own_task : (is : IsFirstIdle view ids count b.0) → is.task ≡ first
-    own_task is = one_task view b.0 is.task first is.this.there of
+    own_task is = one_task view b.0 is.task first is.idle.there of
 
     pub picks_lesser : task.status ≡ Idle → is_lt (key_cmp task.key first.key) ≡ true
         → IsFirstIdle view ids (count + 1) id
@@ -100,7 +100,7 @@ module _ (view : View) (ids : List ℕ) (count id : ℕ) (task : Task) (at : sli
       place = was_first.place;
       task = was_first.task;
       below = omega (arith, was_first.below);
-      this = was_first.this;
+      idle = was_first.idle;
       least = λ p k x below is. elim (cases_eq p count) [
         | inl same ↦ subst (λ (t : Task). key_cmp was_first.task.key t.key ≢ Greater) (sym (is_next p k x same is))
             (subst (λ (t : Task). key_cmp t.key task.key ≢ Greater) (sym (own_task was_first))
@@ -125,12 +125,12 @@ module _ (view : View) (tile : ℕ) (ids : List ℕ) (are : ids ≡ queue_at vie
   at_place : (k : ℕ) (x : Task) → IsIdle view tile k x → (p : ℕ) × IsIdleAt view ids p k x
   at_place k x is =
       let has : Contains ids k = subst (λ (ns : List ℕ). Contains ns k) (sym are) is.queued in
-      (has.0, record { at = slice_get-get_or ids has.0 k has.1 ∙ ap Some has.2; there = is.there; idle = is.idle })
+      (has.0, record { id_at = slice_get-get_or ids has.0 k has.1 ∙ ap Some has.2; there = is.there; idle = is.idle })
 
   idle_at : (p k : ℕ) (x : Task) → IsIdleAt view ids p k x → IsIdle view tile k x
   idle_at p k x is = record {
     queued = subst (λ (ns : List ℕ). Contains ns k) are
-        (held_at ids p k is.at);
+        (held_at ids p k is.id_at);
     there = is.there;
     idle = is.idle;
   }
@@ -149,18 +149,18 @@ module _ (view : View) (tile : ℕ) (ids : List ℕ) (are : ids ≡ queue_at vie
       let here : slice_get ids p ≡ Some id = ap (λ (ns : List ℕ). slice_get ns p) are ∙ at.queued in
       let there : slice_get ids q ≡ Some k = ap (λ (ns : List ℕ). slice_get ns q) are ∙ also.queued in
       let within : q < count = (let inside = slice_get_within ids q k there in omega (arith, inside, all)) in
-      let one : is.task ≡ y = one_task view id is.task y is.this.there at.there in
+      let one : is.task ≡ y = one_task view id is.task y is.idle.there at.there in
       let two : z ≡ x = one_task view k z x also.there idle.there in
       let stands : IsIdleAt view ids q k z = record
-      { at = there; there = also.there; idle = ap (λ (t : Task). t.status) two ∙ idle.idle } in
+      { id_at = there; there = also.there; idle = ap (λ (t : Task). t.status) two ∙ idle.idle } in
       subst (λ (t : Task). ranked_cmp t.key (Queued tile p) z.key (Queued tile q) ≡ Less) one
       (elim (cases_lt q is.place) [
         | inl before ↦ ap (λ o. ordering_then o (ordering_then (nat_cmp tile tile) (nat_cmp p q)))
             (is.first q k z before stands)
         | inr behind ↦
-            let same : p ≡ is.place = one_place p is.place id here is.this.at in
+            let same : p ≡ is.place = one_place p is.place id here is.idle.id_at in
             let apart_places : q ≢ is.place = λ e. other
-            (same_id ids is.place k id (ap (slice_get ids) (sym e) ∙ there) is.this.at) in
+            (same_id ids is.place k id (ap (slice_get ids) (sym e) ∙ there) is.idle.id_at) in
             ranks (key_cmp is.task.key z.key) p q (omega (arith, behind, same, apart_places))
             (is.least q k z within stands)
       ])
@@ -179,17 +179,17 @@ module _ (view : View) (tile : ℕ) (ids : List ℕ) (are : ids ≡ queue_at vie
       → IfSome best (λ id. (task : Task) × IsLeastIdle view tile id.0 task)
   idle_some None is = tt
   idle_some (Some id) is =
-      (is.task, record { this = idle_at is.place id.0 is.task is.this; least = comes_first id.0 is })
+      (is.task, record { idle = idle_at is.place id.0 is.task is.idle; least = comes_first id.0 is })
 
   pub idle_none : (best : Option TaskId) → IsIdlePick view ids count best
       → IsNone best ↔ ((id : ℕ) (task : Task) → IsIdle view tile id task → ⊥)
   idle_none None is = (
     λ none k x idle. (let at = at_place k x idle in
-        let within = slice_get_within ids at.0 k at.1.at in is at.0 k x (omega (arith, within, all)) at.1),
+        let within = slice_get_within ids at.0 k at.1.id_at in is at.0 k x (omega (arith, within, all)) at.1),
     λ no_task. refl,
   )
   idle_none (Some id) is =
-      (λ none. absurd (cc (none)), λ no_task. absurd (no_task id.0 is.task (idle_at is.place id.0 is.task is.this)))
+      (λ none. absurd (cc (none)), λ no_task. absurd (no_task id.0 is.task (idle_at is.place id.0 is.task is.idle)))
 
 -- the tasks that were looked at aren't idle and firm
 abbrev pub NoneSeen : View → Option ℕ → List ℕ → Type 0
@@ -208,7 +208,7 @@ module _ (view : View) (heir : Option ℕ) (is_heir : IsHeir view heir) (tile : 
           id,
           task,
           record {
-            this = record { queued = has; there = there; idle = is.0 };
+            idle = record { queued = has; there = there; idle = is.0 };
             firm = firm_by view heir task is_heir
                 is.1;
           },
@@ -221,7 +221,7 @@ module _ (view : View) (heir : Option ℕ) (is_heir : IsHeir view heir) (tile : 
   none_firm count all none = (
     λ no. absurd (cc (no)),
     λ firm.
-        let idle = firm.2.this in
+        let idle = firm.2.idle in
         absurd (none firm.0 firm.1
         (subst (λ (ns : List ℕ). Contains ns firm.0) (sym (take_all count ids all))
         (subst (λ (ns : List ℕ). Contains ns firm.0) (sym are) idle.queued))

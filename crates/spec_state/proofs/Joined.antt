@@ -10,7 +10,7 @@ use Rattle.spec_state.specs.declared.task.Task.{Task}
 use Rattle.tile_queues.specs.Queue.{QueueValue}
 use Rattle.spec_state.specs.View.{View, task_at, queue_at}
 use Rattle.spec_state.specs.Queries.{IsQueued}
-use Rattle.spec_state.specs.Stored.{HasCore, IsThere, IsWellFormed, IsStored}
+use Rattle.spec_state.specs.Stored.{HasCore, HasTask, IsWellFormed, IsStored}
 use Rattle.spec_state.specs.Opening.{Adds}
 
 -- what stands at a place of the lists of ids is what the queue there holds
@@ -51,17 +51,17 @@ module _ (old new : View) (id : ℕ) (task : Task) (adds : Adds id task old new)
   module _ (size : ℕ) (stored : IsStored size old) (in_tiles : task.tile < length old.queues) (idle : task.status ≡ Idle)
       (formed : IsWellFormed size (length old.history) task) where
     -- a task whose status is of a kind stays
-    has_forth : (kind : Status → Type 0) (tile k : ℕ) → IsThere old tile k kind → IsThere new tile k kind
+    has_forth : (kind : Status → Type 0) (tile k : ℕ) → HasTask old tile k kind → HasTask new tile k kind
     has_forth kind tile k has = (has.0, still_there k has.0 has.1, has.2, has.3)
 
     -- and was there, where that is no status of an idle one
-    has_back : (kind : Status → Type 0) → (kind Idle → ⊥) → (tile k : ℕ) → IsThere new tile k kind → IsThere old tile k kind
+    has_back : (kind : Status → Type 0) → (kind Idle → ⊥) → (tile k : ℕ) → HasTask new tile k kind → HasTask old tile k kind
     has_back kind none tile k has = elim (cases_eq k id) [
       | inl same ↦ absurd (none (subst kind (ap (λ t. t.status) (is_new k has.0 same has.1) ∙ idle) has.3))
       | inr other ↦ (has.0, was_there k has.0 other has.1, has.2, has.3)
     ]
 
-    queued_forth : (tile k : ℕ) → IsQueued new tile k → IsThere new tile k (λ status. Unit {0})
+    queued_forth : (tile k : ℕ) → IsQueued new tile k → HasTask new tile k (λ status. Unit {0})
     queued_forth tile k has = elim (cases_eq tile task.tile) [
       | inl own ↦
           let here : Contains (queue_at old task.tile ++ id ∷ []) k = subst (λ ids. Contains ids k) (own_queue in_tiles) (subst (λ n. Contains (queue_at new n) k) own has) in
@@ -82,7 +82,7 @@ module _ (old new : View) (id : ℕ) (task : Task) (adds : Adds id task old new)
       | inr other ↦ subst (λ ids. Contains ids k) (sym (other_queue tile other)) has
     ]
 
-    queued_back : (tile k : ℕ) → IsThere new tile k (λ status. Unit {0}) → IsQueued new tile k
+    queued_back : (tile k : ℕ) → HasTask new tile k (λ status. Unit {0}) → IsQueued new tile k
     queued_back tile k has = elim (cases_eq k id) [
       | inl same ↦
           let own : task.tile ≡ tile = ap (λ t. t.tile) (sym (is_new k has.0 same has.1)) ∙ has.2 in
@@ -98,7 +98,7 @@ module _ (old new : View) (id : ℕ) (task : Task) (adds : Adds id task old new)
     ]
 
     pub stored_added : IsStored size new
-    stored_added = subst (IsStored size) (sym adds.rest)
+    stored_added = subst (IsStored size) (sym adds.frame)
         (record {
           queued_are = λ tile k. (queued_forth tile k, queued_back tile k);
           finished_are = λ tile k. (

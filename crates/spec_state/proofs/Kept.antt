@@ -5,7 +5,7 @@ use Rattle.std.specs.Prelude.{◌↔◌, Contains, IsSome, slice_set, is_some, c
 use Rattle.std.proofs.lemmas.Bool.{cases_eq}
 use Rattle.std.proofs.lemmas.List.{get_or-set_same, get_or-set_other}
 use Rattle.std.proofs.lemmas.List.Sums.{sum_by-set}
-use Rattle.commit_arbiter.specs.declared.entry.Entry.{Entry}
+use Rattle.commit_arbiter.specs.declared.candidate.Candidate.{Candidate}
 use Rattle.fractal_vt.specs.declared.key.Key.{Key}
 use Rattle.rv_core.specs.declared.state.Core.{Core}
 use Rattle.task_desc.specs.declared.calls.TheConstants.{MAX_CHILDREN, MAX_DEPTH}
@@ -15,8 +15,8 @@ use Rattle.spec_state.specs.declared.settings.Settings.{Settings}
 use Rattle.spec_state.specs.declared.task.Status.{Status}
 use Rattle.spec_state.specs.declared.task.Status.TheVariants.{Idle, Running, Trapped, Finished}
 use Rattle.spec_state.specs.declared.task.Task.{Task}
-use Rattle.spec_state.specs.Fits.{HasSlots}
-use Rattle.spec_state.specs.Stored.{HasCore, IsThere, IsWellFormed, IsStored, IsIndexed, entry_of}
+use Rattle.spec_state.specs.Fits.{HasSlots, SlotCounts}
+use Rattle.spec_state.specs.Stored.{HasCore, HasTask, IsWellFormed, IsStored, IsIndexed, candidate_of}
 use Rattle.spec_state.specs.Tasks.{depth_of, kept_core}
 use Rattle.spec_state.specs.View.{View, task_at, ChangesTask}
 use Rattle.spec_state.proofs.Renumbered.{below_slots}
@@ -81,12 +81,12 @@ kept_all stands same tasks = record { forth = λ k t at. (t, at, same t); back =
 -- the lists still hold what they should
 module _ (size : ℕ) (old now : View) (stored : IsStored size old) (kept : AreKept KeepsPlace old.tasks now.tasks) (queues : now.queues ≡ old.queues) (finished : now.finished ≡ old.finished)
     (cores : now.cores ≡ old.cores) where
-  there_forth : (was is : Status → Type 0) → ((t n : Task) → KeepsPlace t n → was t.status → is n.status) → (tile id : ℕ) → IsThere old tile id was → IsThere now tile id is
+  there_forth : (was is : Status → Type 0) → ((t n : Task) → KeepsPlace t n → was t.status → is n.status) → (tile id : ℕ) → HasTask old tile id was → HasTask now tile id is
   there_forth was is stays tile id (t, at, own, kind) =
       let n = kept.forth id t at in
       (n.0, n.1, n.2.tile ∙ own, stays t n.0 n.2 kind)
 
-  there_back : (was is : Status → Type 0) → ((t n : Task) → KeepsPlace t n → is n.status → was t.status) → (tile id : ℕ) → IsThere now tile id is → IsThere old tile id was
+  there_back : (was is : Status → Type 0) → ((t n : Task) → KeepsPlace t n → is n.status → was t.status) → (tile id : ℕ) → HasTask now tile id is → HasTask old tile id was
   there_back was is stays tile id (n, at, own, kind) =
       let t = kept.back id n at in
       (t.0, t.1, sym t.2.tile ∙ own, stays t.0 n t.2 kind)
@@ -132,7 +132,7 @@ stored_but_one size old now id task changed stored there changes queues finished
         subst (IsWellFormed size (length old.history)) (sym one) formed
 
 -- the index still holds what it should
-pub indexed_kept : (old now : List (Option Task)) (queues : List (List ℕ)) (arrivals : List ℕ) (next : ℕ) (entries : List Entry) → AreKept KeepsKey old now
+pub indexed_kept : (old now : List (Option Task)) (queues : List (List ℕ)) (arrivals : List ℕ) (next : ℕ) (entries : List Candidate) → AreKept KeepsKey old now
     → IsIndexed old queues arrivals next entries → IsIndexed now queues arrivals next entries
 indexed_kept old now queues arrivals next entries kept is = record {
   all = λ id n at. (let t = kept.back id n at in subst (Contains entries) (sym (same_entry id t.0 n t.2)) (is.all id t.0 t.1));
@@ -141,11 +141,11 @@ indexed_kept old now queues arrivals next entries kept is = record {
   rising = is.rising;
 }
   where
-    same_entry : (id : ℕ) (t n : Task) → KeepsKey t n → entry_of arrivals id n ≡ entry_of arrivals id t
+    same_entry : (id : ℕ) (t n : Task) → KeepsKey t n → candidate_of arrivals id n ≡ candidate_of arrivals id t
     same_entry id t n keeps = λ i. record { key = keeps.key i; tile = keeps.tile i; arrival = slice_index_or arrivals id 0; id = id }
 
 -- where one task is another with its key, in its tile
-pub indexed_but_one : (old now : List (Option Task)) (queues : List (List ℕ)) (arrivals : List ℕ) (next : ℕ) (entries : List Entry) (id : ℕ) (task changed : Task)
+pub indexed_but_one : (old now : List (Option Task)) (queues : List (List ℕ)) (arrivals : List ℕ) (next : ℕ) (entries : List Candidate) (id : ℕ) (task changed : Task)
     → slice_index_or old id None ≡ Some task → slice_index_or now id None ≡ Some changed → ((k : ℕ) → k ≢ id → slice_index_or now k None ≡ slice_index_or old k None)
     → changed.tile ≡ task.tile → changed.key ≡ task.key → IsIndexed old queues arrivals next entries → IsIndexed now queues arrivals next entries
 indexed_but_one old now queues arrivals next entries id task changed there here others tile key =
@@ -161,14 +161,15 @@ same_count tasks id task changed there =
     omega (arith, set, was)
 
 -- slots and entries are as many as they should be
-pub slots_kept : (settings : Settings) (tasks now : List (Option Task)) (slots : ℕ) (queues : List QueueValue) (indexed indexed_now entries entries_now marks members arrivals room : ℕ)
-    → HasSlots settings tasks slots queues indexed entries marks members arrivals room → count_by is_some now ≡ count_by is_some tasks → indexed_now ≤ indexed → entries_now ≡ entries
-    → HasSlots settings now slots queues indexed_now entries_now marks members arrivals room
-slots_kept settings tasks now slots queues indexed indexed_now entries entries_now marks members arrivals room has same upto same_entries = record {
+pub slots_kept : (settings : Settings) (tasks now : List (Option Task)) (queues : List QueueValue)
+    (counts : SlotCounts) (indexed_now capacity_now : ℕ) → HasSlots settings tasks queues counts
+    → count_by is_some now ≡ count_by is_some tasks → indexed_now ≤ counts.indexed → capacity_now ≡ counts.capacity
+    → HasSlots settings now queues (record counts { indexed = indexed_now; capacity = capacity_now })
+slots_kept settings tasks now queues counts indexed_now capacity_now has same upto same_capacity = record {
   enough = has.enough;
   used = same ∙ has.used;
   short = has.short;
-  index = same_entries ∙ has.index;
+  index = same_capacity ∙ has.index;
   indexed_are = omega (arith, has.indexed_are, upto);
   marks = has.marks;
   members = has.members;
@@ -186,11 +187,12 @@ pub others_set : (tasks : List (Option Task)) (id : ℕ) (now : Task) (k : ℕ) 
 others_set tasks id now k other = get_or-set_other tasks id k (Some now) None other
 
 -- so slots and entries are as many,
-pub slots_set : (settings : Settings) (tasks : List (Option Task)) (slots : ℕ) (queues : List QueueValue) (indexed entries marks members arrivals room id : ℕ) (task now : Task)
-    → HasSlots settings tasks slots queues indexed entries marks members arrivals room → slice_index_or tasks id None ≡ Some task
-    → HasSlots settings (slice_set tasks id (Some now)) slots queues indexed entries marks members arrivals room
-slots_set settings tasks slots queues indexed entries marks members arrivals room id task now has there =
-    slots_kept settings tasks (slice_set tasks id (Some now)) slots queues indexed indexed entries entries marks members arrivals room has (same_count tasks id task now there) (omega arith) refl
+pub slots_set : (settings : Settings) (tasks : List (Option Task)) (queues : List QueueValue) (counts : SlotCounts)
+    (id : ℕ) (task now : Task) → HasSlots settings tasks queues counts → slice_index_or tasks id None ≡ Some task
+    → HasSlots settings (slice_set tasks id (Some now)) queues counts
+slots_set settings tasks queues counts id task now has there =
+    slots_kept settings tasks (slice_set tasks id (Some now)) queues counts counts.indexed counts.capacity has
+    (same_count tasks id task now there) (omega arith) refl
 
 -- the lists hold what they should, where it keeps its place,
 pub stored_set : (size : ℕ) (old : View) (id : ℕ) (task now : Task) (memory : List ℕ) → IsStored size old → task_at old id ≡ Some task → KeepsPlace task now
@@ -200,7 +202,7 @@ stored_set size old id task now memory stored there keeps formed long =
     (record { changed = task_set old.tasks id task now there; others = others_set old.tasks id now }) refl refl refl refl (long ∙ sym stored.memory) keeps formed
 
 -- and so does the index, where it keeps its key
-pub indexed_set : (tasks : List (Option Task)) (queues : List (List ℕ)) (arrivals : List ℕ) (next : ℕ) (entries : List Entry) (id : ℕ) (task now : Task)
+pub indexed_set : (tasks : List (Option Task)) (queues : List (List ℕ)) (arrivals : List ℕ) (next : ℕ) (entries : List Candidate) (id : ℕ) (task now : Task)
     → IsIndexed tasks queues arrivals next entries → slice_index_or tasks id None ≡ Some task → now.key ≡ task.key → now.tile ≡ task.tile
     → IsIndexed (slice_set tasks id (Some now)) queues arrivals next entries
 indexed_set tasks queues arrivals next entries id task now is there key tile =

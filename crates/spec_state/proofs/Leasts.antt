@@ -11,17 +11,17 @@ use Rattle.std.proofs.lemmas.Cmp.{tied_itself}
 use Rattle.std.proofs.lemmas.List.{get_or_past, length-map}
 use Rattle.std.proofs.Common.{map}
 use Rattle.std.specs.Prelude.{IfSome}
-use Rattle.spec_state.specs.declared.leading.Front.{Front}
+use Rattle.spec_state.specs.declared.leading.BlockFront.{BlockFront}
 use Rattle.std.proofs.lemmas.List.Elements.{All-contains}
 use Rattle.std.proofs.lemmas.Option.{slice_get-get_or}
-use Rattle.commit_arbiter.specs.declared.entry.Entry.{Entry}
-use Rattle.commit_arbiter.specs.Indexed.{entry_cmp, first_id}
+use Rattle.commit_arbiter.specs.declared.candidate.Candidate.{Candidate}
+use Rattle.commit_arbiter.specs.Indexed.{candidate_cmp, first_id}
 use Rattle.commit_arbiter.proofs.Proved.{entry_cmp_total}
 use Rattle.fractal_vt.specs.declared.key.Key.{Key}
 use Rattle.fractal_vt.specs.Keys.{key_cmp}
 use Rattle.fractal_vt.specs.Sorted.{IsInOrder}
 use Rattle.fractal_vt.proofs.Proved.{AllPairs-head, key_cmp_total}
-use Rattle.spill_store.specs.Entries.{Entry as Spilled, BlockValue, open_key}
+use Rattle.spill_store.specs.SpilledTasks.{Spilled, BlockValue, open_key}
 use Rattle.spec_state.specs.declared.task.Task.{Task}
 use Rattle.spec_state.specs.declared.task.TaskId.{TaskId}
 use Rattle.spec_state.specs.declared.task.Where.{Where}
@@ -29,16 +29,16 @@ use Rattle.spec_state.specs.declared.task.Where.TheVariants as where_
 use Rattle.spec_state.specs.View.{View, task_at, queue_at, block_at}
 use Rattle.spec_state.specs.Least.{Spot, Queued, Spilled_at, IsQueuedAt, HasKey, ranked_cmp, IsLeastTask, IsLeastSpilled, IsAllCommitted, IsLeast}
 use Rattle.spec_state.specs.Queries.{IsQueued}
-use Rattle.spec_state.specs.Stored.{IsStored, IsIndexed, entry_of}
+use Rattle.spec_state.specs.Stored.{IsStored, IsIndexed, candidate_of}
 use Rattle.spec_state.specs.Fronts.{IsFirstQueued, IsFirstSpilled, HoldNone, IsStanding}
 use Rattle.spec_state.proofs.Entered.{head_or_tail, has_head, held_at}
 use Rattle.spec_state.proofs.Fronts.{not_above, less_then, less_from, upto_place}
 
 -- the head of a list in order comes before all of it
-head_upto : (e : Entry) (es : List Entry) → IsInOrder entry_cmp (e ∷ es) → (x : Entry) → Contains (e ∷ es) x → entry_cmp e x ≢ Greater
+head_upto : (e : Candidate) (es : List Candidate) → IsInOrder candidate_cmp (e ∷ es) → (x : Candidate) → Contains (e ∷ es) x → candidate_cmp e x ≢ Greater
 head_upto e es order x has = elim (head_or_tail e es x has) [
-  | inl same ↦ subst (λ y. entry_cmp e y ≢ Greater) same (subst (λ o. o ≢ Greater) (sym (tied_itself entry_cmp_total e)) (λ is. cc))
-  | inr tail ↦ All-contains (λ y. entry_cmp e y ≢ Greater) es x (AllPairs-head (λ a b. entry_cmp a b ≢ Greater) e es order) tail
+  | inl same ↦ subst (λ y. candidate_cmp e y ≢ Greater) same (subst (λ o. o ≢ Greater) (sym (tied_itself entry_cmp_total e)) (λ is. cc))
+  | inr tail ↦ All-contains (λ y. candidate_cmp e y ≢ Greater) es x (AllPairs-head (λ a b. candidate_cmp a b ≢ Greater) e es order) tail
 ]
 
 -- an order by key, tile, arrival and id is one by key, tile and place, where arrivals rise along a tile's places
@@ -62,8 +62,8 @@ greater_number : (a b : ℕ) → b < a → nat_cmp a b ≡ Greater
 greater_number a b less = grind (arith, nat_tests)
 
 module _ (size : ℕ) (view : View) (arrivals : List ℕ) (next : ℕ) (stored : IsStored size view) where
-  module _ (e : Entry) (es : List Entry) (is : IsIndexed view.tasks view.queues arrivals next (e ∷ es)) (order : IsInOrder entry_cmp (e ∷ es)) (task : Task)
-      (there : task_at view e.id ≡ Some task) (entry : e ≡ entry_of arrivals e.id task) (has : IsQueued view task.tile e.id) where
+  module _ (e : Candidate) (es : List Candidate) (is : IsIndexed view.tasks view.queues arrivals next (e ∷ es)) (order : IsInOrder candidate_cmp (e ∷ es)) (task : Task)
+      (there : task_at view e.id ≡ Some task) (entry : e ≡ candidate_of arrivals e.id task) (has : IsQueued view task.tile e.id) where
     at_place : slice_get (queue_at view task.tile) has.0 ≡ Some e.id
     at_place = slice_get-get_or (queue_at view task.tile) has.0 e.id has.1 ∙ ap Some has.2
 
@@ -73,8 +73,8 @@ module _ (size : ℕ) (view : View) (arrivals : List ℕ) (next : ℕ) (stored :
         let both : Some x ≡ Some held.0 = sym at.there ∙ held.1 in
         let same : x ≡ held.0 = cc in
         let own : x.tile ≡ tile = ap (λ (t : Task). t.tile) same ∙ held.2 in
-        let upto : entry_cmp (entry_of arrivals e.id task) (entry_of arrivals k x) ≢ Greater =
-        subst (λ (y : Entry). entry_cmp y (entry_of arrivals k x) ≢ Greater) entry (head_upto e es order (entry_of arrivals k x) (is.all k x at.there)) in
+        let upto : candidate_cmp (candidate_of arrivals e.id task) (candidate_of arrivals k x) ≢ Greater =
+        subst (λ (y : Candidate). candidate_cmp y (candidate_of arrivals k x) ≢ Greater) entry (head_upto e es order (candidate_of arrivals k x) (is.all k x at.there)) in
         let upto' = subst (λ n. ordering_then (key_cmp task.key x.key) (ordering_then (ordering_then (nat_cmp task.tile n) (nat_cmp (slice_index_or arrivals e.id 0) (slice_index_or arrivals k 0))) (nat_cmp e.id k)) ≢ Greater) own upto in
         by_place (key_cmp task.key x.key) (nat_cmp task.tile tile) (nat_cmp (slice_index_or arrivals e.id 0) (slice_index_or arrivals k 0)) (nat_cmp e.id k) (nat_cmp has.0 p) upto'
         (λ tiles numbers. elim (cases_lt p has.0) [
@@ -86,10 +86,10 @@ module _ (size : ℕ) (view : View) (arrivals : List ℕ) (next : ℕ) (stored :
         ])
 
     first_of : IsFirstQueued view e.id task
-    first_of = record { place = has.0; at = record { queued = at_place; there = there }; first = first }
+    first_of = record { place = has.0; queued_at = record { queued = at_place; there = there }; first = first }
 
   -- the first entry of the index is that of the first queued task
-  pub first_queued : (entries : List Entry) → IsIndexed view.tasks view.queues arrivals next entries → IsInOrder entry_cmp entries → (id : ℕ) → first_id entries ≡ Some id
+  pub first_queued : (entries : List Candidate) → IsIndexed view.tasks view.queues arrivals next entries → IsInOrder candidate_cmp entries → (id : ℕ) → first_id entries ≡ Some id
       → (task : Task) × IsFirstQueued view id task
   first_queued [] is order id at = absurd (cc)
   first_queued (e ∷ es) is order id at =
@@ -99,7 +99,7 @@ module _ (size : ℕ) (view : View) (arrivals : List ℕ) (next : ℕ) (stored :
       subst (λ k. (task : Task) × IsFirstQueued view k task) same (mine.0, first_of e es is order mine.0 mine.1 mine.2 has)
 
   -- where the index is empty no task is queued
-  pub none_queued : (entries : List Entry) → IsIndexed view.tasks view.queues arrivals next entries → first_id entries ≡ None → (tile id : ℕ) → IsQueued view tile id → ⊥
+  pub none_queued : (entries : List Candidate) → IsIndexed view.tasks view.queues arrivals next entries → first_id entries ≡ None → (tile id : ℕ) → IsQueued view tile id → ⊥
   none_queued [] is none tile id has =
       let there = (stored.queued_are tile id).0 has in
       let found = is.all id there.0 there.1 in
@@ -124,8 +124,8 @@ module _ (view : View) where
       → IsLeastTask view id task
   least_queued id task first spilled = record {
     place = first.place;
-    at = first.at;
-    least = record { key = task.key; has = (id, task, first.at, refl); least = least };
+    queued_at = first.queued_at;
+    least = record { key = task.key; has = (id, task, first.queued_at, refl); least = least };
   }
     where
       least : (other : Spot) (other_key : Key) → HasKey view other other_key → ranked_cmp task.key (Queued task.tile first.place) other_key other ≢ Greater
@@ -138,7 +138,7 @@ module _ (view : View) where
       → IsLeastSpilled view tile
   least_spilled tile key first queued = record {
     place = first.place;
-    least = record { key = key; has = (first.s, first.there, first.of_task); least = least };
+    least = record { key = key; has = (first.spilled, first.there, first.of_task); least = least };
   }
     where
       least : (other : Spot) (other_key : Key) → HasKey view other other_key → ranked_cmp key (Spilled_at tile first.place) other_key other ≢ Greater
@@ -161,10 +161,10 @@ module _ (view : View) where
   all_committed queued spilled (Spilled_at t p) key has = spilled t p has.0 (within_blocks view.blocks t p has.0 has.1) has.1
 
   pub not_all_queued : (id : ℕ) (task : Task) → IsFirstQueued view id task → IsAllCommitted view → ⊥
-  not_all_queued id task first all = all (Queued task.tile first.place) task.key (id, task, first.at, refl)
+  not_all_queued id task first all = all (Queued task.tile first.place) task.key (id, task, first.queued_at, refl)
 
   pub not_all_spilled : (tile : ℕ) (key : Key) → IsFirstSpilled view.blocks (length view.blocks) tile key → IsAllCommitted view → ⊥
-  not_all_spilled tile key first all = all (Spilled_at tile first.place) key (first.s, first.there, first.of_task)
+  not_all_spilled tile key first all = all (Spilled_at tile first.place) key (first.spilled, first.there, first.of_task)
 
   -- the least task, as it stands
   pub stands : (w : Where) (id : TaskId) (task : Task) → IsStanding w id task → IsLeastTask view id.0 task → IsLeast view w
@@ -175,7 +175,7 @@ module _ (view : View) where
   stands (where_.Spilled k) id task is least = absurd is
 
 -- the first of the spilled tasks, of the blocks as they are seen
-pub front_seen : (blocks : List BlockValue) (seen : List (List Spilled)) (front : Option Front) → map (λ b. b.entries) blocks ≡ seen
+pub front_seen : (blocks : List BlockValue) (seen : List (List Spilled)) (front : Option BlockFront) → map (λ b. b.entries) blocks ≡ seen
     → IfSome front (λ f. IsFirstSpilled (map (λ b. b.entries) blocks) (length blocks) f.tile f.key.now) → IfSome front (λ f. IsFirstSpilled seen (length seen) f.tile f.key.now)
 front_seen blocks seen front same is =
     subst (λ (bs : List (List Spilled)). IfSome front (λ f. IsFirstSpilled bs (length bs) f.tile f.key.now)) same
@@ -193,7 +193,7 @@ no_spilled blocks none t p s at = none t p s (within_blocks blocks t p s at) at
 stands_first : (view : View) (w : Where) (id : TaskId) (found : (task : Task) × IsFirstQueued view id.0 task) (now : Task) → task_at view id.0 ≡ Some now → IsStanding w id now
     → ((t p : ℕ) (s : Spilled) → slice_get (block_at view t) p ≡ Some s → key_cmp now.key (open_key s) ≢ Greater) → IsLeast view w
 stands_first view w id found now at standing spilled =
-    let both : Some found.0 ≡ Some now = sym found.1.at.there ∙ at in
+    let both : Some found.0 ≡ Some now = sym found.1.queued_at.there ∙ at in
     let same : found.0 ≡ now = cc in
     stands view w id now standing (least_queued view id.0 now (subst (IsFirstQueued view id.0) same found.1) spilled)
 
@@ -218,7 +218,7 @@ stands_before view w id found now at standing tile key front off =
 pub spilled_before : (view : View) (id : ℕ) (found : (task : Task) × IsFirstQueued view id task) (now : Task) → task_at view id ≡ Some now → (tile : ℕ) (key : Key)
     → IsFirstSpilled view.blocks (length view.blocks) tile key → is_lt (key_cmp key now.key) ≡ true → IsLeastSpilled view tile
 spilled_before view id found now at tile key front less =
-    let both : Some found.0 ≡ Some now = sym found.1.at.there ∙ at in
+    let both : Some found.0 ≡ Some now = sym found.1.queued_at.there ∙ at in
     let same : found.0 ≡ now = cc in
     let first = subst (IsFirstQueued view id) same found.1 in
     least_spilled view tile key front (λ t p k x here. less_then key_cmp_total key now.key x.key (less_from (key_cmp key now.key) less) (above_first view id now first t p k x here))

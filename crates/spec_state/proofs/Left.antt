@@ -9,19 +9,19 @@ use Rattle.std.proofs.lemmas.List.Kept.{AllPairs-filter}
 use Rattle.std.proofs.lemmas.List.Sorted.{Contains-permutation, IsPermutation-sym}
 use Rattle.std.proofs.lemmas.List.Sums.{sum_by-set}
 use Rattle.std.proofs.lemmas.Option.{slice_get_within, slice_get-get_or, get_or_from_slice_get}
-use Rattle.commit_arbiter.specs.declared.entry.Entry.{Entry}
-use Rattle.commit_arbiter.specs.Indexed.{entry_cmp, without as without_id}
-use Rattle.fractal_vt.specs.Sorted.{inserted}
-use Rattle.fractal_vt.proofs.Proved.{inserted-permutes}
-use Rattle.tile_queues.specs.Queue.{QueueValue, without}
+use Rattle.commit_arbiter.specs.declared.candidate.Candidate.{Candidate}
+use Rattle.commit_arbiter.specs.Indexed.{candidate_cmp, without_candidate}
+use Rattle.fractal_vt.specs.Sorted.{after_insert}
+use Rattle.fractal_vt.proofs.Proved.{after_insert-permutes}
+use Rattle.tile_queues.specs.Queue.{QueueValue, ids_but}
 use Rattle.spec_state.specs.declared.settings.Settings.{Settings}
 use Rattle.spec_state.specs.declared.task.Task.{Task}
 use Rattle.fractal_vt.specs.declared.level.Level.{Level}
 use Rattle.run_journal.specs.declared.journal.Entry.{Entry as Committed}
-use Rattle.spill_store.specs.Entries.{Entry as Spilled}
-use Rattle.spec_state.specs.Fits.{ids_in, seen, queued_count, HasTiles, HasSlots}
-use Rattle.spec_state.specs.Leaving.{freed_of, Leaves, SetsBack}
-use Rattle.spec_state.specs.Stored.{IsIndexed, IsStored, entry_of}
+use Rattle.spill_store.specs.SpilledTasks.{Spilled}
+use Rattle.spec_state.specs.Fits.{ids_in, view_of_parts, queued_count, HasTiles, HasSlots, SlotCounts}
+use Rattle.spec_state.specs.Leaving.{freed_of, TaskLeaves, SetsBack}
+use Rattle.spec_state.specs.Stored.{IsIndexed, IsStored, candidate_of}
 use Rattle.spec_state.specs.Tasks.{idle_again}
 use Rattle.spec_state.specs.View.{View, task_at}
 use Rattle.spec_state.proofs.Entered.{head_or_tail, has_head, in_tail}
@@ -47,55 +47,55 @@ task_within size view stored id task there settings queues finished core_lists b
 -- the parts of a state from whose lists a task has gone: the queues, the commit queues and the cores of its tile have changed
 module _ (size version : ℕ) (settings : Settings) (tasks now : List (Option Task)) (memory : List ℕ) (history : List Committed) (output : List ℕ) (next : ℕ) (path : List Level)
     (queues finished : List QueueValue) (V : Type 0) (see : V → List (Option ℕ)) (cores : List V) (blocks : List (List Spilled)) (id : ℕ) (task : Task)
-    (stored : IsStored size (seen version settings tasks memory history output next path queues finished (map see cores) blocks)) (there : slice_index_or tasks id None ≡ Some task)
+    (stored : IsStored size (view_of_parts version settings tasks memory history output next path queues finished (map see cores) blocks)) (there : slice_index_or tasks id None ≡ Some task)
     (others : (k : ℕ) → k ≢ id → slice_index_or now k None ≡ slice_index_or tasks k None) where
   abbrev before : View
-  before = seen version settings tasks memory history output next path queues finished (map see cores) blocks
+  before = view_of_parts version settings tasks memory history output next path queues finished (map see cores) blocks
 
-  queues_left : (queue after : QueueValue) → task.tile < length queues → queue ≡ slice_index_or queues task.tile queue → after ≡ record queue { ids = without id queue.ids }
-      → ids_in (slice_set queues task.tile after) ≡ map (without id) (ids_in queues)
+  queues_left : (queue after : QueueValue) → task.tile < length queues → queue ≡ slice_index_or queues task.tile queue → after ≡ record queue { ids = ids_but id queue.ids }
+      → ids_in (slice_set queues task.tile after) ≡ map (ids_but id) (ids_in queues)
   queues_left queue after within is taken =
-      one_seen (λ (q : QueueValue). q.ids) (without id) queues task.tile queue after [] within is (ap (λ (q : QueueValue). q.ids) taken) (others_without size before stored id task there)
+      one_seen (λ (q : QueueValue). q.ids) (ids_but id) queues task.tile queue after [] within is (ap (λ (q : QueueValue). q.ids) taken) (others_without size before stored id task there)
 
-  finished_left : (queue after : QueueValue) → task.tile < length finished → queue ≡ slice_index_or finished task.tile queue → after ≡ record queue { ids = without id queue.ids }
-      → ids_in (slice_set finished task.tile after) ≡ map (without id) (ids_in finished)
+  finished_left : (queue after : QueueValue) → task.tile < length finished → queue ≡ slice_index_or finished task.tile queue → after ≡ record queue { ids = ids_but id queue.ids }
+      → ids_in (slice_set finished task.tile after) ≡ map (ids_but id) (ids_in finished)
   finished_left queue after within is taken =
-      one_seen (λ (q : QueueValue). q.ids) (without id) finished task.tile queue after [] within is (ap (λ (q : QueueValue). q.ids) taken) (others_finished size before stored id task there)
+      one_seen (λ (q : QueueValue). q.ids) (ids_but id) finished task.tile queue after [] within is (ap (λ (q : QueueValue). q.ids) taken) (others_finished size before stored id task there)
 
   cores_left : (held after : V) → task.tile < length cores → held ≡ slice_index_or cores task.tile held → see after ≡ map (freed_of id) (see held)
       → map see (slice_set cores task.tile after) ≡ map (map (freed_of id)) (map see cores)
   cores_left held after within is freed = one_seen see (map (freed_of id)) cores task.tile held after [] within is freed (others_held size before stored id task there)
 
   pub leaves_seen : slice_index_or now id None ≡ None → (queue queue_now waits waits_now : QueueValue) (held held_now : V)
-      → task.tile < length queues → queue ≡ slice_index_or queues task.tile queue → queue_now ≡ record queue { ids = without id queue.ids }
-      → task.tile < length finished → waits ≡ slice_index_or finished task.tile waits → waits_now ≡ record waits { ids = without id waits.ids }
+      → task.tile < length queues → queue ≡ slice_index_or queues task.tile queue → queue_now ≡ record queue { ids = ids_but id queue.ids }
+      → task.tile < length finished → waits ≡ slice_index_or finished task.tile waits → waits_now ≡ record waits { ids = ids_but id waits.ids }
       → task.tile < length cores → held ≡ slice_index_or cores task.tile held → see held_now ≡ map (freed_of id) (see held)
-      → Leaves id before (seen version settings now memory history output next path (slice_set queues task.tile queue_now) (slice_set finished task.tile waits_now)
+      → TaskLeaves id before (view_of_parts version settings now memory history output next path (slice_set queues task.tile queue_now) (slice_set finished task.tile waits_now)
       (map see (slice_set cores task.tile held_now)) blocks)
   leaves_seen vacant queue queue_now waits waits_now held held_now in_queues is_queue taken in_finished is_waits waits_taken in_cores is_held freed = record {
     changes = record { changed = vacant; others = others };
     queues = queues_left queue queue_now in_queues is_queue taken;
     finished = finished_left waits waits_now in_finished is_waits waits_taken;
     cores = cores_left held held_now in_cores is_held freed;
-    rest = refl;
+    frame = refl;
   }
 
   pub back_seen : slice_index_or now id None ≡ Some (idle_again version task) → (waits waits_now : QueueValue) (held held_now : V)
-      → task.tile < length finished → waits ≡ slice_index_or finished task.tile waits → waits_now ≡ record waits { ids = without id waits.ids }
+      → task.tile < length finished → waits ≡ slice_index_or finished task.tile waits → waits_now ≡ record waits { ids = ids_but id waits.ids }
       → task.tile < length cores → held ≡ slice_index_or cores task.tile held → see held_now ≡ map (freed_of id) (see held)
-      → SetsBack id before (seen version settings now memory history output next path queues (slice_set finished task.tile waits_now) (map see (slice_set cores task.tile held_now)) blocks)
+      → SetsBack id before (view_of_parts version settings now memory history output next path queues (slice_set finished task.tile waits_now) (map see (slice_set cores task.tile held_now)) blocks)
   back_seen again waits waits_now held held_now in_finished is_waits waits_taken in_cores is_held freed = record {
     task = task;
     there = there;
     changes = record { changed = again; others = others };
     finished = finished_left waits waits_now in_finished is_waits waits_taken;
     cores = cores_left held held_now in_cores is_held freed;
-    rest = refl;
+    frame = refl;
   }
 
 -- what is said of the parts is said of the view that they are
-pub leaves_in : (id : ℕ) (parts view new : View) → parts ≡ view → Leaves id parts new → Leaves id view new
-leaves_in id parts view new same leaves = subst (λ v. Leaves id v new) same leaves
+pub leaves_in : (id : ℕ) (parts view new : View) → parts ≡ view → TaskLeaves id parts new → TaskLeaves id view new
+leaves_in id parts view new same leaves = subst (λ v. TaskLeaves id v new) same leaves
 
 pub back_in : (id : ℕ) (parts view new : View) → parts ≡ view → SetsBack id parts new → SetsBack id view new
 back_in id parts view new same back = subst (λ v. SetsBack id v new) same back
@@ -119,11 +119,15 @@ tiles_left settings queues finished cores cores_now blocks tile queue after wait
 }
 
 -- slots and entries are as many as they should be without one task
-pub slots_left : (settings : Settings) (tasks now : List (Option Task)) (slots slots_now : ℕ) (queues : List QueueValue) (indexed indexed_now entries entries_now marks members arrivals room : ℕ)
-    (tile : ℕ) (queue after : QueueValue) → HasSlots settings tasks slots queues indexed entries marks members arrivals room → tile < length queues → queue ≡ slice_index_or queues tile queue
-    → length after.ids + 1 ≡ length queue.ids → count_by is_some now + 1 ≡ count_by is_some tasks → slots_now ≡ slots → indexed_now < indexed → entries_now ≡ entries
-    → HasSlots settings now slots_now (slice_set queues tile after) indexed_now entries_now marks members arrivals room
-slots_left settings tasks now slots slots_now queues indexed indexed_now entries entries_now marks members arrivals room tile queue after has within is one less same_slots fewer same_entries =
+pub slots_left : (settings : Settings) (tasks now : List (Option Task)) (queues : List QueueValue)
+    (counts : SlotCounts) (slots_now indexed_now capacity_now tile : ℕ) (queue after : QueueValue)
+    → HasSlots settings tasks queues counts → tile < length queues → queue ≡ slice_index_or queues tile queue
+    → length after.ids + 1 ≡ length queue.ids → count_by is_some now + 1 ≡ count_by is_some tasks
+    → slots_now ≡ counts.slots → indexed_now < counts.indexed → capacity_now ≡ counts.capacity
+    → HasSlots settings now (slice_set queues tile after)
+    (record counts { slots = slots_now; indexed = indexed_now; capacity = capacity_now })
+slots_left settings tasks now queues counts slots_now indexed_now capacity_now tile queue after has within is one less
+    same_slots fewer same_capacity =
     let set = sum_by-set (λ (q : QueueValue). length q.ids) queues tile after queue within in
     let was : length (slice_index_or queues tile queue).ids ≡ length queue.ids = ap (λ (q : QueueValue). length q.ids) (sym is) in
     let count : queued_count (slice_set queues tile after) + 1 ≡ queued_count queues = omega (arith, set, was, one) in
@@ -132,7 +136,7 @@ slots_left settings tasks now slots slots_now queues indexed indexed_now entries
       enough = omega (arith, has.enough, same_slots);
       used = omega (arith, has.used, less, count);
       short = All-set (λ q. length q.ids ≤ settings.task_queue) queues tile after (omega (arith, one, long)) has.short;
-      index = same_entries ∙ has.index;
+      index = same_capacity ∙ has.index;
       indexed_are = omega (arith, count, has.indexed_are, fewer);
       marks = has.marks ∙ sym same_slots;
       members = has.members ∙ sym same_slots;
@@ -140,42 +144,43 @@ slots_left settings tasks now slots slots_now queues indexed indexed_now entries
       numbers = has.numbers;
     }
 
-module _ (tasks after : List (Option Task)) (queues : List (List ℕ)) (arrivals : List ℕ) (next : ℕ) (entries : List Entry) (id : ℕ)
+module _ (tasks after : List (Option Task)) (queues : List (List ℕ)) (arrivals : List ℕ) (next : ℕ) (entries : List Candidate) (id : ℕ)
     (is : IsIndexed tasks queues arrivals next entries) (others : (k : ℕ) → k ≢ id → slice_index_or after k None ≡ slice_index_or tasks k None) where
   -- an entry of another id is that of its task
-  abbrev Has : Entry → Type 0
-  Has e = (t : Task) × (slice_index_or after e.id None ≡ Some t) × (e ≡ entry_of arrivals e.id t)
+  abbrev Has : Candidate → Type 0
+  Has e = (t : Task) × (slice_index_or after e.id None ≡ Some t) × (e ≡ candidate_of arrivals e.id t)
 
-  other_entry : (e : Entry) → Contains (without_id id entries) e → Has e
+  other_entry : (e : Candidate) → Contains (without_candidate id entries) e → Has e
   other_entry e has =
       let more = from_without id entries e has in
       let was = is.each e more.0 in
       (was.0, others e.id more.1 ∙ was.1, was.2)
 
-  other_in : (k : ℕ) (t : Task) → k ≢ id → slice_index_or after k None ≡ Some t → Contains (without_id id entries) (entry_of arrivals k t)
-  other_in k t other at = in_without id entries (entry_of arrivals k t) other (is.all k t (sym (others k other) ∙ at))
+  other_in : (k : ℕ) (t : Task) → k ≢ id → slice_index_or after k None ≡ Some t → Contains (without_candidate id entries) (candidate_of arrivals k t)
+  other_in k t other at =
+      in_without id entries (candidate_of arrivals k t) other (is.all k t (sym (others k other) ∙ at))
 
   -- the index without a task that has left
   module _ (vacant : slice_index_or after id None ≡ None) where
     abbrev Earlier : ℕ → ℕ → Type 0
     Earlier a b = slice_index_or arrivals a 0 < slice_index_or arrivals b 0
 
-    queue_left : (tile : ℕ) → slice_index_or (map (without id) queues) tile [] ≡ without id (slice_index_or queues tile [])
-    queue_left tile = map_at (without id) queues tile []
+    queue_left : (tile : ℕ) → slice_index_or (map (ids_but id) queues) tile [] ≡ ids_but id (slice_index_or queues tile [])
+    queue_left tile = map_at (ids_but id) queues tile []
 
     pairs : (tile : ℕ) → AllPairs Earlier (slice_index_or queues tile [])
     pairs tile i j d before below =
         let ids = slice_index_or queues tile [] in
         is.rising tile i j (slice_index_or ids i d) (slice_index_or ids j d) before (slice_get-get_or ids i d (omega (arith, before, below))) (slice_get-get_or ids j d below)
 
-    rising_left : (tile p q a b : ℕ) → p < q → slice_get (without id (slice_index_or queues tile [])) p ≡ Some a → slice_get (without id (slice_index_or queues tile [])) q ≡ Some b → Earlier a b
+    rising_left : (tile p q a b : ℕ) → p < q → slice_get (ids_but id (slice_index_or queues tile [])) p ≡ Some a → slice_get (ids_but id (slice_index_or queues tile [])) q ≡ Some b → Earlier a b
     rising_left tile p q a b less at bt =
-        let ids = without id (slice_index_or queues tile []) in
+        let ids = ids_but id (slice_index_or queues tile []) in
         let kept = AllPairs-filter Earlier (λ other. not (other == id)) (slice_index_or queues tile []) (pairs tile) p q a less (slice_get_within ids q b bt) in
         subst (λ n. Earlier n b) (get_or_from_slice_get ids p a a at)
         (subst (λ n. Earlier (slice_index_or ids p a) n) (get_or_from_slice_get ids q b a bt) kept)
 
-    indexed_left : IsIndexed after (map (without id) queues) arrivals next (without_id id entries)
+    indexed_left : IsIndexed after (map (ids_but id) queues) arrivals next (without_candidate id entries)
     indexed_left = record {
       all = λ k t at. other_in k t (λ same. cc (at, ap (λ j. slice_index_or after j None) same, vacant)) at;
       each = other_entry;
@@ -184,48 +189,48 @@ module _ (tasks after : List (Option Task)) (queues : List (List ℕ)) (arrivals
           rising_left tile p q a b less (ap (λ ids. slice_get ids p) (sym (queue_left tile)) ∙ at) (ap (λ ids. slice_get ids q) (sym (queue_left tile)) ∙ bt);
     }
 
-    pub indexed_gone : (queues_now : List (List ℕ)) (entries_now : List Entry) → queues_now ≡ map (without id) queues → entries_now ≡ without_id id entries
+    pub indexed_gone : (queues_now : List (List ℕ)) (entries_now : List Candidate) → queues_now ≡ map (ids_but id) queues → entries_now ≡ without_candidate id entries
         → IsIndexed after queues_now arrivals next entries_now
     indexed_gone queues_now entries_now queues_are entries_are =
         subst (λ lists. IsIndexed after lists arrivals next entries_now) (sym queues_are)
-        (subst (IsIndexed after (map (without id) queues) arrivals next) (sym entries_are) indexed_left)
+        (subst (IsIndexed after (map (ids_but id) queues) arrivals next) (sym entries_are) indexed_left)
 
   -- the index with another key of a task, under its number
   module _ (now : Task) (changed : slice_index_or after id None ≡ Some now) where
-    abbrev own : Entry
-    own = entry_of arrivals id now
+    abbrev own : Candidate
+    own = candidate_of arrivals id now
 
-    permutes : IsPermutation (own ∷ without_id id entries) (inserted entry_cmp own (without_id id entries))
-    permutes = inserted-permutes entry_cmp own (without_id id entries)
+    permutes : IsPermutation (own ∷ without_candidate id entries) (after_insert candidate_cmp own (without_candidate id entries))
+    permutes = after_insert-permutes candidate_cmp own (without_candidate id entries)
 
-    all_again : (k : ℕ) (t : Task) → slice_index_or after k None ≡ Some t → Contains (inserted entry_cmp own (without_id id entries)) (entry_of arrivals k t)
+    all_again : (k : ℕ) (t : Task) → slice_index_or after k None ≡ Some t → Contains (after_insert candidate_cmp own (without_candidate id entries)) (candidate_of arrivals k t)
     all_again k t at =
-        Contains-permutation (own ∷ without_id id entries) (inserted entry_cmp own (without_id id entries)) (entry_of arrivals k t) permutes (by_id (cases_eq k id))
+        Contains-permutation (own ∷ without_candidate id entries) (after_insert candidate_cmp own (without_candidate id entries)) (candidate_of arrivals k t) permutes (by_id (cases_eq k id))
       where
-        by_id : (k ≡ id) ⊎ (k ≢ id) → Contains (own ∷ without_id id entries) (entry_of arrivals k t)
-        by_id (inr other) = in_tail own (without_id id entries) (entry_of arrivals k t) (other_in k t other at)
+        by_id : (k ≡ id) ⊎ (k ≢ id) → Contains (own ∷ without_candidate id entries) (candidate_of arrivals k t)
+        by_id (inr other) = in_tail own (without_candidate id entries) (candidate_of arrivals k t) (other_in k t other at)
         by_id (inl same) =
             let both : Some t ≡ Some now = sym at ∙ ap (λ j. slice_index_or after j None) same ∙ changed in
             let it : t ≡ now = cc in
-            subst (Contains (own ∷ without_id id entries)) (sym (ap (λ j. entry_of arrivals j t) same ∙ ap (entry_of arrivals id) it)) (has_head own (without_id id entries))
+            subst (Contains (own ∷ without_candidate id entries)) (sym (ap (λ j. candidate_of arrivals j t) same ∙ ap (candidate_of arrivals id) it)) (has_head own (without_candidate id entries))
 
-    each_again : (e : Entry) → Contains (inserted entry_cmp own (without_id id entries)) e → Has e
+    each_again : (e : Candidate) → Contains (after_insert candidate_cmp own (without_candidate id entries)) e → Has e
     each_again e has =
-        elim (head_or_tail own (without_id id entries) e
-        (Contains-permutation (inserted entry_cmp own (without_id id entries)) (own ∷ without_id id entries) e (IsPermutation-sym (own ∷ without_id id entries) (inserted entry_cmp own (without_id id entries)) permutes) has)) [
+        elim (head_or_tail own (without_candidate id entries) e
+        (Contains-permutation (after_insert candidate_cmp own (without_candidate id entries)) (own ∷ without_candidate id entries) e (IsPermutation-sym (own ∷ without_candidate id entries) (after_insert candidate_cmp own (without_candidate id entries)) permutes) has)) [
           | inl head ↦ subst Has head (now, changed, refl)
           | inr tail ↦ other_entry e tail
         ]
 
-    pub indexed_again : (entries_now : List Entry) → entries_now ≡ inserted entry_cmp own (without_id id entries) → IsIndexed after queues arrivals next entries_now
+    pub indexed_again : (entries_now : List Candidate) → entries_now ≡ after_insert candidate_cmp own (without_candidate id entries) → IsIndexed after queues arrivals next entries_now
     indexed_again entries_now entries_are =
         subst (IsIndexed after queues arrivals next) (sym entries_are) (record { all = all_again; each = each_again; early = is.early; rising = is.rising })
 
-    pub again_put : (kept : Task) (arrival : ℕ) (entries_now : List Entry) → slice_index_or after id None ≡ Some kept → arrival ≡ slice_index_or arrivals id 0
-        → entries_now ≡ inserted entry_cmp (record { key = kept.key; tile = kept.tile; arrival = arrival; id = id }) (without_id id entries)
+    pub again_put : (kept : Task) (arrival : ℕ) (entries_now : List Candidate) → slice_index_or after id None ≡ Some kept → arrival ≡ slice_index_or arrivals id 0
+        → entries_now ≡ after_insert candidate_cmp (record { key = kept.key; tile = kept.tile; arrival = arrival; id = id }) (without_candidate id entries)
         → IsIndexed after queues arrivals next entries_now
     again_put kept arrival entries_now found same_arrival entries_are =
         let both : Some kept ≡ Some now = sym found ∙ changed in
         let same : kept ≡ now = cc in
         indexed_again entries_now (entries_are
-        ∙ λ i. inserted entry_cmp (record { key = (same i).key; tile = (same i).tile; arrival = same_arrival i; id = id }) (without_id id entries))
+        ∙ λ i. after_insert candidate_cmp (record { key = (same i).key; tile = (same i).tile; arrival = same_arrival i; id = id }) (without_candidate id entries))

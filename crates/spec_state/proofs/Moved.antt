@@ -6,47 +6,49 @@ use Rattle.std.proofs.lemmas.Bool.{cases_eq, cases_lt}
 use Rattle.std.proofs.lemmas.Bool.Decides.{nat_tests}
 use Rattle.std.proofs.lemmas.List.{get_or-set_same, get_or-set_other}
 use Rattle.std.proofs.lemmas.List.Sorted.{Contains-permutation, IsPermutation-sym}
-use Rattle.commit_arbiter.specs.declared.entry.Entry.{Entry}
-use Rattle.commit_arbiter.specs.Indexed.{entry_cmp, without, HasId}
-use Rattle.commit_arbiter.proofs.Proved.{length-without}
-use Rattle.fractal_vt.specs.Sorted.{inserted}
-use Rattle.fractal_vt.proofs.Proved.{inserted-permutes, length-inserted}
+use Rattle.commit_arbiter.specs.declared.candidate.Candidate.{Candidate}
+use Rattle.commit_arbiter.specs.Indexed.{candidate_cmp, without_candidate, HasId}
+use Rattle.commit_arbiter.proofs.Proved.{length-without_candidate}
+use Rattle.fractal_vt.specs.Sorted.{after_insert}
+use Rattle.fractal_vt.proofs.Proved.{after_insert-permutes, length-after_insert}
 use Rattle.spec_state.specs.declared.task.Task.{Task}
-use Rattle.spec_state.specs.Stored.{IsIndexed, AreTheirs, entry_of}
+use Rattle.spec_state.specs.Stored.{IsIndexed, AreTheirs, candidate_of}
 use Rattle.spec_state.proofs.Entered.{head_or_tail, has_head, in_tail, held_at}
 
 -- what is left of a list without an id
-left_cons : (id : ℕ) (e : Entry) (entries : List Entry) (b : Bool) → (e.id == id) ≡ b → without id (e ∷ entries) ≡ cond (not b) (e ∷ without id entries) (without id entries)
-left_cons id e entries b is = ap (λ t. cond (not t) (e ∷ without id entries) (without id entries)) is
+left_cons : (id : ℕ) (e : Candidate) (entries : List Candidate) (b : Bool) → (e.id == id) ≡ b → without_candidate id (e ∷ entries) ≡ cond (not b) (e ∷ without_candidate id entries) (without_candidate id entries)
+left_cons id e entries b is =
+    ap (λ t. cond (not t) (e ∷ without_candidate id entries) (without_candidate id entries)) is
 
 -- is what was there with another id
-pub in_without : (id : ℕ) (entries : List Entry) (e : Entry) → e.id ≢ id → Contains entries e → Contains (without id entries) e
+pub in_without : (id : ℕ) (entries : List Candidate) (e : Candidate) → e.id ≢ id → Contains entries e → Contains (without_candidate id entries) e
 in_without id [] e other has = absurd (omega (arith, has.1))
 in_without id (x ∷ entries) e other has = by_case (x.id == id) refl (in_without id entries e other)
   where
-    by_case : (b : Bool) → (x.id == id) ≡ b → (Contains entries e → Contains (without id entries) e) → Contains (without id (x ∷ entries)) e
+    by_case : (b : Bool) → (x.id == id) ≡ b → (Contains entries e → Contains (without_candidate id entries) e) → Contains (without_candidate id (x ∷ entries)) e
     by_case true is more = subst (λ es. Contains es e) (sym (left_cons id x entries true is)) (elim (head_or_tail x entries e has) [
       | inl head ↦ absurd (other (ap (λ y. y.id) (sym head) ∙ grind (arith, nat_tests)))
       | inr tail ↦ more tail
     ])
     by_case false is more = subst (λ es. Contains es e) (sym (left_cons id x entries false is)) (elim (head_or_tail x entries e has) [
-      | inl head ↦ subst (Contains (x ∷ without id entries)) head (has_head x (without id entries))
-      | inr tail ↦ in_tail x (without id entries) e (more tail)
+      | inl head ↦ subst (Contains (x ∷ without_candidate id entries)) head (has_head x (without_candidate id entries))
+      | inr tail ↦ in_tail x (without_candidate id entries) e (more tail)
     ])
 
-pub from_without : (id : ℕ) (entries : List Entry) (e : Entry) → Contains (without id entries) e → Contains entries e × (e.id ≢ id)
+pub from_without : (id : ℕ) (entries : List Candidate) (e : Candidate) → Contains (without_candidate id entries) e → Contains entries e × (e.id ≢ id)
 from_without id [] e has = absurd (omega (arith, has.1))
 from_without id (x ∷ entries) e has = by_case (x.id == id) refl (from_without id entries e)
   where
-    by_case : (b : Bool) → (x.id == id) ≡ b → (Contains (without id entries) e → Contains entries e × (e.id ≢ id)) → Contains (x ∷ entries) e × (e.id ≢ id)
+    by_case : (b : Bool) → (x.id == id) ≡ b → (Contains (without_candidate id entries) e → Contains entries e × (e.id ≢ id)) → Contains (x ∷ entries) e × (e.id ≢ id)
     by_case true is behind = let more = behind (subst (λ es. Contains es e) (left_cons id x entries true is) has) in (in_tail x entries e more.0, more.1)
-    by_case false is behind = elim (head_or_tail x (without id entries) e (subst (λ es. Contains es e) (left_cons id x entries false is) has)) [
+    by_case false is behind = elim (head_or_tail x (without_candidate id entries) e (subst (λ es. Contains es e) (left_cons id x entries false is) has)) [
       | inl head ↦ (subst (Contains (x ∷ entries)) head (has_head x entries), λ same. (let mine : x.id ≡ id = ap (λ y. y.id) head ∙ same in absurd (grind (arith, nat_tests))))
       | inr tail ↦ (let more = behind tail in (in_tail x entries e more.0, more.1))
     ]
 
 -- without an id that is there fewer are left
-pub fewer : (id : ℕ) (entries : List Entry) → HasId id entries → length (without id entries) < length entries
+pub fewer : (id : ℕ) (entries : List Candidate) → HasId id entries
+    → length (without_candidate id entries) < length entries
 fewer id [] has = absurd (omega (arith, has.2))
 fewer id (x ∷ entries) has = by_case (x.id == id) refl (fewer id entries)
   where
@@ -54,9 +56,9 @@ fewer id (x ∷ entries) has = by_case (x.id == id) refl (fewer id entries)
     behind is (zero, e, below, at, same) = (let mine : x.id ≡ id = ap (λ y. y.id) at ∙ same in absurd (grind (arith, nat_tests)))
     behind is (suc k, e, below, at, same) = (k, e, omega (arith, below), at, same)
 
-    by_case : (b : Bool) → (x.id == id) ≡ b → (HasId id entries → length (without id entries) < length entries) → length (without id (x ∷ entries)) < suc (length entries)
+    by_case : (b : Bool) → (x.id == id) ≡ b → (HasId id entries → length (without_candidate id entries) < length entries) → length (without_candidate id (x ∷ entries)) < suc (length entries)
     by_case true is more =
-        let short = length-without id entries in
+        let short = length-without_candidate id entries in
         let long = ap length (left_cons id x entries true is) in
         omega (arith, short, long)
     by_case false is more =
@@ -64,9 +66,9 @@ fewer id (x ∷ entries) has = by_case (x.id == id) refl (fewer id entries)
         let less = more (behind is has) in
         omega (arith, long, less)
 
-pub no_more : (id : ℕ) (entries new : List Entry) (e : Entry) → HasId id entries → new ≡ inserted entry_cmp e (without id entries) → length new ≤ length entries
+pub no_more : (id : ℕ) (entries new : List Candidate) (e : Candidate) → HasId id entries → new ≡ after_insert candidate_cmp e (without_candidate id entries) → length new ≤ length entries
 no_more id entries new e has is =
-    let long = ap length is ∙ length-inserted entry_cmp e (without id entries) in
+    let long = ap length is ∙ length-after_insert candidate_cmp e (without_candidate id entries) in
     let less = fewer id entries has in
     omega (arith, long, less)
 
@@ -76,7 +78,7 @@ before [] q b at = absurd (cc)
 before (x ∷ xs) zero b at = (x, refl)
 before (x ∷ xs) (suc q) b at = before xs q b at
 
-module _ (tasks : List (Option Task)) (lists : List (List ℕ)) (arrivals : List ℕ) (next : ℕ) (entries : List Entry) (is : IsIndexed tasks lists arrivals next entries) where
+module _ (tasks : List (Option Task)) (lists : List (List ℕ)) (arrivals : List ℕ) (next : ℕ) (entries : List Candidate) (is : IsIndexed tasks lists arrivals next entries) where
   -- the number of a task is its place at least
   pub place_upto : (tile q b : ℕ) → slice_get (slice_index_or lists tile []) q ≡ Some b → q ≤ slice_index_or arrivals b 0
   place_upto tile zero b at = omega arith
@@ -88,22 +90,23 @@ module _ (tasks : List (Option Task)) (lists : List (List ℕ)) (arrivals : List
 
   -- each task has an entry
   pub has_entry : (id : ℕ) (task : Task) → slice_index_or tasks id None ≡ Some task → HasId id entries
-  has_entry id task at = let found = is.all id task at in (found.0, entry_of arrivals id task, found.1, found.2, refl)
+  has_entry id task at = let found =
+      is.all id task at in (found.0, candidate_of arrivals id task, found.1, found.2, refl)
 
   module _ (theirs : AreTheirs tasks lists) (tile place id : ℕ) (task : Task) (at : slice_get (slice_index_or lists tile []) place ≡ Some id)
       (there : slice_index_or tasks id None ≡ Some task) (below : id < length arrivals)
       (small : (p a : ℕ) → p < place → slice_get (slice_index_or lists tile []) p ≡ Some a → slice_index_or arrivals a 0 < place) where
-    abbrev own : Entry
+    abbrev own : Candidate
     own = record { key = task.key; tile = task.tile; arrival = place; id = id }
 
     abbrev numbers : List ℕ
     numbers = slice_set arrivals id place
 
-    abbrev left : List Entry
-    left = inserted entry_cmp own (without id entries)
+    abbrev left : List Candidate
+    left = after_insert candidate_cmp own (without_candidate id entries)
 
-    permutes : IsPermutation (own ∷ without id entries) left
-    permutes = inserted-permutes entry_cmp own (without id entries)
+    permutes : IsPermutation (own ∷ without_candidate id entries) left
+    permutes = after_insert-permutes candidate_cmp own (without_candidate id entries)
 
     own_number : slice_index_or numbers id 0 ≡ place
     own_number = get_or-set_same arrivals id place 0 below
@@ -111,31 +114,31 @@ module _ (tasks : List (Option Task)) (lists : List (List ℕ)) (arrivals : List
     other_number : (k : ℕ) → k ≢ id → slice_index_or numbers k 0 ≡ slice_index_or arrivals k 0
     other_number k other = get_or-set_other arrivals id k place 0 other
 
-    own_entry : entry_of numbers id task ≡ own
+    own_entry : candidate_of numbers id task ≡ own
     own_entry = λ i. record { key = task.key; tile = task.tile; arrival = own_number i; id = id }
 
-    other_entry : (k : ℕ) (t : Task) → k ≢ id → entry_of numbers k t ≡ entry_of arrivals k t
+    other_entry : (k : ℕ) (t : Task) → k ≢ id → candidate_of numbers k t ≡ candidate_of arrivals k t
     other_entry k t other = λ i. record { key = t.key; tile = t.tile; arrival = other_number k other i; id = k }
 
-    all_in : (k : ℕ) (t : Task) → slice_index_or tasks k None ≡ Some t → Contains left (entry_of numbers k t)
+    all_in : (k : ℕ) (t : Task) → slice_index_or tasks k None ≡ Some t → Contains left (candidate_of numbers k t)
     all_in k t found = elim (cases_eq k id) [
       | inl same ↦
           let both : Some t ≡ Some task = sym found ∙ ap (λ j. slice_index_or tasks j None) same ∙ there in
           let it : t ≡ task = cc in
-          let e : entry_of numbers k t ≡ own = ap (λ j. entry_of numbers j t) same ∙ ap (entry_of numbers id) it ∙ own_entry in
-          subst (Contains left) (sym e) (Contains-permutation (own ∷ without id entries) left own permutes (has_head own (without id entries)))
+          let e : candidate_of numbers k t ≡ own = ap (λ j. candidate_of numbers j t) same ∙ ap (candidate_of numbers id) it ∙ own_entry in
+          subst (Contains left) (sym e) (Contains-permutation (own ∷ without_candidate id entries) left own permutes (has_head own (without_candidate id entries)))
       | inr other ↦
           subst (Contains left) (sym (other_entry k t other))
-          (Contains-permutation (own ∷ without id entries) left (entry_of arrivals k t) permutes
-          (in_tail own (without id entries) (entry_of arrivals k t) (in_without id entries (entry_of arrivals k t) other (is.all k t found))))
+          (Contains-permutation (own ∷ without_candidate id entries) left (candidate_of arrivals k t) permutes
+          (in_tail own (without_candidate id entries) (candidate_of arrivals k t) (in_without id entries (candidate_of arrivals k t) other (is.all k t found))))
     ]
 
-    abbrev Has : Entry → Type 0
-    Has e = (t : Task) × (slice_index_or tasks e.id None ≡ Some t) × (e ≡ entry_of numbers e.id t)
+    abbrev Has : Candidate → Type 0
+    Has e = (t : Task) × (slice_index_or tasks e.id None ≡ Some t) × (e ≡ candidate_of numbers e.id t)
 
-    each_is : (e : Entry) → Contains left e → Has e
+    each_is : (e : Candidate) → Contains left e → Has e
     each_is e has =
-        elim (head_or_tail own (without id entries) e (Contains-permutation left (own ∷ without id entries) e (IsPermutation-sym (own ∷ without id entries) left permutes) has)) [
+        elim (head_or_tail own (without_candidate id entries) e (Contains-permutation left (own ∷ without_candidate id entries) e (IsPermutation-sym (own ∷ without_candidate id entries) left permutes) has)) [
           | inl head ↦ subst Has head (task, there, sym own_entry)
           | inr tail ↦
               let more = from_without id entries e tail in

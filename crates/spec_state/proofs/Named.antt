@@ -9,11 +9,11 @@ use Rattle.std.proofs.lemmas.Grind.{flat_map-append}
 use Rattle.std.proofs.lemmas.List.{append_assoc, append-nil, map-append, take_more}
 use Rattle.std.proofs.lemmas.List.Elements.{filter_map-append}
 use Rattle.task_desc.specs.declared.desc.Desc.{Desc}
-use Rattle.spill_store.specs.Entries.{Entry as Spilled, BlockValue}
+use Rattle.spill_store.specs.SpilledTasks.{Spilled, BlockValue}
 use Rattle.spec_state.specs.declared.pending.Pending.{Pending}
 use Rattle.spec_state.specs.declared.task.Task.{Task}
 use Rattle.spec_state.specs.Fits.{entries_in}
-use Rattle.spec_state.specs.Pendings.{is_before, pending_queued, pending_spilled, spilled_pending}
+use Rattle.spec_state.specs.Pendings.{pending_before, pending_queued, pending_spilled, spilled_pending}
 
 -- by creator, then by place
 abbrev pub pair_cmp : ℕ × ℕ → ℕ × ℕ → Ordering
@@ -33,7 +33,7 @@ less_is_before a b i j = go (nat_lt a b) (a == b) (nat_lt i j) (i == j)
     go false false m f = refl
 
 -- what is sorted by creators and places is sorted by names
-pub sorted_by_name : (xs : List Pending) → IsSortedByKey key_of pair_cmp xs → IsSortedBy is_before xs
+pub sorted_by_name : (xs : List Pending) → IsSortedByKey key_of pair_cmp xs → IsSortedBy pending_before xs
 sorted_by_name xs sorted = λ k d low high.
     let a : Pending = slice_index_or xs (k + 1) d in
     let b : Pending = slice_index_or xs k d in

@@ -240,7 +240,7 @@ own_pick R upto_is view (Some a) live =
 pub latest_some : (kind : ℕ → Task → Type 0) (picked : Option TaskId) → IsPick latest_first kind picked
     → IfSome picked (λ id. (task : Task) × IsLatest kind id.0 task)
 latest_some kind None is = tt
-latest_some kind (Some id) is = (is.0, record { this = is.1; latest = is.2 })
+latest_some kind (Some id) is = (is.0, record { of_kind = is.1; latest = is.2 })
 
 pub pick_none : (R : Key → Key → Ordering) (kind : ℕ → Task → Type 0) (picked : Option TaskId) → IsPick R kind picked
     → IsNone picked ↔ ((id : ℕ) (task : Task) → kind id task → ⊥)
@@ -252,4 +252,4 @@ pub latest_pick : (kind : ℕ → Task → Type 0) (picked : Option TaskId)
     → (IsNone picked ↔ ((id : ℕ) (task : Task) → kind id task → ⊥))
     → IsPick latest_first kind picked
 latest_pick kind None some none = none.0 refl
-latest_pick kind (Some id) some none = (some.0, some.1.this, some.1.latest)
+latest_pick kind (Some id) some none = (some.0, some.1.of_kind, some.1.latest)

@@ -4,9 +4,9 @@ use Rattle.std.specs.Prelude.{Contains, slice_set}
 use Rattle.std.proofs.lemmas.Bool.{cases_eq}
 use Rattle.std.proofs.lemmas.List.{get_or-set_same, get_or-set_other, get_or_past}
 use Rattle.std.proofs.lemmas.Option.{slice_get-get_or}
-use Rattle.commit_arbiter.specs.declared.entry.Entry.{Entry}
-use Rattle.commit_arbiter.specs.Indexed.{entry_cmp, without}
-use Rattle.fractal_vt.specs.Sorted.{inserted}
+use Rattle.commit_arbiter.specs.declared.candidate.Candidate.{Candidate}
+use Rattle.commit_arbiter.specs.Indexed.{candidate_cmp, without_candidate}
+use Rattle.fractal_vt.specs.Sorted.{after_insert}
 use Rattle.spec_state.specs.declared.task.Task.{Task}
 use Rattle.spec_state.specs.Stored.{IsIndexed, AreTheirs, AreBelow, KeepsOthers}
 use Rattle.spec_state.proofs.Entered.{held_at}
@@ -17,13 +17,13 @@ use Rattle.spec_state.proofs.Joined.{ids_at}
 use Rattle.spec_state.proofs.Moved.{moved}
 
 -- those at the places before this one have numbers below it, and the numbers of all others stay
-pub record IsRenumbered (tasks : List (Option Task)) (lists : List (List ℕ)) (next : ℕ) (ids first numbers : List ℕ) (entries : List Entry) (place : ℕ) : Type 0 where
+pub record IsRenumbered (tasks : List (Option Task)) (lists : List (List ℕ)) (next : ℕ) (ids first numbers : List ℕ) (entries : List Candidate) (place : ℕ) : Type 0 where
   pub indexed : IsIndexed tasks lists numbers next entries
   pub early : (p a : ℕ) → p < place → slice_get ids p ≡ Some a → slice_index_or numbers a 0 < place
   pub others : KeepsOthers ids first numbers
   pub slots : length numbers ≡ length first
 
-pub begun : (tasks : List (Option Task)) (lists : List (List ℕ)) (next : ℕ) (ids numbers : List ℕ) (entries : List Entry) → IsIndexed tasks lists numbers next entries
+pub begun : (tasks : List (Option Task)) (lists : List (List ℕ)) (next : ℕ) (ids numbers : List ℕ) (entries : List Candidate) → IsIndexed tasks lists numbers next entries
     → IsRenumbered tasks lists next ids numbers numbers entries 0
 begun tasks lists next ids numbers entries is = record { indexed = is; early = λ p a less at. absurd (omega (arith, less)); others = λ id not. refl; slots = refl }
 
@@ -34,7 +34,7 @@ below_slots tasks id task at = elim (Rattle.std.proofs.lemmas.Bool.cases_lt id (
   | inr past ↦ absurd (cc (get_or_past tasks id None past, at))
 ]
 
-module _ (tasks : List (Option Task)) (lists : List (List ℕ)) (next tile : ℕ) (first numbers : List ℕ) (entries : List Entry) (place id : ℕ) (task : Task)
+module _ (tasks : List (Option Task)) (lists : List (List ℕ)) (next tile : ℕ) (first numbers : List ℕ) (entries : List Candidate) (place id : ℕ) (task : Task)
     (theirs : AreTheirs tasks lists) (was : IsRenumbered tasks lists next (slice_index_or lists tile []) first numbers entries place)
     (at : slice_get (slice_index_or lists tile []) place ≡ Some id) (there : slice_index_or tasks id None ≡ Some task) (below : id < length numbers) where
   abbrev ids : List ℕ
@@ -51,8 +51,8 @@ module _ (tasks : List (Option Task)) (lists : List (List ℕ)) (next tile : ℕ
         ]
   ]
 
-  pub one_more : (after : List ℕ) (now : List Entry) → after ≡ slice_set numbers id place
-      → now ≡ inserted entry_cmp (record { key = task.key; tile = task.tile; arrival = place; id = id }) (without id entries)
+  pub one_more : (after : List ℕ) (now : List Candidate) → after ≡ slice_set numbers id place
+      → now ≡ after_insert candidate_cmp (record { key = task.key; tile = task.tile; arrival = place; id = id }) (without_candidate id entries)
       → IsRenumbered tasks lists next ids first after now (place + 1)
   one_more after now is entries_are =
       subst (λ ns. IsRenumbered tasks lists next ids first ns now (place + 1)) (sym is)
@@ -65,7 +65,7 @@ module _ (tasks : List (Option Task)) (lists : List (List ℕ)) (next tile : ℕ
       }))
 
 -- at the end each has a number below their count
-pub all_below : (tasks : List (Option Task)) (lists : List (List ℕ)) (next : ℕ) (ids first numbers : List ℕ) (entries : List Entry) (place : ℕ)
+pub all_below : (tasks : List (Option Task)) (lists : List (List ℕ)) (next : ℕ) (ids first numbers : List ℕ) (entries : List Candidate) (place : ℕ)
     → IsRenumbered tasks lists next ids first numbers entries place → length ids ≤ place → place ≤ length ids → AreBelow numbers ids (length ids)
 all_below tasks lists next ids first numbers entries place is end upto id has =
     let less = is.early has.0 id (omega (arith, has.1, end)) (slice_get-get_or ids has.0 id has.1 ∙ ap Some has.2) in

@@ -3,7 +3,7 @@ use Rattle.std.proofs.Common.{◌≡◌, ◌+◌, ◌<◌, ◌≤◌, ◌∷◌,
 use Rattle.std.specs.Prelude.{slice_set, IfSome, IsSome, OnOk, Result, Ok, Err, Some, None, unwrap_or}
 use Rattle.std.proofs.Common.{Option}
 use Rattle.std.specs.declared.alloc.AllocError.{AllocError}
-use Rattle.spill_store.specs.Entries.{BlockValue}
+use Rattle.spill_store.specs.SpilledTasks.{BlockValue}
 use Rattle.spec_state.specs.declared.task.Task.{Task}
 use Rattle.spec_state.specs.declared.task.TaskId.{TaskId}
 use Rattle.spec_state.specs.StateValue.{StateValue, CoversLog, CoversChild, Covers}
@@ -36,7 +36,7 @@ spare_grows (b ∷ blocks) (suc tile) block after is more (suc k) = spare_grows 
 
 -- what a reservation makes room for is covered
 pub covered : (state : StateValue) (task : Option TaskId) (tile spare : ℕ) → IfSome task (λ id. CoversLog state id.0) → IfSome task (λ id. CoversChild state id.0)
-    → slice_index_or state.room.blocks tile 0 ≡ spare → (result : Result (Unit {0}) AllocError) → OnOk result (8 ≤ spare) → OnOk result (Covers state task tile)
+    → slice_index_or state.spare.blocks tile 0 ≡ spare → (result : Result (Unit {0}) AllocError) → OnOk result (8 ≤ spare) → OnOk result (Covers state task tile)
 covered state task tile spare log child is (Ok done) more = record { log = log; child = child; pushes = omega (arith, is, more) }
 covered state task tile spare log child is (Err error) more = tt
 

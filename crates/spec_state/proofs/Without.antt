@@ -8,7 +8,7 @@ use Rattle.std.proofs.lemmas.List.{length-map, map-set, get_or-map}
 use Rattle.std.proofs.lemmas.List.Edits.{length-remove}
 use Rattle.std.proofs.lemmas.List.Elements.{All-filter, All-contains, All-contains_itself, filter_passes}
 use Rattle.std.proofs.lemmas.Option.{slice_get_within, get_or_from_slice_get}
-use Rattle.tile_queues.specs.Queue.{AreDistinct, without}
+use Rattle.tile_queues.specs.Queue.{AreDistinct, ids_but}
 use Rattle.tile_queues.proofs.Proved.{remove-distinct}
 use Rattle.spec_state.specs.declared.task.Status.{Status}
 use Rattle.spec_state.specs.declared.task.Status.TheVariants.{Idle, Running, Trapped, Finished}
@@ -22,39 +22,39 @@ same_test : (id : ℕ) → (id == id) ≡ true
 same_test id = grind (arith, nat_tests)
 
 -- distinct ids are one fewer without one of them
-pub one_fewer : (id : ℕ) (ids : List ℕ) → AreDistinct ids → Contains ids id → length (without id ids) + 1 ≡ length ids
+pub one_fewer : (id : ℕ) (ids : List ℕ) → AreDistinct ids → Contains ids id → length (ids_but id ids) + 1 ≡ length ids
 one_fewer id ids distinct (k, below, at) =
     let short = length-remove ids k below in
     let same = ap length (remove-distinct id k ids distinct below at) in
     omega (arith, short, same)
 
 -- what is left are the others
-pub from_ids : (id k : ℕ) (ids : List ℕ) → Contains (without id ids) k → Contains ids k × (k ≢ id)
+pub from_ids : (id k : ℕ) (ids : List ℕ) → Contains (ids_but id ids) k → Contains ids k × (k ≢ id)
 from_ids id k ids has = (
-  All-contains (Contains ids) (without id ids) k (All-filter (λ other. not (other == id)) (Contains ids) ids (All-contains_itself ids)) has,
+  All-contains (Contains ids) (ids_but id ids) k (All-filter (λ other. not (other == id)) (Contains ids) ids (All-contains_itself ids)) has,
   λ same. apart (k == id) (ap (λ n. n == id) same ∙ same_test id)
-      (All-contains (λ other. not (other == id) ≡ true) (without id ids) k (filter_passes (λ other. not (other == id)) ids) has),
+      (All-contains (λ other. not (other == id) ≡ true) (ids_but id ids) k (filter_passes (λ other. not (other == id)) ids) has),
 )
   where
     apart : (b : Bool) → b ≡ true → not b ≡ true → ⊥
     apart true sure kept = cc
     apart false sure kept = cc
 
-pub in_ids : (id k : ℕ) (ids : List ℕ) → k ≢ id → Contains ids k → Contains (without id ids) k
+pub in_ids : (id k : ℕ) (ids : List ℕ) → k ≢ id → Contains ids k → Contains (ids_but id ids) k
 in_ids id k [] other has = absurd (omega (arith, has.1))
 in_ids id k (x ∷ ids) other has = by_case (x == id) refl (in_ids id k ids other)
   where
-    shape : (b : Bool) → (x == id) ≡ b → without id (x ∷ ids) ≡ cond (not b) (x ∷ without id ids) (without id ids)
-    shape b is = ap (λ t. cond (not t) (x ∷ without id ids) (without id ids)) is
+    shape : (b : Bool) → (x == id) ≡ b → ids_but id (x ∷ ids) ≡ cond (not b) (x ∷ ids_but id ids) (ids_but id ids)
+    shape b is = ap (λ t. cond (not t) (x ∷ ids_but id ids) (ids_but id ids)) is
 
-    by_case : (b : Bool) → (x == id) ≡ b → (Contains ids k → Contains (without id ids) k) → Contains (without id (x ∷ ids)) k
+    by_case : (b : Bool) → (x == id) ≡ b → (Contains ids k → Contains (ids_but id ids) k) → Contains (ids_but id (x ∷ ids)) k
     by_case true is more = subst (λ es. Contains es k) (sym (shape true is)) (elim (head_or_tail x ids k has) [
       | inl head ↦ absurd (other (sym head ∙ grind (arith, nat_tests)))
       | inr tail ↦ more tail
     ])
     by_case false is more = subst (λ es. Contains es k) (sym (shape false is)) (elim (head_or_tail x ids k has) [
-      | inl head ↦ subst (Contains (x ∷ without id ids)) head (has_head x (without id ids))
-      | inr tail ↦ in_tail x (without id ids) k (more tail)
+      | inl head ↦ subst (Contains (x ∷ ids_but id ids)) head (has_head x (ids_but id ids))
+      | inr tail ↦ in_tail x (ids_but id ids) k (more tail)
     ])
 
 -- a core that holds another task stays, and one that holds this task is free

@@ -2,15 +2,15 @@
 use Rattle.std.specs.Prelude.{◌≡◌, ◌⊎◌, ◌↔◌, ℕ, ◌≤◌, not, Bool, true, false, List, [], length, map, filter}
 use Rattle.std.specs.Prelude.{replicate, count_by, Option, Some, None, slice_index_or, if◌then◌else◌}
 use Rattle.abort_cascade.specs.Cascade.{IsLeastClosed}
-pub use Rattle.abort_cascade.specs.Cascade.{Only}
+pub use Rattle.abort_cascade.specs.Cascade.{OnlyNode}
 use Rattle.line_table.specs.Note.{Meet}
 use Rattle.memory_law.specs.Tasks.{IsByKey, undone_set}
-use Rattle.turn_law.specs.Room.{queue_after}
+use Rattle.task_law.specs.Room.{queue_after}
 use Rattle.spec_state.specs.declared.task.Task.{Task}
 use Rattle.spec_state.specs.View.{View, task_at}
 use Rattle.spec_state.specs.Filters.{has_touched, has_written}
 use Rattle.spec_state.specs.Tasks.{is_dispatched, idle_again}
-use Rattle.spec_state.specs.Groups.{logged, waiting, live_creator}
+use Rattle.spec_state.specs.Groups.{logged_tasks, room_tasks, live_creator}
 use Rattle.spec_state.specs.Queries.{IsLater}
 
 -- the second task is a child of the first
@@ -30,8 +30,8 @@ pub record ReadsFrom (view : View) (a b : ℕ) : Type 0 where
   pub meets : Meet (has_written writer) (has_touched reader)
 
 -- what is taken back with a task: its children, and the later tasks that may have seen what it wrote
-abbrev pub Pulls : View → ℕ → ℕ → Type 0
-Pulls view a b = IsChildOf view a b ⊎ ReadsFrom view a b
+abbrev pub PullsInView : View → ℕ → ℕ → Type 0
+PullsInView view a b = IsChildOf view a b ⊎ ReadsFrom view a b
 
 -- the id is marked
 abbrev pub is_marked : List Bool → ℕ → Bool
@@ -41,7 +41,7 @@ is_marked marks id = slice_index_or marks id false
 -- that is taken back with it
 pub record IsCascade (view : View) (firsts : ℕ → Type 0) (marks : List Bool) : Type 0 where
   pub pull : ℕ → ℕ → Bool
-  pub pulls : (a b : ℕ) → (pull a b ≡ true) ↔ Pulls view a b
+  pub pulls : (a b : ℕ) → (pull a b ≡ true) ↔ PullsInView view a b
   pub size : length view.tasks ≤ length marks
   pub least : IsLeastClosed (length marks) pull firsts marks
 
@@ -49,15 +49,15 @@ pub record IsCascade (view : View) (firsts : ℕ → Type 0) (marks : List Bool)
 -- of their keys, and of each the last one first
 pub record IsUndone (view : View) (set : ℕ → Bool) (memory : List ℕ) : Type 0 where
   pub ids : List ℕ
-  pub by_key : IsByKey (logged view) ids
-  pub is : memory ≡ undone_set set (logged view) ids view.memory
+  pub by_key : IsByKey (logged_tasks view) ids
+  pub memory_is : memory ≡ undone_set set (logged_tasks view) ids view.memory
 
 -- the creator is marked
 abbrev pub is_marked_creator : List Bool → Option ℕ → Bool
 is_marked_creator marks None = false
 is_marked_creator marks (Some id) = is_marked marks id
 
--- an unmarked task stays, a marked one leaves with its creator, and any other is idle again, in its own entry
+-- an unmarked task stays, a marked one leaves with its creator, and any other is idle again, in its own place
 abbrev pub taken_back : ℕ → List Bool → ℕ → Option Task → Option Task
 taken_back version marks id None = None
 taken_back version marks id (Some task) =
@@ -78,10 +78,10 @@ pub record Aborts (firsts : ℕ → Type 0) (old : View) (aborted : ℕ) (new : 
   pub counted : aborted ≡ count_by (λ mark. mark) marks
   pub each : (id : ℕ) → task_at new id ≡ taken_back old.version marks id (task_at old id)
   pub memory : IsUndone old (is_marked marks) new.memory
-  pub queues : new.queues ≡ map (queue_after (waiting new)) old.queues
+  pub queues : new.queues ≡ map (queue_after (room_tasks new)) old.queues
   pub finished : new.finished ≡ map (filter (λ id. not (is_marked marks id))) old.finished
   pub cores : new.cores ≡ map (map (freed_core marks)) old.cores
-  pub rest : new
+  pub frame : new
       ≡ record old {
         tasks = new.tasks;
         memory = new.memory;
@@ -95,7 +95,7 @@ pub record Aborts (firsts : ℕ → Type 0) (old : View) (aborted : ℕ) (new : 
 pub record UndoesAll (old new : View) : Type 0 where
   pub none : (id : ℕ) → task_at new id ≡ None
   pub memory : IsUndone old (λ id. true) new.memory
-  pub rest : new ≡ record old {
+  pub frame : new ≡ record old {
     tasks = new.tasks;
     memory = new.memory;
     queues = replicate old.settings.tiles [];

@@ -5,15 +5,15 @@ use Rattle.guest_image.specs.declared.image.Kind.{Kind}
 use Rattle.memory_law.specs.Notes.{notes_of}
 use Rattle.rv_core.specs.declared.state.Core.{Core}
 use Rattle.rv_core.specs.Legs.{after_other_of, after_load_of}
-use Rattle.rv_core.specs.Memory.{load_bytes}
+use Rattle.rv_core.specs.Memory.{load_width}
 use Rattle.rv_core.specs.LegValue.{LegValue}
 use Rattle.rv_table.specs.declared.instr.LoadWidth.{LoadWidth}
 use Rattle.task_desc.specs.declared.desc.Spawn.{Spawn}
-use Rattle.task_step.specs.declared.request.Request.{Request}
-use Rattle.task_step.specs.Requests.{request_at}
-use Rattle.tile_queues.specs.Queue.{without}
+use Rattle.task_request.specs.declared.request.Request.{Request}
+use Rattle.task_request.specs.Requests.{request_at}
+use Rattle.tile_queues.specs.Queue.{ids_but}
 use Rattle.undo_log.specs.Number.{number_at}
-use Rattle.undo_log.specs.Undo.{Call, Load, Store, access_of, after_call}
+use Rattle.undo_log.specs.Undo.{MemoryCall, Load, Store, access_of, after_call}
 use Rattle.spec_state.specs.declared.task.Creator.{Creator}
 use Rattle.spec_state.specs.declared.task.Creator.TheVariants.{Committed, Live}
 use Rattle.spec_state.specs.declared.task.Status.TheVariants as status
@@ -42,7 +42,7 @@ pub record Dispatches (tile : ℕ) (old new : View) : Type 0 where
   }))
   pub next : new.next ≡ old.next + 1
   pub cores : new.cores ≡ with_core old tile core (Some id)
-  pub rest : new ≡ record old { tasks = new.tasks; next = new.next; cores = new.cores }
+  pub frame : new ≡ record old { tasks = new.tasks; next = new.next; cores = new.cores }
 
 -- a task runs on that core, and the leg begins at its kept core
 pub record TakesLeg (view : View) (tile core : ℕ) (leg : LegValue) (id : ℕ) (task : Task) : Type 0 where
@@ -54,17 +54,17 @@ abbrev pub request_of : View → Task → LegValue → Request
 request_of view task leg = request_at (context_of view.version task) leg.to leg.stop
 
 -- the task at the next instruction behind the leg
-abbrev pub passed : Task → LegValue → Task
-passed task leg = record task { core = after_other_of leg.to }
+abbrev pub task_past_leg : Task → LegValue → Task
+task_past_leg task leg = record task { core = after_other_of leg.to }
 
 -- the task of this id is this one now, and nothing else changes
 pub record Keeps (id : ℕ) (now : Task) (old new : View) : Type 0 where
   pub changes : ChangesTask old new id (Some now)
-  pub rest : new ≡ record old { tasks = new.tasks }
+  pub frame : new ≡ record old { tasks = new.tasks }
 
 -- a leg that did its quantum: the task is at its end
-abbrev pub GoesOn : ℕ → Task → LegValue → View → View → Type 0
-GoesOn id task leg = Keeps id (record task { core = leg.to })
+abbrev pub KeepsQuantum : ℕ → Task → LegValue → View → View → Type 0
+KeepsQuantum id task leg = Keeps id (record task { core = leg.to })
 
 -- a trap is kept with the task, at the end of its leg
 abbrev pub KeepsTrap : ℕ → Task → LegValue → ℕ → ℕ → View → View → Type 0
@@ -72,48 +72,48 @@ KeepsTrap id task leg core cause = Keeps id (record task { core = leg.to; status
 
 -- a subdomain: the task has its kind
 abbrev pub MakesSub : ℕ → Task → LegValue → Kind → View → View → Type 0
-MakesSub id task leg kind = Keeps id (record (passed task leg) { sub = Some kind })
+MakesSub id task leg kind = Keeps id (record (task_past_leg task leg) { sub = Some kind })
 
 -- a byte stands last among those of the task
 abbrev pub Emits : ℕ → Task → LegValue → ℕ → View → View → Type 0
-Emits id task leg byte = Keeps id (record (passed task leg) { bytes = task.bytes ++ byte ∷ [] })
+Emits id task leg byte = Keeps id (record (task_past_leg task leg) { bytes = task.bytes ++ byte ∷ [] })
 
 -- this access of memory: the task goes on at this core, and the access joins its log and its filter's notes
-pub record Accesses (id : ℕ) (task : Task) (call : Call) (core : Core) (old new : View) : Type 0 where
+pub record Accesses (id : ℕ) (task : Task) (call : MemoryCall) (core : Core) (old new : View) : Type 0 where
   pub lines : Lines
   pub notes : HasNotes lines (notes_of old.settings.line (task.log ++ access_of old.memory call ∷ []))
   pub changes : ChangesTask old new id
       (Some (record task { core = core; log = task.log ++ access_of old.memory call ∷ []; lines = lines }))
   pub memory : new.memory ≡ after_call old.memory call
-  pub rest : new ≡ record old { tasks = new.tasks; memory = new.memory }
+  pub frame : new ≡ record old { tasks = new.tasks; memory = new.memory }
 
 -- a load: the register has what the memory has there
-abbrev pub Loads : ℕ → Task → LegValue → LoadWidth → ℕ → ℕ → View → View → Type 0
-Loads id task leg width rd offset old new =
-    let bytes = load_bytes width in
+abbrev pub LoadsFrom : ℕ → Task → LegValue → LoadWidth → ℕ → ℕ → View → View → Type 0
+LoadsFrom id task leg width rd offset old new =
+    let bytes = load_width width in
     Accesses id task (Load offset bytes) (after_load_of leg.to width rd (number_at old.memory offset bytes)) old new
 
 -- a store
-abbrev pub Stores : ℕ → Task → LegValue → ℕ → ℕ → ℕ → View → View → Type 0
-Stores id task leg offset bytes value = Accesses id task (Store offset bytes value) (after_other_of leg.to)
+abbrev pub StoresTo : ℕ → Task → LegValue → ℕ → ℕ → ℕ → View → View → Type 0
+StoresTo id task leg offset width value = Accesses id task (Store offset width value) (after_other_of leg.to)
 
 -- an enqueue: an idle child of a running task stands last in the task queue of this tile
 pub record Enqueues (id : ℕ) (task : Task) (leg : LegValue) (spawn : Spawn) (tile : ℕ) (old new : View) : Type 0 where
   pub child : ℕ
   pub vacant : task_at old child ≡ None
-  pub parent : task_at new id ≡ Some (record (passed task leg) { spawns = task.spawns ++ spawn ∷ [] })
+  pub parent : task_at new id ≡ Some (record (task_past_leg task leg) { spawns = task.spawns ++ spawn ∷ [] })
   pub made : task_at new child
       ≡ Some (idle_task old.version (child_descriptor task spawn) (Live (record { 0 = id }) (length task.spawns)) tile)
   pub others : (k : ℕ) → k ≢ id → k ≢ child → task_at new k ≡ task_at old k
   pub queues : new.queues ≡ queued_last old tile child
-  pub rest : new ≡ record old { tasks = new.tasks; queues = new.queues }
+  pub frame : new ≡ record old { tasks = new.tasks; queues = new.queues }
 
 -- an end call: the task leaves its core for the commit queue of its tile
 pub record Finishes (tile core id : ℕ) (task : Task) (leg : LegValue) (old new : View) : Type 0 where
-  pub changes : ChangesTask old new id (Some (record (passed task leg) { status = status.Finished }))
+  pub changes : ChangesTask old new id (Some (record (task_past_leg task leg) { status = status.Finished }))
   pub finished : new.finished ≡ slice_set old.finished tile (finished_at old tile ++ id ∷ [])
   pub cores : new.cores ≡ with_core old tile core None
-  pub rest : new ≡ record old { tasks = new.tasks; finished = new.finished; cores = new.cores }
+  pub frame : new ≡ record old { tasks = new.tasks; finished = new.finished; cores = new.cores }
 
 -- the creator, once the task of this id has committed as the n-th
 abbrev pub creator_after : ℕ → ℕ → Creator → Creator
@@ -145,9 +145,9 @@ pub record Commits (old new : View) : Type 0 where
       } ∷ []
   pub output : new.output ≡ old.output ++ task.bytes
   pub path : new.path ≡ task.key.domain ++ own_level task ∷ []
-  pub queues : new.queues ≡ map (without id) old.queues
-  pub finished : new.finished ≡ map (without id) old.finished
-  pub rest : new ≡ record old {
+  pub queues : new.queues ≡ map (ids_but id) old.queues
+  pub finished : new.finished ≡ map (ids_but id) old.finished
+  pub frame : new ≡ record old {
     tasks = new.tasks;
     history = new.history;
     output = new.output;

@@ -45,7 +45,7 @@ abbrev pub IsFree : List (Option Task) → ℕ → ℕ → ℕ → ChildrenValue
 IsFree tasks id creator place children = (k : ℕ) → slice_get (noted_of children creator) place ≡ Some k → k ≢ id
     → IsChildAt creator place (slice_index_or tasks k None) → ⊥
 
--- the notes have room for this id at this place of this task: each place below it is noted
+-- the notes have memory for this id at this place of this task: each place below it is noted
 pub record HasPlace (id creator place : ℕ) (children : ChildrenValue) : Type 0 where
   pub short : id < 2 ^ 32
   pub known : creator < length children.lists

@@ -2,7 +2,7 @@
 use Rattle.std.specs.Prelude.{◌≡◌, ◌≤◌, ◌*◌, ℕ, List, All, Option, is_some, count_by, sum_by, map, length}
 use Rattle.fractal_vt.specs.declared.level.Level.{Level}
 use Rattle.run_journal.specs.declared.journal.Entry.{Entry}
-use Rattle.spill_store.specs.Entries.{Entry as Spilled, BlockValue}
+use Rattle.spill_store.specs.SpilledTasks.{Spilled, BlockValue}
 use Rattle.tile_queues.specs.Queue.{QueueValue}
 use Rattle.spec_state.specs.declared.settings.Settings.{Settings}
 use Rattle.spec_state.specs.declared.task.Task.{Task}
@@ -24,9 +24,9 @@ abbrev pub entries_in : List BlockValue → List (List Spilled)
 entries_in blocks = map (λ block. block.entries) blocks
 
 -- the view of these parts
-abbrev pub seen : ℕ → Settings → List (Option Task) → List ℕ → List Entry → List ℕ → ℕ → List Level
+abbrev pub view_of_parts : ℕ → Settings → List (Option Task) → List ℕ → List Entry → List ℕ → ℕ → List Level
     → List QueueValue → List QueueValue → List (List (Option ℕ)) → List (List Spilled) → View
-seen version settings tasks memory history output next path queues finished cores blocks = record {
+view_of_parts version settings tasks memory history output next path queues finished cores blocks = record {
   version = version;
   settings = settings;
   tasks = tasks;
@@ -41,7 +41,7 @@ seen version settings tasks memory history output next path queues finished core
   blocks = blocks;
 }
 
--- the settings are valid, with these limits, and the history has room for all commits
+-- the settings are valid, with these limits, and the history has memory for all commits
 pub record HasLimits (budget commits : ℕ) (settings : Settings) (limit : ℕ) : Type 0 where
   pub valid : IsValid settings
   pub budget_is : settings.budget ≡ budget
@@ -61,17 +61,28 @@ pub record HasTiles (settings : Settings) (queues finished : List QueueValue) (c
 abbrev pub queued_count : List QueueValue → ℕ
 queued_count queues = sum_by (λ queue. length queue.ids) queues
 
--- there is a slot and an index entry for each entry of the task queues, of which no more are in use than ids are
+-- how many slots a state has for tasks; how many candidates its index holds, and for how many it has room; how many
+-- marks, places among the members and arrival numbers it keeps; and for how many dispatch numbers their table has room
+pub record SlotCounts : Type 0 where
+  pub slots : ℕ
+  pub indexed : ℕ
+  pub capacity : ℕ
+  pub marks : ℕ
+  pub members : ℕ
+  pub arrivals : ℕ
+  pub numbers : ℕ
+
+-- there is a slot and a candidate for each place of the task queues, of which no more are in use than ids are
 -- queued; each slot has a mark, a place among the members and an arrival number, and the table of numbers has room
 -- for all that may be in use
-pub record HasSlots (settings : Settings) (tasks : List (Option Task)) (slots : ℕ) (queues : List QueueValue)
-    (indexed entries mark_count member_count arrival_count room : ℕ) : Type 0 where
-  pub enough : settings.tiles * settings.task_queue ≤ slots
+pub record HasSlots (settings : Settings) (tasks : List (Option Task)) (queues : List QueueValue) (counts : SlotCounts)
+    : Type 0 where
+  pub enough : settings.tiles * settings.task_queue ≤ counts.slots
   pub used : count_by is_some tasks ≡ queued_count queues
   pub short : All (λ queue. length queue.ids ≤ settings.task_queue) queues
-  pub index : entries ≡ settings.tiles * settings.task_queue
-  pub indexed_are : indexed ≤ queued_count queues
-  pub marks : mark_count ≡ slots
-  pub members : member_count ≡ slots
-  pub arrivals : arrival_count ≡ slots
-  pub numbers : MAX_NUMBERS_IN_USE ≤ room
+  pub index : counts.capacity ≡ settings.tiles * settings.task_queue
+  pub indexed_are : counts.indexed ≤ queued_count queues
+  pub marks : counts.marks ≡ counts.slots
+  pub members : counts.members ≡ counts.slots
+  pub arrivals : counts.arrivals ≡ counts.slots
+  pub numbers : MAX_NUMBERS_IN_USE ≤ counts.numbers

@@ -2,7 +2,7 @@
 use Rattle.std.specs.Prelude.{◌≡◌, ◌≢◌, ◌<◌, ◌+◌, ℕ, List, [], Option, Some, None, slice_get, slice_index_or}
 use Rattle.std.specs.declared.cmp.Ordering.TheVariants.{Greater}
 use Rattle.fractal_vt.specs.declared.key.Key.{Key}
-use Rattle.spill_store.specs.Entries.{Entry as Spilled, open_key}
+use Rattle.spill_store.specs.SpilledTasks.{Spilled, open_key}
 use Rattle.task_desc.specs.declared.desc.Name.{Name}
 use Rattle.spec_state.specs.declared.task.Creator.{Creator}
 use Rattle.spec_state.specs.declared.task.Creator.TheVariants.{Committed, Live}
@@ -17,7 +17,7 @@ use Rattle.spec_state.specs.Least.{Queued, Spilled_at, IsQueuedAt, ranked_cmp}
 -- of the queued tasks none comes before this one
 pub record IsFirstQueued (view : View) (id : ℕ) (task : Task) : Type 0 where
   pub place : ℕ
-  pub at : IsQueuedAt view task.tile place id task
+  pub queued_at : IsQueuedAt view task.tile place id task
   pub first : (tile p k : ℕ) (x : Task) → IsQueuedAt view tile p k x
       → ranked_cmp task.key (Queued task.tile place) x.key (Queued tile p) ≢ Greater
 
@@ -25,9 +25,9 @@ pub record IsFirstQueued (view : View) (id : ℕ) (task : Task) : Type 0 where
 pub record IsFirstSpilled (blocks : List (List Spilled)) (count tile : ℕ) (key : Key) : Type 0 where
   pub below : tile < count
   pub place : ℕ
-  pub s : Spilled
-  pub there : slice_get (slice_index_or blocks tile []) place ≡ Some s
-  pub of_task : key ≡ open_key s
+  pub spilled : Spilled
+  pub there : slice_get (slice_index_or blocks tile []) place ≡ Some spilled
+  pub of_task : key ≡ open_key spilled
   pub first : (t p : ℕ) (x : Spilled) → t < count → slice_get (slice_index_or blocks t []) p ≡ Some x
       → ranked_cmp key (Spilled_at tile place) (open_key x) (Spilled_at t p) ≢ Greater
 

@@ -3,14 +3,14 @@ use Rattle.std.specs.Prelude.{ℕ, ◌/◌, ◌∷◌, Bool, true, false, List, 
 use Rattle.std.specs.Prelude.{None, option_map}
 use Rattle.fractal_vt.specs.declared.level.Level.{Level}
 use Rattle.fractal_vt.specs.Keys.{last, levels}
-use Rattle.fractal_vt.specs.Levels.{closed}
+use Rattle.fractal_vt.specs.Levels.{closed_level}
 use Rattle.memory_law.specs.Tasks.{Logged}
 use Rattle.order_law.specs.Tasks.{Keyed}
 use Rattle.order_law.specs.Events.{beside}
-use Rattle.spill_store.specs.Entries.{Entry as Spilled, open_key}
-use Rattle.turn_law.specs.Domains.{Domain}
-use Rattle.turn_law.specs.Room.{Waiting}
-use Rattle.turn_law.specs.Tasks as bags
+use Rattle.spill_store.specs.SpilledTasks.{Spilled, open_key}
+use Rattle.task_law.specs.Domains.{Domain}
+use Rattle.task_law.specs.Room.{RoomTask}
+use Rattle.task_law.specs.Tasks as bags
 use Rattle.spec_state.specs.declared.task.Creator.{Creator}
 use Rattle.spec_state.specs.declared.task.Creator.TheVariants.{Committed, Live}
 use Rattle.spec_state.specs.declared.task.Task.{Task}
@@ -26,7 +26,7 @@ live_creator (Live task index) = Some task.0
 -- what the order of tasks reads of one
 abbrev pub keyed_task : Task → Keyed
 keyed_task task = record {
-  domain = map closed task.key.domain;
+  domain = map closed_level task.key.domain;
   last = last task.key;
   kinds = ordered_to (length task.key.domain) task.kinds;
   ordered = is_ordered_at (length task.key.domain) task.kinds;
@@ -34,8 +34,8 @@ keyed_task task = record {
 }
 
 -- what it reads of the queued tasks, by id
-abbrev pub keyed : View → ℕ → Option Keyed
-keyed view id = option_map keyed_task (task_at view id)
+abbrev pub keyed_tasks : View → ℕ → Option Keyed
+keyed_tasks view id = option_map keyed_task (task_at view id)
 
 -- the spilled tasks of all tiles
 abbrev pub all_spilled : View → List Spilled
@@ -49,7 +49,7 @@ heir_unless false heir = heir
 -- what the order of tasks reads of a spilled one
 abbrev pub keyed_spilled : ℕ → Option ℕ → Spilled → Keyed
 keyed_spilled count heir s = record {
-  domain = map closed s.domain;
+  domain = map closed_level s.domain;
   last = last (open_key s);
   kinds = ordered_to (length s.domain) s.desc.kinds;
   ordered = is_ordered_at (length s.domain) s.desc.kinds;
@@ -59,7 +59,7 @@ keyed_spilled count heir s = record {
 -- all uncommitted tasks, the spilled ones under ids behind those of the queued ones
 abbrev pub all_keyed : View → Option ℕ → ℕ → Option Keyed
 all_keyed view heir =
-    beside (length view.tasks) (keyed view) (map (keyed_spilled (length view.history) heir) (all_spilled view))
+    beside (length view.tasks) (keyed_tasks view) (map (keyed_spilled (length view.history) heir) (all_spilled view))
 
 -- what memory reads of a task
 abbrev pub logged_task : Task → Logged
@@ -72,16 +72,16 @@ logged_task task = record {
 }
 
 -- what it reads of the queued tasks, by id
-abbrev pub logged : View → ℕ → Option Logged
-logged view id = option_map logged_task (task_at view id)
+abbrev pub logged_tasks : View → ℕ → Option Logged
+logged_tasks view id = option_map logged_task (task_at view id)
 
 -- who made a task, for the bags
-abbrev pub bag_creator : Creator → bags.Creator
+abbrev pub bag_creator : Creator → bags.BagCreator
 bag_creator (Committed turn index) = bags.Committed turn index
 bag_creator (Live task index) = bags.Live task.0 index
 
 -- what the bags of pending tasks read of a task
-abbrev pub bag_task : Task → bags.Task
+abbrev pub bag_task : Task → bags.BagTask
 bag_task task = record {
   depth = depth_of task;
   body = record { entry = task.entry; args = task.args };
@@ -92,31 +92,31 @@ bag_task task = record {
 }
 
 -- what they read of the queued tasks, by id
-abbrev pub bag_tasks : View → ℕ → Option bags.Task
+abbrev pub bag_tasks : View → ℕ → Option bags.BagTask
 bag_tasks view id = option_map bag_task (task_at view id)
 
 -- what they read of a spilled one
-abbrev pub bag_spilled : Spilled → bags.SpilledTask
+abbrev pub bag_spilled : Spilled → bags.SpilledBagTask
 bag_spilled s = record {
   depth = s.desc.depth;
   task = record { name = s.desc.name; entry = s.desc.entry; ts = s.desc.ts; args = s.desc.args };
 }
 
 -- what they read of the spilled tasks of all tiles
-abbrev pub bags_spilled : View → List bags.SpilledTask
+abbrev pub bags_spilled : View → List bags.SpilledBagTask
 bags_spilled view = map bag_spilled (all_spilled view)
 
 -- what room in a queue reads of a task
-abbrev pub waiting_task : Task → Waiting
-waiting_task task = record {
+abbrev pub room_task : Task → RoomTask
+room_task task = record {
   levels = levels task.key;
   dispatched = is_dispatched task;
   creator = live_creator task.creator;
 }
 
 -- what it reads of the queued tasks, by id
-abbrev pub waiting : View → ℕ → Option Waiting
-waiting view id = option_map waiting_task (task_at view id)
+abbrev pub room_tasks : View → ℕ → Option RoomTask
+room_tasks view id = option_map room_task (task_at view id)
 
 -- the domains on a path behind these, the innermost first: each with its kind and floor
 abbrev pub domains_behind : List Domain → ℕ → ℕ → List Level → List Domain

@@ -5,7 +5,7 @@ use Rattle.std.specs.declared.cmp.Ordering.{Ordering}
 use Rattle.std.specs.declared.cmp.Ordering.TheVariants.{Less, Greater}
 use Rattle.fractal_vt.specs.declared.key.Key.{Key}
 use Rattle.fractal_vt.specs.Keys.{key_cmp}
-use Rattle.spill_store.specs.Entries.{Entry as Spilled, open_key}
+use Rattle.spill_store.specs.SpilledTasks.{Spilled, open_key}
 use Rattle.task_desc.specs.declared.desc.Name.{Name}
 use Rattle.spec_state.specs.declared.task.Creator.{Creator}
 use Rattle.spec_state.specs.declared.task.Creator.TheVariants.{Committed, Live}
@@ -57,7 +57,7 @@ pub record IsLeastSpot (view : View) (spot : Spot) : Type 0 where
 -- the task of this id is the least uncommitted one
 pub record IsLeastTask (view : View) (id : ℕ) (task : Task) : Type 0 where
   pub place : ℕ
-  pub at : IsQueuedAt view task.tile place id task
+  pub queued_at : IsQueuedAt view task.tile place id task
   pub least : IsLeastSpot view (Queued task.tile place)
 
 -- the task of this id is the least one

@@ -1,3 +1,4 @@
+-- Contracts mean all but Picks, which serves this crate alone.
 pub mod Settings
 pub mod View
 pub mod StateValue

@@ -3,8 +3,8 @@
 use Rattle.std.specs.Prelude.{◌≡◌, ◌⊎◌, ◌↔◌, ℕ, ◌<◌, ◌≤◌, List, length, map, Contains, Some, option_map}
 use Rattle.std.specs.List.Sorted.{IsStrictlyIncreasing}
 use Rattle.fractal_vt.specs.declared.level.Level.{Level}
-use Rattle.fractal_vt.specs.Renumbered.{renumbered, renumbered_key}
-use Rattle.spill_store.specs.Entries.{Entry as Spilled, renumbered_entry}
+use Rattle.fractal_vt.specs.Renumbered.{renumbered_levels, renumbered_key}
+use Rattle.spill_store.specs.SpilledTasks.{Spilled, renumbered_spilled}
 use Rattle.spec_state.specs.declared.numbers.TheConstants.{DISPATCH_NUMBERS}
 use Rattle.spec_state.specs.declared.task.Task.{Task}
 use Rattle.spec_state.specs.View.{View, task_at}
@@ -39,17 +39,19 @@ abbrev pub renumbered_task : List ℕ → Task → Task
 renumbered_task table task = record task { key = renumbered_key table task.key }
 
 -- a renumbering: each tiebreaker, those of the path among them, becomes its place among the numbers in use, counted
--- from 0, and the next dispatch number is how many they are
+-- from 0, and the next dispatch number is how many they are; one equation over the slots says that there are no
+-- more of them
 pub record Renumbers (old new : View) : Type 0 where
   pub table : List ℕ
   pub is_table : IsNumberTable old table
   pub tasks : new.tasks ≡ map (option_map (renumbered_task table)) old.tasks
-  pub blocks : new.blocks ≡ map (map (renumbered_entry table)) old.blocks
-  pub path : new.path ≡ renumbered table old.path
+  pub blocks : new.blocks ≡ map (map (renumbered_spilled table)) old.blocks
+  pub path : new.path ≡ renumbered_levels table old.path
   pub next : new.next ≡ length table
-  pub rest : new ≡ record old { tasks = new.tasks; blocks = new.blocks; path = new.path; next = new.next }
+  pub frame : new ≡ record old { tasks = new.tasks; blocks = new.blocks; path = new.path; next = new.next }
 
--- a dispatch number is left, or else those in use are renumbered
+-- a dispatch number is left, or else those in use are renumbered: where the next is 65,536 or
+-- more, so that every view is spoken of; in a sound one it is 65,536 then
 pub data FreesNumber (old : View) : View → Type 0 where
   has_free : old.next < DISPATCH_NUMBERS → FreesNumber old old
   renumbers : (new : View) → DISPATCH_NUMBERS ≤ old.next → Renumbers old new → FreesNumber old new

@@ -10,7 +10,7 @@ use Rattle.spec_state.specs.View.{View, version_of, task_at, queued_last, Change
 -- the view without a task: the initial data, and nothing else
 pub record IsEmptyView (image : ImageValue) (settings : Settings) (view : View) : Type 0 where
   pub none : (id : ℕ) → task_at view id ≡ None
-  pub rest : view ≡ record {
+  pub frame : view ≡ record {
     version = version_of image;
     settings = settings;
     tasks = view.tasks;
@@ -25,8 +25,9 @@ pub record IsEmptyView (image : ImageValue) (settings : Settings) (view : View) 
     blocks = replicate settings.tiles [];
   }
 
--- the descriptor is that of a task of the image: its creator is the image, and its domain the root, of one kind
-pub record IsOfImage (desc : Desc) : Type 0 where
+-- the descriptor is that of a task of the image: its creator is the image, and its domain the root, of one kind;
+-- so what the type keeps of kinds and commit numbers holds of it
+pub record DescIsOfImage (desc : Desc) : Type 0 where
   pub by_image : desc.name.creator ≡ 0
   pub kinds : desc.kinds < 2
 
@@ -35,4 +36,4 @@ pub record Adds (id : ℕ) (task : Task) (old new : View) : Type 0 where
   pub vacant : task_at old id ≡ None
   pub changes : ChangesTask old new id (Some task)
   pub queues : new.queues ≡ queued_last old task.tile id
-  pub rest : new ≡ record old { tasks = new.tasks; queues = new.queues }
+  pub frame : new ≡ record old { tasks = new.tasks; queues = new.queues }

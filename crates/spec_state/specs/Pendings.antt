@@ -8,9 +8,9 @@ use Rattle.pending_list.specs.declared.task.PendingTask.{PendingTask}
 use Rattle.run_journal.specs.declared.journal.Entry.{Entry}
 use Rattle.serial_machine.specs.BagValue.{BagValue}
 use Rattle.serial_machine.specs.Run.{IsRun}
-use Rattle.serial_machine.specs.State.{State}
+use Rattle.serial_machine.specs.State.{SerialState}
 use Rattle.task_desc.specs.declared.desc.Desc.{Desc}
-use Rattle.spill_store.specs.Entries.{Entry as Spilled}
+use Rattle.spill_store.specs.SpilledTasks.{Spilled}
 use Rattle.spec_state.specs.declared.pending.Pending.{Pending}
 use Rattle.spec_state.specs.declared.task.Creator.{Creator}
 use Rattle.spec_state.specs.declared.task.Creator.TheVariants.{Committed, Live}
@@ -31,11 +31,11 @@ all_pending [] = []
 all_pending (bag ∷ outer) = map (pending_at bag.depth) bag.tasks ++ all_pending outer
 
 -- whether the first task's name is before the second's: by creators, then by places among a creator's children
-abbrev pub is_before : Pending → Pending → Bool
-is_before a b = names.is_before a.name b.name
+abbrev pub pending_before : Pending → Pending → Bool
+pending_before a b = names.name_before a.name b.name
 
 abbrev pub IsBefore : Pending → Pending → Type 0
-IsBefore a b = is_before a b ≡ true
+IsBefore a b = pending_before a b ≡ true
 
 -- the list holds the tasks of all bags, sorted by their names
 pub record ArePendings (stack : List BagValue) (pendings : List Pending) : Type 0 where
@@ -43,9 +43,9 @@ pub record ArePendings (stack : List BagValue) (pendings : List Pending) : Type 
   pub held : IsPermutation pendings (all_pending stack)
 
 -- a run of the image leaves this memory, this output and these pending tasks
-pub record Leaves (image : ImageValue) (budget : ℕ) (journal : List Entry) (memory output : List ℕ)
+pub record RunLeaves (image : ImageValue) (budget : ℕ) (journal : List Entry) (memory output : List ℕ)
     (pendings : List Pending) : Type 0 where
-  pub state : State
+  pub state : SerialState
   pub run : IsRun image budget journal state
   pub memory_is : memory ≡ state.memory
   pub output_is : output ≡ state.output
@@ -69,7 +69,8 @@ abbrev pub pending_queued : Option Task → Option Pending
 pending_queued None = None
 pending_queued (Some task) = pending_by task.creator task
 
--- a spilled task, which pends where its creator is one of so many that have committed
+-- a spilled task, which pends where its creator is one of so many that have committed: so a spilled child of
+-- the least task is left out, as its queued brothers are
 abbrev pub pending_spilled : ℕ → Desc → Option Pending
 pending_spilled count d =
     if nat_le d.name.creator count

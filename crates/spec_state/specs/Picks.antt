@@ -45,7 +45,7 @@ IsConflictIn view tile task line write id other =
 
 -- an idle task at a place of a queue's ids
 pub record IsIdleAt (view : View) (ids : List ℕ) (place id : ℕ) (task : Task) : Type 0 where
-  pub at : slice_get ids place ≡ Some id
+  pub id_at : slice_get ids place ≡ Some id
   pub there : task_at view id ≡ Some task
   pub idle : task.status ≡ Idle
 
@@ -55,7 +55,7 @@ pub record IsFirstIdle (view : View) (ids : List ℕ) (count id : ℕ) : Type 0 
   pub place : ℕ
   pub task : Task
   pub below : place < count
-  pub this : IsIdleAt view ids place id task
+  pub idle : IsIdleAt view ids place id task
   pub least : (p k : ℕ) (x : Task) → p < count → IsIdleAt view ids p k x → key_cmp task.key x.key ≢ Greater
   pub first : (p k : ℕ) (x : Task) → p < place → IsIdleAt view ids p k x → key_cmp task.key x.key ≡ Less
 

@@ -21,12 +21,12 @@ pub record IsIdle (view : View) (tile id : ℕ) (task : Task) : Type 0 where
 
 -- the least idle task of the tile
 pub record IsLeastIdle (view : View) (tile id : ℕ) (task : Task) : Type 0 where
-  pub this : IsIdle view tile id task
+  pub idle : IsIdle view tile id task
   pub least : (k : ℕ) (x : Task) → k ≢ id → IsIdle view tile k x → Precedes view tile id k
 
 -- an idle firm task of the tile
 pub record IsIdleFirm (view : View) (tile id : ℕ) (task : Task) : Type 0 where
-  pub this : IsIdle view tile id task
+  pub idle : IsIdle view tile id task
   pub firm : IsFirm view task
 
 -- a dispatched task of the tile
@@ -52,7 +52,7 @@ pub record IsFinished (view : View) (tile id : ℕ) (task : Task) : Type 0 where
 
 -- of the tasks of this kind one with the greatest key; dispatched tasks never tie
 pub record IsLatest (kind : ℕ → Task → Type 0) (id : ℕ) (task : Task) : Type 0 where
-  pub this : kind id task
+  pub of_kind : kind id task
   pub latest : (k : ℕ) (x : Task) → kind k x → key_cmp x.key task.key ≢ Greater
 
 -- the latest dispatched task of the tile

@@ -1,5 +1,6 @@
 -- The ranges of the settings.
 use Rattle.std.specs.Prelude.{◌≡◌, ◌⊎◌, ◌≤◌, ℕ}
+use Rattle.guest_image.specs.ImageValue.{ImageValue}
 use Rattle.serial_machine.specs.declared.limits.TheConstants.{MAX_BUDGET, MAX_COMMITS}
 use Rattle.spec_state.specs.declared.settings.Settings.{Settings}
 
@@ -23,3 +24,10 @@ pub record IsValid (settings : Settings) : Type 0 where
   pub commits : IsBetween settings.commits 1 MAX_COMMITS
   pub budget : IsBetween settings.budget 1 MAX_BUDGET
   pub phase : IsBetween settings.phase 1 MAX_COMMITS
+
+-- a machine of this image and these settings is the one that a naming speaks of: its image, its task budget and its
+-- commit limit are these
+pub record IsNamed (given : ImageValue) (settings : Settings) (image : ImageValue) (budget commits : ℕ) : Type 0 where
+  pub image_is : given ≡ image
+  pub budget_is : settings.budget ≡ budget
+  pub commits_is : settings.commits ≡ commits

@@ -1,7 +1,7 @@
 -- What the type of a state keeps of its tasks and lists, so that what reads or changes a state has it for each state.
 use Rattle.std.specs.Prelude.{◌≡◌, ◌↔◌, ◌<◌, ◌≤◌, ◌^◌, ℕ, List, [], Contains, Option, Some, None, IsSome}
 use Rattle.std.specs.Prelude.{is_some, length, slice_get, slice_index_or}
-use Rattle.commit_arbiter.specs.declared.entry.Entry.{Entry}
+use Rattle.commit_arbiter.specs.declared.candidate.Candidate.{Candidate}
 use Rattle.undo_log.specs.Undo.{AllAccessible}
 use Rattle.task_desc.specs.declared.calls.TheConstants.{MAX_CHILDREN, MAX_DEPTH}
 use Rattle.spec_state.specs.declared.task.Creator.TheVariants.{Committed}
@@ -20,8 +20,8 @@ HasCore (Trapped held cause) core = held ≡ core
 HasCore Finished core = ⊥
 
 -- the task of this id, which is in this tile, has a status of this kind
-abbrev pub IsThere : View → ℕ → ℕ → (Status → Type 0) → Type 0
-IsThere view tile id kind = (task : Task) × (task_at view id ≡ Some task) × (task.tile ≡ tile) × kind task.status
+abbrev pub HasTask : View → ℕ → ℕ → (Status → Type 0) → Type 0
+HasTask view tile id kind = (task : Task) × (task_at view id ≡ Some task) × (task.tile ≡ tile) × kind task.status
 
 -- a task by itself, in a state of so many bytes of data and so many commits: its depth, the kinds on its path and
 -- its children are within their bounds, its accesses lie in the data, it has a dispatch number exactly where it
@@ -38,11 +38,11 @@ pub record IsWellFormed (size commits : ℕ) (task : Task) : Type 0 where
 -- each task stands in the queue of its tile, and in its commit queue or on its core as its status says, and nothing
 -- else stands in these lists; each task is well formed; the data has its size
 pub record IsStored (size : ℕ) (view : View) : Type 0 where
-  pub queued_are : (tile id : ℕ) → IsQueued view tile id ↔ IsThere view tile id (λ status. Unit {0})
+  pub queued_are : (tile id : ℕ) → IsQueued view tile id ↔ HasTask view tile id (λ status. Unit {0})
   pub finished_are : (tile id : ℕ)
-      → Contains (finished_at view tile) id ↔ IsThere view tile id (λ status. status ≡ Finished)
+      → Contains (finished_at view tile) id ↔ HasTask view tile id (λ status. status ≡ Finished)
   pub held_are : (tile core id : ℕ)
-      → (slice_get (cores_at view tile) core ≡ Some (Some id)) ↔ IsThere view tile id (λ status. HasCore status core)
+      → (slice_get (cores_at view tile) core ≡ Some (Some id)) ↔ HasTask view tile id (λ status. HasCore status core)
   pub tasks : (id : ℕ) (task : Task) → task_at view id ≡ Some task → IsWellFormed size (length view.history) task
   pub memory : length view.memory ≡ size
 
@@ -52,18 +52,19 @@ AreTheirs tasks lists =
     (tile id : ℕ) → Contains (slice_index_or lists tile []) id
     → (task : Task) × (slice_index_or tasks id None ≡ Some task) × (task.tile ≡ tile)
 
--- the entry of a task in the index, with its arrival number
-abbrev pub entry_of : List ℕ → ℕ → Task → Entry
-entry_of arrivals id task = record { key = task.key; tile = task.tile; arrival = slice_index_or arrivals id 0; id = id }
+-- the candidate of a task in the index, with its arrival number
+abbrev pub candidate_of : List ℕ → ℕ → Task → Candidate
+candidate_of arrivals id task =
+    record { key = task.key; tile = task.tile; arrival = slice_index_or arrivals id 0; id = id }
 
 -- the index holds these tasks and no other, each once, under arrival numbers that rise along each queue and are
 -- less than the next one
 pub record IsIndexed (tasks : List (Option Task)) (queues : List (List ℕ)) (arrivals : List ℕ) (next : ℕ)
-    (entries : List Entry) : Type 0 where
+    (entries : List Candidate) : Type 0 where
   pub all : (id : ℕ) (task : Task) → slice_index_or tasks id None ≡ Some task
-      → Contains entries (entry_of arrivals id task)
-  pub each : (entry : Entry) → Contains entries entry
-      → (task : Task) × (slice_index_or tasks entry.id None ≡ Some task) × (entry ≡ entry_of arrivals entry.id task)
+      → Contains entries (candidate_of arrivals id task)
+  pub each : (entry : Candidate) → Contains entries entry
+      → (task : Task) × (slice_index_or tasks entry.id None ≡ Some task) × (entry ≡ candidate_of arrivals entry.id task)
   pub early : (tile id : ℕ) → Contains (slice_index_or queues tile []) id → slice_index_or arrivals id 0 < next
   pub rising : (tile p q a b : ℕ) → p < q → slice_get (slice_index_or queues tile []) p ≡ Some a
       → slice_get (slice_index_or queues tile []) q ≡ Some b

@@ -7,8 +7,8 @@ use Rattle.guest_image.specs.declared.image.Kind.{Kind}
 use Rattle.guest_image.specs.declared.image.Kind.TheVariants.{Unordered, Ordered}
 use Rattle.rv_core.specs.declared.state.Core.{Core}
 use Rattle.rv_core.specs.Legs.{start_of}
-use Rattle.task_step.specs.TaskState.{TaskState}
-use Rattle.spill_store.specs.Entries.{Entry as Spilled}
+use Rattle.task_request.specs.TaskState.{TaskState}
+use Rattle.spill_store.specs.SpilledTasks.{Spilled}
 use Rattle.task_desc.specs.declared.desc.Ctx.{Ctx}
 use Rattle.task_desc.specs.declared.desc.Desc.{Desc}
 use Rattle.task_desc.specs.declared.desc.Name.{Name}
@@ -85,11 +85,11 @@ kept_core (Trapped tile_core cause) core = Some core
 kept_core Finished core = Some core
 
 -- the cause of the trap at which it stands
-abbrev pub trap_in : Status → Option ℕ
-trap_in Idle = None
-trap_in (Running tile_core) = None
-trap_in (Trapped tile_core cause) = Some cause
-trap_in Finished = None
+abbrev pub trap_cause : Status → Option ℕ
+trap_cause Idle = None
+trap_cause (Running tile_core) = None
+trap_cause (Trapped tile_core cause) = Some cause
+trap_cause Finished = None
 
 -- the core at which it starts
 abbrev pub start_core : ℕ → Task → Core

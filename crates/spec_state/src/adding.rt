@@ -5,8 +5,8 @@ ghost use Rattle.slab.specs.Slab.{get, slab_len, HasRoomFor, Updates};
 ghost use Rattle.spec_state.specs.declared.task.Creator.TheVariants.{Committed};
 ghost use Rattle.spec_state.specs.Tasks.{idle_task, root_descriptor};
 ghost use Rattle.spec_state.specs.Stored.{IsWellFormed};
-ghost use Rattle.spec_state.specs.Opening.{Adds, IsOfImage};
-ghost use Rattle.spec_state.specs.Room.{HasFreeEntry};
+ghost use Rattle.spec_state.specs.Opening.{Adds, DescIsOfImage};
+ghost use Rattle.spec_state.specs.Room.{QueueHasRoom};
 
 use crate::arrival::fresh_arrival;
 use crate::fresh::Fresh;
@@ -19,7 +19,7 @@ use std::alloc::AllocError;
 use task_desc::Desc;
 use tile_queues::TaskQueue;
 
-/// Puts an id that is not there into a queue with a free entry, as the last one.
+/// Puts an id that is not there into a queue with a free place, as the last one.
 fn put_last(queue: &mut TaskQueue, id: usize)
     requires absent { ¬ Contains queue.old.ids id }
     requires free { length queue.old.ids < queue.old.capacity }
@@ -65,14 +65,14 @@ fn put_in(tasks: &mut KeptSlab<Task>, task: &Fresh) -> usize
 }
 
 impl<N: Naming> State<N> {
-    /// Puts an idle task under a free id, as the last one of the task queue of its tile, which has a free entry. It
+    /// Puts an idle task under a free id, as the last one of the task queue of its tile, which has a free place. It
     /// takes no memory.
     pub fn put(&mut self, task: &Fresh) -> TaskId
         requires tile { task.now.tile < self.old.view.settings.tiles }
-        requires free { HasFreeEntry self.old.view task.now.tile }
+        requires free { QueueHasRoom self.old.view task.now.tile }
         requires formed { IsWellFormed N.image.data_size (length self.old.view.history) task.now }
         ensures adds { Adds result.0 task.now self.old.view self.new.view }
-        ensures room { self.new.room ≡ self.old.room }
+        ensures room { self.new.spare ≡ self.old.spare }
     {
         let tile = task.tile();
         let arrival = fresh_arrival(
@@ -93,17 +93,17 @@ impl<N: Naming> State<N> {
     }
 
     /// Adds an idle task of the image, under the descriptor's name, as the last one of the task queue of the tile,
-    /// which has a free entry. It takes no memory, and never answers `AllocError`.
+    /// which has a free place. It takes no memory, and never answers `AllocError`.
     pub fn add(&mut self, desc: &Desc, tile: u32) -> Result<TaskId, AllocError>
-        requires image { IsOfImage desc.now }
+        requires image { DescIsOfImage desc.now }
         requires tile { tile < self.old.view.settings.tiles }
-        requires free { HasFreeEntry self.old.view tile }
+        requires free { QueueHasRoom self.old.view tile }
         ensures ok { let name = desc.now.name in
             let creator = Committed name.creator name.index in
             let task = idle_task self.old.view.version (root_descriptor desc.now) creator tile in
             IfOk result (λ id. Adds id.0 task self.old.view self.new.view) }
         ensures covered { IsOk result }
-        ensures room { self.new.room ≡ self.old.room }
+        ensures room { self.new.spare ≡ self.old.spare }
     {
         Ok(self.put(&root_task(self.version, desc, tile)))
     }

@@ -1,9 +1,9 @@
 //! The numbers under which tasks arrive in their queues.
 
 ghost use Rattle.std.specs.Prelude.{All, ◌≡◌, ◌<◌, ◌≤◌, ◌-◌, ◌^◌, [], length, slice_index_or, slice_set};
-ghost use Rattle.commit_arbiter.specs.declared.entry.Entry.{Entry};
-ghost use Rattle.commit_arbiter.specs.Indexed.{entry_cmp, without, HasId};
-ghost use Rattle.fractal_vt.specs.Sorted.{inserted};
+ghost use Rattle.commit_arbiter.specs.declared.candidate.Candidate.{Candidate};
+ghost use Rattle.commit_arbiter.specs.Indexed.{candidate_cmp, without_candidate, HasId};
+ghost use Rattle.fractal_vt.specs.Sorted.{after_insert};
 ghost use Rattle.spec_state.specs.Fits.{ids_in};
 ghost use Rattle.spec_state.specs.Stored.{IsIndexed, AreTheirs, AreBelow, KeepsOthers};
 
@@ -15,12 +15,12 @@ use tile_queues::TaskQueue;
 /// Enters a task of the index anew, under its key and this arrival number.
 #[tactic(auto, using(crate::proofs::Moved::fewer, crate::proofs::Moved::no_more))]
 pub(crate) fn enter_again(index: &mut Index, task: &Task, arrival: u64, id: usize)
-    requires indexed { HasId id index.old.entries }
-    requires room { length index.old.entries ≤ index.old.capacity }
+    requires indexed { HasId id index.old.candidates }
+    requires room { length index.old.candidates ≤ index.old.capacity }
     ensures entries { let t = task.now in
-        let moved : Entry = record { key = t.key; tile = t.tile; arrival = arrival; id = id } in
-        index.new.entries ≡ inserted entry_cmp moved (without id index.old.entries) }
-    ensures count { length index.new.entries ≤ length index.old.entries }
+        let moved : Candidate = record { key = t.key; tile = t.tile; arrival = arrival; id = id } in
+        index.new.candidates ≡ after_insert candidate_cmp moved (without_candidate id index.old.candidates) }
+    ensures count { length index.new.candidates ≤ length index.old.candidates }
     ensures capacity { index.new.capacity ≡ index.old.capacity }
 {
     index.remove(id);
@@ -30,13 +30,13 @@ pub(crate) fn enter_again(index: &mut Index, task: &Task, arrival: u64, id: usiz
 /// Gives a task of the index another arrival number.
 fn move_arrival(index: &mut Index, arrivals: &mut Vec<u64>, task: &Task, id: usize, arrival: u64)
     requires slot { id < length arrivals.old.items }
-    requires indexed { HasId id index.old.entries }
-    requires room { length index.old.entries ≤ index.old.capacity }
+    requires indexed { HasId id index.old.candidates }
+    requires room { length index.old.candidates ≤ index.old.capacity }
     ensures arrivals { arrivals.new.items ≡ slice_set arrivals.old.items id arrival }
     ensures entries { let t = task.now in
-        let moved : Entry = record { key = t.key; tile = t.tile; arrival = arrival; id = id } in
-        index.new.entries ≡ inserted entry_cmp moved (without id index.old.entries) }
-    ensures count { length index.new.entries ≤ length index.old.entries }
+        let moved : Candidate = record { key = t.key; tile = t.tile; arrival = arrival; id = id } in
+        index.new.candidates ≡ after_insert candidate_cmp moved (without_candidate id index.old.candidates) }
+    ensures count { length index.new.candidates ≤ length index.old.candidates }
     ensures capacity { index.new.capacity ≡ index.old.capacity }
 {
     arrivals[id] = arrival;
@@ -54,16 +54,16 @@ fn renumber_queue(
 )
     requires tile { tile < length queues.now }
     requires theirs { AreTheirs tasks.now.slots (ids_in queues.now) }
-    requires indexed { IsIndexed tasks.now.slots (ids_in queues.now) arrivals.old.items next index.old.entries }
+    requires indexed { IsIndexed tasks.now.slots (ids_in queues.now) arrivals.old.items next index.old.candidates }
     requires slots { length arrivals.old.items ≡ tasks.now.capacity }
-    requires room { length index.old.entries ≤ index.old.capacity }
-    ensures indexed { IsIndexed tasks.now.slots (ids_in queues.now) arrivals.new.items next index.new.entries }
+    requires room { length index.old.candidates ≤ index.old.capacity }
+    ensures indexed { IsIndexed tasks.now.slots (ids_in queues.now) arrivals.new.items next index.new.candidates }
     ensures below { let ids = slice_index_or (ids_in queues.now) tile [] in
         AreBelow arrivals.new.items ids (length ids) }
     ensures others { let ids = slice_index_or (ids_in queues.now) tile [] in
         KeepsOthers ids arrivals.old.items arrivals.new.items }
     ensures slots { length arrivals.new.items ≡ length arrivals.old.items }
-    ensures count { length index.new.entries ≤ length index.old.entries }
+    ensures count { length index.new.candidates ≤ length index.old.candidates }
     ensures capacity { index.new.capacity ≡ index.old.capacity }
 {
     let ids = queues[tile].ids();
@@ -86,12 +86,12 @@ pub(crate) fn fresh_arrival(
 ) -> u64
     requires short { All (λ queue. length queue.ids ≤ longest) queues.now }
     requires theirs { AreTheirs tasks.now.slots (ids_in queues.now) }
-    requires indexed { IsIndexed tasks.now.slots (ids_in queues.now) arrivals.old.items next index.old.entries }
+    requires indexed { IsIndexed tasks.now.slots (ids_in queues.now) arrivals.old.items next index.old.candidates }
     requires slots { length arrivals.old.items ≡ tasks.now.capacity }
-    requires room { length index.old.entries ≤ index.old.capacity }
-    ensures indexed { IsIndexed tasks.now.slots (ids_in queues.now) arrivals.new.items result index.new.entries }
+    requires room { length index.old.candidates ≤ index.old.capacity }
+    ensures indexed { IsIndexed tasks.now.slots (ids_in queues.now) arrivals.new.items result index.new.candidates }
     ensures below { result < 2 ^ 64 - 1 }
-    ensures count { length index.new.entries ≤ length index.old.entries }
+    ensures count { length index.new.candidates ≤ length index.old.candidates }
     ensures capacity { index.new.capacity ≡ index.old.capacity }
     ensures slots { length arrivals.new.items ≡ length arrivals.old.items }
 {

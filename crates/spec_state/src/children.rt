@@ -17,7 +17,7 @@ use task_desc::MAX_CHILDREN;
 const MAX_NOTED: usize = MAX_CHILDREN as usize;
 
 /// The ids under which the children of one task were put last, by their places among its children: at most
-/// `MAX_NOTED`. The room for all of them is in it from the start.
+/// `MAX_NOTED`. The memory for all of them is in it from the start.
 #[derive(Drop)]
 struct Places {
     ids: ArrayVec<u32, MAX_NOTED>,
@@ -132,7 +132,7 @@ impl Children {
     }
 
     /// The id that was noted for the child at this place of the task of this id, if one was.
-    fn noted(&self, id: usize, place: usize) -> Option<usize>
+    fn noted_id(&self, id: usize, place: usize) -> Option<usize>
         ensures { result ≡ slice_get (noted_of self.now id) place }
     {
         match self.places.get(id) {
@@ -145,7 +145,7 @@ impl Children {
     fn is_free(&self, tasks: &KeptSlab<Task>, id: usize, creator: usize, place: usize) -> bool
         ensures { IsTrue result ↔ IsFree tasks.now.slots id creator place self.now }
     {
-        match self.noted(creator, place) {
+        match self.noted_id(creator, place) {
             Some(noted) => noted == id || !is_child_at(tasks, noted, creator, place),
             None => true,
         }

@@ -1,4 +1,5 @@
-//! With which tasks an access conflicts. No call takes memory.
+//! The first task with which an access conflicts. No event asks for it, since `spec_rollback` marks all such tasks.
+//! No call takes memory.
 
 ghost use Rattle.std.specs.Prelude.{◌≡◌, ◌<◌, ◌↔◌, ℕ, Bool, IsTrue, Some, IsSome, IsNone, IfSome};
 ghost use Rattle.fractal_vt.specs.Keys.{key_cmp};
@@ -138,7 +139,7 @@ impl<N: Naming> State<N> {
         ensures { IsTrue result → IfSome (task_at self.now.view task.0)
             (λ t. (line : ℕ) (write : Bool) (k : ℕ) → Conflicts self.now.view t line write k → ⊥) }
     {
-        self.index.closed() == 1 && self.task(task).key.tb.is_some()
+        self.index.closed_count() == 1 && self.task(task).key.tb.is_some()
     }
 
     /// Whether an access of the task to the line, a store if `write`, conflicts with the other task: false where

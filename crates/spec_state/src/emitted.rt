@@ -1,3 +1,5 @@
+//! The bytes that a task emitted.
+
 ghost use Rattle.std.specs.Prelude.{◌≡◌, ◌<◌, ◌≤◌, [], ◌∷◌, ◌++◌, length};
 
 use arrayvec::ArrayVec;
@@ -6,7 +8,7 @@ use std::marker::Model;
 /// How many bytes a task may emit.
 pub const MAX_EMITTED: usize = 256;
 
-/// The bytes that a task has emitted, in their order: at most `MAX_EMITTED`. The room for all of them is in it from
+/// The bytes that a task has emitted, in their order: at most `MAX_EMITTED`. The memory for all of them is in it from
 /// the start.
 #[derive(Debug, Drop)]
 pub struct Emitted {

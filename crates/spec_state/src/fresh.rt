@@ -70,7 +70,7 @@ impl Fresh {
         task.hint = self.hint;
         task.kinds = self.kinds;
         task.key = Key {
-            domain: self.domain.copied(),
+            domain: self.domain.copy(),
             ts: self.ts,
             tb: None,
         };

@@ -1,4 +1,4 @@
-//! The committed tasks, with room for all that may commit.
+//! The committed tasks, with memory for all that may commit.
 
 ghost use Rattle.std.specs.Prelude.{◌≡◌, ◌<◌, ◌≤◌, [], ◌∷◌, ◌++◌, length, IfOk};
 
@@ -26,7 +26,7 @@ impl Model for History {
 }
 
 impl History {
-    /// No task, with room for so many.
+    /// No task, with memory for so many.
     pub fn new(alloc: Global, limit: u32) -> Result<History, AllocError>
         ensures { IfOk result (λ history. history ≡ record { limit = limit; entries = [] }) }
     {

@@ -13,7 +13,7 @@ use rv_core::Naming;
 
 /// The key of a spilled task where it stands, and the tile in whose block that is.
 #[derive(Clone, Copy)]
-struct Front<'a> {
+struct BlockFront<'a> {
     tile: u32,
     key: &'a Key,
 }
@@ -44,13 +44,13 @@ impl<N: Naming> State<N> {
     }
 
     /// The first of the spilled tasks.
-    fn first_front(&self) -> Option<Front<'_>>
+    fn first_front(&self) -> Option<BlockFront<'_>>
         ensures some { let blocks = self.now.view.blocks in
             IfSome result (λ f. IsFirstSpilled blocks (length blocks) f.tile f.key.now) }
         ensures none { IsNone result → HoldNone self.now.view.blocks (length self.now.view.blocks) }
     {
         match self.blocks.front() {
-            Some((tile, key)) => Some(Front {
+            Some((tile, key)) => Some(BlockFront {
                 tile: tile as u32,
                 key,
             }),

@@ -1,10 +1,10 @@
 //! A task that leaves its lists, or is idle again.
 
 ghost use Rattle.std.specs.Prelude.{◌≡◌, ◌+◌, ◌<◌, Contains, IsSome, length, map};
-ghost use Rattle.tile_queues.specs.Queue.{without};
+ghost use Rattle.tile_queues.specs.Queue.{ids_but};
 ghost use Rattle.spec_state.specs.declared.task.Status.TheVariants.{Finished};
 ghost use Rattle.spec_state.specs.View.{core_ids, task_at};
-ghost use Rattle.spec_state.specs.Leaving.{freed_of, IsHeldAs, Leaves, SetsBack};
+ghost use Rattle.spec_state.specs.Leaving.{freed_of, IsHeldAs, TaskLeaves, SetsBack};
 ghost use Rattle.spec_state.specs.Tasks.{idle_again};
 
 use crate::state::State;
@@ -16,7 +16,7 @@ use tile_queues::{CommitQueue, TaskQueue};
 /// Takes an id that is there out of a task queue.
 fn leave_queue(queue: &mut TaskQueue, id: usize)
     requires there { Contains queue.old.ids id }
-    ensures taken { queue.new ≡ record queue.old { ids = without id queue.old.ids } }
+    ensures taken { queue.new ≡ record queue.old { ids = ids_but id queue.old.ids } }
     ensures one { length queue.new.ids + 1 ≡ length queue.old.ids }
 {
     // No id stands there twice, so one place is free afterwards.
@@ -27,7 +27,7 @@ fn leave_queue(queue: &mut TaskQueue, id: usize)
 /// Takes a task out of the commit queue of its tile, where it waits there.
 fn leave_commits(waiting: &mut CommitQueue, status: Status, id: usize)
     requires finished { Contains waiting.old.ids id → status ≡ Finished }
-    ensures { waiting.new ≡ record waiting.old { ids = without id waiting.old.ids } }
+    ensures { waiting.new ≡ record waiting.old { ids = ids_but id waiting.old.ids } }
 {
     match status {
         Status::Finished => {
@@ -65,11 +65,11 @@ fn reset(task: &mut Task, version: u16)
 
 impl<N: Naming> State<N> {
     /// Takes a task out: of the slab, of its queue, of the index, and of its core or its commit
-    /// queue. It takes no memory.
+    /// queue. It takes no memory. It hands nothing back: who needs something of the task reads it before.
     pub fn take_out(&mut self, id: TaskId)
         requires live { IsSome (task_at self.old.view id.0) }
-        ensures leaves { Leaves id.0 self.old.view self.new.view }
-        ensures room { self.new.room ≡ self.old.room }
+        ensures leaves { TaskLeaves id.0 self.old.view self.new.view }
+        ensures room { self.new.spare ≡ self.old.spare }
         ensures scratch { self.new.scratch ≡ self.old.scratch }
     {
         let task = &self.tasks[id.0];
@@ -82,13 +82,13 @@ impl<N: Naming> State<N> {
         self.index.remove(id.0);
     }
 
-    /// Makes a task idle again, in its own entry of its queue and with its arrival number: its core
-    /// or its entry of the commit queue is free, its tiebreaker open, and nothing done. It keeps the
+    /// Makes a task idle again, in its own place of its queue and with its arrival number: its core
+    /// or its place of the commit queue is free, its tiebreaker open, and nothing done. It keeps the
     /// memory of its lists, and takes none. Its stores are not undone here.
     pub fn set_back(&mut self, id: TaskId)
         requires live { IsSome (task_at self.old.view id.0) }
         ensures back { SetsBack id.0 self.old.view self.new.view }
-        ensures room { self.new.room ≡ self.old.room }
+        ensures room { self.new.spare ≡ self.old.spare }
         ensures scratch { self.new.scratch ≡ self.old.scratch }
     {
         let task = &mut self.tasks[id.0];

@@ -5,7 +5,8 @@
 //! to it, for the crates that change it. A task is found by its id in one step, and nothing is copied to look at
 //! one. When a view is sound is said in the crate of its laws, so that what changes a state stands on definitions
 //! alone. It stands on the parts of the machine: keys, index, queues, blocks, filters and logs. The crates that
-//! change it call it (`spec_access`, `spec_dispatch`, `spec_rollback`, `spec_commit`), and those of events.
+//! change it call it (`spec_access`, `spec_dispatch`, `spec_rollback`, `spec_commit`), and those of events; the host
+//! takes settings and what pends from it.
 #![tactic(auto)]
 
 mod adding;
@@ -25,9 +26,9 @@ mod loads;
 mod making;
 mod numbers;
 mod pending;
+mod queries;
 mod queued;
-mod reading;
-mod room;
+mod reserving;
 mod settings;
 mod state;
 mod task;
@@ -41,7 +42,7 @@ pub use history::History;
 pub use loads::{Loads, MAX_TILES};
 pub use numbers::{DISPATCH_NUMBERS, MAX_NUMBERS_IN_USE};
 pub use pending::{Pending, Pendings};
-pub use room::{Buffers, MAX_MOVED};
+pub use reserving::{Buffers, MAX_MOVED};
 pub use settings::Settings;
 pub use state::State;
 pub use task::{Creator, Spawns, Status, Task, TaskId, Where};

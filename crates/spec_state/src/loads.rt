@@ -1,3 +1,5 @@
+//! How many tasks each tile has, for placers.
+
 ghost use Rattle.std.specs.Prelude.{◌≡◌, ◌<◌, [], ◌∷◌, ◌++◌, length};
 
 use arrayvec::ArrayVec;

@@ -1,14 +1,14 @@
 //! A state without a task.
 
 ghost use Rattle.std.specs.Prelude.{◌≡◌, ◌<◌, ◌≤◌, ◌*◌, [], replicate, map, None, All, vec_len, IfOk};
-ghost use Rattle.spec_state.specs.Settings.{IsValid};
+ghost use Rattle.spec_state.specs.Settings.{IsNamed, IsValid};
 ghost use Rattle.spec_state.specs.View.{core_ids};
 ghost use Rattle.spec_state.specs.Opening.{IsEmptyView};
 
 use crate::children::Children;
 use crate::history::History;
 use crate::numbers::MAX_NUMBERS_IN_USE;
-use crate::room::Buffers;
+use crate::reserving::Buffers;
 use crate::settings::Settings;
 use crate::state::State;
 use crate::task::TaskId;
@@ -88,9 +88,7 @@ impl<N: Naming> State<N> {
     /// memory runs out.
     pub fn new(alloc: Global, image: &Image, settings: Settings) -> Result<State<N>, AllocError>
         requires valid { IsValid settings }
-        requires image { image.now ≡ N.image }
-        requires budget { settings.budget ≡ N.budget }
-        requires commits { settings.commits ≡ N.commits }
+        requires named { IsNamed image.now settings N.image N.budget N.commits }
         ensures { IfOk result (λ state. IsEmptyView N.image settings state.view) }
     {
         let entries = entries_of(&settings);

@@ -1,3 +1,5 @@
+//! How many dispatch numbers there are, and how many are in use at most.
+
 /// How many dispatch numbers there are. A number is the tiebreaker of a key, which has sixteen bits; where all are
 /// given, those in use are renumbered from 0 on before the next dispatch.
 pub const DISPATCH_NUMBERS: u64 = 65_536;

@@ -5,7 +5,7 @@ ghost use Rattle.std.specs.List.{filter_map};
 ghost use Rattle.std.specs.List.Sorted.{IsSortedBy};
 ghost use Rattle.slab.specs.Slab.{get};
 ghost use Rattle.spec_state.specs.Fits.{entries_in};
-ghost use Rattle.spec_state.specs.Pendings.{is_before, pending_by, pending_queued, pending_spilled};
+ghost use Rattle.spec_state.specs.Pendings.{pending_before, pending_by, pending_queued, pending_spilled};
 ghost use Rattle.spec_state.specs.Pendings.{spilled_pending, pendings_in};
 
 use crate::state::State;
@@ -125,7 +125,7 @@ fn add_spilled(list: &mut Vec<Pending>, count: u32, blocks: &[Block]) -> Result<
 /// Sorts tasks by their names, in place.
 fn sort_by_name(tasks: &mut [Pending])
     ensures moved { IsPermutation tasks.old tasks.new }
-    ensures sorted { IsSortedBy is_before tasks.new }
+    ensures sorted { IsSortedBy pending_before tasks.new }
 {
     tasks.sort_unstable_by_key(|task| (task.name.creator, task.name.index));
 }
@@ -137,7 +137,7 @@ impl<N: Naming> State<N> {
     /// `AllocError` where memory runs out.
     pub fn pending(&self) -> Result<Pendings, AllocError>
         ensures held { IfOk result (IsPermutation (pendings_in self.now.view)) }
-        ensures sorted { IfOk result (IsSortedBy is_before) }
+        ensures sorted { IfOk result (IsSortedBy pending_before) }
     {
         let mut list = Vec::new(self.alloc);
         add_queued(&mut list, &self.tasks)?;

@@ -5,7 +5,7 @@ ghost use Rattle.std.specs.Prelude.{Contains, IsTrue, Some, IsSome, IsNone, IfSo
 ghost use Rattle.spec_state.specs.declared.task.Task.{Task};
 ghost use Rattle.spec_state.specs.View.{task_at, queue_at};
 ghost use Rattle.spec_state.specs.Queries.{IsIdle, IsLeastIdle, IsIdleFirm};
-ghost use Rattle.spec_state.specs.Room.{HasFreeEntry};
+ghost use Rattle.spec_state.specs.Room.{QueueHasRoom};
 ghost use Rattle.spec_state.specs.Picks.{IsIdlePick, IsIdleFirmBy};
 
 use crate::firm::is_firm;
@@ -100,10 +100,10 @@ impl<N: Naming> State<N> {
         let _ = self.queues[tile as usize].ids();
     }
 
-    /// Whether the task queue of a tile has a free entry.
-    pub fn has_free_entry(&self, tile: u32) -> bool
+    /// Whether the task queue of a tile has a free place.
+    pub fn queue_has_room(&self, tile: u32) -> bool
         requires { tile < self.now.view.settings.tiles }
-        ensures { IsTrue result ↔ HasFreeEntry self.now.view tile }
+        ensures { IsTrue result ↔ QueueHasRoom self.now.view tile }
     {
         self.queues[tile as usize].free() > 0
     }

@@ -1,3 +1,5 @@
+//! The settings and their ranges.
+
 ghost use Rattle.std.specs.Prelude.{◌≡◌, ◌↔◌, IsTrue};
 ghost use Rattle.spec_state.specs.Settings.{IsValid, IsLine, IsBetween};
 

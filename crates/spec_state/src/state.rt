@@ -1,6 +1,8 @@
+//! The state, and what its type keeps.
+
 use crate::children::Children;
 use crate::history::History;
-use crate::room::Buffers;
+use crate::reserving::Buffers;
 use crate::settings::Settings;
 use crate::task::{Task, TaskId};
 use commit_arbiter::Index;
@@ -16,14 +18,14 @@ use undo_log::Memory;
 
 /// The machine between two events. Its fields are public for the crates that change a state; all others use its calls.
 ///
-/// Contracts see it as a `View` beside the room that it keeps for the next event and its notes of
+/// Contracts see it as a `View` beside the memory that is spare for the next event and its notes of
 /// a cascade. Its type keeps (`IsStored`) that the settings are valid, with the limits that `N`
 /// names, that each tile has its queues, of the capacities of the settings, its cores and its
 /// block, that queues, commit queues and cores hold the tasks of their tile and nothing else, each
 /// as its status says, that each task is well formed, that the data has the image's size, that the
-/// history has room for all commits, (`IsIndexed`) that the index holds the queued tasks in their
-/// order, and (`AreNoted`) that each child is noted where it stands. So a free entry of a queue is
-/// a free slot and a free entry of the index too.
+/// history has memory for all commits, (`IsIndexed`) that the index holds the queued tasks in their
+/// order, and (`AreNoted`) that each child is noted where it stands. So a free place of a queue is
+/// a free slot and a free place of the index too.
 #[derive(Drop)]
 pub struct State<N: Naming> {
     /// The version of the image.
@@ -78,17 +80,17 @@ impl<N: Naming> Model for State<N> {
     ghost use Rattle.std.specs.Prelude.{◌≡◌, map, length, vec_len, vec_capacity, All};
     ghost use Rattle.spec_state.specs.View.{core_ids};
     ghost use Rattle.spec_state.specs.StateValue.{StateValue};
-    ghost use Rattle.spec_state.specs.Fits.{seen, HasLimits, HasTiles, HasSlots};
+    ghost use Rattle.spec_state.specs.Fits.{view_of_parts, HasLimits, HasTiles, HasSlots};
     ghost use Rattle.spec_state.specs.Stored.{IsStored, IsIndexed};
     ghost use Rattle.spec_state.specs.Children.{AreNoted};
 
     ghost Value = { StateValue };
 
     ghost view = { λ s. record {
-      view = seen s.version s.settings s.tasks.slots s.memory s.history.entries s.output s.next s.path
+      view = view_of_parts s.version s.settings s.tasks.slots s.memory s.history.entries s.output s.next s.path
           s.queues.items s.finished.items
           (map (λ cores. core_ids cores.items) s.cores.items) (map (λ block. block.entries) s.blocks.items);
-      room = record {
+      spare = record {
         log = s.buffers.log;
         spawns = s.buffers.spawns;
         output = s.buffers.output;
@@ -98,15 +100,22 @@ impl<N: Naming> Model for State<N> {
     } };
 
     ghost invariant = { λ s.
-        let view = seen s.version s.settings s.tasks.slots s.memory s.history.entries s.output s.next s.path
+        let view = view_of_parts s.version s.settings s.tasks.slots s.memory s.history.entries s.output s.next s.path
         s.queues.items s.finished.items
         (map (λ cores. core_ids cores.items) s.cores.items) (map (λ block. block.entries) s.blocks.items) in
         HasLimits N.budget N.commits s.settings s.history.limit
         × HasTiles s.settings s.queues.items s.finished.items (vec_len s.cores) (length s.blocks.items)
         × All (λ held. vec_len held ≡ s.settings.cores) s.cores.items
-        × HasSlots s.settings s.tasks.slots s.tasks.capacity s.queues.items (length s.index.entries) s.index.capacity
-        (vec_len s.marks) (vec_len s.members) (length s.arrivals.items) (vec_capacity s.numbers)
+        × HasSlots s.settings s.tasks.slots s.queues.items (record {
+          slots = s.tasks.capacity;
+          indexed = length s.index.candidates;
+          capacity = s.index.capacity;
+          marks = vec_len s.marks;
+          members = vec_len s.members;
+          arrivals = length s.arrivals.items;
+          numbers = vec_capacity s.numbers;
+        })
         × IsStored N.image.data_size view
-        × IsIndexed s.tasks.slots view.queues s.arrivals.items s.next_arrival s.index.entries
+        × IsIndexed s.tasks.slots view.queues s.arrivals.items s.next_arrival s.index.candidates
         × AreNoted s.tasks.slots s.children };
 }

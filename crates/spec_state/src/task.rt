@@ -1,3 +1,5 @@
+//! Tasks: ids, creators, status and all that a task has.
+
 use crate::emitted::Emitted;
 use fractal_vt::Key;
 use guest_image::Kind;

@@ -9,20 +9,20 @@ use Rattle.std.proofs.lemmas.List.Sorted.{IsPermutation-refl, IsPermutation-cons
 use Rattle.std.proofs.lemmas.Option.{slice_get_within, get_or_from_slice_get, slice_get-map}
 use Rattle.std.specs.declared.cmp.Ordering.TheVariants.{Greater}
 use Rattle.fractal_vt.specs.Keys.{key_cmp}
-use Rattle.spill_store.specs.Entries.{Entry, open_key, IsLeastEntry}
+use Rattle.spill_store.specs.SpilledTasks.{Spilled, open_key, IsLeastInBlock}
 use Rattle.spill_store.specs.Draining.{ComesBackLeastFirst}
 
--- the key of the later entry is not less
-abbrev Before : Entry → Entry → Type 0
+-- the key of the later task is not less
+abbrev Before : Spilled → Spilled → Type 0
 Before first later = key_cmp (open_key first) (open_key later) ≢ Greater
 
--- an entry and the list without it
-taken_out : (entries : List Entry) (place : ℕ) (entry : Entry) → slice_get entries place ≡ Some entry → IsPermutation entries (entry ∷ remove entries place)
+-- a task and the list without it
+taken_out : (entries : List Spilled) (place : ℕ) (entry : Spilled) → slice_get entries place ≡ Some entry → IsPermutation entries (entry ∷ remove entries place)
 taken_out entries place entry there =
     IsPermutation-remove entries place entry (slice_get_within entries place entry there) (sym (get_or_from_slice_get entries place entry entry there))
 
--- the least entry comes before each
-least_before : (entries : List Entry) (place : ℕ) (entry : Entry) → IsLeastEntry entries place entry → All (Before entry) entries
+-- the least task comes before each
+least_before : (entries : List Spilled) (place : ℕ) (entry : Spilled) → IsLeastInBlock entries place entry → All (Before entry) entries
 least_before entries place entry is k d inside =
     let keys = map open_key entries in
     let mine : Some is.least.key ≡ Some (open_key entry) = sym is.least.there ∙ slice_get-map open_key entries place ∙ ap (option_map open_key) is.there in

@@ -14,49 +14,51 @@ use Rattle.std.specs.Option.{IfSome}
 use Rattle.fractal_vt.specs.Keys.{key_cmp}
 use Rattle.fractal_vt.specs.Sorted.{IsInOrder, place_for}
 use Rattle.fractal_vt.specs.Renumbered.{HoldsKey}
-use Rattle.fractal_vt.proofs.Proved.{All-inserted, AllPairs-head, AllPairs-map, in_order-inserted, inserted-permutes, inserted_at, keeps_order, key_cmp_total, length-inserted, place_beyond, place_upto, ties_behind}
-use Rattle.spill_store.specs.Entries.{Entry, open_key, by_key, pushed, first_key, renumbered_entry, HoldsEntries, TakesLeast, IsLeastKey}
-use Rattle.spill_store.specs.Pushing.{all_pushed, PushesStandInOrder, PushGoesBehindTies}
+use Rattle.fractal_vt.proofs.Proved.{All-after_insert, AllPairs-head, AllPairs-map, in_order-after_insert, after_insert-permutes, inserted_at, keeps_order, key_cmp_total, length-after_insert, place_beyond, place_upto, ties_behind}
+use Rattle.spill_store.specs.SpilledTasks.{Spilled, open_key, by_key, after_push, first_key, renumbered_spilled, HoldsSpilled, TakesLeast, IsLeastKey}
+use Rattle.spill_store.specs.Pushing.{after_pushes, PushesStandInOrder, PushGoesBehindTies}
 
 pub by_key_total : IsTotalOrder by_key
 by_key_total = on_total open_key key_cmp_total
 
--- the search for a place, at one entry
-pub search_upto : (entry : Entry) (entries : List Entry) (k : ℕ) (e : Entry) → slice_get entries k ≡ Some e → is_lt (by_key entry e) ≡ true → place_for by_key entry entries ≤ k
+-- the search for a place, at one task
+pub search_upto : (entry : Spilled) (entries : List Spilled) (k : ℕ) (e : Spilled) → slice_get entries k ≡ Some e → is_lt (by_key entry e) ≡ true → place_for by_key entry entries ≤ k
 search_upto entry entries k e there less =
     place_upto by_key by_key_total entry entries k e (slice_get_within entries k e there) (subst (λ x. is_lt (by_key entry x) ≡ true) (sym (get_or_from_slice_get entries k e e there)) less)
 
-pub search_beyond : (entry : Entry) (entries : List Entry) (k : ℕ) (e : Entry) → slice_get entries k ≡ Some e → is_lt (by_key entry e) ≡ false → IsInOrder by_key entries → k + 1 ≤ place_for by_key entry entries
+pub search_beyond : (entry : Spilled) (entries : List Spilled) (k : ℕ) (e : Spilled) → slice_get entries k ≡ Some e → is_lt (by_key entry e) ≡ false → IsInOrder by_key entries → k + 1 ≤ place_for by_key entry entries
 search_beyond entry entries k e there later order =
     let beyond = place_beyond by_key by_key_total entry entries k e order (slice_get_within entries k e there) (subst (λ x. is_lt (by_key entry x) ≡ false) (sym (get_or_from_slice_get entries k e e there)) later) in
     omega arith
 
 -- what a push leaves
 
-pub length-pushed : (entries : List Entry) (entry : Entry) → length (pushed entries entry) ≡ suc (length entries)
-length-pushed entries entry = length-inserted by_key entry entries
+pub length-after_push : (entries : List Spilled) (entry : Spilled)
+    → length (after_push entries entry) ≡ suc (length entries)
+length-after_push entries entry = length-after_insert by_key entry entries
 
-pub pushed-permutes : (entries : List Entry) (entry : Entry) → IsPermutation (entry ∷ entries) (pushed entries entry)
-pushed-permutes entries entry = inserted-permutes by_key entry entries
+pub after_push-permutes : (entries : List Spilled) (entry : Spilled)
+    → IsPermutation (entry ∷ entries) (after_push entries entry)
+after_push-permutes entries entry = after_insert-permutes by_key entry entries
 
-pub All-pushed : (P : Entry → Type 0) (entries : List Entry) (entry : Entry) → P entry → All P entries → All P (pushed entries entry)
-All-pushed P entries entry here all = All-inserted P by_key entry entries here all
+pub All-after_push : (P : Spilled → Type 0) (entries : List Spilled) (entry : Spilled) → P entry → All P entries → All P (after_push entries entry)
+All-after_push P entries entry here all = All-after_insert P by_key entry entries here all
 
-pub in_order-pushed : (entries : List Entry) (entry : Entry) → IsInOrder by_key entries → IsInOrder by_key (pushed entries entry)
-in_order-pushed entries entry order = in_order-inserted by_key by_key_total entry entries order
+pub in_order-after_push : (entries : List Spilled) (entry : Spilled) → IsInOrder by_key entries → IsInOrder by_key (after_push entries entry)
+in_order-after_push entries entry order = in_order-after_insert by_key by_key_total entry entries order
 
-pub Contains-pushed : (entries : List Entry) (entry other : Entry) → Contains (entry ∷ entries) other → Contains (pushed entries entry) other
-Contains-pushed entries entry other there = Contains-permutation (entry ∷ entries) (pushed entries entry) other (pushed-permutes entries entry) there
+pub Contains-after_push : (entries : List Spilled) (entry other : Spilled) → Contains (entry ∷ entries) other → Contains (after_push entries entry) other
+Contains-after_push entries entry other there = Contains-permutation (entry ∷ entries) (after_push entries entry) other (after_push-permutes entries entry) there
 
-pub Contains-from_pushed : (entries : List Entry) (entry other : Entry) → Contains (pushed entries entry) other → Contains (entry ∷ entries) other
-Contains-from_pushed entries entry other there = Contains-permutation (pushed entries entry) (entry ∷ entries) other (IsPermutation-sym (entry ∷ entries) (pushed entries entry) (pushed-permutes entries entry)) there
+pub Contains-from_pushed : (entries : List Spilled) (entry other : Spilled) → Contains (after_push entries entry) other → Contains (entry ∷ entries) other
+Contains-from_pushed entries entry other there = Contains-permutation (after_push entries entry) (entry ∷ entries) other (IsPermutation-sym (entry ∷ entries) (after_push entries entry) (after_push-permutes entries entry)) there
 
--- an entry put at its place
-pub put_in : (entry : Entry) (old new : List Entry) (place : ℕ) → place ≡ place_for by_key entry old → new ≡ insert old place entry → new ≡ pushed old entry
+-- a task put at its place
+pub put_in : (entry : Spilled) (old new : List Spilled) (place : ℕ) → place ≡ place_for by_key entry old → new ≡ insert old place entry → new ≡ after_push old entry
 put_in entry old new place at is = is ∙ ap (λ n. insert old n entry) at ∙ sym (inserted_at by_key entry old)
 
--- the first entry is the one that the old way took: the first of a least key
-pub takes_first : (entry : Entry) (entries : List Entry) → IsInOrder by_key (entry ∷ entries) → TakesLeast (entry ∷ entries) entries entry
+-- the first task is the one that the old way took: the first of a least key
+pub takes_first : (entry : Spilled) (entries : List Spilled) → IsInOrder by_key (entry ∷ entries) → TakesLeast (entry ∷ entries) entries entry
 takes_first entry entries order = record {
   place = zero;
   least = record {
@@ -74,38 +76,38 @@ takes_first entry entries order = record {
     itself : by_key entry entry ≢ Greater
     itself greater = let no_way : Rattle.std.specs.declared.cmp.Ordering.TheVariants.Equal ≡ Greater = sym (tied_itself by_key_total entry) ∙ greater in cc
 
-    keys_upto : (e : Entry) (es : List Entry) → All (λ other. by_key e other ≢ Greater) es → All (λ other. key_cmp (open_key e) other ≢ Greater) (map open_key es)
+    keys_upto : (e : Spilled) (es : List Spilled) → All (λ other. by_key e other ≢ Greater) es → All (λ other. key_cmp (open_key e) other ≢ Greater) (map open_key es)
     keys_upto e es all = Rattle.std.proofs.lemmas.List.Elements.All-map (λ other. key_cmp (open_key e) other ≢ Greater) open_key es all
 
 -- what goes in comes out, the least key first
-all_permute : (entries more : List Entry) → IsPermutation (entries ++ more) (all_pushed entries more)
+all_permute : (entries more : List Spilled) → IsPermutation (entries ++ more) (after_pushes entries more)
 all_permute entries [] = subst (λ xs. IsPermutation (entries ++ []) xs) (append-nil entries) (IsPermutation-refl (entries ++ []))
 all_permute entries (entry ∷ more) =
-    IsPermutation-trans (entries ++ entry ∷ more) (pushed entries entry ++ more) (all_pushed (pushed entries entry) more)
-    (IsPermutation-trans (entries ++ entry ∷ more) (entry ∷ (entries ++ more)) (pushed entries entry ++ more)
+    IsPermutation-trans (entries ++ entry ∷ more) (after_push entries entry ++ more) (after_pushes (after_push entries entry) more)
+    (IsPermutation-trans (entries ++ entry ∷ more) (entry ∷ (entries ++ more)) (after_push entries entry ++ more)
     (Rattle.std.proofs.lemmas.List.Sorted.IsPermutation-middle entries entry more)
-    (IsPermutation-append_left more (entry ∷ entries) (pushed entries entry) (pushed-permutes entries entry)))
-    (all_permute (pushed entries entry) more)
+    (IsPermutation-append_left more (entry ∷ entries) (after_push entries entry) (after_push-permutes entries entry)))
+    (all_permute (after_push entries entry) more)
 
-all_in_order : (entries more : List Entry) → IsInOrder by_key entries → IsInOrder by_key (all_pushed entries more)
+all_in_order : (entries more : List Spilled) → IsInOrder by_key entries → IsInOrder by_key (after_pushes entries more)
 all_in_order entries [] order = order
-all_in_order entries (entry ∷ more) order = all_in_order (pushed entries entry) more (in_order-pushed entries entry order)
+all_in_order entries (entry ∷ more) order = all_in_order (after_push entries entry) more (in_order-after_push entries entry order)
 
 pub stand_in_order : PushesStandInOrder
 stand_in_order entries = (all_permute [] entries, all_in_order [] entries (λ i j d first inside. absurd (omega arith)))
 
--- renumbered entries stay in order
-pub order_renumbered : (table : List ℕ) (entries : List Entry) → HoldsEntries table entries → IsInOrder by_key entries → IsInOrder by_key (map (renumbered_entry table) entries)
+-- renumbered tasks stay in order
+pub order_renumbered : (table : List ℕ) (entries : List Spilled) → HoldsSpilled table entries → IsInOrder by_key entries → IsInOrder by_key (map (renumbered_spilled table) entries)
 order_renumbered table entries held order =
-    AllPairs-map (λ a b. by_key a b ≢ Greater) (λ a b. by_key a b ≢ Greater) (λ e. HoldsKey table (open_key e)) (renumbered_entry table)
+    AllPairs-map (λ a b. by_key a b ≢ Greater) (λ a b. by_key a b ≢ Greater) (λ e. HoldsKey table (open_key e)) (renumbered_spilled table)
     (λ a b in_a in_b upto. subst (λ o. o ≢ Greater) (sym (keeps_order table (open_key a) (open_key b) in_a in_b)) upto) entries held order
 
--- of the entries that tie with the new one it is the last, and the others stay in their order
+-- of the tasks that tie with the new one it is the last, and the others stay in their order
 pub behind_ties : PushGoesBehindTies
 behind_ties entries entry order = ties_behind by_key by_key_total entry entries order
 
--- what the first entry is, in the words of the least
-pub key_of_first : (entries : List Entry) → IsInOrder by_key entries → IfSome (first_key entries) (IsLeastKey entries)
+-- what the first task is, in the words of the least
+pub key_of_first : (entries : List Spilled) → IsInOrder by_key entries → IfSome (first_key entries) (IsLeastKey entries)
 key_of_first [] order = tt
 key_of_first (entry ∷ entries) order =
     let takes = takes_first entry entries order in

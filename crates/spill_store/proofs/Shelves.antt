@@ -9,8 +9,8 @@ use Rattle.std.proofs.lemmas.List.Sorted.{IsPermutation-insert, IsPermutation-to
 use Rattle.std.proofs.lemmas.Map.Keys.{IsDistinct-IsPermutation, IsDistinct-head, IsDistinct-cons}
 use Rattle.std.proofs.lemmas.Cmp.{nat_eq_equiv}
 use Rattle.std.proofs.lemmas.Bool.Decides.{nat_tests}
-use Rattle.spill_store.specs.Entries.{Entry, renumbered_entry}
-use Rattle.spill_store.specs.Shelved.{blank, at_places, IsShelved}
+use Rattle.spill_store.specs.SpilledTasks.{Spilled, renumbered_spilled}
+use Rattle.spill_store.specs.Shelved.{blank_spilled, at_places, IsShelved}
 
 map-insert : {X Y : Type 0} (f : X → Y) (xs : List X) (i : ℕ) (x : X) → map f (insert xs i x) ≡ insert (map f xs) i (f x)
 map-insert f xs i x =
@@ -18,28 +18,29 @@ map-insert f xs i x =
     ∙ ap (λ ys. ys ++ f x ∷ map f (drop i xs)) (sym (take-map f i xs))
     ∙ ap (λ ys. take i (map f xs) ++ f x ∷ ys) (sym (drop-map f i xs))
 
--- a write to a place that is not among them changes no entry
-places-set : (kept : List Entry) (place : ℕ) (e : Entry) (places : List ℕ) → AllByRecursion (λ other. nat_eq place other ≡ false) places → at_places (set kept place e) places ≡ at_places kept places
+-- a write to a place that is not among them changes no task
+places-set : (kept : List Spilled) (place : ℕ) (e : Spilled) (places : List ℕ) → AllByRecursion (λ other. nat_eq place other ≡ false) places → at_places (set kept place e) places ≡ at_places kept places
 places-set kept place e [] other = refl
 places-set kept place e (p ∷ places) other =
     let differs : p ≢ place = λ same. differ p same other.0 in
-    (λ i. get_or-set_other kept place p e blank differs i ∷ places-set kept place e places other.1 i)
+    (λ i. get_or-set_other kept place p e blank_spilled differs i ∷ places-set kept place e places other.1 i)
   where
     differ : (p : ℕ) → p ≡ place → nat_eq place p ≡ false → ⊥
     differ p same not = grind (arith, nat_tests)
 
--- one entry more at the end changes none of the others
-places-append : (kept : List Entry) (e : Entry) (places : List ℕ) → All (λ p. p < length kept) places → at_places (kept ++ e ∷ []) places ≡ at_places kept places
+-- one task more at the end changes none of the others
+places-append : (kept : List Spilled) (e : Spilled) (places : List ℕ) → All (λ p. p < length kept) places → at_places (kept ++ e ∷ []) places ≡ at_places kept places
 places-append kept e [] inside = refl
 places-append kept e (p ∷ places) inside =
     (λ i. first kept p (All-head (λ q. q < length kept) p places inside) i ∷ places-append kept e places (All-tail (λ q. q < length kept) p places inside) i)
   where
-    first : (kept : List Entry) (p : ℕ) → p < length kept → get_or (kept ++ e ∷ []) p blank ≡ get_or kept p blank
+    first : (kept : List Spilled) (p : ℕ) → p < length kept
+        → get_or (kept ++ e ∷ []) p blank_spilled ≡ get_or kept p blank_spilled
     first [] p less = absurd (omega arith)
     first (x ∷ kept) zero less = refl
     first (x ∷ kept) (suc p) less = first kept p (omega arith)
 
-last_there : (kept : List Entry) (e : Entry) → get_or (kept ++ e ∷ []) (length kept) blank ≡ e
+last_there : (kept : List Spilled) (e : Spilled) → get_or (kept ++ e ∷ []) (length kept) blank_spilled ≡ e
 last_there [] e = refl
 last_there (x ∷ kept) e = last_there kept e
 
@@ -65,7 +66,7 @@ place_front order free place =
 flips : (x y : ℕ) → nat_eq x y ≡ nat_eq y x
 flips x y = nat_eq_equiv.symm x y
 
-abbrev Below : List Entry → ℕ → Type 0
+abbrev Below : List Spilled → ℕ → Type 0
 Below kept p = p < length kept
 
 -- nothing is kept
@@ -83,7 +84,7 @@ none_shelved order_room kept_room free_room = record {
 }
 
 -- the last free place comes into the order
-module _ (kept : List Entry) (order free : List ℕ) (place room order_room kept_room free_room : ℕ) (is : IsShelved kept order (free ++ place ∷ []) room order_room kept_room free_room) where
+module _ (kept : List Spilled) (order free : List ℕ) (place room order_room kept_room free_room : ℕ) (is : IsShelved kept order (free ++ place ∷ []) room order_room kept_room free_room) where
   front : IsDistinct nat_eq (place ∷ (order ++ free))
   front = IsDistinct-IsPermutation nat_eq flips (order ++ (free ++ place ∷ [])) (place ∷ (order ++ free)) (place_front order free place) is.distinct
 
@@ -93,14 +94,14 @@ module _ (kept : List Entry) (order free : List ℕ) (place room order_room kept
   pub place_inside : place < length kept
   place_inside = All-head (Below kept) place (order ++ free) inside_all
 
-  pub reused_entries : (e : Entry) (at : ℕ) → at_places (set kept place e) (insert order at place) ≡ insert (at_places kept order) at e
+  pub reused_entries : (e : Spilled) (at : ℕ) → at_places (set kept place e) (insert order at place) ≡ insert (at_places kept order) at e
   reused_entries e at =
       let others = places-set kept place e order (All-front (λ p. nat_eq place p ≡ false) order free (IsDistinct-head nat_eq place (order ++ free) front)) in
-      map-insert (λ p. get_or (set kept place e) p blank) order at place
-      ∙ ap (insert (at_places (set kept place e) order) at) (get_or-set_same kept place e blank place_inside)
+      map-insert (λ p. get_or (set kept place e) p blank_spilled) order at place
+      ∙ ap (insert (at_places (set kept place e) order) at) (get_or-set_same kept place e blank_spilled place_inside)
       ∙ ap (λ xs. insert xs at e) others
 
-  pub reused_shelved : (e : Entry) (at more_order more_free : ℕ) → at ≤ length order → order_room ≤ more_order → free_room ≤ more_free → IsShelved (set kept place e) (insert order at place) free room more_order kept_room more_free
+  pub reused_shelved : (e : Spilled) (at more_order more_free : ℕ) → at ≤ length order → order_room ≤ more_order → free_room ≤ more_free → IsShelved (set kept place e) (insert order at place) free room more_order kept_room more_free
   reused_shelved e at more_order more_free upto one two =
       let long = length-set kept place e in
       let one_more = length-insert order at place upto in
@@ -118,17 +119,17 @@ module _ (kept : List Entry) (order free : List ℕ) (place room order_room kept
       }
 
 -- a new place comes into the order
-module _ (kept : List Entry) (order : List ℕ) (room order_room kept_room free_room : ℕ) (is : IsShelved kept order [] room order_room kept_room free_room) where
+module _ (kept : List Spilled) (order : List ℕ) (room order_room kept_room free_room : ℕ) (is : IsShelved kept order [] room order_room kept_room free_room) where
   used : All (Below kept) order
   used = subst (All (Below kept)) (append-nil order) is.within
 
-  pub added_entries : (e : Entry) (at : ℕ) → at_places (kept ++ e ∷ []) (insert order at (length kept)) ≡ insert (at_places kept order) at e
+  pub added_entries : (e : Spilled) (at : ℕ) → at_places (kept ++ e ∷ []) (insert order at (length kept)) ≡ insert (at_places kept order) at e
   added_entries e at =
-      map-insert (λ p. get_or (kept ++ e ∷ []) p blank) order at (length kept)
+      map-insert (λ p. get_or (kept ++ e ∷ []) p blank_spilled) order at (length kept)
       ∙ ap (insert (at_places (kept ++ e ∷ []) order) at) (last_there kept e)
       ∙ ap (λ xs. insert xs at e) (places-append kept e order used)
 
-  pub added_shelved : (e : Entry) (at more_order more_kept : ℕ) → at ≤ length order → length order < room → order_room ≤ more_order → kept_room ≤ more_kept → IsShelved (kept ++ e ∷ []) (insert order at (length kept)) [] room more_order more_kept free_room
+  pub added_shelved : (e : Spilled) (at more_order more_kept : ℕ) → at ≤ length order → length order < room → order_room ≤ more_order → kept_room ≤ more_kept → IsShelved (kept ++ e ∷ []) (insert order at (length kept)) [] room more_order more_kept free_room
   added_shelved e at more_order more_kept upto spare one two =
       let long = length-append kept (e ∷ []) in
       let one_more = length-insert order at (length kept) upto in
@@ -151,7 +152,7 @@ module _ (kept : List Entry) (order : List ℕ) (room order_room kept_room free_
       below = Rattle.std.proofs.lemmas.List.Elements.All-cons (λ p. p < length kept + 1) (length kept) order (omega arith) (λ k d inside. (let less = used k d inside in omega arith))
 
 -- the order's first place goes to the free ones
-pub first_shelved : (kept : List Entry) (order free : List ℕ) (place room order_room kept_room free_room more_order more_free : ℕ) → IsShelved kept (place ∷ order) free room order_room kept_room free_room → order_room ≤ more_order → free_room ≤ more_free → IsShelved kept order (free ++ place ∷ []) room more_order kept_room more_free
+pub first_shelved : (kept : List Spilled) (order free : List ℕ) (place room order_room kept_room free_room more_order more_free : ℕ) → IsShelved kept (place ∷ order) free room order_room kept_room free_room → order_room ≤ more_order → free_room ≤ more_free → IsShelved kept order (free ++ place ∷ []) room more_order kept_room more_free
 first_shelved kept order free place room order_room kept_room free_room more_order more_free is one two =
     let back : IsPermutation (place ∷ (order ++ free)) (order ++ (free ++ place ∷ [])) = IsPermutation-sym (order ++ (free ++ place ∷ [])) (place ∷ (order ++ free)) (place_front order free place) in
     let long = length-append free (place ∷ []) in
@@ -167,19 +168,19 @@ first_shelved kept order free place room order_room kept_room free_room more_ord
       free_holds = (let holds = is.free_holds in omega arith);
     }
 
--- the entries of a renumbered table
-get_renumbered : (table : List ℕ) (kept : List Entry) (k : ℕ) → get_or (map (renumbered_entry table) kept) k blank ≡ renumbered_entry table (get_or kept k blank)
+-- the tasks of a renumbered table
+get_renumbered : (table : List ℕ) (kept : List Spilled) (k : ℕ) → get_or (map (renumbered_spilled table) kept) k blank_spilled ≡ renumbered_spilled table (get_or kept k blank_spilled)
 get_renumbered table [] k = refl
 get_renumbered table (e ∷ kept) zero = refl
 get_renumbered table (e ∷ kept) (suc k) = get_renumbered table kept k
 
-pub places_renumbered : (table : List ℕ) (kept : List Entry) (places : List ℕ) → at_places (map (renumbered_entry table) kept) places ≡ map (renumbered_entry table) (at_places kept places)
+pub places_renumbered : (table : List ℕ) (kept : List Spilled) (places : List ℕ) → at_places (map (renumbered_spilled table) kept) places ≡ map (renumbered_spilled table) (at_places kept places)
 places_renumbered table kept [] = refl
 places_renumbered table kept (p ∷ places) = λ i. get_renumbered table kept p i ∷ places_renumbered table kept places i
 
 -- a place of the list is one of the order
-pub within_order : (kept : List Entry) (order : List ℕ) (entries : List Entry) (at : ℕ) → at_places kept order ≡ entries → at ≤ length entries → at ≤ length order
+pub within_order : (kept : List Spilled) (order : List ℕ) (entries : List Spilled) (at : ℕ) → at_places kept order ≡ entries → at ≤ length entries → at ≤ length order
 within_order kept order entries at same inside =
-    let long = length-map order (λ place. get_or kept place blank) in
+    let long = length-map order (λ place. get_or kept place blank_spilled) in
     let as_long = ap length same in
     omega arith

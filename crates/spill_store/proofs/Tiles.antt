@@ -15,11 +15,11 @@ use Rattle.fractal_vt.specs.Sorted.{IsInOrder}
 use Rattle.fractal_vt.specs.declared.key.Key.{Key}
 use Rattle.fractal_vt.specs.Keys.{key_cmp}
 use Rattle.fractal_vt.proofs.Proved.{key_cmp_total}
-use Rattle.spill_store.specs.Entries.{Entry, open_key, by_key, pushed, first_key}
-use Rattle.spill_store.specs.Fronts.{Front, rank, key_or, front_cmp, front_at, Precedes, IsFront, IsFrontBut, IsFirstOfAll}
+use Rattle.spill_store.specs.SpilledTasks.{Spilled, open_key, by_key, after_push, first_key}
+use Rattle.spill_store.specs.Fronts.{Front, key_rank, key_or, front_cmp, front_at, FrontPrecedes, IsFront, IsFrontBut, IsFirstOfAll}
 
 pub front_cmp_total : IsTotalOrder front_cmp
-front_cmp_total = then_total (on_total (λ f. rank f.key) nat_cmp_total) (then_total (on_total (λ f. key_or f.key) key_cmp_total) (on_total (λ f. f.tile) nat_cmp_total))
+front_cmp_total = then_total (on_total (λ f. key_rank f.key) nat_cmp_total) (then_total (on_total (λ f. key_or f.key) key_cmp_total) (on_total (λ f. f.tile) nat_cmp_total))
 
 not_gt : (o : Ordering) → o ≢ Greater → is_gt o ≡ false
 not_gt Less not = refl
@@ -43,42 +43,42 @@ less_upto x y less e = let no_way : false ≡ true = ap is_lt (sym e) ∙ less i
 not_less_upto : (x y : Front) → is_lt (front_cmp x y) ≡ false → front_cmp y x ≢ Greater
 not_less_upto x y not e = let less : front_cmp x y ≡ Less = front_cmp_total.antisymm x y ∙ ap ordering_reverse e in let no_way : true ≡ false = sym (ap is_lt less) ∙ not in cc
 
-module _ (lists : List (List Entry)) where
+module _ (lists : List (List Spilled)) where
   -- of the front and one tile the one that comes first
   pub takes_over : (front tile : ℕ) → tile < length lists → IsFrontBut lists front tile → is_lt (front_cmp (front_at lists tile) (front_at lists front)) ≡ true → IsFront lists tile
   takes_over front tile inside is less = record { within = inside; first = first }
     where
-      first : (t : ℕ) → t < length lists → Precedes lists tile t
+      first : (t : ℕ) → t < length lists → FrontPrecedes lists tile t
       first t below = elim (cases_eq t tile) [
-        | inl same ↦ subst (λ k. Precedes lists tile k) (sym same) (itself (front_at lists tile))
+        | inl same ↦ subst (λ k. FrontPrecedes lists tile k) (sym same) (itself (front_at lists tile))
         | inr other ↦ through (front_at lists tile) (front_at lists front) (front_at lists t) (less_upto (front_at lists tile) (front_at lists front) less) (is.others t below other)
       ]
 
   pub stays_first : (front tile : ℕ) → IsFrontBut lists front tile → is_lt (front_cmp (front_at lists tile) (front_at lists front)) ≡ false → IsFront lists front
   stays_first front tile is not = record { within = is.within; first = first }
     where
-      first : (t : ℕ) → t < length lists → Precedes lists front t
+      first : (t : ℕ) → t < length lists → FrontPrecedes lists front t
       first t below = elim (cases_eq t tile) [
-        | inl same ↦ subst (λ k. Precedes lists front k) (sym same) (not_less_upto (front_at lists tile) (front_at lists front) not)
+        | inl same ↦ subst (λ k. FrontPrecedes lists front k) (sym same) (not_less_upto (front_at lists tile) (front_at lists front) not)
         | inr other ↦ is.others t below other
       ]
 
   -- the first of so many tiles
   abbrev pub IsBest : ℕ → ℕ → Type 0
-  IsBest count best = (t : ℕ) → t < count → Precedes lists best t
+  IsBest count best = (t : ℕ) → t < count → FrontPrecedes lists best t
 
   pub best_none : IsBest 1 0
-  best_none t below = subst (λ k. Precedes lists 0 k) (let zero_is : 0 ≡ t = omega arith in zero_is) (itself (front_at lists 0))
+  best_none t below = subst (λ k. FrontPrecedes lists 0 k) (let zero_is : 0 ≡ t = omega arith in zero_is) (itself (front_at lists 0))
 
   pub best_over : (count best : ℕ) → IsBest count best → is_lt (front_cmp (front_at lists count) (front_at lists best)) ≡ true → IsBest (count + 1) count
   best_over count best is less t below = elim (cases_eq t count) [
-    | inl same ↦ subst (λ k. Precedes lists count k) (sym same) (itself (front_at lists count))
+    | inl same ↦ subst (λ k. FrontPrecedes lists count k) (sym same) (itself (front_at lists count))
     | inr other ↦ through (front_at lists count) (front_at lists best) (front_at lists t) (less_upto (front_at lists count) (front_at lists best) less) (is t (omega (arith, below, other)))
   ]
 
   pub best_stays : (count best : ℕ) → IsBest count best → is_lt (front_cmp (front_at lists count) (front_at lists best)) ≡ false → IsBest (count + 1) best
   best_stays count best is not t below = elim (cases_eq t count) [
-    | inl same ↦ subst (λ k. Precedes lists best k) (sym same) (not_less_upto (front_at lists count) (front_at lists best) not)
+    | inl same ↦ subst (λ k. FrontPrecedes lists best k) (sym same) (not_less_upto (front_at lists count) (front_at lists best) not)
     | inr other ↦ is t (omega (arith, below, other))
   ]
 
@@ -98,17 +98,17 @@ pub by_tiles : (tile other : ℕ) → is_lt (front_cmp (record { key = None; til
 by_tiles tile other = grind (arith, nat_tests)
 
 -- a push makes the first key of a tile no greater
-pub pushed_upto : (tile : ℕ) (entries : List Entry) (entry : Entry) → front_cmp (record { key = first_key (pushed entries entry); tile = tile }) (record { key = first_key entries; tile = tile }) ≢ Greater
+pub pushed_upto : (tile : ℕ) (entries : List Spilled) (entry : Spilled) → front_cmp (record { key = first_key (after_push entries entry); tile = tile }) (record { key = first_key entries; tile = tile }) ≢ Greater
 pushed_upto tile [] entry = λ same. cc
 pushed_upto tile (e ∷ entries) entry = by_case (by_key entry e) refl
   where
     by_case : (o : Ordering) → by_key entry e ≡ o
-        → front_cmp (record { key = first_key (if is_lt o then entry ∷ e ∷ entries else e ∷ pushed entries entry); tile = tile }) (record { key = Some (open_key e); tile = tile }) ≢ Greater
+        → front_cmp (record { key = first_key (if is_lt o then entry ∷ e ∷ entries else e ∷ after_push entries entry); tile = tile }) (record { key = Some (open_key e); tile = tile }) ≢ Greater
     by_case Less is = subst (λ o. ordering_then o (nat_cmp tile tile) ≢ Greater) (sym is) (λ same. cc)
     by_case Equal is = itself (record { key = Some (open_key e); tile = tile })
     by_case Greater is = itself (record { key = Some (open_key e); tile = tile })
 
-pub pushed_but : (lists now : List (List Entry)) (front tile : ℕ) (entry : Entry) → now ≡ set lists tile (pushed (slice_index_or lists tile []) entry) → tile < length lists → IsFront lists front → IsFrontBut now front tile
+pub pushed_but : (lists now : List (List Spilled)) (front tile : ℕ) (entry : Spilled) → now ≡ set lists tile (after_push (slice_index_or lists tile []) entry) → tile < length lists → IsFront lists front → IsFrontBut now front tile
 pushed_but lists now front tile entry is inside first = record {
   within = (let long = ap length is ∙ length-set lists tile own in let within = first.within in omega arith);
   others = λ t below other.
@@ -116,8 +116,8 @@ pushed_but lists now front tile entry is inside first = record {
       (through (front_at now front) (front_at lists front) (front_at lists t) lower (first.first t (let long = ap length is ∙ length-set lists tile own in omega arith)));
 }
   where
-    own : List Entry
-    own = pushed (slice_index_or lists tile []) entry
+    own : List Spilled
+    own = after_push (slice_index_or lists tile []) entry
 
     stays : (t : ℕ) → t ≢ tile → front_at now t ≡ front_at lists t
     stays t other = ap (λ es. record { key = first_key es; tile = t }) (ap (λ ls. slice_index_or ls t []) is ∙ get_or-set_other lists tile t own [] other)
@@ -131,7 +131,7 @@ pushed_but lists now front tile entry is inside first = record {
     ]
 
 -- what the noted tile says
-module _ (lists : List (List Entry)) (front : ℕ) (is : IsFront lists front) where
+module _ (lists : List (List Spilled)) (front : ℕ) (is : IsFront lists front) where
   against : (tile : ℕ) (mine theirs : Option Key) → first_key (slice_index_or lists front []) ≡ mine → first_key (slice_index_or lists tile []) ≡ theirs → tile < length lists
       → front_cmp (record { key = mine; tile = front }) (record { key = theirs; tile = tile }) ≢ Greater
   against tile mine theirs at their inside =
@@ -159,19 +159,19 @@ module _ (lists : List (List Entry)) (front : ℕ) (is : IsFront lists front) wh
           by_case (inr not_less) = not_less
 
       -- the first of a list is not above any of it
-      of_first : (e : Entry) (es : List Entry) (place : ℕ) (entry : Entry) → IsInOrder by_key (e ∷ es) → slice_get (e ∷ es) place ≡ Some entry → key_cmp (open_key e) (open_key entry) ≢ Greater
+      of_first : (e : Spilled) (es : List Spilled) (place : ℕ) (entry : Spilled) → IsInOrder by_key (e ∷ es) → slice_get (e ∷ es) place ≡ Some entry → key_cmp (open_key e) (open_key entry) ≢ Greater
       of_first e es zero entry order there = let same : e ≡ entry = cc (there) in subst (λ x. key_cmp (open_key e) (open_key x) ≢ Greater) same (λ greater. (let no_way : Equal ≡ Greater = sym (tied_itself key_cmp_total (open_key e)) ∙ greater in cc))
       of_first e es (suc place) entry order there =
           let low = slice_get_within es place entry there in
           subst (λ x. key_cmp (open_key e) (open_key x) ≢ Greater) (get_or_from_slice_get es place entry entry there) (order zero (suc place) entry (omega arith) (omega (arith, low)))
 
-      by_list : (other place : ℕ) (entry : Entry) → other < length lists → (es : List Entry) → slice_index_or lists other [] ≡ es → slice_get (slice_index_or lists other []) place ≡ Some entry
+      by_list : (other place : ℕ) (entry : Spilled) → other < length lists → (es : List Spilled) → slice_index_or lists other [] ≡ es → slice_get (slice_index_or lists other []) place ≡ Some entry
           → (key_cmp key (open_key entry) ≢ Greater) × (key_cmp key (open_key entry) ≡ Equal → front ≤ other)
-      by_list other place entry inside [] same there = absurd (cc (there, ap (λ (ls : List Entry). slice_get ls place) same))
+      by_list other place entry inside [] same there = absurd (cc (there, ap (λ (ls : List Spilled). slice_get ls place) same))
       by_list other place entry inside (e ∷ es) same there =
           let before = against other (Some key) (Some (open_key e)) at (ap first_key same) inside in
           let mine : key_cmp key (open_key e) ≢ Greater = keys (key_cmp key (open_key e)) (nat_cmp front other) before in
-          let theirs = of_first e es place entry (subst (IsInOrder by_key) same (order other inside)) (ap (λ (ls : List Entry). slice_get ls place) (sym same) ∙ there) in (
+          let theirs = of_first e es place entry (subst (IsInOrder by_key) same (order other inside)) (ap (λ (ls : List Spilled). slice_get ls place) (sym same) ∙ there) in (
             gt_not (key_cmp key (open_key entry)) (upto key_cmp_total key (open_key e) (open_key entry) (not_gt (key_cmp key (open_key e)) mine) (not_gt (key_cmp (open_key e) (open_key entry)) theirs)),
             λ tie. by_order (key_cmp key (open_key e)) refl mine before theirs tie,
           )
@@ -184,6 +184,6 @@ module _ (lists : List (List Entry)) (front : ℕ) (is : IsFront lists front) wh
   pub none_at_all : first_key (slice_index_or lists front []) ≡ None → (tile : ℕ) → tile < length lists → slice_index_or lists tile [] ≡ []
   none_at_all at tile inside = by_list (slice_index_or lists tile []) refl
     where
-      by_list : (es : List Entry) → slice_index_or lists tile [] ≡ es → es ≡ []
+      by_list : (es : List Spilled) → slice_index_or lists tile [] ≡ es → es ≡ []
       by_list [] same = refl
       by_list (e ∷ es) same = absurd (against tile None (Some (open_key e)) at (ap first_key same) inside refl)

@@ -3,8 +3,8 @@ use Rattle.std.proofs.Common.{◌≡◌, ◌<◌, ◌+◌, ◌∷◌, ◌++◌, 
 use Rattle.std.specs.Prelude.{All, slice_set}
 use Rattle.std.proofs.lemmas.List.{length-map, map-set, get_or-map}
 use Rattle.std.proofs.lemmas.List.Edits.{map_over_more}
-use Rattle.spill_store.specs.Entries.{BlockValue, HoldsEntries, renumbered_entry}
-use Rattle.spill_store.specs.Fronts.{lists_of}
+use Rattle.spill_store.specs.SpilledTasks.{BlockValue, HoldsSpilled, renumbered_spilled}
+use Rattle.spill_store.specs.Fronts.{lists_in}
 
 -- the first so many are mapped
 abbrev over : {X : Type 0} → (X → X) → List X → ℕ → List X
@@ -17,25 +17,25 @@ behind f (x ∷ xs) zero d = refl
 behind f (x ∷ xs) (suc i) d = behind f xs i d
 
 module _ (table : List ℕ) (first blocks : List BlockValue) (tile : ℕ) (block : BlockValue) (within : tile < length blocks) (long : length blocks ≡ length first)
-    (is : lists_of blocks ≡ over (map (renumbered_entry table)) (lists_of first) tile) (at : block ≡ slice_index_or blocks tile block) where
-  in_lists : tile < length (lists_of first)
+    (is : lists_in blocks ≡ over (map (renumbered_spilled table)) (lists_in first) tile) (at : block ≡ slice_index_or blocks tile block) where
+  in_lists : tile < length (lists_in first)
   in_lists = omega (arith, within, long, length-map first (λ (b : BlockValue). b.entries))
 
-  own_entries : block.entries ≡ slice_index_or (lists_of blocks) tile block.entries
+  own_entries : block.entries ≡ slice_index_or (lists_in blocks) tile block.entries
   own_entries = ap (λ (b : BlockValue). b.entries) at ∙ sym (get_or-map (λ (b : BlockValue). b.entries) blocks tile block block.entries within)
 
   -- the table holds the numbers of a block to which the walk comes
-  pub block_held : All (HoldsEntries table) (lists_of first) → HoldsEntries table block.entries
+  pub block_held : All (HoldsSpilled table) (lists_in first) → HoldsSpilled table block.entries
   block_held all =
-      subst (HoldsEntries table) (sym (own_entries ∙ ap (λ lists. slice_index_or lists tile block.entries) is ∙ behind (map (renumbered_entry table)) (lists_of first) tile block.entries))
+      subst (HoldsSpilled table) (sym (own_entries ∙ ap (λ lists. slice_index_or lists tile block.entries) is ∙ behind (map (renumbered_spilled table)) (lists_in first) tile block.entries))
       (all tile block.entries in_lists)
 
   -- its tasks are renumbered
-  pub entries_more : (after : BlockValue) → after.entries ≡ map (renumbered_entry table) block.entries
-      → lists_of (slice_set blocks tile after) ≡ over (map (renumbered_entry table)) (lists_of first) (tile + 1)
+  pub entries_more : (after : BlockValue) → after.entries ≡ map (renumbered_spilled table) block.entries
+      → lists_in (slice_set blocks tile after) ≡ over (map (renumbered_spilled table)) (lists_in first) (tile + 1)
   entries_more after renumbered =
-      map-set (λ (b : BlockValue). b.entries) blocks tile after ∙ ap (slice_set (lists_of blocks) tile) renumbered
-      ∙ map_over_more (map (renumbered_entry table)) (lists_of first) (lists_of blocks) tile block.entries in_lists is own_entries
+      map-set (λ (b : BlockValue). b.entries) blocks tile after ∙ ap (slice_set (lists_in blocks) tile) renumbered
+      ∙ map_over_more (map (renumbered_spilled table)) (lists_in first) (lists_in blocks) tile block.entries in_lists is own_entries
 
 -- and its room stays
 pub spare_same : (blocks : List BlockValue) (tile : ℕ) (block after : BlockValue) → block ≡ slice_index_or blocks tile block → after.spare ≡ block.spare
@@ -46,11 +46,11 @@ spare_same (b ∷ blocks) (suc tile) block after is same = ap (λ rest. b.spare 
 
 -- a block that holds what it held
 pub same_lists : (blocks : List BlockValue) (tile : ℕ) (block after : BlockValue) → block ≡ slice_index_or blocks tile block → after.entries ≡ block.entries
-    → lists_of (slice_set blocks tile after) ≡ lists_of blocks
+    → lists_in (slice_set blocks tile after) ≡ lists_in blocks
 same_lists [] tile block after is same = refl
-same_lists (b ∷ blocks) zero block after is same = ap (λ entries. entries ∷ lists_of blocks) (same ∙ ap (λ (b : BlockValue). b.entries) is)
+same_lists (b ∷ blocks) zero block after is same = ap (λ entries. entries ∷ lists_in blocks) (same ∙ ap (λ (b : BlockValue). b.entries) is)
 same_lists (b ∷ blocks) (suc tile) block after is same = ap (λ rest. b.entries ∷ rest) (same_lists blocks tile block after is same)
 
 -- the list of a block
-pub entries_at : (blocks : List BlockValue) (tile : ℕ) (block : BlockValue) → tile < length blocks → block ≡ slice_index_or blocks tile block → slice_index_or (lists_of blocks) tile [] ≡ block.entries
+pub entries_at : (blocks : List BlockValue) (tile : ℕ) (block : BlockValue) → tile < length blocks → block ≡ slice_index_or blocks tile block → slice_index_or (lists_in blocks) tile [] ≡ block.entries
 entries_at blocks tile block inside is = get_or-map (λ (b : BlockValue). b.entries) blocks tile block [] inside ∙ ap (λ (b : BlockValue). b.entries) (sym is)

@@ -1,17 +1,17 @@
--- Taking out one entry after another.
+-- Taking out one task after another.
 use Rattle.std.specs.Prelude.{◌≡◌, ◌≢◌, List, [], ◌∷◌, AllPairs}
 use Rattle.std.specs.List.Sorted.{IsPermutation}
 use Rattle.std.specs.declared.cmp.Ordering.TheVariants.{Greater}
 use Rattle.fractal_vt.specs.Keys.{key_cmp}
-use Rattle.spill_store.specs.Entries.{Entry, open_key, TakesLeast}
+use Rattle.spill_store.specs.SpilledTasks.{Spilled, open_key, TakesLeast}
 
--- taking the least entry until none is left gives the second list, in its order
-abbrev pub Drains : List Entry → List Entry → Type 0
+-- taking the least task until none is left gives the second list, in its order
+abbrev pub Drains : List Spilled → List Spilled → Type 0
 Drains entries [] = entries ≡ []
-Drains entries (entry ∷ taken) = (others : List Entry) × TakesLeast entries others entry × Drains others taken
+Drains entries (entry ∷ taken) = (others : List Spilled) × TakesLeast entries others entry × Drains others taken
 
--- each entry is taken once, and none after one with a greater key
+-- each task is taken once, and none after one with a greater key
 abbrev pub ComesBackLeastFirst : Type 0
 ComesBackLeastFirst =
-    (entries taken : List Entry) → Drains entries taken
+    (entries taken : List Spilled) → Drains entries taken
     → IsPermutation entries taken × AllPairs (λ first later. key_cmp (open_key first) (open_key later) ≢ Greater) taken

@@ -1,11 +1,11 @@
 -- Entries that stay at their places, and the places in an order of their own.
 use Rattle.std.specs.Prelude.{◌≡◌, ℕ, ◌+◌, ◌<◌, ◌≤◌, ◌^◌, List, [], ◌∷◌, ◌++◌, All, map, length, nat_eq, slice_index_or}
 use Rattle.std.specs.List.{IsDistinct}
-use Rattle.spill_store.specs.Entries.{Entry}
+use Rattle.spill_store.specs.SpilledTasks.{Spilled}
 
 -- what stands at a place past the end
-abbrev pub blank : Entry
-blank = record {
+abbrev pub blank_spilled : Spilled
+blank_spilled = record {
   desc = record {
     name = record { creator = 0; index = 0 };
     entry = 0;
@@ -18,12 +18,13 @@ blank = record {
   domain = [];
 }
 
--- the entries at these places
-abbrev pub at_places : List Entry → List ℕ → List Entry
-at_places kept places = map (λ place. slice_index_or kept place blank) places
+-- the tasks at these places
+abbrev pub at_places : List Spilled → List ℕ → List Spilled
+at_places kept places = map (λ place. slice_index_or kept place blank_spilled) places
 
--- each place is in use or free, and the room is held by the order of places, by what is kept and by the free places
-pub record IsShelved (kept : List Entry) (order free : List ℕ) (room order_room kept_room free_room : ℕ) : Type 0 where
+-- each place is in use or free, and the memory is held by the order of places, by what is kept and by the free places
+pub record IsShelved (kept : List Spilled) (order free : List ℕ)
+    (room order_room kept_room free_room : ℕ) : Type 0 where
   pub distinct : IsDistinct nat_eq (order ++ free)
   pub within : All (λ place. place < length kept) (order ++ free)
   pub all : length order + length free ≡ length kept

@@ -1,11 +1,14 @@
+//! The block of one tile.
+
 ghost use Rattle.std.specs.Prelude.{◌≡◌, ◌+◌, ◌<◌, ◌≤◌, ◌↔◌, [], ◌∷◌, length, map, slice_get, Some, IfSome};
 ghost use Rattle.std.specs.Prelude.{IfNone};
 ghost use Rattle.std.specs.Prelude.{IsNone, IsOk, IsTrue, OnErr, OnOk, OnSome, option_map};
 ghost use Rattle.std.specs.List.Sorted.{IsStrictlyIncreasing};
 ghost use Rattle.fractal_vt.specs.Sorted.{IsInOrder, place_for};
 ghost use Rattle.task_desc.specs.Record.{IsDesc};
-ghost use Rattle.spill_store.specs.Entries.{by_key, pushed, first_key, TakesLeast, IsLeastKey, renumbered_entry};
-ghost use Rattle.spill_store.specs.Entries.{HoldsEntries};
+ghost use Rattle.spill_store.specs.SpilledTasks.{by_key, after_push, first_key, TakesLeast, IsLeastKey};
+ghost use Rattle.spill_store.specs.SpilledTasks.{renumbered_spilled};
+ghost use Rattle.spill_store.specs.SpilledTasks.{HoldsSpilled};
 
 use crate::kept::Kept;
 use crate::shelf::Shelf;
@@ -26,7 +29,7 @@ pub struct Block {
 
 impl Model for Block {
     ghost use Rattle.fractal_vt.specs.Sorted.{IsInOrder};
-    ghost use Rattle.spill_store.specs.Entries.{BlockValue, by_key};
+    ghost use Rattle.spill_store.specs.SpilledTasks.{BlockValue, by_key};
 
     ghost Value = { BlockValue };
 
@@ -45,7 +48,7 @@ impl Block {
         }
     }
 
-    /// Makes room for `more` pushes. What was spare stays so, and where that is enough no memory is taken.
+    /// Sees to it that `more` pushes are spare. What was spare stays so, and where that is enough no memory is taken.
     pub fn reserve(&mut self, more: usize) -> Result<(), AllocError>
         ensures entries { self.new.entries ≡ self.old.entries }
         ensures spare { OnOk result (more ≤ self.new.spare) }
@@ -61,7 +64,8 @@ impl Block {
         requires spare { 1 ≤ self.old.spare }
         requires desc { IsDesc desc.now }
         requires domain { length domain.now + 1 ≡ desc.now.depth }
-        ensures entries { self.new.entries ≡ pushed self.old.entries (record { desc = desc.now; domain = domain.now }) }
+        ensures entries { self.new.entries
+            ≡ after_push self.old.entries (record { desc = desc.now; domain = domain.now }) }
         ensures spare { self.old.spare ≤ self.new.spare + 1 }
     {
         let fresh = Kept::new(desc, domain);
@@ -85,7 +89,8 @@ impl Block {
         Some(taken)
     }
 
-    /// The open key of the task that `take_least` would take, where it stands; None exactly where the block is empty.
+    /// The open key of the task that `take_least` would take, where it stands, with no copy; None exactly where
+    /// the block is empty.
     pub fn front_key(&self) -> Option<&Key>
         ensures first { option_map (λ key. key.now) result ≡ first_key self.now.entries }
         ensures none { IsNone result ↔ (self.now.entries ≡ []) }
@@ -104,7 +109,7 @@ impl Block {
         ensures least { IfSome result (IsLeastKey self.now.entries) }
     {
         let first = self.front_key()?;
-        Some(first.copied())
+        Some(first.copy())
     }
 
     /// The descriptor of the task at a place, in the order of the keys.
@@ -133,8 +138,8 @@ impl Block {
     /// order stays. No memory.
     pub fn renumber(&mut self, table: &[u64])
         requires rising { IsStrictlyIncreasing table.now }
-        requires held { HoldsEntries table.now self.old.entries }
-        ensures entries { self.new.entries ≡ map (renumbered_entry table.now) self.old.entries }
+        requires held { HoldsSpilled table.now self.old.entries }
+        ensures entries { self.new.entries ≡ map (renumbered_spilled table.now) self.old.entries }
         ensures spare { self.new.spare ≡ self.old.spare }
     {
         self.shelf.renumber(table);

@@ -1,12 +1,14 @@
+//! The blocks of all tiles.
+
 ghost use Rattle.std.specs.Prelude.{◌≡◌, ◌+◌, ◌<◌, ◌≤◌, ◌↔◌, ℕ, [], length, map, replicate, slice_get, slice_index_or};
 ghost use Rattle.std.specs.Prelude.{All, IfOk, IfSome, IsNone, IsOk, OnErr, OnOk, Some};
 ghost use Rattle.std.specs.Ordering.{is_lt};
 ghost use Rattle.std.specs.List.Sorted.{IsStrictlyIncreasing};
 ghost use Rattle.task_desc.specs.Record.{IsDesc};
-ghost use Rattle.spill_store.specs.Entries.{by_key, BlockValue, renumbered_entry, HoldsEntries};
+ghost use Rattle.spill_store.specs.SpilledTasks.{by_key, BlockValue, renumbered_spilled, HoldsSpilled};
 ghost use Rattle.fractal_vt.specs.Sorted.{IsInOrder};
-ghost use Rattle.spill_store.specs.Fronts.{front_at, front_cmp, lists_of, IsFront, IsFrontBut, IsFirstOfAll};
-ghost use Rattle.spill_store.specs.Fronts.{Pushes, Takes};
+ghost use Rattle.spill_store.specs.Fronts.{front_at, front_cmp, lists_in, IsFront, IsFrontBut, IsFirstOfAll};
+ghost use Rattle.spill_store.specs.Fronts.{Pushes, TakesFirst};
 ghost use Rattle.spill_store.specs.Fronts.{Reserves};
 
 use crate::Block;
@@ -25,13 +27,13 @@ pub struct Blocks {
 }
 
 impl Model for Blocks {
-    ghost use Rattle.spill_store.specs.Fronts.{BlocksValue, lists_of, IsFront};
+    ghost use Rattle.spill_store.specs.Fronts.{BlocksValue, lists_in, IsFront};
 
     ghost Value = { BlocksValue };
 
     ghost view = { λ b. record { items = b.blocks.items } };
 
-    ghost invariant = { λ b. IsFront (lists_of b.blocks.items) b.front };
+    ghost invariant = { λ b. IsFront (lists_in b.blocks.items) b.front };
 }
 
 impl Blocks {
@@ -39,7 +41,7 @@ impl Blocks {
     pub fn new(alloc: Global, tiles: u32) -> Result<Blocks, AllocError>
         requires { 1 ≤ tiles }
         ensures count { IfOk result (λ all. length all.items ≡ tiles) }
-        ensures lists { IfOk result (λ all. lists_of all.items ≡ replicate tiles []) }
+        ensures lists { IfOk result (λ all. lists_in all.items ≡ replicate tiles []) }
     {
         let blocks = empty_blocks(alloc, tiles)?;
         let front = first_tile(blocks.as_slice());
@@ -61,7 +63,7 @@ impl Blocks {
         self.blocks.as_slice()
     }
 
-    /// Makes room for `more` pushes into the block of a tile.
+    /// Sees to it that `more` pushes into the block of a tile are spare.
     pub fn reserve(&mut self, tile: u32, more: usize) -> Result<(), AllocError>
         requires tile { tile < length self.old.items }
         ensures one { Reserves tile self.old.items self.new.items }
@@ -90,9 +92,10 @@ impl Blocks {
     pub fn take_least(&mut self, tile: u32) -> Option<(Desc, Vt)>
         requires tile { tile < length self.old.items }
         ensures some { let taken_to = self.new.items in
-            IfSome result (λ taken. Takes tile (record { desc = taken.0; domain = taken.1 }) self.old.items taken_to) }
+            IfSome result
+            (λ taken. TakesFirst tile (record { desc = taken.0; domain = taken.1 }) self.old.items taken_to) }
         ensures fits { IfSome result (λ taken. IsDesc taken.0 × (length taken.1 + 1 ≡ taken.0.depth)) }
-        ensures none { IsNone result ↔ (slice_index_or (lists_of self.old.items) tile [] ≡ []) }
+        ensures none { IsNone result ↔ (slice_index_or (lists_in self.old.items) tile [] ≡ []) }
     {
         let taken = self.blocks[tile as usize].take_least();
         self.front = first_tile(self.blocks.as_slice());
@@ -102,9 +105,9 @@ impl Blocks {
     /// Replaces each tiebreaker of the domains by its place in a strictly rising table that holds them all.
     pub fn renumber(&mut self, table: &[u64])
         requires rising { IsStrictlyIncreasing table.now }
-        requires held { All (HoldsEntries table.now) (lists_of self.old.items) }
+        requires held { All (HoldsSpilled table.now) (lists_in self.old.items) }
         ensures count { length self.new.items ≡ length self.old.items }
-        ensures entries { lists_of self.new.items ≡ map (map (renumbered_entry table.now)) (lists_of self.old.items) }
+        ensures entries { lists_in self.new.items ≡ map (map (renumbered_spilled table.now)) (lists_in self.old.items) }
         ensures spare { map (λ block. block.spare) self.new.items ≡ map (λ block. block.spare) self.old.items }
     {
         renumber_blocks(&mut self.blocks, table);
@@ -114,7 +117,7 @@ impl Blocks {
     /// Takes all tasks out of all blocks.
     pub fn clear(&mut self)
         ensures count { length self.new.items ≡ length self.old.items }
-        ensures lists { lists_of self.new.items ≡ replicate (length self.old.items) [] }
+        ensures lists { lists_in self.new.items ≡ replicate (length self.old.items) [] }
     {
         empty_all(self.blocks.as_mut_slice());
         self.front = first_tile(self.blocks.as_slice());
@@ -122,8 +125,8 @@ impl Blocks {
 
     /// The first of all tasks: its tile, and its open key where it stands.
     pub fn front(&self) -> Option<(usize, &Key)>
-        ensures some { IfSome result (λ f. IsFirstOfAll (lists_of self.now.items) f.0 f.1.now) }
-        ensures none { let lists = lists_of self.now.items in
+        ensures some { IfSome result (λ f. IsFirstOfAll (lists_in self.now.items) f.0 f.1.now) }
+        ensures none { let lists = lists_in self.now.items in
             IsNone result → (tile : ℕ) → tile < length self.now.items → slice_index_or lists tile [] ≡ [] }
     {
         all_in_order(self.blocks.as_slice());
@@ -135,7 +138,7 @@ impl Blocks {
 /// An empty block for each tile.
 fn empty_blocks(alloc: Global, tiles: u32) -> Result<Vec<Block>, AllocError>
     ensures count { IfOk result (λ blocks. length blocks.items ≡ tiles) }
-    ensures lists { IfOk result (λ blocks. lists_of blocks.items ≡ replicate tiles []) }
+    ensures lists { IfOk result (λ blocks. lists_in blocks.items ≡ replicate tiles []) }
 {
     let mut blocks = Vec::with_capacity(alloc, tiles as usize)?;
     for _tile in 0..tiles {
@@ -154,7 +157,7 @@ fn empty_block(block: &mut Block)
 /// Takes all tasks out of each block.
 fn empty_all(blocks: &mut [Block])
     ensures count { length blocks.new ≡ length blocks.old }
-    ensures lists { lists_of blocks.new ≡ replicate (length blocks.old) [] }
+    ensures lists { lists_in blocks.new ≡ replicate (length blocks.old) [] }
 {
     for block in blocks.iter_mut() {
         empty_block(block);
@@ -163,7 +166,7 @@ fn empty_all(blocks: &mut [Block])
 
 /// Law: each block is in its order. (The loop does nothing, and LLVM drops it.)
 fn all_in_order(blocks: &[Block])
-    ensures { (tile : ℕ) → tile < length blocks.now → IsInOrder by_key (slice_index_or (lists_of blocks.now) tile []) }
+    ensures { (tile : ℕ) → tile < length blocks.now → IsInOrder by_key (slice_index_or (lists_in blocks.now) tile []) }
 {
     for tile in 0..blocks.len() {
         blocks[tile].is_in_order();
@@ -174,7 +177,7 @@ fn all_in_order(blocks: &[Block])
 fn comes_first(blocks: &[Block], tile: usize, other: usize) -> bool
     requires tile { tile < length blocks.now }
     requires other { other < length blocks.now }
-    ensures { let lists = lists_of blocks.now in
+    ensures { let lists = lists_in blocks.now in
         result ≡ is_lt (front_cmp (front_at lists tile) (front_at lists other)) }
 {
     match (
@@ -194,8 +197,8 @@ fn comes_first(blocks: &[Block], tile: usize, other: usize) -> bool
 /// The tile of the first task, where one was pushed to a tile.
 fn front_of_two(blocks: &[Block], front: usize, tile: usize) -> usize
     requires tile { tile < length blocks.now }
-    requires front { IsFrontBut (lists_of blocks.now) front tile }
-    ensures { IsFront (lists_of blocks.now) result }
+    requires front { IsFrontBut (lists_in blocks.now) front tile }
+    ensures { IsFront (lists_in blocks.now) result }
 {
     if comes_first(blocks, tile, front) {
         tile
@@ -207,7 +210,7 @@ fn front_of_two(blocks: &[Block], front: usize, tile: usize) -> usize
 /// The tile of the first task.
 fn first_tile(blocks: &[Block]) -> usize
     requires { 1 ≤ length blocks.now }
-    ensures { IsFront (lists_of blocks.now) result }
+    ensures { IsFront (lists_in blocks.now) result }
 {
     let mut best = 0;
     for tile in 1..blocks.len() {
@@ -221,9 +224,9 @@ fn first_tile(blocks: &[Block]) -> usize
 /// Replaces the tiebreakers in all blocks.
 fn renumber_blocks(blocks: &mut [Block], table: &[u64])
     requires rising { IsStrictlyIncreasing table.now }
-    requires held { All (HoldsEntries table.now) (lists_of blocks.old) }
+    requires held { All (HoldsSpilled table.now) (lists_in blocks.old) }
     ensures count { length blocks.new ≡ length blocks.old }
-    ensures entries { lists_of blocks.new ≡ map (map (renumbered_entry table.now)) (lists_of blocks.old) }
+    ensures entries { lists_in blocks.new ≡ map (map (renumbered_spilled table.now)) (lists_in blocks.old) }
     ensures spare { map (λ block. block.spare) blocks.new ≡ map (λ block. block.spare) blocks.old }
 {
     for tile in 0..blocks.len() {

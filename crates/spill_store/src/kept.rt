@@ -1,6 +1,8 @@
+//! A spilled task as a block keeps it.
+
 ghost use Rattle.std.specs.Prelude.{◌≡◌, ◌+◌, length, true};
 ghost use Rattle.task_desc.specs.Record.{IsDesc, fields_of, is_record};
-ghost use Rattle.spill_store.specs.Entries.{open_key, renumbered_entry};
+ghost use Rattle.spill_store.specs.SpilledTasks.{open_key, renumbered_spilled};
 ghost use Rattle.std.specs.List.Sorted.{IsStrictlyIncreasing};
 
 use fractal_vt::{Key, Vt, renumber};
@@ -15,14 +17,14 @@ pub(crate) struct Kept {
 }
 
 impl Model for Kept {
-    ghost use Rattle.spill_store.specs.Entries.{Entry, IsKept};
+    ghost use Rattle.spill_store.specs.SpilledTasks.{Spilled, IsKeptRecord};
     ghost use Rattle.task_desc.specs.Record.{fields_of};
 
-    ghost Value = { Entry };
+    ghost Value = { Spilled };
 
     ghost view = { λ k. record { desc = fields_of k.bytes; domain = k.key.domain } };
 
-    ghost invariant = { λ k. IsKept k.bytes k.key };
+    ghost invariant = { λ k. IsKeptRecord k.bytes k.key };
 }
 
 impl Kept {
@@ -34,7 +36,7 @@ impl Kept {
         Kept {
             bytes: put_desc(desc),
             key: Key {
-                domain: domain.copied(),
+                domain: domain.copy(),
                 ts: desc.ts,
                 tb: None,
             },
@@ -51,7 +53,7 @@ impl Kept {
     /// Replaces each tiebreaker of its domain by its place in the table.
     pub(crate) fn renumber(&mut self, table: &[u64])
         requires { IsStrictlyIncreasing table.now }
-        ensures { self.new ≡ renumbered_entry table.now self.old }
+        ensures { self.new ≡ renumbered_spilled table.now self.old }
     {
         self.key.domain = renumber(&self.key.domain, table);
     }
@@ -70,7 +72,7 @@ impl Kept {
         ensures domain { length result.1 + 1 ≡ result.0.depth }
     {
         match get_desc(&self.bytes) {
-            Some(desc) => (desc, self.key.domain.copied()),
+            Some(desc) => (desc, self.key.domain.copy()),
             None => unreachable!(),
         }
     }

@@ -1,3 +1,5 @@
+//! Laws of blocks.
+
 ghost use Rattle.spill_store.specs.Draining.{ComesBackLeastFirst};
 ghost use Rattle.spill_store.specs.Pushing.{PushesStandInOrder, PushGoesBehindTies};
 

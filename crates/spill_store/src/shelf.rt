@@ -1,9 +1,11 @@
+//! The places of a block, in which its tasks stay.
+
 ghost use Rattle.std.specs.Prelude.{◌≡◌, ◌+◌, ◌<◌, ◌≤◌, ◌↔◌, [], ◌∷◌, length, map, slice_get, Some, IfSome, IfNone};
 ghost use Rattle.std.specs.Prelude.{IsNone, IsOk, OnErr, OnOk, OnSome};
 ghost use Rattle.std.specs.List.{insert};
 ghost use Rattle.std.specs.List.Sorted.{IsStrictlyIncreasing};
 ghost use Rattle.task_desc.specs.Record.{IsDesc};
-ghost use Rattle.spill_store.specs.Entries.{renumbered_entry};
+ghost use Rattle.spill_store.specs.SpilledTasks.{renumbered_spilled};
 
 use crate::kept::Kept;
 use fractal_vt::Vt;
@@ -24,14 +26,14 @@ pub(crate) struct Shelf {
     order: VecDeque<u32>,
     /// The places that are free.
     free: Vec<u32>,
-    /// How many tasks have room.
+    /// How many tasks it has memory for.
     room: usize,
 }
 
 impl Model for Shelf {
     ghost use Rattle.std.specs.Prelude.{◌-◌, length, vec_capacity};
     ghost use Rattle.std.specs.VecDeque.{deque_capacity};
-    ghost use Rattle.spill_store.specs.Entries.{BlockValue};
+    ghost use Rattle.spill_store.specs.SpilledTasks.{BlockValue};
     ghost use Rattle.spill_store.specs.Shelved.{IsShelved, at_places};
 
     ghost Value = { BlockValue };
@@ -66,7 +68,7 @@ impl Shelf {
         self.order.len()
     }
 
-    /// Makes room for `more` tasks. What was spare stays so, and where that is enough no memory is taken.
+    /// Takes memory for `more` tasks. What was spare stays so, and where that is enough no memory is taken.
     pub(crate) fn reserve(&mut self, more: usize) -> Result<(), AllocError>
         ensures entries { self.new.entries ≡ self.old.entries }
         ensures spare { OnOk result (more ≤ self.new.spare) }
@@ -146,7 +148,7 @@ impl Shelf {
     /// Replaces each tiebreaker of the domains by its place in the table.
     pub(crate) fn renumber(&mut self, table: &[u64])
         requires { IsStrictlyIncreasing table.now }
-        ensures entries { self.new.entries ≡ map (renumbered_entry table.now) self.old.entries }
+        ensures entries { self.new.entries ≡ map (renumbered_spilled table.now) self.old.entries }
         ensures spare { self.new.spare ≡ self.old.spare }
     {
         renumber_all(&mut self.kept, table);
@@ -156,7 +158,7 @@ impl Shelf {
 /// Replaces each tiebreaker of the domains by its place in the table.
 fn renumber_all(kept: &mut [Kept], table: &[u64])
     requires { IsStrictlyIncreasing table.now }
-    ensures { kept.new ≡ map (renumbered_entry table.now) kept.old }
+    ensures { kept.new ≡ map (renumbered_spilled table.now) kept.old }
 {
     for one in kept.iter_mut() {
         one.renumber(table);

@@ -7,7 +7,7 @@ use Rattle.std.proofs.lemmas.List.Sums.{fails_before_first}
 use Rattle.std.proofs.lemmas.Option.{none-some}
 use Rattle.std.proofs.lemmas.Bool.Decides.{nat_tests}
 use Rattle.rv_core.specs.LegValue.{LegValue}
-use Rattle.step_script.specs.Playing.{HeldLeg, is_held_for, held_for, without}
+use Rattle.step_script.specs.Playing.{HeldLeg, is_held_for, held_for, without_held_leg}
 
 -- the first leg that stands there for a core is what is held for it
 held_at : (tile core : ℕ) (held : List HeldLeg) (i : ℕ) (d : HeldLeg) → i < length held → is_held_for tile core (get_or held i d) ≡ true
@@ -30,24 +30,25 @@ held_none tile core (h ∷ held) fails =
 
 -- and nothing is given up for it
 pub without_unheld : (tile core : ℕ) (held : List HeldLeg) → ◌≡◌ {A = Option LegValue} (held_for tile core held) None
-    → without tile core held ≡ held
+    → without_held_leg tile core held ≡ held
 without_unheld tile core [] none = refl
 without_unheld tile core (h ∷ held) none = go (is_held_for tile core h) refl none (without_unheld tile core held)
   where
     go : (test : Bool) → is_held_for tile core h ≡ test
         → ◌≡◌ {A = Option LegValue} (cond test (Some h.leg) (held_for tile core held)) None
-        → (◌≡◌ {A = Option LegValue} (held_for tile core held) None → without tile core held ≡ held)
-        → without tile core (h ∷ held) ≡ h ∷ held
+        → (◌≡◌ {A = Option LegValue} (held_for tile core held) None → without_held_leg tile core held ≡ held)
+        → without_held_leg tile core (h ∷ held) ≡ h ∷ held
     go true is none rest = absurd (none-some h.leg (sym none))
     go false is none rest =
-        ap (λ test. cond (not test) (h ∷ without tile core held) (without tile core held)) is ∙ ap (λ others. h ∷ others) (rest none)
+        ap (λ test. cond (not test) (h ∷ without_held_leg tile core held) (without_held_leg tile core held)) is ∙ ap (λ others. h ∷ others) (rest none)
 
 -- a leg for the core that was taken out before makes no difference to what is left without it
 without_removed : (tile core : ℕ) (held : List HeldLeg) (i : ℕ) (d : HeldLeg) → i < length held
-    → is_held_for tile core (get_or held i d) ≡ true → without tile core (remove held i) ≡ without tile core held
+    → is_held_for tile core (get_or held i d) ≡ true
+    → without_held_leg tile core (remove held i) ≡ without_held_leg tile core held
 without_removed tile core [] i d below is = absurd (omega (arith, below))
 without_removed tile core (h ∷ held) zero d below is =
-    sym (ap (λ test. cond (not test) (h ∷ without tile core held) (without tile core held)) is)
+    sym (ap (λ test. cond (not test) (h ∷ without_held_leg tile core held) (without_held_leg tile core held)) is)
 without_removed tile core (h ∷ held) (suc i) d below is =
     ap (λ rest. cond (not (is_held_for tile core h)) (h ∷ rest) rest) (without_removed tile core held i d (omega (arith, below)) is)
 
@@ -75,7 +76,7 @@ pub held-at_place : (tile core : ℕ) (held : List HeldLeg) (i : ℕ) (d : HeldL
 held-at_place tile core held i d found =
     let at = position-Some (is_held_for tile core) held i d found in held_at tile core held i d at.0 at.1 at.2
 
-pub without-at_place : (tile core : ℕ) (held : List HeldLeg) (i : ℕ) (d : HeldLeg) → position (is_held_for tile core) held ≡ Some i
-    → without tile core (remove held i) ≡ without tile core held
-without-at_place tile core held i d found =
+pub without_held_leg-at_place : (tile core : ℕ) (held : List HeldLeg) (i : ℕ) (d : HeldLeg) → position (is_held_for tile core) held ≡ Some i
+    → without_held_leg tile core (remove held i) ≡ without_held_leg tile core held
+without_held_leg-at_place tile core held i d found =
     let at = position-Some (is_held_for tile core) held i d found in without_removed tile core held i d at.0 at.1

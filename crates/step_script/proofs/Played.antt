@@ -6,14 +6,14 @@ use Rattle.std.proofs.lemmas.List.{take_more}
 use Rattle.std.proofs.lemmas.Result.{IfOk-weaker}
 use Rattle.guest_image.specs.ImageValue.{ImageValue}
 use Rattle.rv_core.specs.LegValue.{LegValue}
-use Rattle.book_event.specs.declared.event.Event.TheVariants as event
-use Rattle.book_event.specs.declared.event.Reply.TheVariants as reply
-use Rattle.book_event.specs.Book.{BookView}
-use Rattle.book_event.specs.End.{IsOver}
+use Rattle.event_def.specs.declared.event.Event.TheVariants as event
+use Rattle.event_def.specs.declared.event.Reply.TheVariants as reply
+use Rattle.event_def.specs.Book.{BookView}
+use Rattle.event_def.specs.End.{IsOver}
 use Rattle.step_script.specs.declared.act.Act.{Act}
 use Rattle.step_script.specs.declared.act.Act.TheVariants as acts
 use Rattle.step_script.specs.declared.saying.Said.{Said}
-use Rattle.step_script.specs.Playing.{HeldLeg, Played, HandsIn, HasLegAt, Steps, Takes, Gives, Does, DoesAll, PlaysSome, held_for, holding, plainly, without}
+use Rattle.step_script.specs.Playing.{HeldLeg, PlayState, HandsIn, HasLegAt, Steps, Takes, Gives, Does, DoesAll, PlaysSome, held_for, holding, plainly, without_held_leg}
 use Rattle.step_script.specs.Playing.{step_runs, take_holds, give_hands, give_stale}
 use Rattle.step_script.proofs.Held.{without_unheld}
 
@@ -42,7 +42,7 @@ takes_held image tile core book held after leg said has is holds =
 
 -- the leg that is held is handed in
 pub gives_handed : {E : Type 0} (N : Type 0) (tile core : ℕ) (old new : BookView) (held after : List HeldLeg) (leg : LegValue) (r : Result Said E)
-    → (IsOver old.view → ⊥) → ◌≡◌ {A = Option LegValue} (held_for tile core held) (Some leg) → after ≡ without tile core held
+    → (IsOver old.view → ⊥) → ◌≡◌ {A = Option LegValue} (held_for tile core held) (Some leg) → after ≡ without_held_leg tile core held
     → IfOk r (λ said. HandsIn {N = N} (event.Step tile core leg) old said new)
     → IfOk r (λ said. Gives N tile core (record { book = old; held = held }) said (record { book = new; held = after }))
 gives_handed N tile core old new held after leg r goes_on is rest =
@@ -50,7 +50,8 @@ gives_handed N tile core old new held after leg r goes_on is rest =
 
 -- none is held
 pub gives_stale : (N : Type 0) (tile core : ℕ) (book : BookView) (held after : List HeldLeg) (said : Said)
-    → (IsOver book.view → ⊥) → ◌≡◌ {A = Option LegValue} (held_for tile core held) None → after ≡ without tile core held
+    → (IsOver book.view → ⊥) → ◌≡◌ {A = Option LegValue} (held_for tile core held) None
+    → after ≡ without_held_leg tile core held
     → said ≡ plainly reply.Stale
     → Gives N tile core (record { book = book; held = held }) said (record { book = book; held = after })
 gives_stale N tile core book held after said goes_on none rest is =
@@ -60,7 +61,7 @@ gives_stale N tile core book held after said goes_on none rest is =
     })
 
 -- one act more
-does_more : (N : Type 0) (image : ImageValue) (script : List Act) (act : Act) (old mid new : Played) (saids : List Said) (said : Said)
+does_more : (N : Type 0) (image : ImageValue) (script : List Act) (act : Act) (old mid new : PlayState) (saids : List Said) (said : Said)
     → DoesAll N image script old saids mid → Does N image act mid said new
     → DoesAll N image (script ++ act ∷ []) old (saids ++ said ∷ []) new
 does_more N image [] act old mid new [] said same does = (new, subst (λ x. Does N image act x said new) (sym same) does, refl)
@@ -69,7 +70,7 @@ does_more N image (a ∷ script) act old mid new [] said none does = absurd none
 does_more N image (a ∷ script) act old mid new (s ∷ saids) said (between, one, rest) does =
     (between, one, does_more N image script act between mid new saids said rest does)
 
-pub one_more : (N : Type 0) (image : ImageValue) (script : List Act) (i : ℕ) (d : Act) (old mid new : Played) (saids after : List Said) (said : Said)
+pub one_more : (N : Type 0) (image : ImageValue) (script : List Act) (i : ℕ) (d : Act) (old mid new : PlayState) (saids after : List Said) (said : Said)
     → i < length script → DoesAll N image (take i script) old saids mid → Does N image (slice_index_or script i d) mid said new
     → after ≡ saids ++ said ∷ [] → DoesAll N image (take (i + 1) script) old after new
 one_more N image script i d old mid new saids after said inside played does told =

@@ -8,11 +8,11 @@ use Rattle.step_script.specs.declared.act.Act.TheVariants as acts
 use Rattle.text_lines.specs.Lines.{◌>>=◌, lines_of, cut}
 use Rattle.text_lines.specs.Numerals.{number, number_below}
 use Rattle.step_script.specs.Grammar.{core_in, on_tile, on_core, act_at, act_in, acts_at, acts_of, after_act}
-use Rattle.step_script.specs.Ranges.{IsWithin}
+use Rattle.step_script.specs.Ranges.{ActIsInRange}
 
 -- what is found, if anything is, is within
 record Finds (tiles cores : ℕ) (found : Option Act) : Type 0 where
-  pub within : IfSome found (IsWithin tiles cores)
+  pub within : IfSome found (ActIsInRange tiles cores)
 
 nothing : {tiles cores : ℕ} → Finds tiles cores None
 nothing = record { within = tt }
@@ -50,11 +50,11 @@ mapped : (A : Type 0) (P : A → Type 0) (Q : Act → Type 0) (act : A → Act) 
 mapped A P Q act None make h = tt
 mapped A P Q act (Some a) make h = make a h
 
-tile_within : (tiles cores : ℕ) (act : ℕ → Act) (places : List ℕ) → ((t : ℕ) → t < tiles → IsWithin tiles cores (act t)) → Finds tiles cores (on_tile tiles act places)
-tile_within tiles cores act places make = record { within = mapped ℕ (λ t. t < tiles) (IsWithin tiles cores) act (number_below tiles places) make (number_below-less tiles places) }
+tile_within : (tiles cores : ℕ) (act : ℕ → Act) (places : List ℕ) → ((t : ℕ) → t < tiles → ActIsInRange tiles cores (act t)) → Finds tiles cores (on_tile tiles act places)
+tile_within tiles cores act places make = record { within = mapped ℕ (λ t. t < tiles) (ActIsInRange tiles cores) act (number_below tiles places) make (number_below-less tiles places) }
 
-core_within : (tiles cores : ℕ) (act : ℕ → ℕ → Act) (places : List ℕ) → ((p : ℕ × ℕ) → (p.0 < tiles) × (p.1 < cores) → IsWithin tiles cores (act p.0 p.1)) → Finds tiles cores (on_core tiles cores act places)
-core_within tiles cores act places make = record { within = mapped (ℕ × ℕ) (λ p. (p.0 < tiles) × (p.1 < cores)) (IsWithin tiles cores) (λ p. act p.0 p.1) (core_in tiles cores places) make (core_in-less tiles cores places) }
+core_within : (tiles cores : ℕ) (act : ℕ → ℕ → Act) (places : List ℕ) → ((p : ℕ × ℕ) → (p.0 < tiles) × (p.1 < cores) → ActIsInRange tiles cores (act p.0 p.1)) → Finds tiles cores (on_core tiles cores act places)
+core_within tiles cores act places make = record { within = mapped (ℕ × ℕ) (λ p. (p.0 < tiles) × (p.1 < cores)) (ActIsInRange tiles cores) (λ p. act p.0 p.1) (core_in tiles cores places) make (core_in-less tiles cores places) }
 
 act_at-within : (tiles cores : ℕ) (word places : List ℕ) → Finds tiles cores (act_at tiles cores word places)
 unfolding act_at
@@ -85,10 +85,11 @@ one_more P k None rest h all = tt
 one_more P k (Some a) (Ok acts) h all = All-cons P a acts h all
 one_more P k (Some a) (Err line) h all = tt
 
-acts_at-within : (tiles cores k : ℕ) (ls : List (List ℕ)) → IfOk (acts_at tiles cores k ls) (All (IsWithin tiles cores))
+acts_at-within : (tiles cores k : ℕ) (ls : List (List ℕ))
+    → IfOk (acts_at tiles cores k ls) (All (ActIsInRange tiles cores))
 acts_at-within tiles cores k [] = λ k d h. absurd (omega (arith, h))
-acts_at-within tiles cores k (l ∷ ls) = one_more (IsWithin tiles cores) k (act_in tiles cores l) (acts_at tiles cores (k + 1) ls) (act_in-within tiles cores l).within (acts_at-within tiles cores (k + 1) ls)
+acts_at-within tiles cores k (l ∷ ls) = one_more (ActIsInRange tiles cores) k (act_in tiles cores l) (acts_at tiles cores (k + 1) ls) (act_in-within tiles cores l).within (acts_at-within tiles cores (k + 1) ls)
 
 -- the acts that a text is name tiles and cores of the machine
-pub acts_within : (text : List ℕ) (tiles cores : ℕ) (acts : List Act) → acts_of text tiles cores ≡ Ok acts → All (IsWithin tiles cores) acts
-acts_within text tiles cores acts is = subst (λ r. IfOk r (All (IsWithin tiles cores))) is (acts_at-within tiles cores 1 (lines_of text))
+pub acts_within : (text : List ℕ) (tiles cores : ℕ) (acts : List Act) → acts_of text tiles cores ≡ Ok acts → All (ActIsInRange tiles cores) acts
+acts_within text tiles cores acts is = subst (λ r. IfOk r (All (ActIsInRange tiles cores))) is (acts_at-within tiles cores 1 (lines_of text))

@@ -13,7 +13,7 @@ use Rattle.step_script.specs.declared.act.Act.TheVariants as acts
 use Rattle.text_lines.specs.Lines.{◌>>=◌, cut, lines_of}
 use Rattle.text_lines.specs.Numerals.{is_plain, number, number_below}
 use Rattle.step_script.specs.Grammar.{core_in, on_tile, on_core, act_at, act_in, acts_at, after_act}
-use Rattle.step_script.specs.Written.{line_of, place, ReadsOnly}
+use Rattle.step_script.specs.Written.{line_of_act, core_text, ReadsOnly}
 use Rattle.text_lines.proofs.Proved.{own}
 use Rattle.step_script.proofs.WrittenBack.{and_two}
 
@@ -71,17 +71,18 @@ number_below_only : (bound : ℕ) (ds : List ℕ) → IfSome (number_below bound
 unfolding number_below
 number_below_only bound ds = below_only bound ds (number ds) (number_only ds)
 
-both_only : (l r : List ℕ) (a b : Option ℕ) → IfSome a (λ n. decimal n ≡ l) → IfSome b (λ n. decimal n ≡ r) → IfSome {T = ℕ × ℕ} (a >>= λ tile. b >>= λ core. Some (tile, core)) (λ p. place p.0 p.1 ≡ l ++ 32 ∷ r)
+both_only : (l r : List ℕ) (a b : Option ℕ) → IfSome a (λ n. decimal n ≡ l) → IfSome b (λ n. decimal n ≡ r) → IfSome {T = ℕ × ℕ} (a >>= λ tile. b >>= λ core. Some (tile, core)) (λ p. core_text p.0 p.1 ≡ l ++ 32 ∷ r)
 both_only l r None b h g = tt
 both_only l r (Some a) None h g = tt
 both_only l r (Some a) (Some b) h g = rw (h, g) refl
 
-cut_only : (tiles cores : ℕ) (places : List ℕ) (parts : Option (List ℕ × List ℕ)) → Joins 32 places parts → IfSome {T = ℕ × ℕ} (parts >>= λ p. number_below tiles p.0 >>= λ tile. number_below cores p.1 >>= λ core. Some (tile, core)) (λ p. place p.0 p.1 ≡ places)
+cut_only : (tiles cores : ℕ) (places : List ℕ) (parts : Option (List ℕ × List ℕ)) → Joins 32 places parts → IfSome {T = ℕ × ℕ} (parts >>= λ p. number_below tiles p.0 >>= λ tile. number_below cores p.1 >>= λ core. Some (tile, core)) (λ p. core_text p.0 p.1 ≡ places)
 cut_only tiles cores places None h = tt
 cut_only tiles cores places (Some p) h =
     rw h (both_only p.0 p.1 (number_below tiles p.0) (number_below cores p.1) (number_below_only tiles p.0) (number_below_only cores p.1))
 
-core_in_only : (tiles cores : ℕ) (places : List ℕ) → IfSome (core_in tiles cores places) (λ p. place p.0 p.1 ≡ places)
+core_in_only : (tiles cores : ℕ) (places : List ℕ)
+    → IfSome (core_in tiles cores places) (λ p. core_text p.0 p.1 ≡ places)
 unfolding core_in
 core_in_only tiles cores places = cut_only tiles cores places (cut 32 places) (cut_joins 32 places)
 
@@ -89,12 +90,12 @@ core_in_only tiles cores places = cut_only tiles cores places (cut 32 places) (c
 
 -- the act found, if any is, has this line
 record HasLine (line : List ℕ) (found : Option Act) : Type 0 where
-  pub has : IfSome found (λ act. line_of act ≡ line)
+  pub has : IfSome found (λ act. line_of_act act ≡ line)
 
 nothing : {line : List ℕ} → HasLine line None
 nothing = record { has = tt }
 
-mapped : (A : Type 0) (P : A → Type 0) (line : List ℕ) (act : A → Act) (found : Option A) → ((a : A) → P a → line_of (act a) ≡ line) → IfSome found P → HasLine line (found >>= λ a. Some (act a))
+mapped : (A : Type 0) (P : A → Type 0) (line : List ℕ) (act : A → Act) (found : Option A) → ((a : A) → P a → line_of_act (act a) ≡ line) → IfSome found P → HasLine line (found >>= λ a. Some (act a))
 mapped A P line act None make h = nothing
 mapped A P line act (Some a) make h = record { has = make a h }
 
@@ -106,13 +107,13 @@ word_by word name places false x y is h g = g
 word_is : (word places name : List ℕ) (x y : Option Act) → HasLine (name ++ 32 ∷ places) x → HasLine (word ++ 32 ∷ places) y → HasLine (word ++ 32 ∷ places) (if bytes_eq word name then x else y)
 word_is word places name x y h g = word_by word name places (bytes_eq word name) x y refl h g
 
-tile_only : (tiles : ℕ) (places name : List ℕ) (act : ℕ → Act) → ((t : ℕ) → line_of (act t) ≡ name ++ 32 ∷ decimal t) → HasLine (name ++ 32 ∷ places) (on_tile tiles act places)
+tile_only : (tiles : ℕ) (places name : List ℕ) (act : ℕ → Act) → ((t : ℕ) → line_of_act (act t) ≡ name ++ 32 ∷ decimal t) → HasLine (name ++ 32 ∷ places) (on_tile tiles act places)
 tile_only tiles places name act make =
     mapped ℕ (λ t. decimal t ≡ places) (name ++ 32 ∷ places) act (number_below tiles places) (λ t e. make t ∙ ap (λ ds. name ++ 32 ∷ ds) e) (number_below_only tiles places)
 
-core_only : (tiles cores : ℕ) (places name : List ℕ) (act : ℕ → ℕ → Act) → ((t c : ℕ) → line_of (act t c) ≡ name ++ 32 ∷ place t c) → HasLine (name ++ 32 ∷ places) (on_core tiles cores act places)
+core_only : (tiles cores : ℕ) (places name : List ℕ) (act : ℕ → ℕ → Act) → ((t c : ℕ) → line_of_act (act t c) ≡ name ++ 32 ∷ core_text t c) → HasLine (name ++ 32 ∷ places) (on_core tiles cores act places)
 core_only tiles cores places name act make =
-    mapped (ℕ × ℕ) (λ p. place p.0 p.1 ≡ places) (name ++ 32 ∷ places) (λ p. act p.0 p.1) (core_in tiles cores places) (λ p e. make p.0 p.1 ∙ ap (λ ds. name ++ 32 ∷ ds) e) (core_in_only tiles cores places)
+    mapped (ℕ × ℕ) (λ p. core_text p.0 p.1 ≡ places) (name ++ 32 ∷ places) (λ p. act p.0 p.1) (core_in tiles cores places) (λ p e. make p.0 p.1 ∙ ap (λ ds. name ++ 32 ∷ ds) e) (core_in_only tiles cores places)
 
 act_at_only : (tiles cores : ℕ) (word places : List ℕ) → HasLine (word ++ 32 ∷ places) (act_at tiles cores word places)
 unfolding act_at
@@ -132,8 +133,8 @@ parts_only : (tiles cores : ℕ) (line : List ℕ) (parts : Option (List ℕ × 
 parts_only tiles cores line None h = nothing
 parts_only tiles cores line (Some p) h = rw h (act_at_only tiles cores p.0 p.1)
 
-line_by : (line : List ℕ) (act : Act) (b : Bool) (y : Option Act) → bytes_eq line (line_of act) ≡ b → HasLine line y → HasLine line (if b then Some act else y)
-line_by line act true y is h = record { has = sym (same_bytes line (line_of act) is) }
+line_by : (line : List ℕ) (act : Act) (b : Bool) (y : Option Act) → bytes_eq line (line_of_act act) ≡ b → HasLine line y → HasLine line (if b then Some act else y)
+line_by line act true y is h = record { has = sym (same_bytes line (line_of_act act) is) }
 line_by line act false y is h = h
 
 -- an act that is read has the line that it was read from
@@ -144,14 +145,14 @@ act_in_only tiles cores line =
     (line_by line acts.Advance (bytes_eq line (codes "advance")) _ refl
     (parts_only tiles cores line (cut 32 line) (cut_joins 32 line)))
 
-one_more : (k : ℕ) (line : List ℕ) (ls : List (List ℕ)) (act : Option Act) (rest : Result (List Act) ℕ) → IfSome act (λ a. line_of a ≡ line) → IfOk rest (λ acts. map line_of acts ≡ ls) → IfOk (after_act k act rest) (λ acts. map line_of acts ≡ line ∷ ls)
+one_more : (k : ℕ) (line : List ℕ) (ls : List (List ℕ)) (act : Option Act) (rest : Result (List Act) ℕ) → IfSome act (λ a. line_of_act a ≡ line) → IfOk rest (λ acts. map line_of_act acts ≡ ls) → IfOk (after_act k act rest) (λ acts. map line_of_act acts ≡ line ∷ ls)
 one_more k line ls None rest h all = tt
 one_more k line ls (Some a) (Ok acts) h all = rw (h, all) refl
 one_more k line ls (Some a) (Err n) h all = tt
 
-acts_at_only : (tiles cores k : ℕ) (ls : List (List ℕ)) → IfOk (acts_at tiles cores k ls) (λ acts. map line_of acts ≡ ls)
+acts_at_only : (tiles cores k : ℕ) (ls : List (List ℕ)) → IfOk (acts_at tiles cores k ls) (λ acts. map line_of_act acts ≡ ls)
 acts_at_only tiles cores k [] = refl
 acts_at_only tiles cores k (l ∷ ls) = one_more k l ls (act_in tiles cores l) (acts_at tiles cores (k + 1) ls) (act_in_only tiles cores l).has (acts_at_only tiles cores (k + 1) ls)
 
 pub script_only : ReadsOnly
-script_only text tiles cores acts is = subst (λ r. IfOk r (λ acts. map line_of acts ≡ lines_of text)) is (acts_at_only tiles cores 1 (lines_of text))
+script_only text tiles cores acts is = subst (λ r. IfOk r (λ acts. map line_of_act acts ≡ lines_of text)) is (acts_at_only tiles cores 1 (lines_of text))

@@ -1,3 +1,4 @@
+-- Contracts mean all of these.
 pub mod Grammar
 pub mod Ranges
 pub mod Written

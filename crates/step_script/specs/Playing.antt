@@ -7,16 +7,16 @@ use Rattle.rv_core.specs.LegValue.{LegValue}
 use Rattle.spec_state.specs.declared.task.Task.{Task}
 use Rattle.spec_state.specs.Queries.{IsRunning}
 use Rattle.spec_state.specs.View.{View}
-use Rattle.book_event.specs.declared.event.Advance.{Advance}
-use Rattle.book_event.specs.declared.event.Advance.TheVariants as answers
-use Rattle.book_event.specs.declared.event.Event.{Event}
-use Rattle.book_event.specs.declared.event.Event.TheVariants as event
-use Rattle.book_event.specs.declared.event.Reply.{Reply}
-use Rattle.book_event.specs.declared.event.Reply.TheVariants as reply
-use Rattle.book_event.specs.Advancing.{AdvanceAnswers, IsLegFrom}
-use Rattle.book_event.specs.Book.{BookView}
-use Rattle.book_event.specs.End.{IsOver}
-use Rattle.book_event.specs.Happens.{Happens}
+use Rattle.event_def.specs.declared.event.Advance.{Advance}
+use Rattle.event_def.specs.declared.event.Advance.TheVariants as answers
+use Rattle.event_def.specs.declared.event.Event.{Event}
+use Rattle.event_def.specs.declared.event.Event.TheVariants as event
+use Rattle.event_def.specs.declared.event.Reply.{Reply}
+use Rattle.event_def.specs.declared.event.Reply.TheVariants as reply
+use Rattle.event_def.specs.Advancing.{AdvanceAnswers, IsLegFrom}
+use Rattle.event_def.specs.Book.{BookView}
+use Rattle.event_def.specs.End.{IsOver}
+use Rattle.event_def.specs.Happens.{Happens}
 use Rattle.step_script.specs.declared.act.Act.{Act}
 use Rattle.step_script.specs.declared.act.Act.TheVariants as acts
 use Rattle.step_script.specs.declared.saying.Said.{Said}
@@ -24,7 +24,7 @@ use Rattle.step_script.specs.declared.saying.Word.TheVariants as words
 
 -- ---- legs that are held
 
--- a leg that is held for a core of a tile
+-- a leg that is held for a core of a tile, at most one for each, while one script is played
 pub record HeldLeg : Type 0 where
   pub tile : ℕ
   pub core : ℕ
@@ -39,15 +39,15 @@ held_for tile core [] = None
 held_for tile core (h ∷ held) = if is_held_for tile core h then Some h.leg else held_for tile core held
 
 -- nothing is held for that core, and for each other core what was
-abbrev pub without : ℕ → ℕ → List HeldLeg → List HeldLeg
-without tile core held = filter (λ h. not (is_held_for tile core h)) held
+abbrev pub without_held_leg : ℕ → ℕ → List HeldLeg → List HeldLeg
+without_held_leg tile core held = filter (λ h. not (is_held_for tile core h)) held
 
 -- this leg is held for that core, in place of an older one
 abbrev pub holding : ℕ → ℕ → LegValue → List HeldLeg → List HeldLeg
-holding tile core leg held = without tile core held ++ record { tile = tile; core = core; leg = leg } ∷ []
+holding tile core leg held = without_held_leg tile core held ++ record { tile = tile; core = core; leg = leg } ∷ []
 
 -- a book that is played, and the legs that are held
-pub record Played : Type 0 where
+pub record PlayState : Type 0 where
   pub book : BookView
   pub held : List HeldLeg
 
@@ -65,12 +65,12 @@ pub record HandsIn {N : Type 0} (event : Event N) (old : BookView) (said : Said)
   pub happens : Happens old event answer said.aborted new
 
 -- the event is handed in, and the legs stay that are held
-pub record Makes {N : Type 0} (event : Event N) (old : Played) (said : Said) (new : Played) : Type 0 where
+pub record MakesInPlay {N : Type 0} (event : Event N) (old : PlayState) (said : Said) (new : PlayState) : Type 0 where
   pub hands_in : HandsIn event old.book said new.book
   pub held : new.held ≡ old.held
 
 -- nothing happens but that this word is said
-pub record Stays (answer : Reply) (old : Played) (said : Said) (new : Played) : Type 0 where
+pub record Stays (answer : Reply) (old : PlayState) (said : Said) (new : PlayState) : Type 0 where
   pub word : said ≡ plainly answer
   pub same : new ≡ old
 
@@ -88,27 +88,28 @@ NoneRuns view tile core = (id : ℕ) (task : Task) → IsRunning view tile core 
 -- ---- acts
 
 -- `step`: the leg of the running task there is handed in; at the end of a run, and where none runs there, that is said
-pub data Steps (N : Type 0) (image : ImageValue) (tile core : ℕ) (old : Played) (said : Said)
-    (new : Played) : Type 0 where
+pub data Steps (N : Type 0) (image : ImageValue) (tile core : ℕ) (old : PlayState) (said : Said)
+    (new : PlayState) : Type 0 where
   step_runs : (leg : LegValue) → (IsOver old.book.view → ⊥) → HasLegAt image old.book.view tile core leg
-      → Makes {N = N} (event.Step tile core leg) old said new → Steps N image tile core old said new
+      → MakesInPlay {N = N} (event.Step tile core leg) old said new → Steps N image tile core old said new
   step_ended : IsOver old.book.view → Stays reply.Ended old said new → Steps N image tile core old said new
   step_stale : (IsOver old.book.view → ⊥) → NoneRuns old.book.view tile core → Stays reply.Stale old said new
       → Steps N image tile core old said new
 
 -- `take`: the leg of the running task there is held; where none runs there nothing is held for that core. It is no
 -- event, and an end does not refuse it
-pub data Takes (image : ImageValue) (tile core : ℕ) (old : Played) (said : Said) (new : Played) : Type 0 where
+pub data Takes (image : ImageValue) (tile core : ℕ) (old : PlayState) (said : Said) (new : PlayState) : Type 0 where
   take_holds : (leg : LegValue) → HasLegAt image old.book.view tile core leg → said ≡ plainly reply.Ok
       → new ≡ record old { held = holding tile core leg old.held } → Takes image tile core old said new
   take_stale : NoneRuns old.book.view tile core → said ≡ plainly reply.Stale
-      → new ≡ record old { held = without tile core old.held } → Takes image tile core old said new
+      → new ≡ record old { held = without_held_leg tile core old.held } → Takes image tile core old said new
 
 -- `give`: the leg that is held for that core is handed in, and is no longer held, whatever the reply; at the end of
 -- a run it stays held
-pub data Gives (N : Type 0) (tile core : ℕ) (old : Played) (said : Said) (new : Played) : Type 0 where
+pub data Gives (N : Type 0) (tile core : ℕ) (old : PlayState) (said : Said) (new : PlayState) : Type 0 where
   give_hands : (leg : LegValue) → (IsOver old.book.view → ⊥) → held_for tile core old.held ≡ Some leg
-      → HandsIn {N = N} (event.Step tile core leg) old.book said new.book → new.held ≡ without tile core old.held
+      → HandsIn {N = N} (event.Step tile core leg) old.book said new.book
+      → new.held ≡ without_held_leg tile core old.held
       → Gives N tile core old said new
   give_ended : IsOver old.book.view → Stays reply.Ended old said new → Gives N tile core old said new
   give_stale : (IsOver old.book.view → ⊥) → held_for tile core old.held ≡ None → Stays reply.Stale old said new
@@ -122,29 +123,30 @@ said_of (answers.Ended end) = Some (plainly reply.Ended)
 said_of answers.Memory = None
 
 -- `advance`: the event for the least task
-pub record DoesAdvance (N : Type 0) (image : ImageValue) (old : Played) (said : Said) (new : Played) : Type 0 where
+pub record DoesAdvance (N : Type 0) (image : ImageValue) (old : PlayState) (said : Said)
+    (new : PlayState) : Type 0 where
   pub answer : Advance
   pub says : said_of answer ≡ Some said
   pub answers : AdvanceAnswers N image old.book answer new.book
   pub held : new.held ≡ old.held
 
 -- the act is played, this is said of it, and it leaves this
-abbrev pub Does : Type 0 → ImageValue → Act → Played → Said → Played → Type 0
-Does N image (acts.Dispatch tile) old said new = Makes {N = N} (event.Dispatch tile) old said new
+abbrev pub Does : Type 0 → ImageValue → Act → PlayState → Said → PlayState → Type 0
+Does N image (acts.Dispatch tile) old said new = MakesInPlay {N = N} (event.Dispatch tile) old said new
 Does N image (acts.Step tile core) old said new = Steps N image tile core old said new
 Does N image (acts.Take tile core) old said new = Takes image tile core old said new
 Does N image (acts.Give tile core) old said new = Gives N tile core old said new
-Does N image (acts.Abort tile) old said new = Makes {N = N} (event.Abort tile) old said new
-Does N image acts.Commit old said new = Makes {N = N} event.Commit old said new
-Does N image (acts.Coalesce tile) old said new = Makes {N = N} (event.Coalesce tile) old said new
-Does N image (acts.Split tile) old said new = Makes {N = N} (event.Split tile) old said new
+Does N image (acts.Abort tile) old said new = MakesInPlay {N = N} (event.Abort tile) old said new
+Does N image acts.Commit old said new = MakesInPlay {N = N} event.Commit old said new
+Does N image (acts.Coalesce tile) old said new = MakesInPlay {N = N} (event.Coalesce tile) old said new
+Does N image (acts.Split tile) old said new = MakesInPlay {N = N} (event.Split tile) old said new
 Does N image acts.Advance old said new = DoesAdvance N image old said new
 
 -- these acts, one after another, of which this is said
-abbrev pub DoesAll : Type 0 → ImageValue → List Act → Played → List Said → Played → Type 0
+abbrev pub DoesAll : Type 0 → ImageValue → List Act → PlayState → List Said → PlayState → Type 0
 DoesAll N image [] old [] new = old ≡ new
 DoesAll N image (act ∷ acts) old (said ∷ saids) new =
-    (mid : Played) × Does N image act old said mid × DoesAll N image acts mid saids new
+    (mid : PlayState) × Does N image act old said mid × DoesAll N image acts mid saids new
 DoesAll N image [] old (said ∷ saids) new = ⊥
 DoesAll N image (act ∷ acts) old [] new = ⊥
 

@@ -4,13 +4,13 @@ use Rattle.step_script.specs.declared.act.Act.{Act}
 use Rattle.step_script.specs.declared.act.Act.TheVariants as acts
 
 -- the tile and the core that an act names are among the machine's
-abbrev pub IsWithin : ℕ → ℕ → Act → Type 0
-IsWithin tiles cores (acts.Dispatch tile) = tile < tiles
-IsWithin tiles cores (acts.Step tile core) = (tile < tiles) × (core < cores)
-IsWithin tiles cores (acts.Take tile core) = (tile < tiles) × (core < cores)
-IsWithin tiles cores (acts.Give tile core) = (tile < tiles) × (core < cores)
-IsWithin tiles cores (acts.Abort tile) = tile < tiles
-IsWithin tiles cores acts.Commit = Unit {0}
-IsWithin tiles cores (acts.Coalesce tile) = tile < tiles
-IsWithin tiles cores (acts.Split tile) = tile < tiles
-IsWithin tiles cores acts.Advance = Unit {0}
+abbrev pub ActIsInRange : ℕ → ℕ → Act → Type 0
+ActIsInRange tiles cores (acts.Dispatch tile) = tile < tiles
+ActIsInRange tiles cores (acts.Step tile core) = (tile < tiles) × (core < cores)
+ActIsInRange tiles cores (acts.Take tile core) = (tile < tiles) × (core < cores)
+ActIsInRange tiles cores (acts.Give tile core) = (tile < tiles) × (core < cores)
+ActIsInRange tiles cores (acts.Abort tile) = tile < tiles
+ActIsInRange tiles cores acts.Commit = Unit {0}
+ActIsInRange tiles cores (acts.Coalesce tile) = tile < tiles
+ActIsInRange tiles cores (acts.Split tile) = tile < tiles
+ActIsInRange tiles cores acts.Advance = Unit {0}

@@ -2,7 +2,7 @@
 
 ghost use Rattle.std.specs.Prelude.{◌≡◌, ◌==◌, ◌&&◌, Some, IfSome, IsNone, OnOk};
 ghost use Rattle.std.specs.List.{position};
-ghost use Rattle.step_script.specs.Playing.{held_for, holding, is_held_for, without};
+ghost use Rattle.step_script.specs.Playing.{held_for, holding, is_held_for, without_held_leg};
 
 use rv_core::{Leg, Naming};
 use std::alloc::AllocError;
@@ -35,7 +35,7 @@ impl<N: Naming> Held<N> {
 
 /// Gives up what is held for a core.
 pub(crate) fn forget<N: Naming>(held: &mut Vec<Held<N>>, tile: u32, core: u32)
-    ensures { held.new.items ≡ without tile core held.old.items }
+    ensures { held.new.items ≡ without_held_leg tile core held.old.items }
 {
     held.retain(|one| !one.is_for(tile, core));
 }
@@ -64,7 +64,7 @@ fn place_of<N: Naming>(held: &[Held<N>], tile: u32, core: u32) -> Option<usize>
 /// Hands out the leg that is held for a core, for which nothing is held then; None where nothing was.
 pub(crate) fn hand_out<N: Naming>(held: &mut Vec<Held<N>>, tile: u32, core: u32) -> Option<Leg<N>>
     ensures leg { result ≡ held_for tile core held.old.items }
-    ensures rest { held.new.items ≡ without tile core held.old.items }
+    ensures rest { held.new.items ≡ without_held_leg tile core held.old.items }
 {
     let place = place_of(held, tile, core)?;
     let found = held.remove(place);

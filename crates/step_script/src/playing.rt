@@ -1,21 +1,21 @@
 //! A script that is played on a book.
 
 ghost use Rattle.std.specs.Prelude.{◌≡◌, ◌<◌, All, IfOk, IfSome, IsNone, IsTrue, List, OnErr, false};
-ghost use Rattle.book_event.specs.declared.event.Reply.{Reply};
-ghost use Rattle.book_event.specs.declared.event.Event.TheVariants as event;
+ghost use Rattle.event_def.specs.declared.event.Reply.{Reply};
+ghost use Rattle.event_def.specs.declared.event.Event.TheVariants as event;
 ghost use Rattle.conflict_book.specs.Legless.{event_of};
 ghost use Rattle.conflict_book.specs.Ranges.{IsInRange};
-ghost use Rattle.conflict_book.specs.Seen.{view_of};
+ghost use Rattle.conflict_book.specs.BookViews.{machine_view, view_of};
 ghost use Rattle.step_script.specs.Playing.{Does, DoesAdvance, Gives, HandsIn, HasLegAt, HeldLeg, NoneRuns, Plays};
 ghost use Rattle.step_script.specs.Playing.{PlaysSome};
 ghost use Rattle.step_script.specs.Playing.{Steps, Takes, plainly};
-ghost use Rattle.step_script.specs.Ranges.{IsWithin};
+ghost use Rattle.step_script.specs.Ranges.{ActIsInRange};
 
 use crate::act::Act;
 use crate::holding::{Held, forget, hand_out, hold};
 use crate::saying::{Said, Word};
-use book_event::{Advance, Reply};
 use conflict_book::{Book, Legless};
+use event_def::{Advance, Reply};
 use guest_image::{Image, TEXT_START};
 use place_policy::Placer;
 use rv_core::{Core, Leg, Naming, run_leg_decoded};
@@ -37,14 +37,14 @@ fn hand_in<N: Naming, P: Placer, T: Tap>(
     book: &mut Book<N, P, T>,
     event: Legless,
 ) -> Result<Said, AllocError>
-    requires given { let old = view_of P.policy T.reading book.old in
+    requires given { let old = view_of P.policy T.notes book.old in
         IsInRange {N = N} old.view.settings (event_of event) }
-    ensures hands_in { let old = view_of P.policy T.reading book.old in
-        let new = view_of P.policy T.reading book.new in
+    ensures hands_in { let old = view_of P.policy T.notes book.old in
+        let new = view_of P.policy T.notes book.new in
         IfOk result (λ said. HandsIn {N = N} (event_of event) old said new) }
-    ensures out_of_memory { OnErr result (view_of P.policy T.reading book.new ≡ view_of P.policy T.reading book.old) }
-    ensures settings { let old = view_of P.policy T.reading book.old in
-        (view_of P.policy T.reading book.new).view.settings ≡ old.view.settings }
+    ensures out_of_memory { OnErr result (view_of P.policy T.notes book.new ≡ view_of P.policy T.notes book.old) }
+    ensures settings { let old = view_of P.policy T.notes book.old in
+        (machine_view book.new).settings ≡ old.view.settings }
 {
     let applied = book.apply_legless(event);
     match applied.reply {
@@ -63,14 +63,14 @@ fn hand_in_leg<N: Naming, P: Placer, T: Tap>(
     core: u32,
     leg: &Leg<N>,
 ) -> Result<Said, AllocError>
-    requires tile { tile < (view_of P.policy T.reading book.old).view.settings.tiles }
-    requires core { core < (view_of P.policy T.reading book.old).view.settings.cores }
-    ensures hands_in { let old = view_of P.policy T.reading book.old in
-        let new = view_of P.policy T.reading book.new in
+    requires tile { tile < (machine_view book.old).settings.tiles }
+    requires core { core < (machine_view book.old).settings.cores }
+    ensures hands_in { let old = view_of P.policy T.notes book.old in
+        let new = view_of P.policy T.notes book.new in
         IfOk result (λ said. HandsIn {N = N} (event.Step tile core leg.now) old said new) }
-    ensures out_of_memory { OnErr result (view_of P.policy T.reading book.new ≡ view_of P.policy T.reading book.old) }
-    ensures settings { let old = view_of P.policy T.reading book.old in
-        (view_of P.policy T.reading book.new).view.settings ≡ old.view.settings }
+    ensures out_of_memory { OnErr result (view_of P.policy T.notes book.new ≡ view_of P.policy T.notes book.old) }
+    ensures settings { let old = view_of P.policy T.notes book.old in
+        (machine_view book.new).settings ≡ old.view.settings }
 {
     let applied = book.apply_step(tile, core, leg);
     match applied.reply {
@@ -91,16 +91,16 @@ fn leg_at<N: Naming, P: Placer, T: Tap>(
     core: u32,
 ) -> Option<Leg<N>>
     requires image { image.now ≡ N.image }
-    requires tile { tile < (view_of P.policy T.reading book.now).view.settings.tiles }
-    requires core { core < (view_of P.policy T.reading book.now).view.settings.cores }
-    ensures some { let book = view_of P.policy T.reading book.now in
+    requires tile { tile < (machine_view book.now).settings.tiles }
+    requires core { core < (machine_view book.now).settings.cores }
+    ensures some { let book = view_of P.policy T.notes book.now in
         IfSome result (HasLegAt N.image book.view tile core) }
-    ensures none { let book = view_of P.policy T.reading book.now in
+    ensures none { let book = view_of P.policy T.notes book.now in
         IsNone result → NoneRuns book.view tile core }
 {
     let (quantum, budget) = (book.settings().quantum, book.settings().budget);
     let from = book.core_at(tile, core)?;
-    Some(run_leg_decoded(book.decoded(), image, from, quantum, budget))
+    Some(run_leg_decoded(book.decoded_text(), image, from, quantum, budget))
 }
 
 /// The same in the place of another leg, which stays where no task runs there. It tells whether one does.
@@ -112,17 +112,17 @@ fn run_at<N: Naming, P: Placer, T: Tap>(
     core: u32,
 ) -> bool
     requires image { image.now ≡ N.image }
-    requires tile { tile < (view_of P.policy T.reading book.now).view.settings.tiles }
-    requires core { core < (view_of P.policy T.reading book.now).view.settings.cores }
-    ensures some { let book = view_of P.policy T.reading book.now in
+    requires tile { tile < (machine_view book.now).settings.tiles }
+    requires core { core < (machine_view book.now).settings.cores }
+    ensures some { let book = view_of P.policy T.notes book.now in
         IsTrue result → HasLegAt N.image book.view tile core leg.new }
-    ensures none { let book = view_of P.policy T.reading book.now in
+    ensures none { let book = view_of P.policy T.notes book.now in
         result ≡ false → NoneRuns book.view tile core }
 {
     let (quantum, budget) = (book.settings().quantum, book.settings().budget);
     match book.core_in_place(tile, core) {
         Some(from) => {
-            leg.run_again(book.decoded(), image, from, quantum, budget);
+            leg.run_again(book.decoded_text(), image, from, quantum, budget);
             true
         }
         None => false,
@@ -134,7 +134,13 @@ fn first_leg<N: Naming, P: Placer, T: Tap>(image: &Image, book: &Book<N, P, T>) 
     requires image { image.now ≡ N.image }
 {
     let start = Core::start(image.version(), TEXT_START, 0, [0; 3]);
-    run_leg_decoded(book.decoded(), image, &start, 1, book.settings().budget)
+    run_leg_decoded(
+        book.decoded_text(),
+        image,
+        &start,
+        1,
+        book.settings().budget,
+    )
 }
 
 /// `step`: a leg of the running task on a core is run, in the place of another, and handed in.
@@ -146,15 +152,15 @@ fn step<N: Naming, P: Placer, T: Tap>(
     core: u32,
 ) -> Result<Said, AllocError>
     requires image { image.now ≡ N.image }
-    requires tile { tile < (view_of P.policy T.reading book.old).view.settings.tiles }
-    requires core { core < (view_of P.policy T.reading book.old).view.settings.cores }
-    ensures steps { let old = view_of P.policy T.reading book.old in
-        let new = view_of P.policy T.reading book.new in
+    requires tile { tile < (machine_view book.old).settings.tiles }
+    requires core { core < (machine_view book.old).settings.cores }
+    ensures steps { let old = view_of P.policy T.notes book.old in
+        let new = view_of P.policy T.notes book.new in
         IfOk result (λ said. (held : List HeldLeg) → Steps N N.image tile core
         (record { book = old; held = held }) said (record { book = new; held = held })) }
-    ensures out_of_memory { OnErr result (view_of P.policy T.reading book.new ≡ view_of P.policy T.reading book.old) }
-    ensures settings { let old = view_of P.policy T.reading book.old in
-        (view_of P.policy T.reading book.new).view.settings ≡ old.view.settings }
+    ensures out_of_memory { OnErr result (view_of P.policy T.notes book.new ≡ view_of P.policy T.notes book.old) }
+    ensures settings { let old = view_of P.policy T.notes book.old in
+        (machine_view book.new).settings ≡ old.view.settings }
 {
     if book.end().is_some() {
         return Ok(plainly(Reply::Ended));
@@ -176,9 +182,9 @@ fn take<N: Naming, P: Placer, T: Tap>(
     core: u32,
 ) -> Result<Said, AllocError>
     requires image { image.now ≡ N.image }
-    requires tile { tile < (view_of P.policy T.reading book.now).view.settings.tiles }
-    requires core { core < (view_of P.policy T.reading book.now).view.settings.cores }
-    ensures { let book = view_of P.policy T.reading book.now in
+    requires tile { tile < (machine_view book.now).settings.tiles }
+    requires core { core < (machine_view book.now).settings.cores }
+    ensures { let book = view_of P.policy T.notes book.now in
         IfOk result (λ said. Takes N.image tile core (record { book = book; held = held.old.items }) said
         (record { book = book; held = held.new.items })) }
 {
@@ -201,15 +207,15 @@ fn give<N: Naming, P: Placer, T: Tap>(
     tile: u32,
     core: u32,
 ) -> Result<Said, AllocError>
-    requires tile { tile < (view_of P.policy T.reading book.old).view.settings.tiles }
-    requires core { core < (view_of P.policy T.reading book.old).view.settings.cores }
-    ensures gives { let old = view_of P.policy T.reading book.old in
-        let new = view_of P.policy T.reading book.new in
+    requires tile { tile < (machine_view book.old).settings.tiles }
+    requires core { core < (machine_view book.old).settings.cores }
+    ensures gives { let old = view_of P.policy T.notes book.old in
+        let new = view_of P.policy T.notes book.new in
         IfOk result (λ said. Gives N tile core (record { book = old; held = held.old.items }) said
         (record { book = new; held = held.new.items })) }
-    ensures out_of_memory { OnErr result (view_of P.policy T.reading book.new ≡ view_of P.policy T.reading book.old) }
-    ensures settings { let old = view_of P.policy T.reading book.old in
-        (view_of P.policy T.reading book.new).view.settings ≡ old.view.settings }
+    ensures out_of_memory { OnErr result (view_of P.policy T.notes book.new ≡ view_of P.policy T.notes book.old) }
+    ensures settings { let old = view_of P.policy T.notes book.old in
+        (machine_view book.new).settings ≡ old.view.settings }
 {
     if book.end().is_some() {
         return Ok(plainly(Reply::Ended));
@@ -226,13 +232,13 @@ fn advance<N: Naming, P: Placer, T: Tap>(
     book: &mut Book<N, P, T>,
 ) -> Result<Said, AllocError>
     requires image { image.now ≡ N.image }
-    ensures advances { let old = view_of P.policy T.reading book.old in
-        let new = view_of P.policy T.reading book.new in
+    ensures advances { let old = view_of P.policy T.notes book.old in
+        let new = view_of P.policy T.notes book.new in
         IfOk result (λ said. (held : List HeldLeg) → DoesAdvance N N.image
         (record { book = old; held = held }) said (record { book = new; held = held })) }
-    ensures out_of_memory { OnErr result (view_of P.policy T.reading book.new ≡ view_of P.policy T.reading book.old) }
-    ensures settings { let old = view_of P.policy T.reading book.old in
-        (view_of P.policy T.reading book.new).view.settings ≡ old.view.settings }
+    ensures out_of_memory { OnErr result (view_of P.policy T.notes book.new ≡ view_of P.policy T.notes book.old) }
+    ensures settings { let old = view_of P.policy T.notes book.old in
+        (machine_view book.new).settings ≡ old.view.settings }
 {
     match book.advance(image) {
         Advance::Moved { aborted } => Ok(Said {
@@ -257,15 +263,15 @@ fn play_act<N: Naming, P: Placer, T: Tap>(
     act: Act,
 ) -> Result<Said, AllocError>
     requires image { image.now ≡ N.image }
-    requires within { let settings = (view_of P.policy T.reading book.old).view.settings in
-        IsWithin settings.tiles settings.cores act }
-    ensures does { let old = view_of P.policy T.reading book.old in
-        let new = view_of P.policy T.reading book.new in
+    requires within { let settings = (machine_view book.old).settings in
+        ActIsInRange settings.tiles settings.cores act }
+    ensures does { let old = view_of P.policy T.notes book.old in
+        let new = view_of P.policy T.notes book.new in
         IfOk result (λ said. Does N N.image act (record { book = old; held = held.old.items }) said
         (record { book = new; held = held.new.items })) }
-    ensures out_of_memory { OnErr result (view_of P.policy T.reading book.new ≡ view_of P.policy T.reading book.old) }
-    ensures settings { let old = view_of P.policy T.reading book.old in
-        (view_of P.policy T.reading book.new).view.settings ≡ old.view.settings }
+    ensures out_of_memory { OnErr result (view_of P.policy T.notes book.new ≡ view_of P.policy T.notes book.old) }
+    ensures settings { let old = view_of P.policy T.notes book.old in
+        (machine_view book.new).settings ≡ old.view.settings }
 {
     match act {
         Act::Dispatch(tile) => hand_in(book, Legless::Dispatch { tile }),
@@ -289,13 +295,13 @@ pub fn play<N: Naming, P: Placer, T: Tap>(
     acts: &[Act],
 ) -> Result<Vec<Said>, AllocError>
     requires image { image.now ≡ N.image }
-    requires within { let settings = (view_of P.policy T.reading book.old).view.settings in
-        All (IsWithin settings.tiles settings.cores) acts.now }
-    ensures plays { let old = view_of P.policy T.reading book.old in
-        let new = view_of P.policy T.reading book.new in
+    requires within { let settings = (machine_view book.old).settings in
+        All (ActIsInRange settings.tiles settings.cores) acts.now }
+    ensures plays { let old = view_of P.policy T.notes book.old in
+        let new = view_of P.policy T.notes book.new in
         IfOk result (λ said. Plays N N.image acts.now old said.items new) }
-    ensures out_of_memory { let old = view_of P.policy T.reading book.old in
-        let new = view_of P.policy T.reading book.new in
+    ensures out_of_memory { let old = view_of P.policy T.notes book.old in
+        let new = view_of P.policy T.notes book.new in
         OnErr result (PlaysSome N N.image acts.now old new) }
 {
     // All room for the words comes first, so that no act is made whose word finds none.

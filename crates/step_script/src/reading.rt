@@ -2,8 +2,8 @@
 
 ghost use Rattle.std.specs.Prelude.{◌≡◌, ◌<◌, All, length, Ok, IfOk, IfErr};
 ghost use Rattle.step_script.specs.Grammar.{IsFaultOf, acts_of};
-ghost use Rattle.step_script.specs.Ranges.{IsWithin};
-ghost use Rattle.step_script.specs.Written.{ReadsBack, ReadsOnly};
+ghost use Rattle.step_script.specs.Ranges.{ActIsInRange};
+ghost use Rattle.step_script.specs.Written.{ScriptReadsBack, ReadsOnly};
 
 use crate::act::Act;
 use crate::fault::ScriptFault;
@@ -22,7 +22,7 @@ pub fn read_script(
 ) -> Result<Vec<Act>, ScriptFault>
     requires { length text.now < 4294967295 }
     ensures acts { IfOk result (λ acts. acts_of text.now tiles cores ≡ Ok acts.items) }
-    ensures within { IfOk result (λ acts. All (IsWithin tiles cores) acts.items) }
+    ensures within { IfOk result (λ acts. All (ActIsInRange tiles cores) acts.items) }
     ensures fault { IfErr result (λ fault. IsFaultOf (acts_of text.now tiles cores) fault) }
 {
     let mut acts = Vec::new(alloc);
@@ -44,6 +44,6 @@ pub fn read_script(
 /// A script that was written of acts is read back as these acts, and a text is read only as acts
 /// whose lines are the text's.
 pub fn written_scripts_read_back()
-    ensures back { ReadsBack }
+    ensures back { ScriptReadsBack }
     ensures only { ReadsOnly }
 {}

@@ -1,6 +1,6 @@
 //! What is said of each act that was played.
 
-use book_event::Reply;
+use event_def::Reply;
 
 /// The word for an act.
 #[derive(Clone, Copy, Debug, PartialEq, Eq)]

@@ -10,7 +10,7 @@ use Rattle.byteorder.specs.Endian.{little_number}
 use Rattle.byteorder.specs.Numbers.{little_number-reads_back}
 use Rattle.guest_image.specs.Numbers.{word_at, half_at, word_bytes, half_bytes}
 use Rattle.task_desc.specs.declared.calls.TheConstants.{MAX_DEPTH}
-use Rattle.task_desc.specs.Record.{IsDesc, record_of, fields_of, is_desc, is_record, desc_of}
+use Rattle.task_desc.specs.Record.{IsDesc, record_bytes, fields_of, is_desc, is_record, desc_of}
 use Rattle.task_desc.specs.declared.desc.Desc.{Desc}
 
 -- each is a byte
@@ -88,8 +88,8 @@ three (a ∷ b ∷ []) e = absurd (omega arith)
 three (a ∷ b ∷ c ∷ []) e = refl
 three (a ∷ b ∷ c ∷ d ∷ xs) e = absurd (omega arith)
 
-fields_back : (desc : Desc) → InRange desc → fields_of (record_of desc) ≡ desc
-unfolding fields_of record_of word_at half_at
+fields_back : (desc : Desc) → InRange desc → fields_of (record_bytes desc) ≡ desc
+unfolding fields_of record_bytes word_at half_at
 fields_back desc fits =
     let entry = little_number-reads_back 4 desc.entry [] fits.entry in
     let ts = little_number-reads_back 4 desc.ts [] fits.ts in
@@ -119,18 +119,18 @@ is_desc-true desc is = by_tests desc.depth desc.kinds is.inside is.shallow is.ki
     by_tests depth kinds a b c = grind (arith, nat_tests)
 
 zeros : Desc → Bool
-zeros desc = list_all (λ byte. byte == 0) (drop 36 (record_of desc))
+zeros desc = list_all (λ byte. byte == 0) (drop 36 (record_bytes desc))
 
 zeros_are : (desc : Desc) → zeros desc ≡ true
-unfolding zeros record_of
+unfolding zeros record_bytes
 zeros_are desc = refl
 
-pub desc_back : (desc : Desc) → InRange desc → IsDesc desc → desc_of (record_of desc) ≡ Some desc
+pub desc_back : (desc : Desc) → InRange desc → IsDesc desc → desc_of (record_bytes desc) ≡ Some desc
 unfolding desc_of is_record zeros
 desc_back desc fits is =
     let fields = fields_back desc fits in
-    let valid : is_record (record_of desc) ≡ true = ap (λ f. is_desc f && zeros desc) fields ∙ ap (λ b. b && zeros desc) (is_desc-true desc is) ∙ zeros_are desc in
-    ap (λ b. cond b (Some (fields_of (record_of desc))) None) valid ∙ ap Some fields
+    let valid : is_record (record_bytes desc) ≡ true = ap (λ f. is_desc f && zeros desc) fields ∙ ap (λ b. b && zeros desc) (is_desc-true desc is) ∙ zeros_are desc in
+    ap (λ b. cond b (Some (fields_of (record_bytes desc))) None) valid ∙ ap Some fields
 
 -- the bytes of a record are those of its fields
 
@@ -169,12 +169,12 @@ taken_in_turn xs =
     (ap (λ front. front ++ take 4 (drop 12 xs)) (ap (λ front. front ++ take 4 (drop 8 xs)) (joined 4 4 xs) ∙ joined 8 4 xs) ∙ joined 12 4 xs) ∙ joined 16 4 xs) ∙ joined 20 4 xs) ∙ joined 24 4 xs) ∙ joined 28 4 xs) ∙ joined 32 2 xs) ∙ joined 34 2 xs)
     ∙ take-append-drop 36 xs
 
-pub bytes_back : (bytes : List ℕ) → AreBytes bytes → length bytes ≡ 64 → is_record bytes ≡ true → record_of (fields_of bytes) ≡ bytes
-unfolding record_of fields_of word_at half_at in_turn
+pub bytes_back : (bytes : List ℕ) → AreBytes bytes → length bytes ≡ 64 → is_record bytes ≡ true → record_bytes (fields_of bytes) ≡ bytes
+unfolding record_bytes fields_of word_at half_at in_turn
 bytes_back bytes are long valid =
     let word : (k : ℕ) → k + 4 ≤ 64 → word_bytes (little_number 4 (drop k bytes)) ≡ take 4 (drop k bytes) = λ k fits. word_back (drop k bytes) (bytes_from k bytes are) (room_from k 4 bytes long fits) in
     let half : (k : ℕ) → k + 2 ≤ 64 → half_bytes (little_number 2 (drop k bytes)) ≡ take 2 (drop k bytes) = λ k fits. half_back (drop k bytes) (bytes_from k bytes are) (room_from k 2 bytes long fits) in
-    let same : record_of (fields_of bytes) ≡ in_turn (take 4 (drop 0 bytes)) (take 4 (drop 4 bytes)) (take 4 (drop 8 bytes)) (take 4 (drop 12 bytes)) (take 4 (drop 16 bytes)) (take 4 (drop 20 bytes)) (take 4 (drop 24 bytes)) (take 4 (drop 28 bytes)) (take 2 (drop 32 bytes)) (take 2 (drop 34 bytes)) (drop 36 bytes) =
+    let same : record_bytes (fields_of bytes) ≡ in_turn (take 4 (drop 0 bytes)) (take 4 (drop 4 bytes)) (take 4 (drop 8 bytes)) (take 4 (drop 12 bytes)) (take 4 (drop 16 bytes)) (take 4 (drop 20 bytes)) (take 4 (drop 24 bytes)) (take 4 (drop 28 bytes)) (take 2 (drop 32 bytes)) (take 2 (drop 34 bytes)) (drop 36 bytes) =
     λ i. in_turn (word 0 (omega arith) i) (word 4 (omega arith) i) (word 8 (omega arith) i) (word 12 (omega arith) i) (word 16 (omega arith) i) (word 20 (omega arith) i) (word 24 (omega arith) i) (word 28 (omega arith) i) (half 32 (omega arith) i) (half 34 (omega arith) i) (filled bytes long valid i)
     in
     same ∙ taken_in_turn bytes

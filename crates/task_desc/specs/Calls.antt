@@ -27,22 +27,22 @@ is_early Unordered ts bound = false
 is_early Ordered ts bound = nat_lt ts bound
 
 -- one child more at this timestamp, and trap 15 at the child past the limit
-abbrev pub counted : Ctx → ℕ → Result ℕ ℕ
-counted ctx ts = if nat_lt ctx.children (most_children ctx.version) then Ok ts else Err 15
+abbrev pub one_more_child : Ctx → ℕ → Result ℕ ℕ
+one_more_child ctx ts = if nat_lt ctx.children (most_children ctx.version) then Ok ts else Err 15
 
 -- call 1, to the own domain: trap 10 below the own timestamp, then trap 15
 abbrev pub allowed_same : Ctx → ℕ → Result ℕ ℕ
-allowed_same ctx ts = if is_early ctx.own ts ctx.ts then Err 10 else counted ctx (domain_ts ctx.own ts)
+allowed_same ctx ts = if is_early ctx.own ts ctx.ts then Err 10 else one_more_child ctx (domain_ts ctx.own ts)
 
 -- call 2, to the subdomain: trap 11 where none was made, then trap 15
 abbrev pub allowed_sub : Ctx → ℕ → Option Kind → Result ℕ ℕ
 allowed_sub ctx ts None = Err 11
-allowed_sub ctx ts (Some kind) = counted ctx (domain_ts kind ts)
+allowed_sub ctx ts (Some kind) = one_more_child ctx (domain_ts kind ts)
 
 -- call 3, to the superdomain: trap 13 where there is none, then trap 10 below the floor, then trap 15
 abbrev pub allowed_super : Ctx → ℕ → Option Kind → Result ℕ ℕ
 allowed_super ctx ts None = Err 13
-allowed_super ctx ts (Some kind) = if is_early kind ts ctx.floor then Err 10 else counted ctx (domain_ts kind ts)
+allowed_super ctx ts (Some kind) = if is_early kind ts ctx.floor then Err 10 else one_more_child ctx (domain_ts kind ts)
 
 -- an enqueue by its place
 abbrev pub allowed_at : Ctx → ℕ → Place → Result ℕ ℕ
@@ -51,14 +51,14 @@ allowed_at ctx ts Sub = allowed_sub ctx ts ctx.sub
 allowed_at ctx ts Super = allowed_super ctx ts ctx.outer
 
 -- an enqueue: the timestamp of the child, or the trap that comes
-abbrev pub allowed : Ctx → Spawn → Result ℕ ℕ
-allowed ctx spawn = allowed_at ctx spawn.ts spawn.place
+abbrev pub allowed_spawn : Ctx → Spawn → Result ℕ ℕ
+allowed_spawn ctx spawn = allowed_at ctx spawn.ts spawn.place
 
 -- the kind of a domain by its number
 abbrev pub kind_of : ℕ → Kind
 kind_of value = if value == 0 then Unordered else Ordered
 
--- a subdomain: trap 12 where one was made, then trap 14 at the greatest depth
+-- a subdomain: trap 12 where one was made, then trap 14 where the depth isn't below the greatest
 abbrev pub sub_of : Ctx → ℕ → Option Kind → Result Kind ℕ
 sub_of ctx value (Some made) = Err 12
 sub_of ctx value None = if nat_lt ctx.depth (deepest ctx.version) then Ok (kind_of value) else Err 14

@@ -1,2 +1,3 @@
+-- Contracts mean all of these.
 pub mod Calls
 pub mod Record

@@ -15,8 +15,8 @@ pub record IsDesc (desc : Desc) : Type 0 where
   pub kinds : desc.kinds < 2 ^ desc.depth
 
 -- the bytes of a descriptor
-unfoldable pub record_of : Desc → List ℕ
-record_of desc =
+unfoldable pub record_bytes : Desc → List ℕ
+record_bytes desc =
     word_bytes desc.entry ++ word_bytes desc.ts
     ++ word_bytes (slice_index desc.args 0) ++ word_bytes (slice_index desc.args 1)
     ++ word_bytes (slice_index desc.args 2)

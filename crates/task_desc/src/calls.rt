@@ -1,5 +1,8 @@
+//! The rules of a task's calls.
+
 ghost use Rattle.std.specs.Prelude.{◌≡◌, ◌≢◌, ◌<◌, ◌≤◌, OnOk};
-ghost use Rattle.task_desc.specs.Calls.{deepest, most_children, domain_ts, is_early, counted, allowed, sub_allowed};
+ghost use Rattle.task_desc.specs.Calls.{deepest, most_children, domain_ts, is_early, one_more_child, allowed_spawn};
+ghost use Rattle.task_desc.specs.Calls.{sub_allowed};
 ghost use Rattle.task_desc.specs.Calls.{byte_allowed};
 
 use crate::desc::{Ctx, Place, Spawn};
@@ -31,7 +34,7 @@ fn most_children(version: u16) -> u32
 }
 
 /// The timestamp that a domain of this kind takes a timestamp for.
-fn taken(kind: Kind, ts: u32) -> u32
+fn timestamp_in(kind: Kind, ts: u32) -> u32
     ensures { result ≡ domain_ts kind ts }
 {
     match kind {
@@ -52,7 +55,7 @@ fn early(kind: Kind, ts: u32, bound: u32) -> bool
 
 /// One child more at this timestamp, or trap 15.
 fn count(ctx: &Ctx, ts: u32) -> Result<u32, u8>
-    ensures value { result ≡ counted ctx.now ts }
+    ensures value { result ≡ one_more_child ctx.now ts }
     ensures room { OnOk result (ctx.now.children < MAX_CHILDREN) }
 {
     if ctx.children < most_children(ctx.version) {
@@ -68,8 +71,10 @@ fn count(ctx: &Ctx, ts: u32) -> Result<u32, u8>
 ///   257th in version 2);
 /// - `Sub`: 11 where no subdomain was made, then 15;
 /// - `Super`: 13 at depth 1, then 10 where the superdomain is ordered and the timestamp below the floor, then 15.
+///
+/// It asks nothing of the context: whatever that says, the answer is the rule's.
 pub fn allow(ctx: &Ctx, spawn: &Spawn) -> Result<u32, u8>
-    ensures value { result ≡ allowed ctx.now spawn.now }
+    ensures value { result ≡ allowed_spawn ctx.now spawn.now }
     ensures room { OnOk result (ctx.now.children < MAX_CHILDREN) }
 {
     match spawn.place {
@@ -77,11 +82,11 @@ pub fn allow(ctx: &Ctx, spawn: &Spawn) -> Result<u32, u8>
             if early(ctx.own, spawn.ts, ctx.ts) {
                 return Err(10);
             }
-            count(ctx, taken(ctx.own, spawn.ts))
+            count(ctx, timestamp_in(ctx.own, spawn.ts))
         }
         Place::Sub => match ctx.sub {
             None => Err(11),
-            Some(kind) => count(ctx, taken(kind, spawn.ts)),
+            Some(kind) => count(ctx, timestamp_in(kind, spawn.ts)),
         },
         Place::Super => match ctx.outer {
             None => Err(13),
@@ -89,7 +94,7 @@ pub fn allow(ctx: &Ctx, spawn: &Spawn) -> Result<u32, u8>
                 if early(kind, spawn.ts, ctx.floor) {
                     return Err(10);
                 }
-                count(ctx, taken(kind, spawn.ts))
+                count(ctx, timestamp_in(kind, spawn.ts))
             }
         },
     }

@@ -1,3 +1,5 @@
+//! Names, children, descriptors, and what calls depend on.
+
 use guest_image::Kind;
 
 /// The name of a task: the commit number of its creator (0 for the image's tasks), and its place among the creator's

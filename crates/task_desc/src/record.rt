@@ -1,9 +1,11 @@
+//! Descriptors as records of 64 bytes.
+
 ghost use Rattle.std.specs.Prelude.{◌≡◌, true, ◌+◌, ◌≤◌, ◌^◌, ◌++◌, ◌&&◌, ◌==◌, nat_le, nat_lt, Some, take, drop};
 ghost use Rattle.std.specs.Prelude.{length, replicate, IfSome};
 ghost use Rattle.std.specs.Bool.{OnTrue};
 ghost use Rattle.std.specs.List.{list_all};
 ghost use Rattle.guest_image.specs.Numbers.{word_at, half_at, word_bytes, half_bytes};
-ghost use Rattle.task_desc.specs.Record.{IsDesc, record_of, fields_of, is_record, desc_of};
+ghost use Rattle.task_desc.specs.Record.{IsDesc, record_bytes, fields_of, is_record, desc_of};
 
 use crate::calls::MAX_DEPTH;
 use crate::desc::{Desc, Name};
@@ -48,7 +50,7 @@ fn put_half(bytes: &mut [u8; RECORD_BYTES], at: usize, half: u16)
 /// The record of a descriptor: its fields in their places, little-endian, and zeros behind them.
 pub fn put_desc(desc: &Desc) -> [u8; RECORD_BYTES]
     requires { IsDesc desc.now }
-    ensures value { result ≡ record_of desc.now }
+    ensures value { result ≡ record_bytes desc.now }
     ensures back { desc_of result ≡ Some desc.now }
 {
     let mut record = [0; RECORD_BYTES];
@@ -71,7 +73,7 @@ pub fn put_desc(desc: &Desc) -> [u8; RECORD_BYTES]
 pub fn get_desc(bytes: &[u8; RECORD_BYTES]) -> Option<Desc>
     ensures value { result ≡ desc_of bytes.now }
     ensures valid { IfSome result IsDesc }
-    ensures back { IfSome result (λ desc. record_of desc ≡ bytes.now) }
+    ensures back { IfSome result (λ desc. record_bytes desc ≡ bytes.now) }
 {
     if is_valid(bytes) {
         Some(fields(bytes))

@@ -1,2 +1,3 @@
+-- Contracts mean all of these.
 pub mod Lines
 pub mod Numerals

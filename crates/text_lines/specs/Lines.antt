@@ -11,8 +11,8 @@ None >>= f = None
 (Some x) >>= f = f x
 
 -- a value, where a test holds
-abbrev pub guarded : {A : Type 0} → Bool → A → Option A
-guarded b x = if b then Some x else None
+abbrev pub some_if : {A : Type 0} → Bool → A → Option A
+some_if b x = if b then Some x else None
 
 -- a byte at the front of the first line
 abbrev pub onto : ℕ → List (List ℕ) → List (List ℕ)

@@ -5,24 +5,24 @@ use Rattle.std.specs.List.{remove}
 use Rattle.std.proofs.lemmas.Bool.{ne_eqb}
 use Rattle.std.proofs.lemmas.Bool.Decides.{nat_tests}
 use Rattle.std.proofs.lemmas.List.Kept.{AllPairs-filter}
-use Rattle.tile_queues.specs.Queue.{AreDistinct, without, unmarked_ids}
+use Rattle.tile_queues.specs.Queue.{AreDistinct, ids_but, unmarked_ids}
 
 -- one more id in front
-without-cons_other : (id x : ℕ) (ids : List ℕ) → x ≢ id → without id (x ∷ ids) ≡ x ∷ without id ids
-without-cons_other id x ids other = ap (λ test. cond (not test) (x ∷ without id ids) (without id ids)) (ne_eqb x id other)
+ids_but-cons_other : (id x : ℕ) (ids : List ℕ) → x ≢ id → ids_but id (x ∷ ids) ≡ x ∷ ids_but id ids
+ids_but-cons_other id x ids other = ap (λ test. cond (not test) (x ∷ ids_but id ids) (ids_but id ids)) (ne_eqb x id other)
 
-without-cons_same : (id x : ℕ) (ids : List ℕ) → eqb x id ≡ true → without id (x ∷ ids) ≡ without id ids
-without-cons_same id x ids same = ap (λ test. cond (not test) (x ∷ without id ids) (without id ids)) same
+ids_but-cons_same : (id x : ℕ) (ids : List ℕ) → eqb x id ≡ true → ids_but id (x ∷ ids) ≡ ids_but id ids
+ids_but-cons_same id x ids same = ap (λ test. cond (not test) (x ∷ ids_but id ids) (ids_but id ids)) same
 
 eqb-true_at : (x id : ℕ) → x ≡ id → eqb x id ≡ true
 eqb-true_at x id same = grind (arith, nat_tests)
 
 -- an id that is not there takes nothing away
-pub without-absent : (id : ℕ) (ids : List ℕ) → (Contains ids id → ⊥) → without id ids ≡ ids
-without-absent id [] absent = refl
-without-absent id (x ∷ ids) absent =
-    without-cons_other id x ids (λ same. absent (0, omega arith, same))
-    ∙ ap (λ rest. x ∷ rest) (without-absent id ids (λ there. absent (suc there.0, omega (arith, there.1), there.2)))
+pub ids_but-absent : (id : ℕ) (ids : List ℕ) → (Contains ids id → ⊥) → ids_but id ids ≡ ids
+ids_but-absent id [] absent = refl
+ids_but-absent id (x ∷ ids) absent =
+    ids_but-cons_other id x ids (λ same. absent (0, omega arith, same))
+    ∙ ap (λ rest. x ∷ rest) (ids_but-absent id ids (λ there. absent (suc there.0, omega (arith, there.1), there.2)))
 
 distinct_tail : (x : ℕ) (ids : List ℕ) → AreDistinct (x ∷ ids) → AreDistinct ids
 distinct_tail x ids distinct i j d before below = distinct (suc i) (suc j) d (omega (arith, before)) (omega (arith, below))
@@ -32,20 +32,20 @@ distinct_head : (x : ℕ) (ids : List ℕ) → AreDistinct (x ∷ ids) → Conta
 distinct_head x ids distinct there = distinct 0 (suc there.0) x (omega arith) (omega (arith, there.1)) (sym there.2)
 
 -- of distinct ids the removal of one place takes away the id that stands there, and no other
-pub remove-distinct : (id place : ℕ) (ids : List ℕ) → AreDistinct ids → place < length ids → get_or ids place id ≡ id → remove ids place ≡ without id ids
+pub remove-distinct : (id place : ℕ) (ids : List ℕ) → AreDistinct ids → place < length ids → get_or ids place id ≡ id → remove ids place ≡ ids_but id ids
 remove-distinct id place [] distinct below is = absurd (omega (arith, below))
 remove-distinct id zero (x ∷ ids) distinct below is =
-    sym (without-cons_same id x ids (eqb-true_at x id is)
-    ∙ without-absent id ids (λ there. distinct_head x ids distinct (subst (Contains ids) (sym is) there)))
+    sym (ids_but-cons_same id x ids (eqb-true_at x id is)
+    ∙ ids_but-absent id ids (λ there. distinct_head x ids distinct (subst (Contains ids) (sym is) there)))
 remove-distinct id (suc place) (x ∷ ids) distinct below is =
     let inside : place < length ids = omega (arith, below) in
     let other : x ≢ id = λ same. distinct_head x ids distinct (subst (Contains ids) (sym same) (place, inside, is)) in
     ap (λ rest. x ∷ rest) (remove-distinct id place ids (distinct_tail x ids distinct) inside is)
-    ∙ sym (without-cons_other id x ids other)
+    ∙ sym (ids_but-cons_other id x ids other)
 
 -- what is left is distinct
-pub AreDistinct-without : (id : ℕ) (ids : List ℕ) → AreDistinct ids → AreDistinct (without id ids)
-AreDistinct-without id ids distinct = AllPairs-filter (λ a b. a ≢ b) (λ other. not (eqb other id)) ids distinct
+pub AreDistinct-ids_but : (id : ℕ) (ids : List ℕ) → AreDistinct ids → AreDistinct (ids_but id ids)
+AreDistinct-ids_but id ids distinct = AllPairs-filter (λ a b. a ≢ b) (λ other. not (eqb other id)) ids distinct
 
 pub AreDistinct-unmarked : (marks : List Bool) (ids : List ℕ) → AreDistinct ids → AreDistinct (unmarked_ids marks ids)
 AreDistinct-unmarked marks ids distinct = AllPairs-filter (λ a b. a ≢ b) (λ id. not (get_or marks id false)) ids distinct

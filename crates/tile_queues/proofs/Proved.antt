@@ -1,2 +1,2 @@
 -- What the crates above may cite of these proofs.
-pub use Rattle.tile_queues.proofs.Ids.{remove-distinct, without-absent}
+pub use Rattle.tile_queues.proofs.Ids.{remove-distinct, ids_but-absent}

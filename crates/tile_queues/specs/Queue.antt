@@ -11,8 +11,8 @@ abbrev pub AreDistinct : List ℕ → Type 0
 AreDistinct ids = AllPairs (λ a b. a ≢ b) ids
 
 -- the ids but this one, in their order
-abbrev pub without : ℕ → List ℕ → List ℕ
-without id ids = filter (λ other. not (other == id)) ids
+abbrev pub ids_but : ℕ → List ℕ → List ℕ
+ids_but id ids = filter (λ other. not (other == id)) ids
 
 -- the ids whose mark isn't true, in their order; past the marks there is none
 abbrev pub unmarked_ids : List Bool → List ℕ → List ℕ

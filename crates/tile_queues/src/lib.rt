@@ -7,4 +7,4 @@
 
 mod queue;
 
-pub use queue::{CommitQueue, Commits, Queue, TaskQueue, Tasks};
+pub use queue::{CommitQueue, FinishedTasks, Queue, QueuedTasks, TaskQueue};

@@ -1,26 +1,26 @@
-// A bounded list of distinct ids.
+//! A bounded list of distinct ids.
 
 ghost use Rattle.std.specs.Prelude.{◌≡◌, false, slice_index_or, ◌+◌, ◌<◌, ◌≤◌, ◌↔◌, [], ◌∷◌, ◌++◌, length};
 ghost use Rattle.std.specs.Prelude.{Contains, IsTrue, IsErr, IfOk, IfErr, OnOk, OnErr};
 ghost use Rattle.std.specs.Bool.{OnFalse};
-ghost use Rattle.tile_queues.specs.Queue.{AreDistinct, without, unmarked_ids};
+ghost use Rattle.tile_queues.specs.Queue.{AreDistinct, ids_but, unmarked_ids};
 
 use std::alloc::{AllocError, Global};
 use std::marker::{Model, PhantomData};
 
 /// What a task queue holds: each uncommitted task of the tile that is not spilled.
 #[derive(Clone, Copy, Debug)]
-pub struct Tasks;
+pub struct QueuedTasks;
 
 /// What a commit queue holds: each finished task of the tile.
 #[derive(Clone, Copy, Debug)]
-pub struct Commits;
+pub struct FinishedTasks;
 
 /// The task queue of a tile (Jeffrey et al. 2015).
-pub type TaskQueue = Queue<Tasks>;
+pub type TaskQueue = Queue<QueuedTasks>;
 
 /// The commit queue of a tile (Jeffrey et al. 2015).
-pub type CommitQueue = Queue<Commits>;
+pub type CommitQueue = Queue<FinishedTasks>;
 
 /// A bounded list of distinct ids, in order of arrival. `Kind` says what they are ids of.
 #[derive(Drop)]
@@ -75,7 +75,7 @@ impl<Kind> Queue<Kind> {
     /// since tasks that are spilled or taken back stand there.
     pub fn take(&mut self, id: usize) -> bool
         ensures there { IsTrue result ↔ Contains self.old.ids id }
-        ensures taken { self.new ≡ record self.old { ids = without id self.old.ids } }
+        ensures taken { self.new ≡ record self.old { ids = ids_but id self.old.ids } }
         ensures absent { OnFalse result (self.new ≡ self.old) }
     {
         match self.ids.iter().rposition(|other| *other == id) {

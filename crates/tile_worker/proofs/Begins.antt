@@ -4,7 +4,7 @@ use Rattle.std.proofs.Math.Nat.{min-le_right}
 use Rattle.std.proofs.lemmas.List.{length-take, take-append-le, take-append-drop, take_all}
 use Rattle.run_journal.specs.declared.journal.Entry.{Entry}
 use Rattle.spec_state.specs.View.{View}
-use Rattle.book_event.specs.Book.{BookView}
+use Rattle.event_def.specs.Book.{BookView}
 use Rattle.tile_worker.specs.Grows.{Grows}
 use Rattle.tile_worker.specs.Holds.{HoldsOnce}
 use Rattle.tile_worker.proofs.Holding.{holds_grow}

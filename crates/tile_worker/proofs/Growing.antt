@@ -5,8 +5,8 @@ use Rattle.guest_image.specs.ImageValue.{ImageValue}
 use Rattle.place_policy.specs.Policy.{Policy}
 use Rattle.run_journal.specs.declared.journal.Entry.{Entry}
 use Rattle.rv_core.specs.LegValue.{LegValue}
-use Rattle.task_step.specs.declared.request.Request.{Request}
-use Rattle.task_step.specs.declared.request.Request.TheVariants.{Continue, Load, Store, Enqueue, MakeSub, Emit, End, Trap}
+use Rattle.task_request.specs.declared.request.Request.{Request}
+use Rattle.task_request.specs.declared.request.Request.TheVariants.{Continue, Load, Store, Enqueue, MakeSub, Emit, End, Trap}
 use Rattle.spec_state.specs.declared.task.Task.{Task}
 use Rattle.spec_state.specs.View.{View}
 use Rattle.spec_state.specs.Aborts.{Aborts}
@@ -14,13 +14,13 @@ use Rattle.spec_state.specs.Changes.{request_of}
 use Rattle.spec_state.specs.Numbers as numbers
 use Rattle.spec_state.specs.Room.{Asker, MakesRoom}
 use Rattle.spec_state.specs.Room as room
-use Rattle.book_event.specs.declared.event.Event.{Event}
-use Rattle.book_event.specs.declared.event.Event.TheVariants as event
-use Rattle.book_event.specs.declared.event.Halt.{Halt}
-use Rattle.book_event.specs.Advancing.{AdvancesBy}
-use Rattle.book_event.specs.Book.{BookView}
-use Rattle.book_event.specs.Events.{ComesTo, FreesCommit, FreesCore, Makes}
-use Rattle.book_event.specs.Events as events
+use Rattle.event_def.specs.declared.event.Event.{Event}
+use Rattle.event_def.specs.declared.event.Event.TheVariants as event
+use Rattle.event_def.specs.declared.event.Halt.{Halt}
+use Rattle.event_def.specs.Advancing.{AdvancesBy}
+use Rattle.event_def.specs.Book.{BookView}
+use Rattle.event_def.specs.Events.{ComesTo, FreesCommit, FreesCore, Makes}
+use Rattle.event_def.specs.Events as events
 use Rattle.conflict_book.specs.Halting.{RunsLeast}
 use Rattle.tile_worker.specs.Grows.{Grows}
 
@@ -33,13 +33,13 @@ abbrev Stays : View → View → Type 0
 Stays old new = committed new ≡ committed old
 
 stays_back : {firsts : ℕ → Type 0} (old : View) (aborted : ℕ) (new : View) → Aborts firsts old aborted new → Stays old new
-stays_back old aborted new aborts = ap committed aborts.rest
+stays_back old aborted new aborts = ap committed aborts.frame
 
 stays_room : (tile : ℕ) (asker : Asker) (old : View) {aborted : ℕ} {new : View} → MakesRoom tile asker old aborted new → Stays old new
-stays_room tile asker old (room.has_free_entry free) = refl
-stays_room tile asker old (room.coalesces new full moved) = ap committed moved.rest
+stays_room tile asker old (room.queue_has_room free) = refl
+stays_room tile asker old (room.coalesces new full moved) = ap committed moved.frame
 stays_room tile asker old (room.aborts_victim aborted v task mid new full none least victim firm aborts moved) =
-    ap committed moved.rest ∙ stays_back old aborted mid aborts
+    ap committed moved.frame ∙ stays_back old aborted mid aborts
 stays_room tile asker old (room.aborts_creator aborted v creator task new full none least victim not_firm made aborts) = stays_back old aborted new aborts
 
 stays_core : (tile : ℕ) (old : View) {aborted : ℕ} {new : View} → FreesCore tile old aborted new → Stays old new
@@ -52,7 +52,7 @@ stays_commit tile task old (events.aborts_latest aborted v x new full latest lat
 
 stays_number : (old : View) {new : View} → numbers.FreesNumber old new → Stays old new
 stays_number old (numbers.has_free free) = refl
-stays_number old (numbers.renumbers new spent renumbered) = ap committed renumbered.rest
+stays_number old (numbers.renumbers new spent renumbered) = ap committed renumbered.frame
 
 -- what stays goes on with nothing
 grows_by_none : (old new : View) → Stays old new → Grows old new
@@ -79,25 +79,25 @@ grows_trans old mid new one other =
 module _ (book : BookView) (aborted : ℕ) (new : View) (placers : List Policy) where
   stays_request : (tile core : ℕ) (leg : LegValue) (id : ℕ) (task : Task) (request : Request)
       → ComesTo tile core leg id task request book aborted new placers → Stays book.view new
-  stays_request tile core leg id task Continue made = ap committed made.0.rest
-  stays_request tile core leg id task (Load width rd offset) made = ap committed made.0.change.rest ∙ ap committed made.0.forced.rest
-  stays_request tile core leg id task (Store offset bytes value) made = ap committed made.0.change.rest ∙ ap committed made.0.forced.rest
-  stays_request tile core leg id task (Enqueue spawn) made = ap committed made.change.rest ∙ stays_room _ _ book.view made.forced
-  stays_request tile core leg id task (MakeSub kind) made = ap committed made.0.rest
-  stays_request tile core leg id task (Emit byte) made = ap committed made.0.rest
-  stays_request tile core leg id task End made = ap committed made.0.change.rest ∙ stays_commit tile task book.view made.0.forced
-  stays_request tile core leg id task (Trap cause) made = ap committed made.0.rest
+  stays_request tile core leg id task Continue made = ap committed made.0.frame
+  stays_request tile core leg id task (Load width rd offset) made = ap committed made.0.change.frame ∙ ap committed made.0.forced.frame
+  stays_request tile core leg id task (Store offset bytes value) made = ap committed made.0.change.frame ∙ ap committed made.0.forced.frame
+  stays_request tile core leg id task (Enqueue spawn) made = ap committed made.change.frame ∙ stays_room _ _ book.view made.forced
+  stays_request tile core leg id task (MakeSub kind) made = ap committed made.0.frame
+  stays_request tile core leg id task (Emit byte) made = ap committed made.0.frame
+  stays_request tile core leg id task End made = ap committed made.0.change.frame ∙ stays_commit tile task book.view made.0.forced
+  stays_request tile core leg id task (Trap cause) made = ap committed made.0.frame
 
   -- whatever event was made, the run goes on
   pub event_grows : (N : Type 0) (e : Event N) → Makes book e aborted new placers → Grows book.view new
   event_grows N (event.Dispatch tile) made = grows_by_none _ _
-      (ap committed made.0.change.rest ∙ stays_number made.0.mid made.0.number ∙ stays_core tile book.view made.0.forced)
+      (ap committed made.0.change.frame ∙ stays_number made.0.mid made.0.number ∙ stays_core tile book.view made.0.forced)
   event_grows N (event.Step tile core leg) made = grows_by_none _ _
       (stays_request tile core leg made.id made.task (request_of book.view made.task leg) made.comes)
   event_grows N (event.Abort tile) made = grows_by_none _ _ (stays_back book.view aborted new made.0.aborts)
   event_grows N event.Commit made = record { entries = _; history = made.0.history; bytes = _; output = made.0.output }
-  event_grows N (event.Coalesce tile) made = grows_by_none _ _ (ap committed made.0.rest)
-  event_grows N (event.Split tile) made = grows_by_none _ _ (ap committed made.0.change.rest ∙ stays_room _ _ book.view made.0.forced)
+  event_grows N (event.Coalesce tile) made = grows_by_none _ _ (ap committed made.0.frame)
+  event_grows N (event.Split tile) made = grows_by_none _ _ (ap committed made.0.change.frame ∙ stays_room _ _ book.view made.0.forced)
 
 grows_by : (N : Type 0) (image : ImageValue) (made : ℕ) (old new : BookView) → AdvancesBy N image made old new → Grows old.view new.view
 grows_by N image zero old new same = subst (λ (b : BookView). Grows old.view b.view) same (grows_refl old.view)

@@ -2,17 +2,17 @@
 use Rattle.std.proofs.Common.{arith, ◌≡◌, ◌⊎◌, ◌≤◌, ◌<◌, ◌+◌, ◌^◌, ℕ, true, inl, inr, sym, ap, subst, ◌∙◌}
 use Rattle.guest_image.specs.ImageValue.{ImageValue}
 use Rattle.run_journal.specs.declared.end.End.{End}
-use Rattle.book_event.specs.declared.event.Advance.{Advance}
-use Rattle.book_event.specs.declared.event.Advance.TheVariants as answers
-use Rattle.book_event.specs.declared.event.Event.{Event}
-use Rattle.book_event.specs.declared.event.Event.TheVariants as event
-use Rattle.book_event.specs.declared.event.Reply.{Reply}
-use Rattle.book_event.specs.declared.event.Reply.TheVariants as reply
-use Rattle.book_event.specs.Advancing.{AdvanceAnswers, IsNextEvent}
-use Rattle.book_event.specs.Book.{BookView, counted}
-use Rattle.book_event.specs.End.{IsOver}
-use Rattle.book_event.specs.Happens.{Happens}
-use Rattle.conflict_book.specs.Halting.{GoesOn}
+use Rattle.event_def.specs.declared.event.Advance.{Advance}
+use Rattle.event_def.specs.declared.event.Advance.TheVariants as answers
+use Rattle.event_def.specs.declared.event.Event.{Event}
+use Rattle.event_def.specs.declared.event.Event.TheVariants as event
+use Rattle.event_def.specs.declared.event.Reply.{Reply}
+use Rattle.event_def.specs.declared.event.Reply.TheVariants as reply
+use Rattle.event_def.specs.Advancing.{AdvanceAnswers, IsNextEvent}
+use Rattle.event_def.specs.Book.{BookView, next_count}
+use Rattle.event_def.specs.End.{IsOver}
+use Rattle.event_def.specs.Happens.{Happens}
+use Rattle.conflict_book.specs.Halting.{AdvanceGoesOn}
 use Rattle.tile_worker.specs.Counts.{CountsSo}
 use Rattle.tile_worker.specs.Grows.{Grows}
 use Rattle.tile_worker.specs.Holds.{HoldsOnce, MakesOne, RunsOut}
@@ -47,14 +47,14 @@ module _ (N : Type 0) (old mid new : BookView) (e : Event N) (aborted : ℕ) (an
 pub ruleset event_tries = (event_made, event_ended, event_ran_out)
 
 module _ (N : Type 0) (image : ImageValue) (old mid new : BookView) where
-  by_least : (answer : Advance) → AdvanceAnswers N image old answer mid → GoesOn answer → MakesOne N old mid
+  by_least : (answer : Advance) → AdvanceAnswers N image old answer mid → AdvanceGoesOn answer → MakesOne N old mid
   by_least (answers.Moved aborted) so on = record { event = so.0; aborted = aborted; made = so.3 }
   by_least answers.Committed so on = record { event = event.Commit; aborted = 0; made = so.1 }
   by_least (answers.Ended end) so on = absurd on
   by_least answers.Memory so on = absurd on
 
   -- so is the event for the least task
-  pub advance_made : (answer : Advance) → AdvanceAnswers N image old answer mid → GoesOn answer → new ≡ mid → MakesOne N old new
+  pub advance_made : (answer : Advance) → AdvanceAnswers N image old answer mid → AdvanceGoesOn answer → new ≡ mid → MakesOne N old new
   advance_made answer so on same = subst (λ (b : BookView). MakesOne N old b) (sym same) (by_least answer so on)
 
   pub advance_ended : (answer : Advance) (end : End) → AdvanceAnswers N image old answer mid → answer ≡ answers.Ended end → new ≡ mid
@@ -101,7 +101,7 @@ record IsNextCount (old new : ℕ) : Type 0 where
   pub no_less : old ≤ new
   pub no_more : new ≤ old + 1
 
-counted_next : (old new : ℕ) → old < 2 ^ 63 → new ≡ counted old → IsNextCount old new
+counted_next : (old new : ℕ) → old < 2 ^ 63 → new ≡ next_count old → IsNextCount old new
 counted_next old new few is = let n = is in record { no_less = omega (arith, n, few); no_more = omega (arith, n, few) }
 
 same_next : (old new : ℕ) → new ≡ old → IsNextCount old new

@@ -2,9 +2,9 @@
 use Rattle.std.proofs.Common.{arith, ◌≡◌, ◌≤◌, ◌<◌, ◌+◌, ◌-◌, ◌^◌, ℕ, zero, suc, subst, sym}
 use Rattle.std.proofs.Math.Nat.{le-min, min-le_right}
 use Rattle.guest_image.specs.ImageValue.{ImageValue}
-use Rattle.book_event.specs.declared.event.Halt.{Halt}
-use Rattle.book_event.specs.Advancing.{AdvancesBy}
-use Rattle.book_event.specs.Book.{BookView, counted}
+use Rattle.event_def.specs.declared.event.Halt.{Halt}
+use Rattle.event_def.specs.Advancing.{AdvancesBy}
+use Rattle.event_def.specs.Book.{BookView, next_count}
 use Rattle.conflict_book.specs.Halting.{RunsLeast}
 
 -- the count is not below this one, and has its greatest value at most
@@ -12,7 +12,7 @@ record IsLater (steps later : ℕ) : Type 0 where
   pub no_less : steps ≤ later
   pub bounded : later ≤ 2 ^ 64 - 1
 
-later_by_one : (steps mid new : ℕ) → IsLater steps mid → new ≡ counted mid → IsLater steps new
+later_by_one : (steps mid new : ℕ) → IsLater steps mid → new ≡ next_count mid → IsLater steps new
 later_by_one steps mid new later one =
     let before = later.no_less in
     let most = later.bounded in

@@ -1,7 +1,7 @@
 -- What a worker may find in a hold.
 use Rattle.std.specs.Prelude.{◌≡◌, ◌⊎◌, ◌≤◌, ◌^◌, true}
-use Rattle.book_event.specs.Book.{BookView}
-use Rattle.book_event.specs.End.{IsOver}
+use Rattle.event_def.specs.Book.{BookView}
+use Rattle.event_def.specs.End.{IsOver}
 use Rattle.tile_worker.specs.declared.hold.Found.{Found}
 use Rattle.tile_worker.specs.declared.hold.Found.TheVariants as found
 

@@ -1,8 +1,8 @@
 -- How workers leave a book.
 use Rattle.spec_state.specs.View.{View}
-use Rattle.book_event.specs.declared.event.Halt.{Halt}
-use Rattle.book_event.specs.declared.event.Halt.TheVariants as halts
-use Rattle.book_event.specs.End.{HasEnd, IsOver}
+use Rattle.event_def.specs.declared.event.Halt.{Halt}
+use Rattle.event_def.specs.declared.event.Halt.TheVariants as halts
+use Rattle.event_def.specs.End.{HasEnd, IsOver}
 
 -- the run is over and ended so, or memory ran out and it isn't over
 abbrev pub HaltsAt : View → Halt → Type 0

@@ -1,3 +1,4 @@
+-- Contracts mean all but Holds, Counts, Founds and Rounds, which serve this crate alone.
 pub mod Halts
 pub mod Holds
 pub mod Counts

@@ -1,26 +1,27 @@
 -- Readings of a journal.
 use Rattle.std.specs.Prelude.{◌≡◌, ◌≤◌, ℕ, List, All, length, take}
 use Rattle.guest_image.specs.ImageValue.{ImageValue}
-use Rattle.progress_cell.specs.Readings.{StandsIn, opening}
+use Rattle.progress_cell.specs.Readings.{StandsIn, opening_reading}
 use Rattle.progress_cell.specs.declared.reading.Reading.{Reading}
 use Rattle.run_journal.specs.declared.journal.Entry.{Entry}
 use Rattle.serial_machine.specs.Run.{IsRun}
-use Rattle.serial_machine.specs.State.{State}
+use Rattle.serial_machine.specs.State.{SerialState}
 
 -- the journal has at least so many entries, and the run of these first ones emitted so many bytes
 pub record IsReading (image : ImageValue) (budget : ℕ) (journal : List Entry) (reading : Reading) : Type 0 where
   pub within : reading.commits ≤ length journal
-  pub after : State
+  pub after : SerialState
   pub is_run : IsRun image budget (take reading.commits journal) after
   pub output : reading.output ≡ length after.output
 
--- each of these is a reading of the journal
+-- each of these is a reading of the journal, of which a caller has what has one proof at most, as a bound
 abbrev pub AreReadings : ImageValue → ℕ → List Entry → List Reading → Type 0
 AreReadings image budget journal readings = All (λ reading. ∥ IsReading image budget journal reading ∥₁) readings
 
 -- nothing committed and nothing emitted is a reading of every journal
 abbrev pub OpeningIsReading : Type 0
-OpeningIsReading = (image : ImageValue) (budget : ℕ) (journal : List Entry) → IsReading image budget journal opening
+OpeningIsReading = (image : ImageValue) (budget : ℕ) (journal : List Entry)
+    → IsReading image budget journal opening_reading
 
 -- where all that was told are readings of a journal, so are all that a joined reader saw
 abbrev pub SeenAreReadings : Type 0

@@ -3,7 +3,7 @@
 ghost use Rattle.std.specs.Prelude.{◌≡◌, ◌≤◌, [], ℕ, List, length, take};
 ghost use Rattle.run_journal.specs.declared.journal.Entry.{Entry};
 ghost use Rattle.spec_state.specs.Settings.{IsValid};
-ghost use Rattle.conflict_book.specs.Seen.{view_of};
+ghost use Rattle.conflict_book.specs.BookViews.{view_of};
 ghost use Rattle.tile_worker.specs.Founds.{IsDoneAt};
 
 use crate::errand::Errand;
@@ -53,7 +53,7 @@ impl<N: Naming, L: Begun, P: Placer, T: Tap> Continued<N, L, P, T> {
     ) -> Found
         requires image { image.now ≡ N.image }
         ensures amount { part.old.amount ≤ part.new.amount }
-        ensures done { IsDoneAt (view_of P.policy T.reading self.new.tallied.book) result }
+        ensures done { IsDoneAt (view_of P.policy T.notes self.new.tallied.book) result }
     {
         self.tallied.hold(image, part, round, errand)
     }

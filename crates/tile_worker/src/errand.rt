@@ -3,7 +3,7 @@
 ghost use Rattle.std.specs.Prelude.{◌≡◌, ◌≤◌};
 ghost use Rattle.spec_state.specs.Settings.{IsValid};
 
-use crate::round::Place;
+use crate::round::TileCore;
 use guest_image::{Image, TEXT_START};
 use rv_core::{Decoded, Leg, Naming, NotedCore, run_leg};
 use spec_state::Settings;
@@ -13,7 +13,7 @@ use spec_state::Settings;
 #[derive(Drop)]
 pub(crate) struct Errand<N: Naming> {
     /// The core from which the leg was computed that is to be handed in; None where there is none.
-    pub(crate) place: Option<Place>,
+    pub(crate) place: Option<TileCore>,
     from: NotedCore,
     pub(crate) leg: Leg<N>,
     ghost within: { from.used ≤ N.budget },
@@ -35,7 +35,7 @@ impl<N: Naming> Errand<N> {
     }
 
     /// Goes for a core that was found.
-    pub(crate) fn go_for(&mut self, place: Place, core: &NotedCore)
+    pub(crate) fn go_for(&mut self, place: TileCore, core: &NotedCore)
         requires { core.now.used ≤ N.budget }
     {
         let Errand {

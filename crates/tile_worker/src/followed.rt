@@ -6,7 +6,7 @@ ghost use Rattle.progress_cell.specs.Readings.{IsAtMost, last_of};
 ghost use Rattle.progress_cell.specs.declared.reading.Reading.{Reading};
 ghost use Rattle.spec_state.specs.Settings.{IsValid};
 ghost use Rattle.conflict_book.specs.Counts.{counts_of};
-ghost use Rattle.conflict_book.specs.Seen.{view_of};
+ghost use Rattle.conflict_book.specs.BookViews.{machine_view, view_of};
 ghost use Rattle.tile_worker.specs.Founds.{IsDoneAt};
 ghost use Rattle.tile_worker.specs.Holds.{HoldsOnce};
 ghost use Rattle.tile_worker.specs.Readings.{AreReadings};
@@ -64,15 +64,15 @@ pub(crate) fn tell<N: Naming, P: Placer, T: Tap, R: Wait>(
     book: &Book<N, P, T>,
 )
     requires belongs { writer.old.board ≡ board.now }
-    requires rises { IsAtMost (last_of writer.old.told) (counts_of (view_of P.policy T.reading book.now).view) }
-    requires readings { let view = (view_of P.policy T.reading book.now).view in
+    requires rises { IsAtMost (last_of writer.old.told) (counts_of (machine_view book.now)) }
+    requires readings { let view = machine_view book.now in
         AreReadings N.image N.budget view.history writer.old.told }
     ensures belongs { writer.new.board ≡ writer.old.board }
     ensures goes_on { (before : List Reading) → take (length before) writer.old.told ≡ before
         → take (length before) writer.new.told ≡ before }
-    ensures readings { let view = (view_of P.policy T.reading book.now).view in
+    ensures readings { let view = machine_view book.now in
         AreReadings N.image N.budget view.history writer.new.told }
-    ensures last { last_of writer.new.told ≡ counts_of (view_of P.policy T.reading book.now).view }
+    ensures last { last_of writer.new.told ≡ counts_of (machine_view book.now) }
 {
     book.is_sound();
     board.publish(rt, writer, book.counts());
@@ -80,7 +80,7 @@ pub(crate) fn tell<N: Naming, P: Placer, T: Tap, R: Wait>(
 
 /// Whether what was told last is how far a book has come.
 fn is_told<N: Naming, P: Placer, T: Tap>(book: &Book<N, P, T>, writer: &Writer) -> bool
-    ensures { let counts = counts_of (view_of P.policy T.reading book.now).view in
+    ensures { let counts = counts_of (machine_view book.now) in
         MatchBool result (last_of writer.now.told ≡ counts) (last_of writer.now.told ≢ counts) }
 {
     writer.last() == book.counts()
@@ -101,9 +101,9 @@ impl<N: Naming, L: Followable, P: Placer, T: Tap> Followed<N, L, P, T> {
         requires board { board.now ≡ L.board }
         requires image { image.now ≡ N.image }
         ensures amount { part.old.amount ≤ part.new.amount }
-        ensures once { let old = view_of P.policy T.reading self.old.tallied.book in
-            HoldsOnce N old (view_of P.policy T.reading self.new.tallied.book) }
-        ensures done { IsDoneAt (view_of P.policy T.reading self.new.tallied.book) result }
+        ensures once { let old = view_of P.policy T.notes self.old.tallied.book in
+            HoldsOnce N old (view_of P.policy T.notes self.new.tallied.book) }
+        ensures done { IsDoneAt (view_of P.policy T.notes self.new.tallied.book) result }
     {
         let Followed { tallied, writer } = self;
         let found = tallied.hold(image, part, round, errand);

@@ -2,13 +2,13 @@
 //! leg.
 
 ghost use Rattle.std.specs.Prelude.{◌≡◌, ◌<◌};
-ghost use Rattle.conflict_book.specs.Seen.{view_of};
+ghost use Rattle.conflict_book.specs.BookViews.{machine_view, view_of};
 ghost use Rattle.tile_worker.specs.Counts.{CountsSo};
 ghost use Rattle.tile_worker.specs.Founds.{IsDoneAt};
 ghost use Rattle.tile_worker.specs.Holds.{HoldsOnce};
 
 use crate::errand::Errand;
-use crate::round::{Place, Round};
+use crate::round::{Round, TileCore};
 use conflict_book::{Advance, Book, Legless, Reply};
 use guest_image::Image;
 use place_policy::Placer;
@@ -41,9 +41,9 @@ pub(crate) enum Tried {
 /// Dispatches in a tile that is there. Where memory runs out the book is stopped.
 #[tactic(auto, using(crate::proofs::Holding::event_tries))]
 fn try_dispatch<N: Naming, P: Placer, T: Tap>(book: &mut Book<N, P, T>, tile: u32) -> Tried
-    requires { tile < (view_of P.policy T.reading book.old).view.settings.tiles }
-    ensures { let old = view_of P.policy T.reading book.old in
-        CountsSo N old result (view_of P.policy T.reading book.new) }
+    requires { tile < (machine_view book.old).settings.tiles }
+    ensures { let old = view_of P.policy T.notes book.old in
+        CountsSo N old result (view_of P.policy T.notes book.new) }
 {
     match book.apply_legless(Legless::Dispatch { tile }).reply {
         Reply::Ok => Tried::Made,
@@ -61,13 +61,13 @@ fn try_dispatch<N: Naming, P: Placer, T: Tap>(book: &mut Book<N, P, T>, tile: u3
 #[tactic(auto, using(crate::proofs::Holding::event_tries))]
 fn try_leg<N: Naming, P: Placer, T: Tap>(
     book: &mut Book<N, P, T>,
-    place: Place,
+    place: TileCore,
     leg: &Leg<N>,
 ) -> Tried
-    requires tile { place.tile < (view_of P.policy T.reading book.old).view.settings.tiles }
-    requires core { place.core < (view_of P.policy T.reading book.old).view.settings.cores }
-    ensures { let old = view_of P.policy T.reading book.old in
-        CountsSo N old result (view_of P.policy T.reading book.new) }
+    requires tile { place.tile < (machine_view book.old).settings.tiles }
+    requires core { place.core < (machine_view book.old).settings.cores }
+    ensures { let old = view_of P.policy T.notes book.old in
+        CountsSo N old result (view_of P.policy T.notes book.new) }
 {
     match book.apply_step(place.tile, place.core, leg).reply {
         Reply::Ok => Tried::Made,
@@ -85,8 +85,8 @@ fn try_leg<N: Naming, P: Placer, T: Tap>(
 #[tactic(auto, using(crate::proofs::Holding::advance_tries))]
 fn try_advance<N: Naming, P: Placer, T: Tap>(book: &mut Book<N, P, T>, image: &Image) -> Tried
     requires image { image.now ≡ N.image }
-    ensures { let old = view_of P.policy T.reading book.old in
-        CountsSo N old result (view_of P.policy T.reading book.new) }
+    ensures { let old = view_of P.policy T.notes book.old in
+        CountsSo N old result (view_of P.policy T.notes book.new) }
 {
     match book.advance(image) {
         Advance::Moved { .. } | Advance::Committed => Tried::Made,
@@ -102,11 +102,11 @@ fn try_advance<N: Naming, P: Placer, T: Tap>(book: &mut Book<N, P, T>, image: &I
 fn hand_in<N: Naming, P: Placer, T: Tap>(
     book: &mut Book<N, P, T>,
     round: &mut Round,
-    place: Place,
+    place: TileCore,
     leg: &Leg<N>,
 ) -> Tried
-    ensures { let old = view_of P.policy T.reading book.old in
-        CountsSo N old result (view_of P.policy T.reading book.new) }
+    ensures { let old = view_of P.policy T.notes book.old in
+        CountsSo N old result (view_of P.policy T.notes book.new) }
 {
     let settings = book.settings();
     // No type tells that the settings are still those of the hold in which the core was found.
@@ -121,7 +121,8 @@ fn hand_in<N: Naming, P: Placer, T: Tap>(
     tried
 }
 
-/// Whether a core of the tile may be free: no running task is there.
+/// Whether a core of the tile may be free: no running task is there. `Book::ready` would look through the queue too, as
+/// the dispatch does, which is refused where nothing is idle.
 fn may_have_free_core<N: Naming, P: Placer, T: Tap>(book: &Book<N, P, T>, tile: u32) -> bool {
     for core in 0..book.settings().cores {
         if book.core_at(tile, core).is_none() {
@@ -133,8 +134,8 @@ fn may_have_free_core<N: Naming, P: Placer, T: Tap>(book: &Book<N, P, T>, tile: 
 
 /// Dispatches in the first of the worker's own tiles that is ready.
 fn dispatch_own<N: Naming, P: Placer, T: Tap>(book: &mut Book<N, P, T>, round: &mut Round) -> Tried
-    ensures { let old = view_of P.policy T.reading book.old in
-        CountsSo N old result (view_of P.policy T.reading book.new) }
+    ensures { let old = view_of P.policy T.notes book.old in
+        CountsSo N old result (view_of P.policy T.notes book.new) }
 {
     for tile in 0..book.settings().tiles {
         if round.tries_tile(tile, book.steps()) && may_have_free_core(book, tile) {
@@ -154,7 +155,7 @@ fn go_on<N: Naming, P: Placer, T: Tap>(
     round: &mut Round,
     errand: &mut Errand<N>,
 ) -> Found
-    ensures { IsDoneAt (view_of P.policy T.reading book.now) result }
+    ensures { IsDoneAt (view_of P.policy T.notes book.now) result }
 {
     let settings = book.settings();
     let steps = book.steps();
@@ -179,8 +180,8 @@ fn serve_own<N: Naming, P: Placer, T: Tap>(
     round: &mut Round,
     errand: &Errand<N>,
 ) -> Tried
-    ensures { let old = view_of P.policy T.reading book.old in
-        CountsSo N old result (view_of P.policy T.reading book.new) }
+    ensures { let old = view_of P.policy T.notes book.old in
+        CountsSo N old result (view_of P.policy T.notes book.new) }
 {
     match errand.place {
         None => dispatch_own(book, round),
@@ -201,9 +202,9 @@ fn advance_least<N: Naming, P: Placer, T: Tap>(
     errand: &mut Errand<N>,
 ) -> Found
     requires image { image.now ≡ N.image }
-    ensures once { let old = view_of P.policy T.reading book.old in
-        HoldsOnce N old (view_of P.policy T.reading book.new) }
-    ensures done { IsDoneAt (view_of P.policy T.reading book.new) result }
+    ensures once { let old = view_of P.policy T.notes book.old in
+        HoldsOnce N old (view_of P.policy T.notes book.new) }
+    ensures done { IsDoneAt (view_of P.policy T.notes book.new) result }
 {
     match try_advance(book, image) {
         Tried::Over => Found::Done,
@@ -221,9 +222,9 @@ pub(crate) fn serve<N: Naming, P: Placer, T: Tap>(
     errand: &mut Errand<N>,
 ) -> Found
     requires image { image.now ≡ N.image }
-    ensures once { let old = view_of P.policy T.reading book.old in
-        HoldsOnce N old (view_of P.policy T.reading book.new) }
-    ensures done { IsDoneAt (view_of P.policy T.reading book.new) result }
+    ensures once { let old = view_of P.policy T.notes book.old in
+        HoldsOnce N old (view_of P.policy T.notes book.new) }
+    ensures done { IsDoneAt (view_of P.policy T.notes book.new) result }
 {
     match serve_own(book, round, errand) {
         Tried::Over => Found::Done,

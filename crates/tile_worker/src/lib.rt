@@ -3,7 +3,7 @@
 //!
 //! Worker `w` of `n` drives the tiles `t` with `t % n == w`. In each hold of the lock it makes at most one event,
 //! counts that to its part, and copies the core of its next leg. The type of the lock's value keeps that all parts
-//! together are the book's steps.
+//! together are the book's events.
 //!
 //! With a board, the workers tell how far the run has come (`run_watched`): in the hold in which a task was committed,
 //! and once more at the end. The type of the lock's value then keeps that all that was told are readings of the book's
@@ -11,7 +11,8 @@
 //!
 //! It stands on the book, on the board and on the lock of the standard library; `machine_run` calls it, with no board.
 //! A hold costs one event and a look at each core of the worker's own tiles, and with a board, after a commit, what
-//! it costs to tell a reading. Where no thread can be started, the caller does the same work.
+//! it costs to tell a reading. Where no thread can be started, the caller does the same work. The program
+//! hands in the gate.
 #![tactic(auto)]
 
 mod begun;

@@ -2,7 +2,7 @@
 
 ghost use Rattle.std.specs.Prelude.{◌≡◌, ◌↔◌, ◌<◌, ◌≤◌, ◌+◌, ◌*◌, ◌%◌, ℕ, IfSome, IsNone, IsTrue};
 ghost use Rattle.std.specs.Prelude.{slice_index_or, slice_set};
-ghost use Rattle.tile_worker.specs.Rounds.{index_of, rested};
+ghost use Rattle.tile_worker.specs.Rounds.{index_of, rest_until};
 
 use crate::waiting::{Bell, Pace};
 use std::sync::Wait;
@@ -17,7 +17,7 @@ const MANY: u64 = 8;
 
 /// A core of a tile.
 #[derive(Clone, Copy)]
-pub(crate) struct Place {
+pub(crate) struct TileCore {
     /// The tile.
     pub(crate) tile: u32,
     /// The core, among those of the tile.
@@ -30,7 +30,7 @@ pub(crate) struct Place {
 pub(crate) struct Round {
     worker: u32,
     workers: u32,
-    last: Place,
+    last: TileCore,
     tiles: [u64; 16],
     cores: [u64; 64],
     pace: Pace,
@@ -42,7 +42,7 @@ pub(crate) struct Round {
 }
 
 /// Where a core stands in the list of all cores of all tiles.
-fn index_of(place: Place) -> usize
+fn index_of(place: TileCore) -> usize
     requires tile { place.tile < 16 }
     requires core { place.core < 4 }
     ensures value { result ≡ index_of place }
@@ -62,7 +62,7 @@ impl Round {
         Round {
             worker,
             workers,
-            last: Place {
+            last: TileCore {
                 tile: worker,
                 core: 0,
             },
@@ -76,7 +76,7 @@ impl Round {
 
     /// Takes note of the counts of events at the begin and at the end of a hold. Where others made many events since
     /// the hold before, this worker is behind them.
-    pub(crate) fn note_steps(&mut self, before: u64, after: u64)
+    pub(crate) fn note_events(&mut self, before: u64, after: u64)
         ensures { self.new ≡ record self.old { seen = after; is_behind = self.new.is_behind } }
     {
         self.is_behind = before - self.seen.min(before) >= MANY;
@@ -112,13 +112,13 @@ impl Round {
     /// Lets a tile be for a while.
     pub(crate) fn rest_tile(&mut self, tile: u32, steps: u64)
         requires { tile < 16 }
-        ensures { self.new ≡ record self.old { tiles = slice_set self.old.tiles tile (rested steps) } }
+        ensures { self.new ≡ record self.old { tiles = slice_set self.old.tiles tile (rest_until steps) } }
     {
         self.tiles[tile as usize] = steps.saturating_add(PATIENCE);
     }
 
     /// Whether the core is to be tried at this count of events.
-    pub(crate) fn tries_core(&self, place: Place, steps: u64) -> bool
+    pub(crate) fn tries_core(&self, place: TileCore, steps: u64) -> bool
         requires tile { place.tile < 16 }
         requires core { place.core < 4 }
         ensures { IsTrue result ↔ slice_index_or self.now.cores (index_of place) 0 ≤ steps }
@@ -127,10 +127,10 @@ impl Round {
     }
 
     /// Lets a core be for a while.
-    pub(crate) fn rest_core(&mut self, place: Place, steps: u64)
+    pub(crate) fn rest_core(&mut self, place: TileCore, steps: u64)
         requires tile { place.tile < 16 }
         requires core { place.core < 4 }
-        ensures { self.new ≡ record self.old { cores = slice_set self.old.cores (index_of place) (rested steps) } }
+        ensures { self.new ≡ record self.old { cores = slice_set self.old.cores (index_of place) (rest_until steps) } }
     {
         self.cores[index_of(place)] = steps.saturating_add(PATIENCE);
     }
@@ -151,7 +151,7 @@ impl Round {
     /// The next core of the worker's own tiles, where it looks then, and after the last one the first; None where
     /// no tile is its own.
     #[tactic(auto, using(crate::proofs::Tiles::own_first, crate::proofs::Tiles::own_next))]
-    pub(crate) fn next_core(&mut self, tiles: u32, cores: u32) -> Option<Place>
+    pub(crate) fn next_core(&mut self, tiles: u32, cores: u32) -> Option<TileCore>
         requires tiles { tiles ≤ 16 }
         requires cores { 1 ≤ cores }
         ensures tile { IfSome result (λ place. place.tile < tiles) }
@@ -165,19 +165,19 @@ impl Round {
         if self.worker >= tiles {
             return None;
         }
-        let Place { tile, core } = self.last;
+        let TileCore { tile, core } = self.last;
         let next = if tile < tiles && core < cores - 1 {
-            Place {
+            TileCore {
                 tile,
                 core: core + 1,
             }
         } else if tile < tiles && tile + self.workers < tiles {
-            Place {
+            TileCore {
                 tile: tile + self.workers,
                 core: 0,
             }
         } else {
-            Place {
+            TileCore {
                 tile: self.worker,
                 core: 0,
             }

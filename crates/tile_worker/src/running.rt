@@ -1,7 +1,7 @@
 //! Workers run a book to its end.
 
 ghost use Rattle.std.specs.Prelude.{◌≡◌, ◌≤◌, ◌<◌, ◌+◌, ◌^◌, length, sum};
-ghost use Rattle.conflict_book.specs.Seen.{view_of};
+ghost use Rattle.conflict_book.specs.BookViews.{events_made, machine_view, view_of};
 ghost use Rattle.tile_worker.specs.Grows.{Grows};
 ghost use Rattle.tile_worker.specs.Halts.{HaltsAt};
 
@@ -65,9 +65,9 @@ pub(crate) fn settle<N: Naming, L: Ledger, P: Placer, T: Tap>(
     gathered: Gathered<L>,
 ) -> Worked<N, P, T>
     requires parts { mine.parts + length gathered.shares ≡ L.parts }
-    ensures book { view_of P.policy T.reading result.book ≡ view_of P.policy T.reading tallied.book }
+    ensures book { view_of P.policy T.notes result.book ≡ view_of P.policy T.notes tallied.book }
     ensures workers { length result.shares ≡ length gathered.shares }
-    ensures shares { sum result.shares + mine.amount ≡ (view_of P.policy T.reading result.book).steps }
+    ensures shares { sum result.shares + mine.amount ≡ events_made result.book }
 {
     let Tallied { book, mut total } = tallied;
     let Gathered {
@@ -109,13 +109,13 @@ fn work_all<
     requires one_more { blank.parts ≡ workers + 1 }
     requires image { image.now ≡ N.image }
     requires workers { (1 ≤ workers) × (workers ≤ 16) }
-    requires steps { (view_of P.policy T.reading book).steps ≤ 2 ^ 63 }
-    requires history { (view_of P.policy T.reading book).view.history ≡ L.history }
-    requires output { (view_of P.policy T.reading book).view.output ≡ L.output }
+    requires steps { events_made book ≤ 2 ^ 63 }
+    requires history { (machine_view book).history ≡ L.history }
+    requires output { (machine_view book).output ≡ L.output }
     ensures workers { length result.shares ≡ workers }
-    ensures shares { let before = (view_of P.policy T.reading book).steps in
-        sum result.shares + before ≡ (view_of P.policy T.reading result.book).steps }
-    ensures grows { Grows (view_of P.policy T.reading book).view (view_of P.policy T.reading result.book).view }
+    ensures shares { let before = events_made book in
+        sum result.shares + before ≡ events_made result.book }
+    ensures grows { Grows (machine_view book) (machine_view result.book) }
 {
     let (total, mine, theirs) = open_ledger(blank, workers, book.steps());
     // Where memory doesn't reach for a second decoded text, the workers run on the text itself.
@@ -132,7 +132,7 @@ fn work_all<
 
 /// Why a book stands where it does: its end, or that memory ran out.
 fn halt_of<N: Naming, P: Placer, T: Tap>(book: &Book<N, P, T>) -> Halt
-    ensures { HaltsAt (view_of P.policy T.reading book.now).view result }
+    ensures { HaltsAt (machine_view book.now) result }
 {
     match book.end() {
         Some(end) => Halt::Ended(end),
@@ -143,10 +143,10 @@ fn halt_of<N: Naming, P: Placer, T: Tap>(book: &Book<N, P, T>) -> Halt
 /// Makes the events of the least tasks until the run is over or memory runs out, and tells how many they are.
 fn run_out<N: Naming, P: Placer, T: Tap>(book: &mut Book<N, P, T>, image: &Image) -> u64
     requires image { image.now ≡ N.image }
-    ensures rise { let before = (view_of P.policy T.reading book.old).steps in
-        result + before ≡ (view_of P.policy T.reading book.new).steps }
-    ensures bounded { (view_of P.policy T.reading book.new).steps < 2 ^ 64 }
-    ensures grows { Grows (view_of P.policy T.reading book.old).view (view_of P.policy T.reading book.new).view }
+    ensures rise { let before = events_made book.old in
+        result + before ≡ events_made book.new }
+    ensures bounded { events_made book.new < 2 ^ 64 }
+    ensures grows { Grows (machine_view book.old) (machine_view book.new) }
 {
     let before = book.steps();
     let _halt = book.run_least(image);
@@ -160,12 +160,12 @@ pub(crate) fn run_rest<N: Naming, P: Placer, T: Tap>(
 ) -> Drained<N, P, T>
     requires image { image.now ≡ N.image }
     requires some { 1 ≤ length worked.shares }
-    requires fits { sum worked.shares ≤ (view_of P.policy T.reading worked.book).steps }
-    ensures halt { HaltsAt (view_of P.policy T.reading result.book).view result.halt }
+    requires fits { sum worked.shares ≤ events_made worked.book }
+    ensures halt { HaltsAt (machine_view result.book) result.halt }
     ensures workers { length result.shares ≡ length worked.shares }
-    ensures shares { let before = (view_of P.policy T.reading worked.book).steps in
-        sum result.shares + before ≡ sum worked.shares + (view_of P.policy T.reading result.book).steps }
-    ensures grows { Grows (view_of P.policy T.reading worked.book).view (view_of P.policy T.reading result.book).view }
+    ensures shares { let before = events_made worked.book in
+        sum result.shares + before ≡ sum worked.shares + events_made result.book }
+    ensures grows { Grows (machine_view worked.book) (machine_view result.book) }
 {
     let Worked {
         mut book,
@@ -196,12 +196,12 @@ pub fn run_tiles<
 >(rt: &R, image: &Image, book: Book<N, P, T>, workers: u32, gate: &G) -> Drained<N, P, T>
     requires image { image.now ≡ N.image }
     requires workers { (1 ≤ workers) × (workers ≤ 16) }
-    requires steps { (view_of P.policy T.reading book).steps ≤ 2 ^ 63 }
-    ensures halt { HaltsAt (view_of P.policy T.reading result.book).view result.halt }
+    requires steps { events_made book ≤ 2 ^ 63 }
+    ensures halt { HaltsAt (machine_view result.book) result.halt }
     ensures workers { length result.shares ≡ workers }
-    ensures shares { let before = (view_of P.policy T.reading book).steps in
-        sum result.shares + before ≡ (view_of P.policy T.reading result.book).steps }
-    ensures grows { Grows (view_of P.policy T.reading book).view (view_of P.policy T.reading result.book).view }
+    ensures shares { let before = events_made book in
+        sum result.shares + before ≡ events_made result.book }
+    ensures grows { Grows (machine_view book) (machine_view result.book) }
 {
     let blank = Blank::new(u64::from(workers) + 1);
     let worked = work_all::<N, Brand, P, T, G, R>(rt, blank, image, book, workers, gate);

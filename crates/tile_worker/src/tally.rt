@@ -3,7 +3,7 @@
 ghost use Rattle.std.specs.Prelude.{◌≡◌, ◌≤◌, ◌+◌, ◌^◌, ℕ, List, length, take};
 ghost use Rattle.run_journal.specs.declared.journal.Entry.{Entry};
 ghost use Rattle.spec_state.specs.Settings.{IsValid};
-ghost use Rattle.conflict_book.specs.Seen.{view_of};
+ghost use Rattle.conflict_book.specs.BookViews.{events_made, view_of};
 ghost use Rattle.tile_worker.specs.Founds.{IsDoneAt};
 ghost use Rattle.tile_worker.specs.Holds.{HoldsOnce};
 
@@ -20,7 +20,7 @@ use std::sync::ledger::{Ledger, Share};
 use trace_tap::Tap;
 
 /// At so many events workers stop.
-const MOST_STEPS: u64 = 1 << 63;
+const MAX_EVENTS: u64 = 1 << 63;
 
 /// What stands in the lock: a book, and the total of what is counted to the parts, which is the number of the
 /// book's events.
@@ -67,9 +67,9 @@ impl<L: Ledger> Part<L> {
 impl<N: Naming, L: Ledger, P: Placer, T: Tap> Tallied<N, L, P, T> {
     /// A book whose events so far are counted to a share of its own.
     pub(crate) fn new(book: Book<N, P, T>, total: ledger::Book<L>) -> Tallied<N, L, P, T>
-        requires counted { total.total ≡ (view_of P.policy T.reading book).steps }
-        requires most { (view_of P.policy T.reading book).steps ≤ 2 ^ 63 }
-        ensures book { view_of P.policy T.reading result.book ≡ view_of P.policy T.reading book }
+        requires counted { total.total ≡ events_made book }
+        requires most { events_made book ≤ 2 ^ 63 }
+        ensures book { view_of P.policy T.notes result.book ≡ view_of P.policy T.notes book }
         ensures total { result.total ≡ total }
     {
         Tallied { book, total }
@@ -95,17 +95,17 @@ impl<N: Naming, L: Ledger, P: Placer, T: Tap> Tallied<N, L, P, T> {
     ) -> Found
         requires image { image.now ≡ N.image }
         ensures amount { part.old.amount ≤ part.new.amount }
-        ensures booked { let old = view_of P.policy T.reading self.old.book in
-            part.new.amount + old.steps ≡ part.old.amount + (view_of P.policy T.reading self.new.book).steps }
-        ensures once { let old = view_of P.policy T.reading self.old.book in
-            HoldsOnce N old (view_of P.policy T.reading self.new.book) }
-        ensures done { IsDoneAt (view_of P.policy T.reading self.new.book) result }
-        ensures entries { let old = view_of P.policy T.reading self.old.book in
-            let new = view_of P.policy T.reading self.new.book in
+        ensures booked { let old = view_of P.policy T.notes self.old.book in
+            part.new.amount + old.steps ≡ part.old.amount + events_made self.new.book }
+        ensures once { let old = view_of P.policy T.notes self.old.book in
+            HoldsOnce N old (view_of P.policy T.notes self.new.book) }
+        ensures done { IsDoneAt (view_of P.policy T.notes self.new.book) result }
+        ensures entries { let old = view_of P.policy T.notes self.old.book in
+            let new = view_of P.policy T.notes self.new.book in
             (before : List Entry) → take (length before) old.view.history ≡ before
             → take (length before) new.view.history ≡ before }
-        ensures bytes { let old = view_of P.policy T.reading self.old.book in
-            let new = view_of P.policy T.reading self.new.book in
+        ensures bytes { let old = view_of P.policy T.notes self.old.book in
+            let new = view_of P.policy T.notes self.new.book in
             (before : List ℕ) → take (length before) old.view.output ≡ before
             → take (length before) new.view.output ≡ before }
     {
@@ -113,14 +113,14 @@ impl<N: Naming, L: Ledger, P: Placer, T: Tap> Tallied<N, L, P, T> {
         let Part { amount, share } = part;
         total.audit(share);
         let before = book.steps();
-        if before >= MOST_STEPS {
+        if before >= MAX_EVENTS {
             return Found::Done;
         }
         let found = serve(book, image, round, errand);
         let rise = book.steps() - before;
         total.add(share, rise);
         *amount += rise;
-        round.note_steps(before, book.steps());
+        round.note_events(before, book.steps());
         found
     }
 }

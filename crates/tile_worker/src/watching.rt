@@ -3,7 +3,7 @@
 ghost use Rattle.std.specs.Prelude.{◌≡◌, ◌≤◌, ◌+◌, ◌^◌, length, sum, take};
 ghost use Rattle.progress_cell.specs.Readings.{last_of};
 ghost use Rattle.conflict_book.specs.Counts.{counts_of};
-ghost use Rattle.conflict_book.specs.Seen.{view_of};
+ghost use Rattle.conflict_book.specs.BookViews.{events_made, machine_view};
 ghost use Rattle.tile_worker.specs.Grows.{Grows};
 ghost use Rattle.tile_worker.specs.Halts.{HaltsAt};
 ghost use Rattle.tile_worker.specs.Readings.{AreReadings};
@@ -58,23 +58,23 @@ fn watch_all<
     requires one_more { blank.parts ≡ workers + 1 }
     requires image { image.now ≡ N.image }
     requires workers { (1 ≤ workers) × (workers ≤ 16) }
-    requires steps { (view_of P.policy T.reading book).steps ≤ 2 ^ 63 }
-    requires history { (view_of P.policy T.reading book).view.history ≡ L.history }
-    requires output { (view_of P.policy T.reading book).view.output ≡ L.output }
+    requires steps { events_made book ≤ 2 ^ 63 }
+    requires history { (machine_view book).history ≡ L.history }
+    requires output { (machine_view book).output ≡ L.output }
     requires board { board.now ≡ L.board }
     requires before { writer.told ≡ L.before }
     requires belongs { writer.board ≡ board.now }
-    requires readings { AreReadings N.image N.budget (view_of P.policy T.reading book).view.history writer.told }
-    requires last { last_of writer.told ≡ counts_of (view_of P.policy T.reading book).view }
+    requires readings { AreReadings N.image N.budget (machine_view book).history writer.told }
+    requires last { last_of writer.told ≡ counts_of (machine_view book) }
     ensures workers { length result.0.shares ≡ workers }
-    ensures shares { let before = (view_of P.policy T.reading book).steps in
-        sum result.0.shares + before ≡ (view_of P.policy T.reading result.0.book).steps }
-    ensures grows { Grows (view_of P.policy T.reading book).view (view_of P.policy T.reading result.0.book).view }
+    ensures shares { let before = events_made book in
+        sum result.0.shares + before ≡ events_made result.0.book }
+    ensures grows { Grows (machine_view book) (machine_view result.0.book) }
     ensures belongs { result.1.board ≡ board.now }
     ensures goes_on { take (length writer.told) result.1.told ≡ writer.told }
-    ensures readings { let view = (view_of P.policy T.reading result.0.book).view in
+    ensures readings { let view = machine_view result.0.book in
         AreReadings N.image N.budget view.history result.1.told }
-    ensures last { last_of result.1.told ≡ counts_of (view_of P.policy T.reading result.0.book).view }
+    ensures last { last_of result.1.told ≡ counts_of (machine_view result.0.book) }
 {
     let (total, mine, theirs) = open_ledger(blank, workers, book.steps());
     // Where memory doesn't reach for a second decoded text, the workers run on the text itself.
@@ -122,20 +122,20 @@ pub fn run_watched<
 ) -> Watched<N, P, T>
     requires image { image.now ≡ N.image }
     requires workers { (1 ≤ workers) × (workers ≤ 16) }
-    requires steps { (view_of P.policy T.reading book).steps ≤ 2 ^ 63 }
+    requires steps { events_made book ≤ 2 ^ 63 }
     requires belongs { writer.board ≡ board.now }
-    requires readings { AreReadings N.image N.budget (view_of P.policy T.reading book).view.history writer.told }
-    requires last { last_of writer.told ≡ counts_of (view_of P.policy T.reading book).view }
-    ensures halt { HaltsAt (view_of P.policy T.reading result.drained.book).view result.drained.halt }
+    requires readings { AreReadings N.image N.budget (machine_view book).history writer.told }
+    requires last { last_of writer.told ≡ counts_of (machine_view book) }
+    ensures halt { HaltsAt (machine_view result.drained.book) result.drained.halt }
     ensures workers { length result.drained.shares ≡ workers }
-    ensures shares { let before = (view_of P.policy T.reading book).steps in
-        sum result.drained.shares + before ≡ (view_of P.policy T.reading result.drained.book).steps }
-    ensures grows { Grows (view_of P.policy T.reading book).view (view_of P.policy T.reading result.drained.book).view }
+    ensures shares { let before = events_made book in
+        sum result.drained.shares + before ≡ events_made result.drained.book }
+    ensures grows { Grows (machine_view book) (machine_view result.drained.book) }
     ensures belongs { result.writer.board ≡ board.now }
     ensures goes_on { take (length writer.told) result.writer.told ≡ writer.told }
-    ensures readings { let view = (view_of P.policy T.reading result.drained.book).view in
+    ensures readings { let view = machine_view result.drained.book in
         AreReadings N.image N.budget view.history result.writer.told }
-    ensures last { last_of result.writer.told ≡ counts_of (view_of P.policy T.reading result.drained.book).view }
+    ensures last { last_of result.writer.told ≡ counts_of (machine_view result.drained.book) }
 {
     let blank = Blank::new(u64::from(workers) + 1);
     let (worked, mut writer) = watch_all::<N, Brand, P, T, G, R>(

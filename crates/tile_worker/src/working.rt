@@ -73,7 +73,8 @@ pub(crate) fn drive<
 /// least task. What was refused is let be for 512 events of the book: a core whose leg stalled gets no leg, and in a
 /// tile whose dispatch was refused none is tried, even if a task has come to stand there meanwhile.
 ///
-/// A hold costs one event and a look at each core of its own tiles; a leg is computed outside the lock.
+/// A hold costs one event and a look at each core of its own tiles; a leg is computed outside the lock, on the text
+/// itself, since no decoded one is handed in.
 pub fn work<N: Naming, L: Ledger, P: Placer, T: Tap, G: Gate + Sync, R: Wait>(
     rt: &R,
     image: &Image,

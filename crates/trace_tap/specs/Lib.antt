@@ -1,3 +1,4 @@
-pub mod Reading
+-- Contracts mean all of these.
+pub mod TapValue
 pub mod Numbers
-pub mod Readings
+pub mod TapValues

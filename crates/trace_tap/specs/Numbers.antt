@@ -22,5 +22,5 @@ line_number None = 0
 line_number (Some line) = line + 1
 
 -- the five numbers of a record
-abbrev pub numbers_of : Record → List ℕ
-numbers_of seen = code seen.deed ∷ seen.tile ∷ line_number seen.line ∷ seen.aborted ∷ seen.commits ∷ []
+abbrev pub numbers_of_record : Record → List ℕ
+numbers_of_record seen = code seen.deed ∷ seen.tile ∷ line_number seen.line ∷ seen.aborted ∷ seen.commits ∷ []

@@ -2,8 +2,8 @@
 
 ghost use Rattle.std.specs.Prelude.{◌≡◌, ◌<◌, ◌≤◌, [], IfOk, slice_get, length};
 ghost use Rattle.std.specs.List.{flat_map};
-ghost use Rattle.trace_tap.specs.Numbers.{numbers_of, line_number as line_number_lem};
-ghost use Rattle.trace_tap.specs.Readings.{last_records};
+ghost use Rattle.trace_tap.specs.Numbers.{numbers_of_record, line_number as line_number_lem};
+ghost use Rattle.trace_tap.specs.TapValues.{last_records};
 
 use crate::record::Record;
 use crate::tap::Tap;
@@ -24,7 +24,7 @@ impl LastN {
     /// A tap that keeps the last `n` records, 1 to 4,096, and has none yet.
     pub fn new(alloc: Global, n: u32) -> Result<LastN, AllocError>
         requires { (0 < n) × (n ≤ 4096) }
-        ensures { IfOk result (λ tap. ⟦<LastN as Tap>⟧.reading tap ≡ last_records n []) }
+        ensures { IfOk result (λ tap. ⟦<LastN as Tap>⟧.notes tap ≡ last_records n []) }
     {
         Ok(LastN {
             records: HeapCircularBuffer::with_capacity(alloc, n as usize)?,
@@ -45,7 +45,7 @@ fn line_number(line: Option<u32>) -> u64
 /// One of the five numbers of a record, by its place.
 fn number_of(seen: &Record, place: u32) -> u64
     requires { place < 5 }
-    ensures { slice_get (numbers_of seen.now) place ≡ Some result }
+    ensures { slice_get (numbers_of_record seen.now) place ≡ Some result }
 {
     match place {
         0 => u64::from(seen.deed.code()),
@@ -57,7 +57,7 @@ fn number_of(seen: &Record, place: u32) -> u64
 }
 
 impl Tap for LastN {
-    ghost reading = { λ tap. last_records tap.records.capacity (flat_map numbers_of tap.records.items) };
+    ghost notes = { λ tap. last_records tap.records.capacity (flat_map numbers_of_record tap.records.items) };
 
     #[tactic(auto, using(crate::proofs::Fives::added_is_noted))]
     fn note(&mut self, seen: &Record) {

@@ -1,7 +1,7 @@
 //! Aborts by memory line.
 
 ghost use Rattle.std.specs.Prelude.{◌≡◌, ◌<◌, ◌≤◌, ◌+◌, IfOk, replicate, vec_len};
-ghost use Rattle.trace_tap.specs.Readings.{line_counts};
+ghost use Rattle.trace_tap.specs.TapValues.{line_counts};
 
 use crate::record::{Deed, Record};
 use crate::tap::Tap;
@@ -22,7 +22,7 @@ impl LineProfile {
     pub fn new(alloc: Global, lines: u32) -> Result<LineProfile, AllocError>
         requires { (0 < lines) × (lines ≤ 65536) }
         ensures { IfOk result
-            (λ tap. ⟦<LineProfile as Tap>⟧.reading tap ≡ line_counts lines (replicate (lines + 1) 0)) }
+            (λ tap. ⟦<LineProfile as Tap>⟧.notes tap ≡ line_counts lines (replicate (lines + 1) 0)) }
     {
         Ok(LineProfile {
             lines,
@@ -32,7 +32,7 @@ impl LineProfile {
 }
 
 impl Tap for LineProfile {
-    ghost reading = { λ tap. line_counts tap.lines tap.counts.items };
+    ghost notes = { λ tap. line_counts tap.lines tap.counts.items };
 
     fn note(&mut self, seen: &Record) {
         if let (Deed::Access, Some(line)) = (seen.deed, seen.line) {

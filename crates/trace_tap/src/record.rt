@@ -1,8 +1,8 @@
-//! What is told of a step.
+//! What is noted of an event.
 
 ghost use Rattle.std.specs.Prelude.{◌≡◌};
 
-/// The kind of a step.
+/// The kind of an event.
 #[derive(Clone, Copy, Debug, PartialEq, Eq)]
 pub enum Deed {
     /// An idle task went to a core.
@@ -23,7 +23,7 @@ pub enum Deed {
     Split,
 }
 
-/// One step of the machine.
+/// One event of the machine.
 #[derive(Clone, Copy, Debug, PartialEq, Eq)]
 pub struct Record {
     /// Its kind.

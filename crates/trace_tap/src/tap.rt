@@ -1,30 +1,30 @@
 //! What the machine asks of a tap.
 
 ghost use Rattle.std.specs.Prelude.{◌≡◌, length, map, slice_get};
-ghost use Rattle.trace_tap.specs.Reading.{Reading, noted};
+ghost use Rattle.trace_tap.specs.TapValue.{TapValue, after_note};
 
 use crate::record::Record;
 
-/// Is told of steps, and keeps a list of numbers. No call takes memory.
+/// Notes events, and keeps a list of numbers. No call takes memory.
 pub trait Tap: Drop {
     /// The list of the tap, and the rule by which a record changes it.
-    ghost reading: { Self → Reading };
+    ghost notes: { Self → TapValue };
 
-    /// A step was made.
+    /// An event was made.
     fn note(&mut self, seen: &Record)
-        ensures { reading self.new ≡ noted seen.now (reading self.old) };
+        ensures { notes self.new ≡ after_note seen.now (notes self.old) };
 
     /// How many numbers the list has.
     fn len(&self) -> u32
-        ensures { result ≡ length (reading self.now).list };
+        ensures { result ≡ length (notes self.now).list };
 
     /// The number at a place of the list; none exactly past its end.
     fn at(&self, place: u32) -> Option<u64>
-        ensures { result ≡ slice_get (reading self.now).list place };
+        ensures { result ≡ slice_get (notes self.now).list place };
 }
 
 impl Tap for Box<dyn Tap + Send> {
-    ghost reading = { λ b. (Tap-box b).reading b.value };
+    ghost notes = { λ b. (Tap-box b).notes b.value };
 
     fn note(&mut self, seen: &Record) {
         (**self).note(seen)
@@ -39,9 +39,9 @@ impl Tap for Box<dyn Tap + Send> {
     }
 }
 
-/// Tells each of the taps of a step, in their order. Takes no memory.
+/// Each of the taps notes an event, in their order. Takes no memory.
 pub fn note_all<T: Tap>(taps: &mut [T], seen: &Record)
-    ensures { map T.reading taps.new ≡ map (noted seen.now) (map T.reading taps.old) }
+    ensures { map T.notes taps.new ≡ map (after_note seen.now) (map T.notes taps.old) }
 {
     for tap in taps.iter_mut() {
         tap.note(seen);

@@ -3,21 +3,21 @@ use Rattle.std.proofs.Common.{◌≡◌, ◌≢◌, ◌⊎◌, ℕ, zero, suc, �
 use Rattle.std.proofs.lemmas.Grind.{common_steps}
 use Rattle.std.proofs.lemmas.List.{get_or-set_other, length-set, set-get_or, set-set, set_comm}
 use Rattle.std.proofs.Math.Nat.{div-add-mod}
-use Rattle.undo_log.specs.Number.{number_at, written, AreBytes}
+use Rattle.undo_log.specs.Number.{number_at, after_write, AreBytes}
 
-pub length-written : (bytes : List ℕ) (offset width value : ℕ) → length (written bytes offset width value) ≡ length bytes
-length-written bytes offset zero value = refl
-length-written bytes offset (suc width) value =
-    length-written (set bytes offset (value % 256)) (offset + 1) width (value / 256) ∙ length-set bytes offset (value % 256)
+pub length-after_write : (bytes : List ℕ) (offset width value : ℕ) → length (after_write bytes offset width value) ≡ length bytes
+length-after_write bytes offset zero value = refl
+length-after_write bytes offset (suc width) value =
+    length-after_write (set bytes offset (value % 256)) (offset + 1) width (value / 256) ∙ length-set bytes offset (value % 256)
 
 -- a byte before or behind the range stays
-pub get_or-written_before : (bytes : List ℕ) (offset width value k : ℕ) → k < offset → get_or (written bytes offset width value) k 0 ≡ get_or bytes k 0
+pub get_or-written_before : (bytes : List ℕ) (offset width value k : ℕ) → k < offset → get_or (after_write bytes offset width value) k 0 ≡ get_or bytes k 0
 get_or-written_before bytes offset zero value k before = refl
 get_or-written_before bytes offset (suc width) value k before =
     get_or-written_before (set bytes offset (value % 256)) (offset + 1) width (value / 256) k (omega arith)
     ∙ get_or-set_other bytes offset k (value % 256) 0 (omega arith)
 
-pub get_or-written_behind : (bytes : List ℕ) (offset width value k : ℕ) → offset + width ≤ k → get_or (written bytes offset width value) k 0 ≡ get_or bytes k 0
+pub get_or-written_behind : (bytes : List ℕ) (offset width value k : ℕ) → offset + width ≤ k → get_or (after_write bytes offset width value) k 0 ≡ get_or bytes k 0
 get_or-written_behind bytes offset zero value k behind = refl
 get_or-written_behind bytes offset (suc width) value k behind =
     get_or-written_behind (set bytes offset (value % 256)) (offset + 1) width (value / 256) k (omega arith)
@@ -32,28 +32,28 @@ number_at-same xs ys offset (suc width) same =
     cc
 
 -- a number stays where another range is written
-pub number_at-written_apart : (bytes : List ℕ) (offset width value other size : ℕ) → (offset + width ≤ other) ⊎ (other + size ≤ offset) → number_at (written bytes offset width value) other size ≡ number_at bytes other size
+pub number_at-written_apart : (bytes : List ℕ) (offset width value other size : ℕ) → (offset + width ≤ other) ⊎ (other + size ≤ offset) → number_at (after_write bytes offset width value) other size ≡ number_at bytes other size
 number_at-written_apart bytes offset width value other size (inl before) =
     number_at-same _ _ other size (λ k from below. get_or-written_behind bytes offset width value k (omega arith))
 number_at-written_apart bytes offset width value other size (inr behind) =
     number_at-same _ _ other size (λ k from below. get_or-written_before bytes offset width value k (omega arith))
 
 -- one byte written outside a range, before or after a number in it
-pub written-set : (bytes : List ℕ) (offset width value k byte : ℕ) → (k < offset) ⊎ (offset + width ≤ k) → written (set bytes k byte) offset width value ≡ set (written bytes offset width value) k byte
-written-set bytes offset zero value k byte outside = refl
-written-set bytes offset (suc width) value k byte outside =
+pub after_write-set : (bytes : List ℕ) (offset width value k byte : ℕ) → (k < offset) ⊎ (offset + width ≤ k) → after_write (set bytes k byte) offset width value ≡ set (after_write bytes offset width value) k byte
+after_write-set bytes offset zero value k byte outside = refl
+after_write-set bytes offset (suc width) value k byte outside =
     let other : k ≢ offset = omega arith in
     let inner : (k < offset + 1) ⊎ (offset + 1 + width ≤ k) = grind arith in
-    ap (λ b. written b (offset + 1) width (value / 256)) (set_comm bytes k offset byte (value % 256) other)
-    ∙ written-set (set bytes offset (value % 256)) (offset + 1) width (value / 256) k byte inner
+    ap (λ b. after_write b (offset + 1) width (value / 256)) (set_comm bytes k offset byte (value % 256) other)
+    ∙ after_write-set (set bytes offset (value % 256)) (offset + 1) width (value / 256) k byte inner
 
 -- numbers written to two ranges that share no byte, in either order
-pub written_comm : (bytes : List ℕ) (offset width value other size value' : ℕ) → (offset + width ≤ other) ⊎ (other + size ≤ offset) → written (written bytes offset width value) other size value' ≡ written (written bytes other size value') offset width value
+pub written_comm : (bytes : List ℕ) (offset width value other size value' : ℕ) → (offset + width ≤ other) ⊎ (other + size ≤ offset) → after_write (after_write bytes offset width value) other size value' ≡ after_write (after_write bytes other size value') offset width value
 written_comm bytes offset width value other zero value' apart = refl
 written_comm bytes offset width value other (suc size) value' apart =
     let outside : (other < offset) ⊎ (offset + width ≤ other) = grind arith in
     let inner : (offset + width ≤ other + 1) ⊎ (other + 1 + size ≤ offset) = grind arith in
-    ap (λ b. written b (other + 1) size (value' / 256)) (sym (written-set bytes offset width value other (value' % 256) outside))
+    ap (λ b. after_write b (other + 1) size (value' / 256)) (sym (after_write-set bytes offset width value other (value' % 256) outside))
     ∙ written_comm (set bytes other (value' % 256)) offset width value (other + 1) size (value' / 256) inner
 
 low_digit : (digit rest : ℕ) → digit < 256 → ((digit + 256 * rest) % 256 ≡ digit) × ((digit + 256 * rest) / 256 ≡ rest)
@@ -62,20 +62,20 @@ low_digit digit rest small =
     (omega (arith, split), omega (arith, split))
 
 -- the number that stood there, written back, gives the bytes back
-pub written-restored : (bytes : List ℕ) (offset width value : ℕ) → AreBytes bytes → written (written bytes offset width value) offset width (number_at bytes offset width) ≡ bytes
-written-restored bytes offset zero value small = refl
-written-restored bytes offset (suc width) value small =
+pub after_write-restored : (bytes : List ℕ) (offset width value : ℕ) → AreBytes bytes → after_write (after_write bytes offset width value) offset width (number_at bytes offset width) ≡ bytes
+after_write-restored bytes offset zero value small = refl
+after_write-restored bytes offset (suc width) value small =
     let digit = low_digit (get_or bytes offset 0) (number_at bytes (offset + 1) width) (small offset) in
-    let first : set (written (set bytes offset (value % 256)) (offset + 1) width (value / 256)) offset (get_or bytes offset 0) ≡ written bytes (offset + 1) width (value / 256) =
-    sym (written-set (set bytes offset (value % 256)) (offset + 1) width (value / 256) offset (get_or bytes offset 0) (inl (omega arith)))
-    ∙ ap (λ b. written b (offset + 1) width (value / 256)) (set-set bytes offset (value % 256) (get_or bytes offset 0) ∙ set-get_or bytes offset 0)
+    let first : set (after_write (set bytes offset (value % 256)) (offset + 1) width (value / 256)) offset (get_or bytes offset 0) ≡ after_write bytes (offset + 1) width (value / 256) =
+    sym (after_write-set (set bytes offset (value % 256)) (offset + 1) width (value / 256) offset (get_or bytes offset 0) (inl (omega arith)))
+    ∙ ap (λ b. after_write b (offset + 1) width (value / 256)) (set-set bytes offset (value % 256) (get_or bytes offset 0) ∙ set-get_or bytes offset 0)
     in
-    rw (digit.0, digit.1, first) (written-restored bytes (offset + 1) width (value / 256) small)
+    rw (digit.0, digit.1, first) (after_write-restored bytes (offset + 1) width (value / 256) small)
 
 AreBytes-set : (bytes : List ℕ) (k byte : ℕ) → byte < 256 → AreBytes bytes → AreBytes (set bytes k byte)
 AreBytes-set bytes k byte small each j = grind (arith, common_steps, each j)
 
-pub AreBytes-written : (bytes : List ℕ) (offset width value : ℕ) → AreBytes bytes → AreBytes (written bytes offset width value)
-AreBytes-written bytes offset zero value each = each
-AreBytes-written bytes offset (suc width) value each =
-    AreBytes-written (set bytes offset (value % 256)) (offset + 1) width (value / 256) (AreBytes-set bytes offset (value % 256) (omega arith) each)
+pub AreBytes-after_write : (bytes : List ℕ) (offset width value : ℕ) → AreBytes bytes → AreBytes (after_write bytes offset width value)
+AreBytes-after_write bytes offset zero value each = each
+AreBytes-after_write bytes offset (suc width) value each =
+    AreBytes-after_write (set bytes offset (value % 256)) (offset + 1) width (value / 256) (AreBytes-set bytes offset (value % 256) (omega arith) each)

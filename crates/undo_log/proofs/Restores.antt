@@ -2,44 +2,44 @@
 use Rattle.std.proofs.Common.{◌≡◌, ℕ, true, false, List, [], ◌∷◌, ◌++◌, length, Option, Some, None, is_some, refl, sym, ap, ◌∙◌, arith}
 use Rattle.std.proofs.lemmas.Grind.{common_steps}
 use Rattle.undo_log.specs.declared.access.Access.{Access}
-use Rattle.undo_log.specs.Number.{written, AreBytes}
-use Rattle.undo_log.specs.Undo.{Call, Load, Store, access_of, after_call, after_calls, log_of, restored, taken_back, undone, AllAccessible}
-use Rattle.undo_log.proofs.Numbers.{written-restored, AreBytes-written, length-written}
+use Rattle.undo_log.specs.Number.{after_write, AreBytes}
+use Rattle.undo_log.specs.Undo.{MemoryCall, Load, Store, access_of, after_call, after_calls, log_of_calls, after_restore, access_undone, undone, AllAccessible}
+use Rattle.undo_log.proofs.Numbers.{after_write-restored, AreBytes-after_write, length-after_write}
 
-AreBytes-after_call : (bytes : List ℕ) (call : Call) → AreBytes bytes → AreBytes (after_call bytes call)
+AreBytes-after_call : (bytes : List ℕ) (call : MemoryCall) → AreBytes bytes → AreBytes (after_call bytes call)
 AreBytes-after_call bytes (Load offset width) small = small
-AreBytes-after_call bytes (Store offset width value) small = AreBytes-written bytes offset width value small
+AreBytes-after_call bytes (Store offset width value) small = AreBytes-after_write bytes offset width value small
 
-call_restored : (bytes : List ℕ) (call : Call) → AreBytes bytes → taken_back (access_of bytes call) (after_call bytes call) ≡ bytes
+call_restored : (bytes : List ℕ) (call : MemoryCall) → AreBytes bytes → access_undone (access_of bytes call) (after_call bytes call) ≡ bytes
 call_restored bytes (Load offset width) small = refl
-call_restored bytes (Store offset width value) small = written-restored bytes offset width value small
+call_restored bytes (Store offset width value) small = after_write-restored bytes offset width value small
 
-pub undo_restores_lem : (bytes : List ℕ) (calls : List Call) → AreBytes bytes → undone (log_of bytes calls) (after_calls bytes calls) ≡ bytes
+pub undo_restores_lem : (bytes : List ℕ) (calls : List MemoryCall) → AreBytes bytes → undone (log_of_calls bytes calls) (after_calls bytes calls) ≡ bytes
 undo_restores_lem bytes [] small = refl
 undo_restores_lem bytes (call ∷ calls) small =
-    ap (taken_back (access_of bytes call)) (undo_restores_lem (after_call bytes call) calls (AreBytes-after_call bytes call small))
+    ap (access_undone (access_of bytes call)) (undo_restores_lem (after_call bytes call) calls (AreBytes-after_call bytes call small))
     ∙ call_restored bytes call small
 
 -- the last access is taken back first
 pub undone-append : (log more : List Access) (bytes : List ℕ) → undone (log ++ more) bytes ≡ undone log (undone more bytes)
 undone-append [] more bytes = refl
-undone-append (access ∷ log) more bytes = ap (taken_back access) (undone-append log more bytes)
+undone-append (access ∷ log) more bytes = ap (access_undone access) (undone-append log more bytes)
 
-length-restored : (offset width old : ℕ) (new : Option ℕ) (bytes : List ℕ) → length (restored offset width old new bytes) ≡ length bytes
-length-restored offset width old None bytes = refl
-length-restored offset width old (Some value) bytes = length-written bytes offset width old
+length-after_restore : (offset width old : ℕ) (new : Option ℕ) (bytes : List ℕ) → length (after_restore offset width old new bytes) ≡ length bytes
+length-after_restore offset width old None bytes = refl
+length-after_restore offset width old (Some value) bytes = length-after_write bytes offset width old
 
 pub length-undone : (log : List Access) (bytes : List ℕ) → length (undone log bytes) ≡ length bytes
 length-undone [] bytes = refl
-length-undone (access ∷ log) bytes = length-restored access.offset access.width access.old access.new (undone log bytes) ∙ length-undone log bytes
+length-undone (access ∷ log) bytes = length-after_restore access.offset access.width access.old access.new (undone log bytes) ∙ length-undone log bytes
 
-restored-some : (offset width old : ℕ) (new : Option ℕ) (bytes : List ℕ) → is_some new ≡ true → restored offset width old new bytes ≡ written bytes offset width old
-restored-some offset width old None bytes is = cc
-restored-some offset width old (Some value) bytes is = refl
+after_restore-some : (offset width old : ℕ) (new : Option ℕ) (bytes : List ℕ) → is_some new ≡ true → after_restore offset width old new bytes ≡ after_write bytes offset width old
+after_restore-some offset width old None bytes is = cc
+after_restore-some offset width old (Some value) bytes is = refl
 
-restored-none : (offset width old : ℕ) (new : Option ℕ) (bytes : List ℕ) → is_some new ≡ false → restored offset width old new bytes ≡ bytes
-restored-none offset width old None bytes is = refl
-restored-none offset width old (Some value) bytes is = cc
+after_restore-none : (offset width old : ℕ) (new : Option ℕ) (bytes : List ℕ) → is_some new ≡ false → after_restore offset width old new bytes ≡ bytes
+after_restore-none offset width old None bytes is = refl
+after_restore-none offset width old (Some value) bytes is = cc
 
 -- these accesses are left to be taken back, and the bytes stand as they do after the others were
 pub record AreLeft (log left : List Access) (initial bytes : List ℕ) : Type 0 where
@@ -52,10 +52,10 @@ accessible_front size front access all k d below = grind (arith, common_steps, a
 
 module _ (log front left : List Access) (access : Access) (initial bytes : List ℕ) (last : left ≡ front ++ access ∷ []) (are : AreLeft log left initial bytes) where
   -- the last one is a store, and was taken back
-  pub AreLeft-store : (new : List ℕ) → is_some access.new ≡ true → new ≡ written bytes access.offset access.width access.old → AreLeft log front initial new
+  pub AreLeft-store : (new : List ℕ) → is_some access.new ≡ true → new ≡ after_write bytes access.offset access.width access.old → AreLeft log front initial new
   AreLeft-store new is now =
-      let same : new ≡ taken_back access bytes = now ∙ sym (restored-some access.offset access.width access.old access.new bytes is) in
-      let long : length new ≡ length bytes = ap length now ∙ length-written bytes access.offset access.width access.old in
+      let same : new ≡ access_undone access bytes = now ∙ sym (after_restore-some access.offset access.width access.old access.new bytes is) in
+      let long : length new ≡ length bytes = ap length now ∙ length-after_write bytes access.offset access.width access.old in
       record {
         undone_is = ap (undone front) same ∙ sym (undone-append front (access ∷ []) bytes) ∙ ap (λ l. undone l bytes) (sym last) ∙ are.undone_is;
         accessible = rw long (accessible_front (length bytes) front access (rw last at are.accessible));
@@ -66,11 +66,11 @@ module _ (log front left : List Access) (access : Access) (initial bytes : List 
   pub AreLeft-load : is_some access.new ≡ false → AreLeft log front initial bytes
   AreLeft-load is =
       record {
-        undone_is = ap (undone front) (sym (restored-none access.offset access.width access.old access.new bytes is)) ∙ sym (undone-append front (access ∷ []) bytes) ∙ ap (λ l. undone l bytes) (sym last) ∙ are.undone_is;
+        undone_is = ap (undone front) (sym (after_restore-none access.offset access.width access.old access.new bytes is)) ∙ sym (undone-append front (access ∷ []) bytes) ∙ ap (λ l. undone l bytes) (sym last) ∙ are.undone_is;
         accessible = accessible_front (length bytes) front access (rw last at are.accessible);
         size = are.size;
       }
 
 -- a call that is logged last leaves what the log gives back
-pub undone-call : (log : List Access) (bytes : List ℕ) (call : Call) → AreBytes bytes → undone (log ++ access_of bytes call ∷ []) (after_call bytes call) ≡ undone log bytes
+pub undone-call : (log : List Access) (bytes : List ℕ) (call : MemoryCall) → AreBytes bytes → undone (log ++ access_of bytes call ∷ []) (after_call bytes call) ≡ undone log bytes
 undone-call log bytes call small = undone-append log (access_of bytes call ∷ []) (after_call bytes call) ∙ ap (undone log) (call_restored bytes call small)

@@ -7,9 +7,10 @@ number_at bytes offset zero = 0
 number_at bytes offset (suc width) = slice_index bytes offset + 256 * number_at bytes (offset + 1) width
 
 -- the bytes after the low bytes of a number, so many, are written from the offset on
-abbrev pub written : List ℕ → ℕ → ℕ → ℕ → List ℕ
-written bytes offset zero value = bytes
-written bytes offset (suc width) value = written (slice_set bytes offset (value % 256)) (offset + 1) width (value / 256)
+abbrev pub after_write : List ℕ → ℕ → ℕ → ℕ → List ℕ
+after_write bytes offset zero value = bytes
+after_write bytes offset (suc width) value =
+    after_write (slice_set bytes offset (value % 256)) (offset + 1) width (value / 256)
 
 -- each number of the list is a byte
 abbrev pub AreBytes : List ℕ → Type 0

@@ -1,4 +1,4 @@
-// One load or store.
+//! One load or store.
 
 /// One load or store of a task, as its log keeps it.
 ///

@@ -1,4 +1,4 @@
-// What a task does to memory, and how it is taken back.
+//! What a task does to memory, and how it is taken back.
 
 ghost use Rattle.std.specs.Prelude.{◌≡◌, [], ◌∷◌, ◌++◌, length, IfOk, OnOk, OnErr};
 ghost use Rattle.undo_log.specs.Number.{number_at, IsAccessible};

@@ -1,4 +1,4 @@
-// The calls of a task whose room in the log was made before.
+//! The calls of a task whose room in the log was made before.
 
 ghost use Rattle.std.specs.Prelude.{◌≡◌, ◌<◌, [], ◌∷◌, ◌++◌, length};
 ghost use Rattle.undo_log.specs.Number.{number_at, IsAccessible};
@@ -7,7 +7,7 @@ ghost use Rattle.undo_log.specs.Undo.{Load, Store, access_of, after_call, undone
 use crate::{Access, Log, Memory};
 use spare_buffer::Buffer;
 
-/// What `load` does, by the buffer's room where the log has none: it takes no memory.
+/// What `load` does, by what is spare in the buffer where the log has none: it takes no memory.
 pub fn load_with(
     memory: &Memory,
     log: &mut Log,
@@ -33,7 +33,7 @@ pub fn load_with(
     old
 }
 
-/// What `store` does, by the buffer's room where the log has none: it takes no memory.
+/// What `store` does, by what is spare in the buffer where the log has none: it takes no memory.
 pub fn store_with(
     memory: &mut Memory,
     log: &mut Log,

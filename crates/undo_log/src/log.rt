@@ -1,4 +1,4 @@
-// The accesses of one task.
+//! The accesses of one task.
 
 ghost use Rattle.std.specs.Prelude.{◌≡◌, ◌<◌, [], ◌∷◌, ◌++◌, length, OnOk, OnErr};
 
@@ -39,7 +39,7 @@ impl Log {
         self.accesses.as_slice()
     }
 
-    /// Forgets all accesses, and keeps the room for them.
+    /// Forgets all accesses, and keeps the memory for them.
     pub fn clear(&mut self)
         ensures { self.new ≡ [] }
     {
@@ -54,12 +54,12 @@ impl Log {
         Ok(())
     }
 
-    /// Adds an access at the end, by the buffer's room where the log has none. It takes no memory.
+    /// Adds an access at the end, by what is spare in the buffer where the log has none. It takes no memory.
     pub(crate) fn push_with(&mut self, room: &mut Buffer<Access>, access: Access)
         requires { length self.old < room.old }
         ensures { self.new ≡ self.old ++ access ∷ [] }
     {
-        room.make_room_in(&mut self.accesses, 1);
+        room.lend_spare(&mut self.accesses, 1);
         match self.accesses.push(access) {
             Ok(()) => {}
             Err(_) => unreachable!(),

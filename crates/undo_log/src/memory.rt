@@ -1,7 +1,7 @@
-// The bytes of the guest's data.
+//! The bytes of the guest's data.
 
 ghost use Rattle.std.specs.Prelude.{◌≡◌, ◌+◌, ◌-◌, ◌≤◌, ◌++◌, length, replicate, IfOk};
-ghost use Rattle.undo_log.specs.Number.{number_at, written, AreBytes, IsAccessible};
+ghost use Rattle.undo_log.specs.Number.{number_at, after_write, AreBytes, IsAccessible};
 
 use byteorder::{ByteOrder, LittleEndian};
 use std::alloc::{AllocError, Global};
@@ -70,7 +70,7 @@ impl Memory {
 
     pub(crate) fn write(&mut self, offset: u32, width: u8, value: u32)
         requires { IsAccessible (length self.old) offset width }
-        ensures { self.new ≡ written self.old offset width value }
+        ensures { self.new ≡ after_write self.old offset width value }
     {
         write_in(self.bytes.as_mut_slice(), offset as usize, width, value);
     }
@@ -94,7 +94,7 @@ pub fn number_in(bytes: &[u8], offset: usize, width: u8) -> u32
 #[inline]
 pub fn write_in(bytes: &mut [u8], offset: usize, width: u8, value: u32)
     requires { IsAccessible (length bytes.old) offset width }
-    ensures { bytes.new ≡ written bytes.old offset width value }
+    ensures { bytes.new ≡ after_write bytes.old offset width value }
 {
     match width {
         1 => bytes[offset] = (value % 0x100) as u8,

@@ -39,7 +39,7 @@ const PLACED: Case = Case {
 };
 
 #[test]
-fn a_placer_that_is_handed_in_is_told_of_each_task(rt: HostRuntime) -> Result<(), Fail> {
+fn a_placer_that_is_handed_in_places_each_task(rt: HostRuntime) -> Result<(), Fail> {
     let alloc = rt.alloc();
     let placed = Arc::new(alloc, AtomicU64::new(0))?;
     let told = Arc::try_clone(&placed)?;
@@ -104,7 +104,7 @@ const UNTAPPED: Case = Case {
 };
 
 #[test]
-fn taps_are_told_of_a_script(rt: HostRuntime) -> Result<(), Fail> {
+fn taps_note_a_script(rt: HostRuntime) -> Result<(), Fail> {
     let alloc = rt.alloc();
     let mut taps: Vec<Box<dyn Tap + Send>> = Vec::new(alloc);
     taps.push(Box::new(alloc, LastN::new(alloc, 2)?)?)?;

@@ -8,16 +8,16 @@ use Rattle.fractal_vt.proofs.Proved.{key_cmp_total}
 use Rattle.guest_image.specs.ImageValue.{ImageValue}
 use Rattle.spec_state.specs.declared.task.Task.{Task}
 use Rattle.spec_state.specs.View.{View, task_at}
-use Rattle.spec_state.specs.Aborts.{Pulls, IsCascade, Only}
+use Rattle.spec_state.specs.Aborts.{PullsInView, IsCascade, OnlyNode}
 use Rattle.spec_law.specs.Sound.{Sound, SoundOrder}
 use Rattle.spec_state.specs.Queries.{Conflicts}
 use Rattle.spec_law.specs.Laws.{CascadeIsLater, ConflictsSpareAsker}
 use Rattle.spec_law.proofs.Aborted.Pulled.{IsTaskAbove, pulled_above}
 
 -- where each first task is this one, under an id of `own`, or lies above it, so is each task that is reached
-module _ (view : View) (heir : Option ℕ) (sound : SoundOrder view heir) (count : ℕ) (pull : ℕ → ℕ → Bool) (pulls : (a b : ℕ) → pull a b ≡ true → Pulls view a b) (own firsts : ℕ → Type 0) (task : Task) (here : (k : ℕ) → own k → task_at view k ≡ Some task) (each : (k : ℕ) → firsts k → own k ⊎ IsTaskAbove view task k) where
+module _ (view : View) (heir : Option ℕ) (sound : SoundOrder view heir) (count : ℕ) (pull : ℕ → ℕ → Bool) (pulls : (a b : ℕ) → pull a b ≡ true → PullsInView view a b) (own firsts : ℕ → Type 0) (task : Task) (here : (k : ℕ) → own k → task_at view k ≡ Some task) (each : (k : ℕ) → firsts k → own k ⊎ IsTaskAbove view task k) where
   -- one step further lies above as well
-  pulled_from : (a b : ℕ) → own a ⊎ IsTaskAbove view task a → Pulls view a b → IsTaskAbove view task b
+  pulled_from : (a b : ℕ) → own a ⊎ IsTaskAbove view task a → PullsInView view a b → IsTaskAbove view task b
   pulled_from a b (inl is) pulled = pulled_above view heir sound a b task (here a is) pulled
   pulled_from a b (inr above) pulled =
       let up = pulled_above view heir sound a b above.0 above.1 pulled in
@@ -33,7 +33,7 @@ not_above_itself task less = absurd (cc (less, tied_itself key_cmp_total task.ke
 
 pub cascade_is_later : CascadeIsLater
 cascade_is_later image view first task marks sound there cascade id marked other =
-    elim (reached_later view sound.heir sound.order (length marks) cascade.pull (λ a b. (cascade.pulls a b).0) (λ k. k ≡ first) (Only first) task
+    elim (reached_later view sound.heir sound.order (length marks) cascade.pull (λ a b. (cascade.pulls a b).0) (λ k. k ≡ first) (OnlyNode first) task
     (λ k is. subst (λ j. task_at view j ≡ Some task) (sym is) there) (λ k is. inl is) id (cascade.least.reached id marked)) [
       | inl is ↦ absurd (other is)
       | inr above ↦ above

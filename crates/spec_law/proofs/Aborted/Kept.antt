@@ -8,9 +8,9 @@ use Rattle.spec_state.specs.declared.task.Task.{Task}
 use Rattle.spec_state.specs.Settings.{IsLine}
 use Rattle.spec_state.specs.View.{View, task_at}
 use Rattle.spec_state.specs.Filters.{HasNotes}
-use Rattle.spec_state.specs.Groups.{logged}
+use Rattle.spec_state.specs.Groups.{logged_tasks}
 use Rattle.spec_state.specs.Aborts.{is_marked}
-use Rattle.spec_law.specs.AbortLaws.{TakesMarked, AbortKeepsMemory}
+use Rattle.spec_law.specs.AbortLaws.{TakesMarked, AbortKeepsSoundMemory}
 use Rattle.spec_law.proofs.Accesses.Noted.{none_noted}
 use Rattle.spec_law.proofs.Aborted.Taken.{unmarked_stays, marked_is_back, holds_later, logs_taken_back}
 
@@ -34,17 +34,17 @@ noted_by marks old new takes noted id task at = by_mark (is_marked marks id) ref
         let back = marked_is_back marks old new takes id task taken at in
         subst (λ t. HasNotes t.lines (notes_of old.settings.line t.log)) (sym back.is) none_noted
 
-pub abort_keeps_memory : AbortKeepsMemory
+pub abort_keeps_memory : AbortKeepsSoundMemory
 abort_keeps_memory image marks old new sound takes =
     let sized = line_sized old.settings.line sound.sizes.settings.line in
     let back = takes.memory in
     let chained =
-    abort_keeps_chain old.settings.line (is_marked marks) (logged old) (logged new) back.ids sound.serial.memory old.memory
+    abort_keeps_chain old.settings.line (is_marked marks) (logged_tasks old) (logged_tasks new) back.ids sound.serial.memory old.memory
     sized (holds_later marks old new takes) (logs_taken_back marks old new takes) back.by_key sound.memory.chained
     in
-    let same : new.settings ≡ old.settings = ap (λ v. v.settings) takes.rest in
+    let same : new.settings ≡ old.settings = ap (λ v. v.settings) takes.frame in
     record {
-      chained = subst (λ s. IsChained s.line (logged new) sound.serial.memory new.memory) (sym same)
-          (subst (IsChained old.settings.line (logged new) sound.serial.memory) (sym back.is) chained);
+      chained = subst (λ s. IsChained s.line (logged_tasks new) sound.serial.memory new.memory) (sym same)
+          (subst (IsChained old.settings.line (logged_tasks new) sound.serial.memory) (sym back.memory_is) chained);
       noted = λ id task at. subst (λ s. HasNotes task.lines (notes_of s.line task.log)) (sym same) (noted_by marks old new takes sound.memory.noted id task at);
     }

@@ -6,20 +6,20 @@ use Rattle.std.specs.declared.cmp.Ordering.{Ordering}
 use Rattle.std.specs.declared.cmp.Ordering.TheVariants.{Less, Equal, Greater}
 use Rattle.fractal_vt.specs.declared.key.Key.{Key}
 use Rattle.fractal_vt.specs.Keys.{key_cmp}
-use Rattle.fractal_vt.specs.Levels.{closed, levels_cmp}
+use Rattle.fractal_vt.specs.Levels.{closed_level, levels_cmp}
 use Rattle.fractal_vt.proofs.Proved.{equal_keys_tie, key_cmp_total}
-use Rattle.order_law.specs.Tasks.{Keyed, levels, HasNumber}
-use Rattle.order_law.specs.Events.{IsLeast}
+use Rattle.order_law.specs.Tasks.{Keyed, levels_of, HasNumber}
+use Rattle.order_law.specs.Events.{IsLeastInKeys}
 use Rattle.order_law.proofs.Proved.{below_reopened, innermost, least_is_below}
-use Rattle.spill_store.specs.Entries.{Entry as Spilled, open_key}
+use Rattle.spill_store.specs.SpilledTasks.{Spilled, open_key}
 use Rattle.spec_state.specs.declared.task.Task.{Task}
 use Rattle.spec_state.specs.View.{View, task_at, block_at}
 use Rattle.spec_state.specs.Tasks.{idle_again, is_dispatched}
-use Rattle.spec_state.specs.Groups.{all_keyed, all_spilled, keyed, keyed_task, keyed_spilled, live_creator}
+use Rattle.spec_state.specs.Groups.{all_keyed, all_spilled, keyed_tasks, keyed_task, keyed_spilled, live_creator}
 use Rattle.spec_state.specs.Least.{Queued, Spilled_at, spot_cmp, IsHeir, IsLeastTask}
 use Rattle.spec_state.specs.Aborts.{is_marked, is_marked_creator}
 use Rattle.spec_law.specs.Sound.{SoundOrder, SoundSizes}
-use Rattle.spec_law.specs.AbortLaws.{TakesMarked, AbortKeepsHeir}
+use Rattle.spec_law.specs.AbortLaws.{TakesMarked, AbortKeepsHeirOfView}
 use Rattle.spec_law.proofs.Tasks.Beside.{mapped_some, id_below, queued_stands}
 use Rattle.spec_law.proofs.Aborted.Taken.{unmarked_stays, marked_idles}
 use Rattle.spec_law.proofs.Tasks.Rebound.{which, entry_there, below_all}
@@ -56,7 +56,7 @@ not_above a b none is = none (key_cmp_total.antisymm b a ∙ ap ordering_reverse
 
 module _ (marks : List Bool) (old new : View) (takes : TakesMarked marks old new) (sizes : SoundSizes old) where
   same_blocks : new.blocks ≡ old.blocks
-  same_blocks = ap (λ v. v.blocks) takes.rest
+  same_blocks = ap (λ v. v.blocks) takes.frame
 
   spilled_was : (tile place : ℕ) (s : Spilled) → slice_get (block_at new tile) place ≡ Some s → slice_get (block_at old tile) place ≡ Some s
   spilled_was tile place s at = subst (λ blocks. slice_get (slice_index_or blocks tile []) place ≡ Some s) same_blocks at
@@ -77,13 +77,13 @@ module _ (marks : List Bool) (old new : View) (takes : TakesMarked marks old new
         numbers same =
             let number = some_of heir.0.key.tb heir.2 in
             order.order.numbers_differ k id (keyed_task t) (keyed_task heir.0) number.0
-            (queued_stands old (Some id) k t there) (queued_stands old (Some id) id heir.0 heir.1.at.there)
+            (queued_stands old (Some id) k t there) (queued_stands old (Some id) id heir.0 heir.1.queued_at.there)
             (sym (ap (λ key. key.tb) same) ∙ number.1) number.1
 
     above_now : (k : ℕ) (t : Task) → task_at new k ≡ Some t → k ≢ id → key_cmp heir.0.key t.key ≡ Less
     above_now = each_now marks old new takes (λ k t. k ≢ id → key_cmp heir.0.key t.key ≡ Less)
         (λ k t there unmarked other. above_before k t other there)
-        (λ k now back other. below_reopened (levels (keyed_task heir.0)) (keyed_task back.was) (above_before k back.was other back.there))
+        (λ k now back other. below_reopened (levels_of (keyed_task heir.0)) (keyed_task back.was) (above_before k back.was other back.there))
 
     spilled_above : (tile place : ℕ) (s : Spilled) → slice_get (block_at new tile) place ≡ Some s → key_cmp heir.0.key (open_key s) ≢ Greater
     spilled_above tile place s at =
@@ -95,7 +95,7 @@ module _ (marks : List Bool) (old new : View) (takes : TakesMarked marks old new
     pub stays_heir : IsHeir new (Some id)
     stays_heir = (
       heir.0,
-      makes_least new (abort_keeps_sizes marks old new takes sizes) id heir.0 (unmarked_stays marks old new takes id out ∙ heir.1.at.there)
+      makes_least new (abort_keeps_sizes marks old new takes sizes) id heir.0 (unmarked_stays marks old new takes id out ∙ heir.1.queued_at.there)
           (λ k t other there. above_now k t there other) spilled_above,
       heir.2,
     )
@@ -104,7 +104,7 @@ module _ (marks : List Bool) (old new : View) (takes : TakesMarked marks old new
   module _ (order : SoundOrder old None) (heir : IsHeir old None) (id : ℕ) (n : Task) (least : IsLeastTask new id n) (runs : is_dispatched n ≡ true) where
     n_was : task_at old id ≡ Some n
     n_was = each_now marks old new takes (λ k t. is_dispatched t ≡ true → task_at old k ≡ Some t)
-        (λ k t there out run. there) (λ k now back run. absurd (cc (run))) id n least.at.there runs
+        (λ k t there out run. there) (λ k now back run. absurd (cc (run))) id n least.queued_at.there runs
 
     -- a key that no dispatched task has
     not_n : (key : Key) → key.tb ≡ None → key_cmp key n.key ≢ Greater → key_cmp n.key key ≢ Greater → ⊥
@@ -114,8 +114,8 @@ module _ (marks : List Bool) (old new : View) (takes : TakesMarked marks old new
         absurd (cc (sym open', ap (λ k. k.tb) same, number.1))
 
     -- the lowest of all tasks of before
-    module _ (k : ℕ) (task : Keyed) (low : IsLeast (all_keyed old None) k task) where
-      upto_n : levels_cmp (levels task) (levels (keyed_task n)) ≢ Greater
+    module _ (k : ℕ) (task : Keyed) (low : IsLeastInKeys (all_keyed old None) k task) where
+      upto_n : levels_cmp (levels_of task) (levels_of (keyed_task n)) ≢ Greater
       upto_n = low.least id (keyed_task n) (queued_stands old None id n n_was)
 
       -- it was no dispatched task, which would have been the heir
@@ -127,15 +127,15 @@ module _ (marks : List Bool) (old new : View) (takes : TakesMarked marks old new
 
           others : (j : ℕ) (x : Task) → j ≢ k → task_at old j ≡ Some x → key_cmp t.key x.key ≡ Less
           others j x other at =
-              subst (λ y. levels_cmp (levels y) (levels (keyed_task x)) ≡ Less) is
-              (least_is_below (all_keyed old None) (map closed old.path) old.next k number.0 task order.order low number.1 j (keyed_task x) other (queued_stands old None j x at))
+              subst (λ y. levels_cmp (levels_of y) (levels_of (keyed_task x)) ≡ Less) is
+              (least_is_below (all_keyed old None) (map closed_level old.path) old.next k number.0 task order.order low number.1 j (keyed_task x) other (queued_stands old None j x at))
 
           spilled : (tile place : ℕ) (s : Spilled) → slice_get (block_at old tile) place ≡ Some s → key_cmp t.key (open_key s) ≢ Greater
           spilled tile place s at =
               let all = place_in_all old.blocks tile place s at in
               let entry = get_mapped (keyed_spilled (length old.history) None) (all_spilled old) all.0 s all.1 in
-              let stands = entry_there (length old.tasks) (keyed old) (map (keyed_spilled (length old.history) None) (all_spilled old)) (keyed_spilled (length old.history) None s) (all.0, entry) in
-              subst (λ y. levels_cmp (levels y) (levels (keyed_spilled (length old.history) None s)) ≢ Greater) is
+              let stands = entry_there (length old.tasks) (keyed_tasks old) (map (keyed_spilled (length old.history) None) (all_spilled old)) (keyed_spilled (length old.history) None s) (all.0, entry) in
+              subst (λ y. levels_cmp (levels_of y) (levels_of (keyed_spilled (length old.history) None s)) ≢ Greater) is
               (low.least stands.0 (keyed_spilled (length old.history) None s) stands.1)
 
       -- an idle one of a committed creator is there still, at its key
@@ -143,10 +143,10 @@ module _ (marks : List Bool) (old new : View) (takes : TakesMarked marks old new
       idle_low t there is open' = by_mark (is_marked marks k) refl
         where
           free : live_creator t.creator ≡ None
-          free = sym (ap (λ x. x.creator) is) ∙ (innermost (all_keyed old None) (map closed old.path) old.next k task order.order low).committed
+          free = sym (ap (λ x. x.creator) is) ∙ (innermost (all_keyed old None) (map closed_level old.path) old.next k task order.order low).committed
 
           upto : key_cmp t.key n.key ≢ Greater
-          upto = subst (λ y. levels_cmp (levels y) (levels (keyed_task n)) ≢ Greater) is upto_n
+          upto = subst (λ y. levels_cmp (levels_of y) (levels_of (keyed_task n)) ≢ Greater) is upto_n
 
           at_key : (now : Task) → task_at new k ≡ Some now → now.key ≡ t.key → ⊥
           at_key now at same =
@@ -169,10 +169,11 @@ module _ (marks : List Bool) (old new : View) (takes : TakesMarked marks old new
           subst (λ key. key_cmp key (open_key s) ≢ Greater) (least_key new id n least)
           (first_not_greater (key_cmp least.least.key (open_key s)) (spot_cmp (Queued n.tile least.place) (Spilled_at one.0 one.1)) whole)
           in
-          not_n (open_key s) refl (subst (λ y. levels_cmp (levels y) (levels (keyed_task n)) ≢ Greater) is upto_n) above
+          not_n (open_key s) refl
+          (subst (λ y. levels_cmp (levels_of y) (levels_of (keyed_task n)) ≢ Greater) is upto_n) above
 
       pub no_low : ⊥
-      no_low = elim (which (length old.tasks) (keyed old) (map (keyed_spilled (length old.history) None) (all_spilled old)) k task low.there) [
+      no_low = elim (which (length old.tasks) (keyed_tasks old) (map (keyed_spilled (length old.history) None) (all_spilled old)) k task low.there) [
         | inl queued ↦ (let read = mapped_some keyed_task (task_at old k) task queued in by_tie read.0 read.1 read.2 (read.0.key.tb) refl)
         | inr entry ↦ (let read = entry_at (all_spilled old) entry.0 entry.1 in spilled_low read.0 entry.0 read.1 read.2)
       ]
@@ -188,11 +189,11 @@ module _ (marks : List Bool) (old new : View) (takes : TakesMarked marks old new
     -- each task of before stands below the bound
     below_bound : (k : ℕ) (x : Keyed) → all_keyed old None k ≡ Some x → k < length old.tasks + length (all_spilled old)
     below_bound k x at =
-        let low = below_all (length old.tasks) (keyed old) (map (keyed_spilled (length old.history) None) (all_spilled old)) bounded k x at in
+        let low = below_all (length old.tasks) (keyed_tasks old) (map (keyed_spilled (length old.history) None) (all_spilled old)) bounded k x at in
         let same = length-map (all_spilled old) (keyed_spilled (length old.history) None) in
         omega (arith, low, same)
       where
-        bounded : (j : ℕ) (y : Keyed) → keyed old j ≡ Some y → j < length old.tasks
+        bounded : (j : ℕ) (y : Keyed) → keyed_tasks old j ≡ Some y → j < length old.tasks
         bounded j y there = let read = mapped_some keyed_task (task_at old j) y there in id_below old j read.0 read.1
 
     pub none_new : ⊥
@@ -201,9 +202,9 @@ module _ (marks : List Bool) (old new : View) (takes : TakesMarked marks old new
           let at = queued_stands old None id n n_was in
           absurd (cc (none id (below_bound id (keyed_task n) at), at))
       | inr low ↦ no_low low.id low.task
-          (record { there = low.there; least = λ k y at. upto_of (levels_cmp (levels low.task) (levels y)) (low.low k y (below_bound k y at) at) })
+          (record { there = low.there; least = λ k y at. upto_of (levels_cmp (levels_of low.task) (levels_of y)) (low.low k y (below_bound k y at) at) })
     ]
 
-pub abort_keeps_heir : AbortKeepsHeir
+pub abort_keeps_heir : AbortKeepsHeirOfView
 abort_keeps_heir marks old new None takes spares order sizes heir = λ id n least runs. none_new marks old new takes sizes order heir id n least runs
 abort_keeps_heir marks old new (Some id) takes spares order sizes heir = stays_heir marks old new takes sizes id (spares id refl) order heir

@@ -11,11 +11,12 @@ use Rattle.spec_state.specs.declared.task.Status.TheVariants.{Finished}
 use Rattle.spec_state.specs.declared.task.Task.{Task}
 use Rattle.spec_state.specs.View.{View, task_at, queue_at, finished_at, cores_at}
 use Rattle.spec_state.specs.Tasks.{depth_of, idle_again}
-use Rattle.spec_state.specs.Groups.{waiting, waiting_task}
+use Rattle.spec_state.specs.Groups.{room_tasks, room_task}
 use Rattle.spec_state.specs.Aborts.{is_marked, freed_core}
 use Rattle.spec_state.specs.Queries.{IsQueued}
-use Rattle.spec_law.specs.Sound.{HoldsCore, HasTask, SoundSizes}
-use Rattle.spec_law.specs.AbortLaws.{TakesMarked, AbortKeepsSizes}
+use Rattle.spec_state.specs.Stored.{HasCore, HasTask}
+use Rattle.spec_law.specs.Sound.{SoundSizes}
+use Rattle.spec_law.specs.AbortLaws.{TakesMarked, AbortKeepsSoundSizes}
 use Rattle.spec_law.proofs.Aborted.Taken.{unmarked_stays}
 use Rattle.spec_law.proofs.Aborted.KeptTasks.{each_now}
 use Rattle.spec_law.proofs.Tasks.Filtered.{filter_shorter, filter_was, filter_is, filter_leaves, queue_filtered, list_mapped, got_mapped, get_mapped}
@@ -47,7 +48,7 @@ unmarked_of false is = refl
 module _ (marks : List Bool) (old new : View) (takes : TakesMarked marks old new) (sizes : SoundSizes old) where
   -- the task of this id is there
   abbrev here : ℕ → Bool
-  here id = is_some (waiting new id)
+  here id = is_some (room_tasks new id)
 
   abbrev unmarked : ℕ → Bool
   unmarked id = not (is_marked marks id)
@@ -64,8 +65,8 @@ module _ (marks : List Bool) (old new : View) (takes : TakesMarked marks old new
 
   new_is : new ≡ listed
   new_is =
-      let queues : new.queues ≡ map (filter here) old.queues = takes.queues ∙ ap (λ f. map f old.queues) (λ i ids. queue_filtered (waiting new) ids i) in
-      takes.rest
+      let queues : new.queues ≡ map (filter here) old.queues = takes.queues ∙ ap (λ f. map f old.queues) (λ i ids. queue_filtered (room_tasks new) ids i) in
+      takes.frame
       ∙ (λ i. record old { tasks = new.tasks; memory = new.memory; queues = queues i; finished = takes.finished i; cores = takes.cores i })
 
   -- each task was there, in the same tile
@@ -78,7 +79,7 @@ module _ (marks : List Bool) (old new : View) (takes : TakesMarked marks old new
   is_here id is = by_task (task_at new id) refl
     where
       by_task : (now : Option Task) → task_at new id ≡ now → (t : Task) × (task_at new id ≡ Some t)
-      by_task None none = absurd (cc (sym (ap (λ o. is_some (option_map waiting_task o)) none) ∙ is))
+      by_task None none = absurd (cc (sym (ap (λ o. is_some (option_map room_task o)) none) ∙ is))
       by_task (Some now) at = (now, at)
 
   queued_forth : (tile id : ℕ) → IsQueued listed tile id → HasTask listed tile id (λ status. Unit {0})
@@ -96,7 +97,7 @@ module _ (marks : List Bool) (old new : View) (takes : TakesMarked marks old new
       let before = was_in_tile id now.0 now.1 in
       let was = (sizes.queued_are tile id).1 (before.0, before.1, sym before.2 ∙ now.2, tt) in
       subst (λ ids. Contains ids id) (sym (list_mapped (filter here) refl old.queues tile))
-      (filter_leaves here (queue_at old tile) id was (ap (λ o. is_some (option_map waiting_task o)) now.1))
+      (filter_leaves here (queue_at old tile) id was (ap (λ o. is_some (option_map room_task o)) now.1))
 
   finished_forth : (tile id : ℕ) → Contains (finished_at listed tile) id → HasTask listed tile id (λ status. status ≡ Finished)
   finished_forth tile id has =
@@ -118,7 +119,7 @@ module _ (marks : List Bool) (old new : View) (takes : TakesMarked marks old new
       subst (λ ids. Contains ids id) (sym (list_mapped (filter unmarked) refl old.finished tile))
       (filter_leaves unmarked (finished_at old tile) id has (ap not was.0))
 
-  held_forth : (tile core id : ℕ) → slice_get (cores_at listed tile) core ≡ Some (Some id) → HasTask listed tile id (λ status. HoldsCore status core)
+  held_forth : (tile core id : ℕ) → slice_get (cores_at listed tile) core ≡ Some (Some id) → HasTask listed tile id (λ status. HasCore status core)
   held_forth tile core id held =
       let got : slice_get (map (freed_core marks) (cores_at old tile)) core ≡ Some (Some id) =
       ap (λ cores. slice_get cores core) (sym (list_mapped (map (freed_core marks)) refl old.cores tile)) ∙ held
@@ -128,9 +129,9 @@ module _ (marks : List Bool) (old new : View) (takes : TakesMarked marks old new
       let was = (sizes.held_are tile core id).0 (from.1 ∙ ap Some still.0) in
       (was.0, unmarked_stays marks old new takes id still.1 ∙ was.1, was.2, was.3)
 
-  held_back : (tile core id : ℕ) → HasTask listed tile id (λ status. HoldsCore status core) → slice_get (cores_at listed tile) core ≡ Some (Some id)
+  held_back : (tile core id : ℕ) → HasTask listed tile id (λ status. HasCore status core) → slice_get (cores_at listed tile) core ≡ Some (Some id)
   held_back tile core id now =
-      let was = not_idle (λ status. HoldsCore status core) (λ t is. is) id now.0 now.1 now.3 in
+      let was = not_idle (λ status. HasCore status core) (λ t is. is) id now.0 now.1 now.3 in
       let got = (sizes.held_are tile core id).1 (now.0, was.1, now.2, now.3) in
       ap (λ cores. slice_get cores core) (list_mapped (map (freed_core marks)) refl old.cores tile)
       ∙ get_mapped (freed_core marks) (cores_at old tile) core (Some id) got
@@ -157,5 +158,5 @@ module _ (marks : List Bool) (old new : View) (takes : TakesMarked marks old new
         spilled = sizes.spilled;
       }
 
-pub abort_keeps_sizes : AbortKeepsSizes
+pub abort_keeps_sizes : AbortKeepsSoundSizes
 abort_keeps_sizes marks old new takes sizes = subst SoundSizes (sym (new_is marks old new takes sizes)) (listed_sizes marks old new takes sizes)

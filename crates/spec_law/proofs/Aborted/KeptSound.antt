@@ -11,7 +11,7 @@ use Rattle.spec_state.specs.View.{View, task_at}
 use Rattle.spec_state.specs.Groups.{live_creator}
 use Rattle.spec_state.specs.Least.{IsHeir}
 use Rattle.spec_state.specs.Queries.{Conflicts, IsLater}
-use Rattle.spec_state.specs.Aborts.{Only}
+use Rattle.spec_state.specs.Aborts.{OnlyNode}
 use Rattle.spec_state.specs.Room.{asker_of}
 use Rattle.spec_law.specs.Sound.{Sound}
 use Rattle.spec_law.specs.AbortLaws.{AbortKeepsSound, AbortOfOneIsSound, AbortOfConflictsIsSound, AbortOfLaterIsSound, AbortForRoomIsSound}
@@ -26,9 +26,9 @@ use Rattle.spec_law.proofs.Aborted.Spared.{heir_is_least, not_below_least, casca
 pub abort_keeps_sound : AbortKeepsSound
 abort_keeps_sound image marks old new sound takes spares = (
   record {
-    version = ap (λ v. v.version) takes.rest ∙ sound.version;
+    version = ap (λ v. v.version) takes.frame ∙ sound.version;
     serial = sound.serial;
-    is_run = subst (λ v. IsRun image v.settings.budget v.history sound.serial) (sym takes.rest) sound.is_run;
+    is_run = subst (λ v. IsRun image v.settings.budget v.history sound.serial) (sym takes.frame) sound.is_run;
     heir = sound.heir;
     is_heir = abort_keeps_heir marks old new sound.heir takes spares sound.order sound.sizes sound.is_heir;
     tasks = abort_keeps_tasks image marks old new sound.heir sound.serial takes spares sound.tasks;
@@ -41,7 +41,7 @@ abort_keeps_sound image marks old new sound takes spares = (
 
 pub abort_of_one_is_sound : AbortOfOneIsSound
 abort_of_one_is_sound image first task old aborted new sound there other abort =
-    abort_keeps_sound image abort.marks old new sound (abort_takes (Only first) old aborted new abort)
+    abort_keeps_sound image abort.marks old new sound (abort_takes (OnlyNode first) old aborted new abort)
     (cascade_spares_heir image old first task abort.marks sound there other abort.cascade)
 
 pub abort_of_conflicts_is_sound : AbortOfConflictsIsSound
@@ -53,7 +53,7 @@ abort_of_conflicts_is_sound image id line task write old aborted new sound there
 above_is_no_heir : (image : ImageValue) (view : View) (sound : Sound image view) (id v : ℕ) (task x : Task) → task_at view id ≡ Some task → IsLater view task v x → sound.heir ≢ Some v
 above_is_no_heir image view sound id v task x there later heir =
     let least = heir_is_least view sound.heir v sound.is_heir heir in
-    let both : Some x ≡ Some least.0 = sym later.there ∙ least.1.at.there in
+    let both : Some x ≡ Some least.0 = sym later.there ∙ least.1.queued_at.there in
     let same : x ≡ least.0 = cc in
     not_below_least view sound.sizes v id least.0 task least.1 there (subst (λ t. key_cmp task.key t.key ≡ Less) same later.later)
 

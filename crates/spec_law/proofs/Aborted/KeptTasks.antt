@@ -1,11 +1,11 @@
 -- An abort that spares the heir keeps the group of tasks.
 use Rattle.std.proofs.Common.{◌≡◌, ℕ, Bool, true, false, List, length, Option, Some, refl, sym, ap, subst, ◌∙◌, inl, is_some, unwrap_or}
 use Rattle.guest_image.specs.ImageValue.{ImageValue}
-use Rattle.serial_machine.specs.State.{State}
-use Rattle.turn_law.specs.Commit.{Matches}
-use Rattle.turn_law.specs.Domains.{FitsBags}
-use Rattle.turn_law.specs.Sound.{AreSound, SameFree}
-use Rattle.turn_law.proofs.Proved.{aborts_keep}
+use Rattle.serial_machine.specs.State.{SerialState}
+use Rattle.task_law.specs.Commit.{Matches}
+use Rattle.task_law.specs.Domains.{FitsBags}
+use Rattle.task_law.specs.Sound.{AreSound, SameFree}
+use Rattle.task_law.proofs.Proved.{aborts_keep}
 use Rattle.spec_state.specs.declared.task.Creator.TheVariants.{Committed, Live}
 use Rattle.spec_state.specs.declared.task.Task.{Task}
 use Rattle.spec_state.specs.declared.task.TaskId.{TaskId}
@@ -14,7 +14,7 @@ use Rattle.spec_state.specs.Tasks.{Descriptor, descriptor_of, idle_again, spille
 use Rattle.spec_state.specs.Groups.{bag_tasks, bags_spilled, domains_of, live_creator}
 use Rattle.spec_state.specs.Aborts.{is_marked, is_marked_creator}
 use Rattle.spec_law.specs.Sound.{StandsAs, IsMadeBy, SoundTasks}
-use Rattle.spec_law.specs.AbortLaws.{TakesMarked, SparesHeir, AbortKeepsTasks}
+use Rattle.spec_law.specs.AbortLaws.{TakesMarked, SparesHeir, AbortKeepsSoundTasks}
 use Rattle.spec_law.proofs.Aborted.Taken.{IsBack, unmarked_stays, marked_is_back, bags_taken_back}
 use Rattle.spec_law.proofs.Tasks.Rebound.{changed_to}
 
@@ -29,11 +29,11 @@ each_now marks old new takes holds unmarked idle id t at = by_mark (is_marked ma
     by_mark false out = unmarked id t (sym (unmarked_stays marks old new takes id out) ∙ at) out
     by_mark true taken = let back = marked_is_back marks old new takes id t taken at in subst (holds id) (sym back.is) (idle id t back)
 
-module _ (image : ImageValue) (marks : List Bool) (old new : View) (heir : Option ℕ) (serial : State) (takes : TakesMarked marks old new) (spares : SparesHeir marks heir) (sound : SoundTasks image old heir serial) where
+module _ (image : ImageValue) (marks : List Bool) (old new : View) (heir : Option ℕ) (serial : SerialState) (takes : TakesMarked marks old new) (spares : SparesHeir marks heir) (sound : SoundTasks image old heir serial) where
   -- an unmarked creator stays as it was
   made_now : (id index : ℕ) (d : Descriptor) → is_marked marks id ≡ false → IsMadeBy old id index d → IsMadeBy (changed_to old new) id index d
   made_now id index d out made =
-      record { creator = made.creator; there = unmarked_stays marks old new takes id out ∙ made.there; spawn = made.spawn; made = made.made; is = made.is }
+      record { creator = made.creator; there = unmarked_stays marks old new takes id out ∙ made.there; spawn = made.spawn; made = made.made; descriptor_is = made.descriptor_is }
 
   -- the creator of an unmarked task is unmarked
   creator_out : (id c : ℕ) (t : Task) → task_at old id ≡ Some t → is_marked marks id ≡ false → live_creator t.creator ≡ Some c → is_marked marks c ≡ false
@@ -81,6 +81,6 @@ module _ (image : ImageValue) (marks : List Bool) (old new : View) (heir : Optio
         spilled_children = λ s has next. (let was = sound.spilled_children s has next in (was.0, was.1, made_now was.0 s.desc.name.index (spilled_descriptor s) (spares was.0 was.1) was.2));
       }
 
-pub abort_keeps_tasks : AbortKeepsTasks
+pub abort_keeps_tasks : AbortKeepsSoundTasks
 abort_keeps_tasks image marks old new heir serial takes spares sound =
-    subst (λ v. SoundTasks image v heir serial) (sym takes.rest) (kept image marks old new heir serial takes spares sound)
+    subst (λ v. SoundTasks image v heir serial) (sym takes.frame) (kept image marks old new heir serial takes spares sound)

@@ -25,9 +25,9 @@ queued_at view sizes id task there =
 pub least_key : (view : View) (id : ℕ) (x : Task) (is : IsLeastTask view id x) → is.least.key ≡ x.key
 least_key view id x is =
     let has = is.least.has in
-    let first : Some has.0 ≡ Some id = sym has.2.queued ∙ is.at.queued in
+    let first : Some has.0 ≡ Some id = sym has.2.queued ∙ is.queued_at.queued in
     let same_id : has.0 ≡ id = cc in
-    let both : Some has.1 ≡ Some x = sym has.2.there ∙ ap (task_at view) same_id ∙ is.at.there in
+    let both : Some has.1 ≡ Some x = sym has.2.there ∙ ap (task_at view) same_id ∙ is.queued_at.there in
     let same : has.1 ≡ x = cc in
     has.3 ∙ ap (λ t. t.key) same
 
@@ -56,7 +56,7 @@ spared_by image view sound id task marks there h heir above = by_mark (is_marked
     by_mark true is =
         let least = heir_is_least view sound.heir h sound.is_heir heir in
         let up = above is in
-        let both : Some up.0 ≡ Some least.0 = sym up.1 ∙ least.1.at.there in
+        let both : Some up.0 ≡ Some least.0 = sym up.1 ∙ least.1.queued_at.there in
         let same : up.0 ≡ least.0 = cc in
         absurd (not_below_least view sound.sizes h id least.0 task least.1 there (subst (λ t. key_cmp task.key t.key ≡ Less) same up.2))
 

@@ -4,15 +4,15 @@ use Rattle.memory_law.specs.Events as memory
 use Rattle.memory_law.specs.Tasks.{Logged, Earlier}
 use Rattle.order_law.specs.Events as order
 use Rattle.order_law.specs.Tasks.{Keyed}
-use Rattle.turn_law.specs.Moves as moves
-use Rattle.turn_law.specs.Tasks as bags
+use Rattle.task_law.specs.Moves as moves
+use Rattle.task_law.specs.Tasks as bags
 use Rattle.spec_state.specs.declared.task.Creator.{Creator}
 use Rattle.spec_state.specs.declared.task.Creator.TheVariants.{Committed, Live}
 use Rattle.spec_state.specs.declared.task.Task.{Task}
 use Rattle.spec_state.specs.View.{View, task_at}
 use Rattle.spec_state.specs.Tasks.{idle_again}
-use Rattle.spec_state.specs.Groups.{keyed, keyed_task, logged, logged_task, bag_tasks, bag_task, bag_creator, live_creator}
-use Rattle.spec_state.specs.Aborts.{Pulls, IsCascade, is_marked, is_marked_creator, taken_back, Aborts, Only}
+use Rattle.spec_state.specs.Groups.{keyed_tasks, keyed_task, logged_tasks, logged_task, bag_tasks, bag_task, bag_creator, live_creator}
+use Rattle.spec_state.specs.Aborts.{PullsInView, IsCascade, is_marked, is_marked_creator, taken_back, Aborts, OnlyNode}
 use Rattle.spec_law.specs.AbortLaws.{HoldsPulled, TakesMarked, AbortTakesMarked, ConflictsTakeMarked}
 use Rattle.spec_law.proofs.Tasks.Beside.{mapped_some, id_below}
 
@@ -28,7 +28,7 @@ none_of f None is = refl
 none_of f (Some x) is = absurd (cc)
 
 -- what is taken back with a task is there
-pulled_there : (view : View) (a b : ℕ) → Pulls view a b → (x : Task) × (task_at view b ≡ Some x)
+pulled_there : (view : View) (a b : ℕ) → PullsInView view a b → (x : Task) × (task_at view b ≡ Some x)
 pulled_there view a b (inl child) = (child.child, child.there)
 pulled_there view a b (inr reads) = (reads.reader, reads.later.there)
 
@@ -42,10 +42,10 @@ cascade_holds view firsts marks cascade a b pulled marked =
 
 pub abort_takes : (firsts : ℕ → Type 0) (old : View) (aborted : ℕ) (new : View) (abort : Aborts firsts old aborted new) → TakesMarked abort.marks old new
 abort_takes firsts old aborted new abort =
-    record { holds = cascade_holds old firsts abort.marks abort.cascade; each = abort.each; memory = abort.memory; queues = abort.queues; finished = abort.finished; cores = abort.cores; rest = abort.rest }
+    record { holds = cascade_holds old firsts abort.marks abort.cascade; each = abort.each; memory = abort.memory; queues = abort.queues; finished = abort.finished; cores = abort.cores; frame = abort.frame }
 
 pub abort_takes_marked : AbortTakesMarked
-abort_takes_marked first = abort_takes (Only first)
+abort_takes_marked first = abort_takes (OnlyNode first)
 
 pub conflicts_take_marked : ConflictsTakeMarked
 conflicts_take_marked task line write old = abort_takes (Rattle.spec_state.specs.Queries.Conflicts old task line write) old
@@ -105,13 +105,13 @@ module _ (marks : List Bool) (old new : View) (takes : TakesMarked marks old new
       by_was (Some t) there = by_creator t there (is_marked_creator marks (live_creator t.creator)) refl
 
   -- the order of tasks
-  holds_children : (k c : ℕ) (x : Keyed) → keyed old k ≡ Some x → x.creator ≡ Some c → is_marked marks c ≡ true → is_marked marks k ≡ true
+  holds_children : (k c : ℕ) (x : Keyed) → keyed_tasks old k ≡ Some x → x.creator ≡ Some c → is_marked marks c ≡ true → is_marked marks k ≡ true
   holds_children k c x at creator marked =
       let read = mapped_some keyed_task (task_at old k) x at in
       takes.holds c k (inl (record { child = read.0; there = read.1; made_by = sym (ap (λ y. y.creator) read.2) ∙ creator })) marked
 
-  members : (k : ℕ) (x : Keyed) → is_marked marks k ≡ true → keyed new k ≡ Some x
-      → (y : Keyed) × (keyed old k ≡ Some y) × (x ≡ order.reopened y) × ((c : ℕ) → y.creator ≡ Some c → is_marked marks c ≡ false)
+  members : (k : ℕ) (x : Keyed) → is_marked marks k ≡ true → keyed_tasks new k ≡ Some x
+      → (y : Keyed) × (keyed_tasks old k ≡ Some y) × (x ≡ order.with_open_level y) × ((c : ℕ) → y.creator ≡ Some c → is_marked marks c ≡ false)
   members k x taken at =
       let read = mapped_some keyed_task (task_at new k) x at in
       let back = marked_is_back k read.0 taken read.1 in (
@@ -121,21 +121,21 @@ module _ (marks : List Bool) (old new : View) (takes : TakesMarked marks old new
         λ c creator. subst (λ o. is_marked_creator marks o ≡ false) creator back.spared,
       )
 
-  pub order_aborts : order.Aborts (is_marked marks) (keyed old) (keyed new)
+  pub order_aborts : order.AbortsInKeys (is_marked marks) (keyed_tasks old) (keyed_tasks new)
   order_aborts = record { holds_children = holds_children; others = λ k out. ap (option_map keyed_task) (unmarked_stays k out); members = members }
 
   -- memory
-  logs_back : (id : ℕ) (task : Logged) → is_marked marks id ≡ true → logged new id ≡ Some task → (task.dispatched ≡ false) × (task.log ≡ [])
+  logs_back : (id : ℕ) (task : Logged) → is_marked marks id ≡ true → logged_tasks new id ≡ Some task → (task.dispatched ≡ false) × (task.log ≡ [])
   logs_back id task taken at =
       let read = mapped_some logged_task (task_at new id) task at in
       let back = marked_is_back id read.0 taken read.1 in
       let is : task ≡ logged_task (idle_again old.version back.was) = read.2 ∙ ap logged_task back.is in
       (ap (λ t. t.dispatched) is, ap (λ t. t.log) is)
 
-  pub logs_taken_back : memory.TakesBack (is_marked marks) (logged old) (logged new)
+  pub logs_taken_back : memory.TakesBackInLogs (is_marked marks) (logged_tasks old) (logged_tasks new)
   logs_taken_back = record { members = logs_back; others = λ k out. ap (option_map logged_task) (unmarked_stays k out) }
 
-  pub holds_later : memory.HoldsLater (is_marked marks) (logged old)
+  pub holds_later : memory.HoldsLater (is_marked marks) (logged_tasks old)
   holds_later a b x y at there there' runs runs' marked earlier wrote touched =
       let writer = mapped_some logged_task (task_at old a) x there in
       let reader = mapped_some logged_task (task_at old b) y there' in
@@ -162,22 +162,22 @@ module _ (marks : List Bool) (old new : View) (takes : TakesMarked marks old new
   spared_is (Committed turn i) spared = refl
   spared_is (Live task i) spared = spared task.0 i refl
 
-  bag_gone : (k : ℕ) (x : bags.Task) (creator index : ℕ) → is_marked marks k ≡ true → bag_tasks old k ≡ Some x → x.creator ≡ bags.Live creator index
+  bag_gone : (k : ℕ) (x : bags.BagTask) (creator index : ℕ) → is_marked marks k ≡ true → bag_tasks old k ≡ Some x → x.creator ≡ bags.Live creator index
       → is_marked marks creator ≡ true → bag_tasks new k ≡ None
   bag_gone k x creator index taken at made marked =
       let read = mapped_some bag_task (task_at old k) x at in
       let live = live_is read.0.creator creator index (sym (ap (λ t. t.creator) read.2) ∙ made) in
       ap (option_map bag_task) (marked_leaves k read.0 taken read.1 (ap (is_marked_creator marks) live ∙ marked))
 
-  bag_stays : (k : ℕ) (x : bags.Task) → is_marked marks k ≡ true → bag_tasks old k ≡ Some x
+  bag_stays : (k : ℕ) (x : bags.BagTask) → is_marked marks k ≡ true → bag_tasks old k ≡ Some x
       → ((creator index : ℕ) → x.creator ≡ bags.Live creator index → is_marked marks creator ≡ false)
-      → bag_tasks new k ≡ Some (moves.idle_again x)
+      → bag_tasks new k ≡ Some (moves.idle_bag_task x)
   bag_stays k x taken at spared =
       let read = mapped_some bag_task (task_at old k) x at in
       let creator = spared_is read.0.creator (λ c index made. spared c index (ap (λ t. t.creator) read.2 ∙ made)) in
-      ap (option_map bag_task) (marked_idles k read.0 taken read.1 creator) ∙ ap (λ t. Some (moves.idle_again t)) (sym read.2)
+      ap (option_map bag_task) (marked_idles k read.0 taken read.1 creator) ∙ ap (λ t. Some (moves.idle_bag_task t)) (sym read.2)
 
-  pub bags_taken_back : moves.TakesBack (is_marked marks) (bag_tasks old) (bag_tasks new)
+  pub bags_taken_back : moves.TakesBackInBags (is_marked marks) (bag_tasks old) (bag_tasks new)
   bags_taken_back =
       record {
         others = λ k out. ap (option_map bag_task) (unmarked_stays k out);

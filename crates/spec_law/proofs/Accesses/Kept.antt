@@ -9,15 +9,15 @@ use Rattle.memory_law.proofs.Proved.{load_keeps_chain, store_keeps_chain}
 use Rattle.rv_core.specs.declared.state.Core.{Core}
 use Rattle.rv_core.specs.Legs.{after_other_of, after_load_of}
 use Rattle.rv_core.specs.LegValue.{LegValue}
-use Rattle.rv_core.specs.Memory.{load_bytes}
+use Rattle.rv_core.specs.Memory.{load_width}
 use Rattle.serial_machine.specs.Run.{IsRun}
 use Rattle.undo_log.specs.declared.access.Access.{Access}
-use Rattle.undo_log.specs.Number.{IsAccessible, number_at, written}
-use Rattle.undo_log.specs.Undo.{Call, Load, Store, access_of, after_call}
+use Rattle.undo_log.specs.Number.{IsAccessible, number_at, after_write}
+use Rattle.undo_log.specs.Undo.{MemoryCall, Load, Store, access_of, after_call}
 use Rattle.spec_state.specs.declared.task.Task.{Task}
 use Rattle.spec_state.specs.View.{View, task_at}
 use Rattle.spec_state.specs.Filters.{HasNotes, has_touched, has_written}
-use Rattle.spec_state.specs.Groups.{logged, logged_task}
+use Rattle.spec_state.specs.Groups.{logged_tasks, logged_task}
 use Rattle.spec_state.specs.Queries.{HasLine, Conflicts}
 use Rattle.spec_state.specs.Changes.{Accesses}
 use Rattle.spec_law.specs.Keeping.{IsLegOf, LoadStaysSound, StoreStaysSound}
@@ -38,11 +38,11 @@ false_of true none = absurd (none refl)
 false_of false none = refl
 
 -- an access keeps the number that stood there
-access_old : (memory : List ℕ) (call : Call) → (access_of memory call).old ≡ number_at memory (access_of memory call).offset (access_of memory call).width
+access_old : (memory : List ℕ) (call : MemoryCall) → (access_of memory call).old ≡ number_at memory (access_of memory call).offset (access_of memory call).width
 access_old memory (Load offset width) = refl
 access_old memory (Store offset width value) = refl
 
-module _ (image : ImageValue) (old new : View) (sound : Sound image old) (tile core id : ℕ) (leg : LegValue) (task : Task) (call : Call) (to : Core) (taken : IsLegOf image old tile core leg id task) (within : IsAccessible (length old.memory) (access_of old.memory call).offset (access_of old.memory call).width) (ran : RanWith image old task (access_of old.memory call) to) (clear : (k : ℕ) → Conflicts old task ((access_of old.memory call).offset / old.settings.line) (is_some (access_of old.memory call).new) k → ⊥) (does : Accesses id task call to old new) where
+module _ (image : ImageValue) (old new : View) (sound : Sound image old) (tile core id : ℕ) (leg : LegValue) (task : Task) (call : MemoryCall) (to : Core) (taken : IsLegOf image old tile core leg id task) (within : IsAccessible (length old.memory) (access_of old.memory call).offset (access_of old.memory call).width) (ran : RanWith image old task (access_of old.memory call) to) (clear : (k : ℕ) → Conflicts old task ((access_of old.memory call).offset / old.settings.line) (is_some (access_of old.memory call).new) k → ⊥) (does : Accesses id task call to old new) where
   -- the access that joins the log
   abbrev access : Access
   access = access_of old.memory call
@@ -57,16 +57,16 @@ module _ (image : ImageValue) (old new : View) (sound : Sound image old) (tile c
   steps_one = record {
     there = there;
     changes = does.changes;
-    rest = does.rest ∙ (λ i. record old {
+    rest = does.frame ∙ (λ i. record old {
       tasks = new.tasks;
       memory = new.memory;
-      finished = sym (ap (λ v. v.finished) does.rest) i;
-      cores = sym (ap (λ v. v.cores) does.rest) i;
+      finished = sym (ap (λ v. v.finished) does.frame) i;
+      cores = sym (ap (λ v. v.cores) does.frame) i;
     });
   }
 
   -- for memory it is an access of this task
-  pub is_access : memory.Accesses old.settings.line old.memory (logged old) (logged new) id (logged_task task) (logged_task now) access
+  pub is_access : memory.AccessesInLogs old.settings.line old.memory (logged_tasks old) (logged_tasks new) id (logged_task task) (logged_task now) access
   is_access = record {
     there = ap (option_map logged_task) there;
     changed = ap (option_map logged_task) does.changes.changed;
@@ -84,7 +84,7 @@ module _ (image : ImageValue) (old new : View) (sound : Sound image old) (tile c
   }
 
   -- a later dispatched task has no line of the access
-  no_line : (write : Bool) → is_some access.new ≡ write → (k : ℕ) (other : Logged) → logged old k ≡ Some other → other.dispatched ≡ true → Earlier (logged_task task) other
+  no_line : (write : Bool) → is_some access.new ≡ write → (k : ℕ) (other : Logged) → logged_tasks old k ≡ Some other → other.dispatched ≡ true → Earlier (logged_task task) other
       → (x : Task) × (other ≡ logged_task x) × (HasLine write x (access.offset / old.settings.line) → ⊥)
   no_line write same k other at runs later =
       let read = mapped_some logged_task (task_at old k) other at in (
@@ -101,38 +101,38 @@ module _ (image : ImageValue) (old new : View) (sound : Sound image old) (tile c
         }),
       )
 
-  no_later_wrote : access.new ≡ None → memory.NoLaterWrote (logged old) (logged_task task) (access.offset / old.settings.line)
+  no_later_wrote : access.new ≡ None → memory.NoLaterWrote (logged_tasks old) (logged_task task) (access.offset / old.settings.line)
   no_later_wrote none k other at runs later =
       let line = no_line false (ap is_some none) k other at runs later in
       false_of (other.wrote (access.offset / old.settings.line)) (λ wrote. line.2 (sym (ap (λ t. t.wrote (access.offset / old.settings.line)) line.1) ∙ wrote))
 
-  no_later_touched : (value : ℕ) → access.new ≡ Some value → memory.NoLaterTouched (logged old) (logged_task task) (access.offset / old.settings.line)
+  no_later_touched : (value : ℕ) → access.new ≡ Some value → memory.NoLaterTouched (logged_tasks old) (logged_task task) (access.offset / old.settings.line)
   no_later_touched value some k other at runs later =
       let line = no_line true (ap is_some some) k other at runs later in
       false_of (other.touched (access.offset / old.settings.line)) (λ touched. line.2 (sym (ap (λ t. t.touched (access.offset / old.settings.line)) line.1) ∙ touched))
 
-  chained_by : (c : Call) → call ≡ c → IsChained old.settings.line (logged new) sound.serial.memory (after_call old.memory call)
+  chained_by : (c : MemoryCall) → call ≡ c → IsChained old.settings.line (logged_tasks new) sound.serial.memory (after_call old.memory call)
   chained_by (Load offset width) is =
       let none : access.new ≡ None = ap (λ c. (access_of old.memory c).new) is in
-      subst (λ c. IsChained old.settings.line (logged new) sound.serial.memory (after_call old.memory c)) (sym is)
-      (load_keeps_chain old.settings.line (logged old) (logged new) id (logged_task task) (logged_task now) access sound.serial.memory old.memory
+      subst (λ c. IsChained old.settings.line (logged_tasks new) sound.serial.memory (after_call old.memory c)) (sym is)
+      (load_keeps_chain old.settings.line (logged_tasks old) (logged_tasks new) id (logged_task task) (logged_task now) access sound.serial.memory old.memory
       (line_sized old.settings.line sound.sizes.settings.line) is_access none (no_later_wrote none) sound.memory.chained)
   chained_by (Store offset width value) is =
       let some : access.new ≡ Some value = ap (λ c. (access_of old.memory c).new) is in
       let offset_is : access.offset ≡ offset = ap (λ c. (access_of old.memory c).offset) is in
       let width_is : access.width ≡ width = ap (λ c. (access_of old.memory c).width) is in
-      subst (λ c. IsChained old.settings.line (logged new) sound.serial.memory (after_call old.memory c)) (sym is)
-      (subst (λ o. IsChained old.settings.line (logged new) sound.serial.memory (written old.memory o width value)) offset_is
-      (subst (λ w. IsChained old.settings.line (logged new) sound.serial.memory (written old.memory access.offset w value)) width_is
-      (store_keeps_chain old.settings.line (logged old) (logged new) id (logged_task task) (logged_task now) access value sound.serial.memory old.memory
+      subst (λ c. IsChained old.settings.line (logged_tasks new) sound.serial.memory (after_call old.memory c)) (sym is)
+      (subst (λ o. IsChained old.settings.line (logged_tasks new) sound.serial.memory (after_write old.memory o width value)) offset_is
+      (subst (λ w. IsChained old.settings.line (logged_tasks new) sound.serial.memory (after_write old.memory access.offset w value)) width_is
+      (store_keeps_chain old.settings.line (logged_tasks old) (logged_tasks new) id (logged_task task) (logged_task now) access value sound.serial.memory old.memory
       (line_sized old.settings.line sound.sizes.settings.line) is_access some (no_later_touched value some) sound.memory.chained)))
 
   pub access_keeps_memory : SoundMemory new sound.serial
   access_keeps_memory =
-      let same : new.settings ≡ old.settings = ap (λ v. v.settings) does.rest in
+      let same : new.settings ≡ old.settings = ap (λ v. v.settings) does.frame in
       record {
-        chained = subst (λ s. IsChained s.line (logged new) sound.serial.memory new.memory) (sym same)
-            (subst (IsChained old.settings.line (logged new) sound.serial.memory) (sym does.memory) (chained_by call refl));
+        chained = subst (λ s. IsChained s.line (logged_tasks new) sound.serial.memory new.memory) (sym same)
+            (subst (IsChained old.settings.line (logged_tasks new) sound.serial.memory) (sym does.memory) (chained_by call refl));
         noted = λ k t at. subst (λ s. HasNotes t.lines (notes_of s.line t.log)) (sym same)
             (each_stepped old new id now does.changes (λ j x. HasNotes x.lines (notes_of old.settings.line x.log)) (λ j x other here. sound.memory.noted j x here) does.notes k t at);
       }
@@ -145,16 +145,16 @@ module _ (image : ImageValue) (old new : View) (sound : Sound image old) (tile c
   pub kept : (new_sound : Sound image new) × (new_sound.serial ≡ sound.serial)
   kept = (
     record {
-      version = ap (λ v. v.version) does.rest ∙ sound.version;
+      version = ap (λ v. v.version) does.frame ∙ sound.version;
       serial = sound.serial;
-      is_run = subst (λ v. IsRun image v.settings.budget v.history sound.serial) (sym does.rest) sound.is_run;
+      is_run = subst (λ v. IsRun image v.settings.budget v.history sound.serial) (sym does.frame) sound.is_run;
       heir = sound.heir;
       is_heir = step_keeps_heir old new id task now steps_one sound.heir sound.is_heir;
       tasks = step_keeps_tasks old new id task now steps_one (λ index spawn at. (at, refl)) image sound.heir sound.serial sound.tasks refl stands_now;
       memory = access_keeps_memory;
       order = step_keeps_order old new id task now steps_one sound.heir sound.order;
       sizes = step_keeps_sizes old new id task now steps_one sound.sizes
-          (lists_stay old new id task now steps_one sound.sizes (ap (λ v. v.finished) does.rest) (ap (λ v. v.cores) does.rest) (λ e. e, λ e. e) (λ k. (λ e. e, λ e. e)))
+          (lists_stay old new id task now steps_one sound.sizes (ap (λ v. v.finished) does.frame) (ap (λ v. v.cores) does.frame) (λ e. e, λ e. e) (λ k. (λ e. e, λ e. e)))
           (sound.sizes.bytes id task there);
     },
     refl,
@@ -162,7 +162,7 @@ module _ (image : ImageValue) (old new : View) (sound : Sound image old) (tile c
 
 pub load_stays_sound : LoadStaysSound
 load_stays_sound image old new sound tile core id leg task width rd offset at clear does =
-    kept image old new sound tile core id leg task (Load offset (load_bytes width)) (after_load_of leg.to width rd (number_at old.memory offset (load_bytes width)))
+    kept image old new sound tile core id leg task (Load offset (load_width width)) (after_load_of leg.to width rd (number_at old.memory offset (load_width width)))
     at.is_leg (lies_within image old sound tile core id leg task _ at) (ran_load image old sound tile core id leg task width rd offset at) clear does
 
 pub store_stays_sound : StoreStaysSound

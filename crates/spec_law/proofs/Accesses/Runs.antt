@@ -4,15 +4,15 @@ use Rattle.guest_image.specs.ImageValue.{ImageValue}
 use Rattle.rv_core.specs.declared.state.Core.{Core}
 use Rattle.rv_core.specs.Legs.{after_other_of, after_load_of}
 use Rattle.rv_core.specs.LegValue.{LegValue}
-use Rattle.rv_core.specs.Memory.{load_bytes}
+use Rattle.rv_core.specs.Memory.{load_width}
 use Rattle.rv_table.specs.declared.instr.LoadWidth.{LoadWidth}
 use Rattle.run_law.proofs.Proved.{run_reaches}
-use Rattle.task_step.specs.declared.request.Request.{Request}
-use Rattle.task_step.specs.declared.request.Request.TheVariants as request
-use Rattle.task_step.specs.Conditions.{IsInData}
-use Rattle.task_step.specs.TaskState.{begun}
-use Rattle.task_step.proofs.Proved.{request_at-reaches}
-use Rattle.turn_law.specs.Logged.{LoggedRun, load, store}
+use Rattle.task_request.specs.declared.request.Request.{Request}
+use Rattle.task_request.specs.declared.request.Request.TheVariants as request
+use Rattle.task_request.specs.Conditions.{IsInData}
+use Rattle.task_request.specs.TaskState.{task_at_start}
+use Rattle.task_request.proofs.Proved.{request_at-reaches}
+use Rattle.task_law.specs.Logged.{LoggedRun, load, store}
 use Rattle.undo_log.specs.declared.access.Access.{Access}
 use Rattle.undo_log.specs.Number.{number_at}
 use Rattle.undo_log.specs.Undo.{Load, Store, access_of}
@@ -26,7 +26,7 @@ use Rattle.spec_law.proofs.Steps.Sound.{asks_next, ran_leg}
 -- the run of the task with this access more, up to this core
 abbrev pub RanWith : ImageValue → View → Task → Access → Core → Type 0
 RanWith image old task access core =
-    LoggedRun image old.settings.budget image.data_size (start_context old.version task) (begun old.version task.entry task.key.ts task.args []) (task.log ++ access ∷ []) (progress_at [] core task)
+    LoggedRun image old.settings.budget image.data_size (start_context old.version task) (task_at_start old.version task.entry task.key.ts task.args []) (task.log ++ access ∷ []) (progress_at [] core task)
 
 module _ (image : ImageValue) (old : View) (sound : Sound image old) (tile core id : ℕ) (leg : LegValue) (task : Task) where
   -- what a task asks of memory lies in it
@@ -39,9 +39,9 @@ module _ (image : ImageValue) (old : View) (sound : Sound image old) (tile core 
 
   -- a load
   pub ran_load : (width : LoadWidth) (rd offset : ℕ) → AsksAt image old tile core leg id task (request.Load width rd offset)
-      → RanWith image old task (access_of old.memory (Load offset (load_bytes width))) (after_load_of leg.to width rd (number_at old.memory offset (load_bytes width)))
+      → RanWith image old task (access_of old.memory (Load offset (load_width width))) (after_load_of leg.to width rd (number_at old.memory offset (load_width width)))
   ran_load width rd offset at =
-      load (access_of old.memory (Load offset (load_bytes width))) width rd (ran_leg image old sound tile core id leg task at.is_leg)
+      load (access_of old.memory (Load offset (load_width width))) width rd (ran_leg image old sound tile core id leg task at.is_leg)
       (asks_next image old sound tile core id leg task at.is_leg (request.Load width rd offset) at.asks (λ e. absurd (cc (e)))) refl refl
 
   -- a store

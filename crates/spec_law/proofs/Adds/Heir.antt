@@ -40,9 +40,9 @@ module _ (old new : View) (id : ℕ) (task : Task) (adds : Adds id task old new)
   stays_least h x above least =
       record {
         place = least.place;
-        at = record {
-          queued = place_stays old new id task adds within x.tile least.place h least.at.queued;
-          there = still_there old new id task adds h x least.at.there;
+        queued_at = record {
+          queued = place_stays old new id task adds within x.tile least.place h least.queued_at.queued;
+          there = still_there old new id task adds h x least.queued_at.there;
         };
         least = record {
           key = least.least.key;
@@ -61,7 +61,7 @@ module _ (old new : View) (id : ℕ) (task : Task) (adds : Adds id task old new)
   was_least idle k t least runs =
       record {
         place = least.place;
-        at = record { queued = stood; there = was };
+        queued_at = record { queued = stood; there = was };
         least = record {
           key = least.least.key;
           has = (k, t, record { queued = stood; there = was }, least_key now k t least);
@@ -70,18 +70,18 @@ module _ (old new : View) (id : ℕ) (task : Task) (adds : Adds id task old new)
       }
     where
       was : task_at old k ≡ Some t
-      was = runs_was old new id task adds idle k t least.at.there runs
+      was = runs_was old new id task adds idle k t least.queued_at.there runs
 
       stood : slice_get (queue_at old t.tile) least.place ≡ Some k
-      stood = elim (place_was old new id task adds within t.tile least.place k least.at.queued) [
+      stood = elim (place_was old new id task adds within t.tile least.place k least.queued_at.queued) [
         | inl at ↦ at
         | inr same ↦ absurd (cc (was, ap (task_at old) same, adds.vacant))
       ]
 
   kept : (heir : Option ℕ) → task ≡ idle_again old.version task → ((h : ℕ) (x : Task) → heir ≡ Some h → task_at old h ≡ Some x → key_cmp x.key task.key ≡ Less) → IsHeir old heir → IsHeir now heir
-  kept (Some h) idle above (x, least, runs) = (x, stays_least h x (above h x refl least.at.there) least, runs)
+  kept (Some h) idle above (x, least, runs) = (x, stays_least h x (above h x refl least.queued_at.there) least, runs)
   kept None idle above none = λ k t least runs. none k t (was_least idle k t least runs) runs
 
   pub add_keeps_heir : (heir : Option ℕ) → task ≡ idle_again old.version task → ((h : ℕ) (x : Task) → heir ≡ Some h → task_at old h ≡ Some x → key_cmp x.key task.key ≡ Less)
       → IsHeir old heir → IsHeir new heir
-  add_keeps_heir heir idle above is = subst (λ v. IsHeir v heir) (sym adds.rest) (kept heir idle above is)
+  add_keeps_heir heir idle above is = subst (λ v. IsHeir v heir) (sym adds.frame) (kept heir idle above is)

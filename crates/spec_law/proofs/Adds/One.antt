@@ -5,15 +5,15 @@ use Rattle.guest_image.specs.ImageValue.{ImageValue}
 use Rattle.memory_law.specs.Notes.{notes_of}
 use Rattle.memory_law.specs.Tasks.{Logged}
 use Rattle.memory_law.proofs.Proved.{idle_tasks_keep_chain}
-use Rattle.serial_machine.specs.State.{State}
-use Rattle.turn_law.proofs.Proved.{get_cases, get_front}
+use Rattle.serial_machine.specs.State.{SerialState}
+use Rattle.task_law.proofs.Proved.{get_cases, get_front}
 use Rattle.spec_state.specs.declared.task.Status.{Status}
 use Rattle.spec_state.specs.declared.task.Status.TheVariants.{Idle, Running, Trapped, Finished}
 use Rattle.spec_state.specs.declared.task.Task.{Task}
 use Rattle.spec_state.specs.View.{View, version_of, task_at, queue_at}
 use Rattle.spec_state.specs.Filters.{HasNotes}
 use Rattle.spec_state.specs.Tasks.{idle_again, is_dispatched}
-use Rattle.spec_state.specs.Groups.{logged, logged_task}
+use Rattle.spec_state.specs.Groups.{logged_tasks, logged_task}
 use Rattle.spec_state.specs.Opening.{Adds}
 use Rattle.spec_state.proofs.Proved.{is_new, other_queue, own_queue, still_there, was_there}
 use Rattle.spec_law.specs.Sound.{StandsAs, SoundMemory}
@@ -62,8 +62,8 @@ module _ (old new : View) (id : ℕ) (task : Task) (adds : Adds id task old new)
     pub runs_was : (k : ℕ) (t : Task) → task_at new k ≡ Some t → is_dispatched t ≡ true → task_at old k ≡ Some t
     runs_was k t at runs = was_there old new id task adds k t (λ same. absurd (cc (ap (λ x. is_dispatched x) (is_new old new id task adds k t same at), undispatched, runs))) at
 
-    module _ (image : ImageValue) (serial : State) (stands : (k : ℕ) (t : Task) → task_at old k ≡ Some t → StandsAs image old.version old.settings.budget t t.status) where
-      idle_log : (k : ℕ) (x : Logged) → logged new k ≡ Some x → x.dispatched ≡ false → x.log ≡ []
+    module _ (image : ImageValue) (serial : SerialState) (stands : (k : ℕ) (t : Task) → task_at old k ≡ Some t → StandsAs image old.version old.settings.budget t t.status) where
+      idle_log : (k : ℕ) (x : Logged) → logged_tasks new k ≡ Some x → x.dispatched ≡ false → x.log ≡ []
       idle_log k x at off =
           let read = mapped_some logged_task (task_at new k) x at in
           ap (λ y. y.log) read.2 ∙ ap (λ t. t.log) (is_idle read.0 read.1 (sym (ap (λ y. y.dispatched) read.2) ∙ off))
@@ -72,19 +72,20 @@ module _ (old new : View) (id : ℕ) (task : Task) (adds : Adds id task old new)
           is_idle = each_stepped old new id task adds.changes (λ j t. is_dispatched t ≡ false → t ≡ idle_again old.version t)
               (λ j t other here out. undispatched_idle image old.version old.settings.budget t t.status (stands j t here) out) (λ out. idle) k
 
-      logs_stay : (k : ℕ) (x : Logged) → x.dispatched ≡ true → logged old k ≡ Some x → logged new k ≡ Some x
+      logs_stay : (k : ℕ) (x : Logged) → x.dispatched ≡ true → logged_tasks old k ≡ Some x → logged_tasks new k ≡ Some x
       logs_stay k x runs at =
           let read = mapped_some logged_task (task_at old k) x at in ap (option_map logged_task) (still_there old new id task adds k read.0 read.1) ∙ ap Some (sym read.2)
 
-      logs_were : (k : ℕ) (x : Logged) → x.dispatched ≡ true → logged new k ≡ Some x → logged old k ≡ Some x
+      logs_were : (k : ℕ) (x : Logged) → x.dispatched ≡ true → logged_tasks new k ≡ Some x → logged_tasks old k ≡ Some x
       logs_were k x runs at =
           let read = mapped_some logged_task (task_at new k) x at in
           ap (option_map logged_task) (runs_was k read.0 read.1 (sym (ap (λ y. y.dispatched) read.2) ∙ runs)) ∙ ap Some (sym read.2)
 
       pub add_keeps_memory : SoundMemory old serial → SoundMemory new serial
-      add_keeps_memory sound = subst (λ v. SoundMemory v serial) (sym adds.rest)
+      add_keeps_memory sound = subst (λ v. SoundMemory v serial) (sym adds.frame)
           (record {
-            chained = idle_tasks_keep_chain old.settings.line (logged old) (logged new) serial.memory old.memory
+            chained =
+                idle_tasks_keep_chain old.settings.line (logged_tasks old) (logged_tasks new) serial.memory old.memory
                 (record { stay = λ k x runs. (logs_stay k x runs, logs_were k x runs); idle = idle_log }) sound.chained;
             noted = each_stepped old new id task adds.changes (λ k t. HasNotes t.lines (notes_of old.settings.line t.log)) (λ k t other at. sound.noted k t at)
                 (subst (λ t. HasNotes t.lines (notes_of old.settings.line t.log)) (sym idle) none_noted);

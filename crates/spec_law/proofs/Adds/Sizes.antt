@@ -1,4 +1,4 @@
--- A task that comes to be, idle, as the last one of a queue with a free entry keeps the group of sizes.
+-- A task that comes to be, idle, as the last one of a queue with a free place keeps the group of sizes.
 use Rattle.std.proofs.Common.{◌≡◌, ◌≢◌, ◌<◌, ◌≤◌, ◌^◌, ◌+◌, ◌∷◌, ◌++◌, ℕ, [], length, sym, ap, subst, ◌∙◌, inl, inr, arith}
 use Rattle.std.specs.Prelude.{Contains, All}
 use Rattle.std.proofs.lemmas.Bool.{cases_eq}
@@ -14,14 +14,15 @@ use Rattle.spec_state.specs.View.{View, task_at, queue_at}
 use Rattle.spec_state.specs.Tasks.{depth_of, idle_again}
 use Rattle.spec_state.specs.Opening.{Adds}
 use Rattle.spec_state.specs.Queries.{IsQueued}
-use Rattle.spec_state.specs.Room.{HasFreeEntry}
-use Rattle.spec_law.specs.Sound.{HoldsCore, HasTask, SoundSizes}
+use Rattle.spec_state.specs.Room.{QueueHasRoom}
+use Rattle.spec_law.specs.Sound.{SoundSizes}
 use Rattle.spec_state.proofs.Proved.{is_new, other_queue, own_queue, still_there, was_there}
+use Rattle.spec_state.specs.Stored.{HasCore, HasTask}
 use Rattle.spec_law.proofs.Adds.One.{added_to}
 use Rattle.spec_law.proofs.Steps.One.{each_stepped}
 use Rattle.spec_law.proofs.Tasks.Distinct.{distinct_at}
 
-module _ (old new : View) (id : ℕ) (task : Task) (adds : Adds id task old new) (sizes : SoundSizes old) (within : task.tile < old.settings.tiles) (free : HasFreeEntry old task.tile) (idle : task ≡ idle_again old.version task) where
+module _ (old new : View) (id : ℕ) (task : Task) (adds : Adds id task old new) (sizes : SoundSizes old) (within : task.tile < old.settings.tiles) (free : QueueHasRoom old task.tile) (idle : task ≡ idle_again old.version task) where
   abbrev now : View
   now = added_to old new
 
@@ -82,7 +83,7 @@ module _ (old new : View) (id : ℕ) (task : Task) (adds : Adds id task old new)
       )
 
   pub add_keeps_sizes : task.kinds < 2 ^ depth_of task → SoundSizes new
-  add_keeps_sizes kinds = subst SoundSizes (sym adds.rest)
+  add_keeps_sizes kinds = subst SoundSizes (sym adds.frame)
       (record {
         settings = sizes.settings;
         queues = ap length adds.queues ∙ length-set old.queues task.tile (queue_at old task.tile ++ id ∷ []) ∙ sizes.queues;
@@ -99,8 +100,8 @@ module _ (old new : View) (id : ℕ) (task : Task) (adds : Adds id task old new)
           λ has. (sizes.finished_are tile k).1 (has_back (λ status. status ≡ Finished) (λ is. absurd (cc (is))) tile k has),
         );
         held_are = λ tile core k. (
-          λ held. has_forth (λ status. HoldsCore status core) tile k ((sizes.held_are tile core k).0 held),
-          λ has. (sizes.held_are tile core k).1 (has_back (λ status. HoldsCore status core) (λ is. is) tile k has),
+          λ held. has_forth (λ status. HasCore status core) tile k ((sizes.held_are tile core k).0 held),
+          λ has. (sizes.held_are tile core k).1 (has_back (λ status. HasCore status core) (λ is. is) tile k has),
         );
         kinds = each_stepped old new id task adds.changes (λ k t. t.kinds < 2 ^ depth_of t) (λ k t other at. sizes.kinds k t at) kinds;
         bytes = each_stepped old new id task adds.changes (λ k t. length t.bytes ≤ MAX_EMITTED) (λ k t other at. sizes.bytes k t at)

@@ -8,8 +8,8 @@ use Rattle.guest_image.specs.declared.image.Kind.{Kind}
 use Rattle.guest_image.specs.declared.image.Kind.TheVariants.{Unordered, Ordered}
 use Rattle.task_desc.specs.declared.desc.Place.{Place}
 use Rattle.task_desc.specs.declared.desc.Place.TheVariants.{Same, Sub, Super}
-use Rattle.turn_law.specs.Domains.{Domain, first_kind, ChildDomains}
-use Rattle.turn_law.specs.Domains as turns
+use Rattle.task_law.specs.Domains.{Domain, first_kind, ChildDomains}
+use Rattle.task_law.specs.Domains as turns
 use Rattle.spec_state.specs.declared.task.Task.{Task}
 use Rattle.spec_state.specs.Tasks.{kind_at, kind_if, outer_kind, floor_in, start_context, sub_bit, depth_of, own_level, child_domain, child_kinds}
 use Rattle.spec_state.specs.Groups.{domains_behind, domains_of}
@@ -60,7 +60,7 @@ pub record IsOutermost (task : Task) : Type 0 where
   pub rest : List Domain
   pub is : domains_of task.kinds task.key.domain ≡ own ∷ rest
   pub long : length rest ≡ length task.key.domain
-  pub context : (version : ℕ) → start_context version task ≡ turns.start_context version own rest task.key.ts
+  pub context : (version : ℕ) → start_context version task ≡ turns.context_of_domains version own rest task.key.ts
 
 -- each task has its domains
 pub starts_so : (task : Task) → IsOutermost task

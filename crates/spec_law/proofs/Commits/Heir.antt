@@ -4,14 +4,14 @@ use Rattle.std.proofs.lemmas.List.{length-map}
 use Rattle.std.specs.declared.cmp.Ordering.TheVariants.{Less, Greater}
 use Rattle.fractal_vt.specs.declared.key.Key.{Key}
 use Rattle.fractal_vt.specs.Keys.{key_cmp}
-use Rattle.fractal_vt.specs.Levels.{closed, levels_cmp}
-use Rattle.order_law.specs.Tasks.{Keyed, levels}
-use Rattle.order_law.specs.Events.{IsLeast}
+use Rattle.fractal_vt.specs.Levels.{closed_level, levels_cmp}
+use Rattle.order_law.specs.Tasks.{Keyed, levels_of}
+use Rattle.order_law.specs.Events.{IsLeastInKeys}
 use Rattle.order_law.proofs.Proved.{least_is_below}
-use Rattle.spill_store.specs.Entries.{Entry as Spilled, open_key}
+use Rattle.spill_store.specs.SpilledTasks.{Spilled, open_key}
 use Rattle.spec_state.specs.declared.task.Task.{Task}
 use Rattle.spec_state.specs.View.{View, task_at, block_at}
-use Rattle.spec_state.specs.Groups.{all_keyed, all_spilled, keyed, keyed_task, keyed_spilled}
+use Rattle.spec_state.specs.Groups.{all_keyed, all_spilled, keyed_tasks, keyed_task, keyed_spilled}
 use Rattle.spec_state.specs.Least.{Queued, Spilled_at, spot_cmp, IsHeir}
 use Rattle.spec_law.specs.Sound.{SoundOrder, SoundSizes}
 use Rattle.spec_law.proofs.Tasks.Rebound.{which, entry_there, below_all}
@@ -40,41 +40,42 @@ module _ (view : View) (sizes : SoundSizes view) (sound : SoundOrder view None) 
   -- all of them
   below_bound : (k : ℕ) (x : Keyed) → all_keyed view None k ≡ Some x → k < bound
   below_bound k x at =
-      let low = below_all (length view.tasks) (keyed view) (map entry (all_spilled view)) bounded k x at in
+      let low = below_all (length view.tasks) (keyed_tasks view) (map entry (all_spilled view)) bounded k x at in
       let same = length-map (all_spilled view) entry in
       omega (arith, low, same)
     where
-      bounded : (j : ℕ) (y : Keyed) → keyed view j ≡ Some y → j < length view.tasks
+      bounded : (j : ℕ) (y : Keyed) → keyed_tasks view j ≡ Some y → j < length view.tasks
       bounded j y there = let read = mapped_some keyed_task (task_at view j) y there in id_below view j read.0 read.1
 
   -- where no task is uncommitted none is the heir
   no_heir : ((k : ℕ) → k < bound → all_keyed view None k ≡ None) → IsHeir view None
   no_heir none id task least runs =
-      let at = queued_stands view None id task least.at.there in
+      let at = queued_stands view None id task least.queued_at.there in
       absurd (cc (none id (below_bound id (keyed_task task) at), at))
 
-  module _ (k : ℕ) (task : Keyed) (low : IsLeast (all_keyed view None) k task) where
+  module _ (k : ℕ) (task : Keyed) (low : IsLeastInKeys (all_keyed view None) k task) where
     -- the least of all tasks, where it is dispatched, is the heir
     dispatched_heir : (t : Task) → task_at view k ≡ Some t → task ≡ keyed_task t → (n : ℕ) → t.key.tb ≡ Some n → IsHeir view (Some k)
     dispatched_heir t there is n tie = (t, makes_least view sizes k t there others spilled, ap is_some tie)
       where
         others : (j : ℕ) (x : Task) → j ≢ k → task_at view j ≡ Some x → key_cmp t.key x.key ≡ Less
         others j x other at =
-            subst (λ y. levels_cmp (levels y) (levels (keyed_task x)) ≡ Less) is
-            (least_is_below (all_keyed view None) (map closed view.path) view.next k n task sound.order low (ap (λ y. y.last.tb) is ∙ tie) j (keyed_task x) other
+            subst (λ y. levels_cmp (levels_of y) (levels_of (keyed_task x)) ≡ Less) is
+            (least_is_below (all_keyed view None) (map closed_level view.path) view.next k n task sound.order low (ap (λ y. y.last.tb) is ∙ tie) j (keyed_task x) other
             (queued_stands view None j x at))
 
         spilled : (tile place : ℕ) (s : Spilled) → slice_get (block_at view tile) place ≡ Some s → key_cmp t.key (open_key s) ≢ Greater
         spilled tile place s at =
             let all = place_in_all view.blocks tile place s at in
-            let stands = entry_there (length view.tasks) (keyed view) (map entry (all_spilled view)) (entry s) (all.0, get_mapped entry (all_spilled view) all.0 s all.1) in
-            subst (λ y. levels_cmp (levels y) (levels (entry s)) ≢ Greater) is (low.least stands.0 (entry s) stands.1)
+            let stands = entry_there (length view.tasks) (keyed_tasks view) (map entry (all_spilled view)) (entry s) (all.0, get_mapped entry (all_spilled view) all.0 s all.1) in
+            subst (λ y. levels_cmp (levels_of y) (levels_of (entry s)) ≢ Greater) is
+            (low.least stands.0 (entry s) stands.1)
 
     -- where it is idle there is none
     idle_none : (t : Task) → task_at view k ≡ Some t → task ≡ keyed_task t → t.key.tb ≡ None → IsHeir view None
     idle_none t there is open' id other least runs =
         not_open t.key other.key open' runs
-        (subst (λ y. levels_cmp (levels y) (levels (keyed_task other)) ≢ Greater) is (low.least id (keyed_task other) (queued_stands view None id other least.at.there)))
+        (subst (λ y. levels_cmp (levels_of y) (levels_of (keyed_task other)) ≢ Greater) is (low.least id (keyed_task other) (queued_stands view None id other least.queued_at.there)))
         (not_above other.key t.key (not_below_least view sizes id k other t least there))
 
     -- nor where it is spilled
@@ -87,12 +88,12 @@ module _ (view : View) (sizes : SoundSizes view) (sound : SoundOrder view None) 
         (first_not_greater (key_cmp least.least.key (open_key s)) (spot_cmp (Queued other.tile least.place) (Spilled_at one.0 one.1)) whole)
         in
         not_open (open_key s) other.key refl runs
-        (subst (λ y. levels_cmp (levels y) (levels (keyed_task other)) ≢ Greater) is (low.least id (keyed_task other) (queued_stands view None id other least.at.there)))
+        (subst (λ y. levels_cmp (levels_of y) (levels_of (keyed_task other)) ≢ Greater) is (low.least id (keyed_task other) (queued_stands view None id other least.queued_at.there)))
         above
 
     -- there is an heir or none by how it stands
     by_lowest : (heir : Option ℕ) × IsHeir view heir
-    by_lowest = elim (which (length view.tasks) (keyed view) (map entry (all_spilled view)) k task low.there) [
+    by_lowest = elim (which (length view.tasks) (keyed_tasks view) (map entry (all_spilled view)) k task low.there) [
       | inl queued ↦ (let read = mapped_some keyed_task (task_at view k) task queued in by_tie read.0 read.1 read.2 read.0.key.tb refl)
       | inr at ↦ (let read = got_mapped entry (all_spilled view) at.0 task at.1 in (None, spilled_none read.0 at.0 read.1 read.2))
     ]
@@ -106,5 +107,5 @@ module _ (view : View) (sizes : SoundSizes view) (sound : SoundOrder view None) 
   heir_of = elim (lowest (all_keyed view None) bound) [
     | inl none ↦ (None, no_heir none)
     | inr low ↦ by_lowest low.id low.task
-        (record { there = low.there; least = λ k y at. upto_of (levels_cmp (levels low.task) (levels y)) (low.low k y (below_bound k y at) at) })
+        (record { there = low.there; least = λ k y at. upto_of (levels_cmp (levels_of low.task) (levels_of y)) (low.low k y (below_bound k y at) at) })
   ]

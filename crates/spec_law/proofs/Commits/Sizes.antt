@@ -2,14 +2,15 @@
 use Rattle.std.proofs.Common.{◌≡◌, ◌≢◌, ◌≤◌, ◌<◌, ◌^◌, ◌==◌, ℕ, Bool, true, List, [], length, not, Some, refl, sym, ap, subst, ◌∙◌, map, slice_get, slice_index_or}
 use Rattle.std.specs.Prelude.{Contains, ◌↔◌}
 use Rattle.std.proofs.lemmas.List.{length-map}
-use Rattle.tile_queues.specs.Queue.{without}
+use Rattle.tile_queues.specs.Queue.{ids_but}
 use Rattle.spec_state.specs.declared.emitted.TheConstants.{MAX_EMITTED}
 use Rattle.spec_state.specs.declared.task.Status.{Status}
 use Rattle.spec_state.specs.declared.task.Status.TheVariants.{Finished}
 use Rattle.spec_state.specs.View.{View, task_at, cores_at}
 use Rattle.spec_state.specs.Tasks.{depth_of}
 use Rattle.spec_state.specs.Changes.{Commits}
-use Rattle.spec_law.specs.Sound.{HoldsCore, HasTask, SoundSizes}
+use Rattle.spec_state.specs.Stored.{HasCore, HasTask}
+use Rattle.spec_law.specs.Sound.{SoundSizes}
 use Rattle.spec_law.proofs.Tasks.Filtered.{filter_was, filter_is, filter_leaves, list_mapped}
 use Rattle.spec_law.proofs.Aborted.KeptSizes.{bounded_filtered}
 use Rattle.spec_law.proofs.Tasks.Returned.{same_test, other_test}
@@ -31,14 +32,14 @@ module _ (old new : View) (commit : Commits old new) (sizes : SoundSizes old) wh
     history = new.history;
     output = new.output;
     path = new.path;
-    queues = map (without commit.id) old.queues;
-    finished = map (without commit.id) old.finished;
+    queues = map (ids_but commit.id) old.queues;
+    finished = map (ids_but commit.id) old.finished;
   }
 
   -- the view after the commit is this one
   new_is : new ≡ listed
   new_is =
-      commit.rest
+      commit.frame
       ∙ (λ i. record old {
         tasks = new.tasks;
         history = new.history;
@@ -51,12 +52,12 @@ module _ (old new : View) (commit : Commits old new) (sizes : SoundSizes old) wh
   -- of the tasks of a kind in one of the lists the task that commits is taken out
   module _ (lists : List (List ℕ)) (kind : Status → Type 0) (lists_are : (tile k : ℕ) → Contains (slice_index_or lists tile []) k ↔ HasTask old tile k kind) where
     abbrev after : ℕ → List ℕ
-    after tile = slice_index_or (map (without commit.id) lists) tile []
+    after tile = slice_index_or (map (ids_but commit.id) lists) tile []
 
     forth : (tile k : ℕ) → Contains (after tile) k → HasTask listed tile k kind
     forth tile k has =
         let before = slice_index_or lists tile [] in
-        let kept : Contains (without commit.id before) k = subst (λ ids. Contains ids k) (list_mapped (without commit.id) refl lists tile) has in
+        let kept : Contains (ids_but commit.id before) k = subst (λ ids. Contains ids k) (list_mapped (ids_but commit.id) refl lists tile) has in
         let was = (lists_are tile k).0 (filter_was stands before k kept) in
         (left old new commit was.0, stays old new commit k was.0 (other_of k commit.id (filter_is stands before k kept)) was.1, was.2, was.3)
 
@@ -65,36 +66,36 @@ module _ (old new : View) (commit : Commits old new) (sizes : SoundSizes old) wh
         let was = was_there old new commit k now.0 now.1 in
         let before = slice_index_or lists tile [] in
         let has : Contains before k = (lists_are tile k).1 (was.was, was.there, sym (ap (λ t. t.tile) was.is) ∙ now.2, subst (λ t. kind t.status) was.is now.3) in
-        subst (λ ids. Contains ids k) (sym (list_mapped (without commit.id) refl lists tile))
+        subst (λ ids. Contains ids k) (sym (list_mapped (ids_but commit.id) refl lists tile))
         (filter_leaves stands before k has (ap not (other_test k commit.id was.other)))
 
   -- the task that commits holds no core
-  not_held : (tile core k : ℕ) → HasTask old tile k (λ status. HoldsCore status core) → k ≢ commit.id
+  not_held : (tile core k : ℕ) → HasTask old tile k (λ status. HasCore status core) → k ≢ commit.id
   not_held tile core k has same =
-      let both : Some has.0 ≡ Some commit.task = sym has.1 ∙ ap (task_at old) same ∙ commit.least.at.there in
+      let both : Some has.0 ≡ Some commit.task = sym has.1 ∙ ap (task_at old) same ∙ commit.least.queued_at.there in
       let task_is : has.0 ≡ commit.task = cc in
-      subst (λ status. HoldsCore status core) (ap (λ t. t.status) task_is ∙ commit.finished_is) has.3
+      subst (λ status. HasCore status core) (ap (λ t. t.status) task_is ∙ commit.finished_is) has.3
 
   -- what a core holds stays there
-  held_forth : (tile core k : ℕ) → slice_get (cores_at old tile) core ≡ Some (Some k) → HasTask listed tile k (λ status. HoldsCore status core)
+  held_forth : (tile core k : ℕ) → slice_get (cores_at old tile) core ≡ Some (Some k) → HasTask listed tile k (λ status. HasCore status core)
   held_forth tile core k held =
       let was = (sizes.held_are tile core k).0 held in
       (left old new commit was.0, stays old new commit k was.0 (not_held tile core k was) was.1, was.2, was.3)
 
   -- and held it before
-  held_back : (tile core k : ℕ) → HasTask listed tile k (λ status. HoldsCore status core) → slice_get (cores_at old tile) core ≡ Some (Some k)
+  held_back : (tile core k : ℕ) → HasTask listed tile k (λ status. HasCore status core) → slice_get (cores_at old tile) core ≡ Some (Some k)
   held_back tile core k now =
       let was = was_there old new commit k now.0 now.1 in
       (sizes.held_are tile core k).1
-      (was.was, was.there, sym (ap (λ t. t.tile) was.is) ∙ now.2, subst (λ t. HoldsCore t.status core) was.is now.3)
+      (was.was, was.there, sym (ap (λ t. t.tile) was.is) ∙ now.2, subst (λ t. HasCore t.status core) was.is now.3)
 
   -- the group holds of the view with its lists written out
   listed_sizes : SoundSizes listed
   listed_sizes =
       record {
         settings = sizes.settings;
-        queues = length-map old.queues (without commit.id) ∙ sizes.queues;
-        finished = length-map old.finished (without commit.id) ∙ sizes.finished;
+        queues = length-map old.queues (ids_but commit.id) ∙ sizes.queues;
+        finished = length-map old.finished (ids_but commit.id) ∙ sizes.finished;
         cores = sizes.cores;
         blocks = sizes.blocks;
         task_queues = bounded_filtered stands old.settings.task_queue old.queues sizes.task_queues;

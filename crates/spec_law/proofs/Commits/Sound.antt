@@ -25,7 +25,7 @@ module _ (image : ImageValue) (old new : View) (sound : Sound image old) (commit
   -- the history is a run with the turn at its end
   runs_on : IsRun image new.settings.budget new.history (state image old new sound commit)
   runs_on =
-      subst (λ s. IsRun image s.budget new.history (state image old new sound commit)) (sym (ap (λ v. v.settings) commit.rest))
+      subst (λ s. IsRun image s.budget new.history (state image old new sound commit)) (sym (ap (λ v. v.settings) commit.frame))
       (subst (λ history. IsRun image old.settings.budget history (state image old new sound commit)) (sym commit.history)
       (Runs-more image old.settings.budget old.history (opening image) sound.serial (state image old new sound commit) entry sound.is_run (taken image old new sound commit)))
 
@@ -48,7 +48,7 @@ module _ (image : ImageValue) (old new : View) (sound : Sound image old) (commit
 pub commit_is_sound_turn : CommitIsSoundTurn
 commit_is_sound_turn image old new sound few commit = (
   record {
-    version = ap (λ v. v.version) commit.rest ∙ sound.version;
+    version = ap (λ v. v.version) commit.frame ∙ sound.version;
     serial = state image old new sound commit;
     is_run = runs_on image old new sound commit;
     heir = (heir_now image old new sound commit).0;

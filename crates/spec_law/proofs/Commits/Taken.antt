@@ -1,16 +1,16 @@
 -- What a commit leaves under each id, and what the laws of order, tasks and memory see of it.
 use Rattle.std.proofs.Common.{◌≡◌, ◌≢◌, ◌⊎◌, ◌+◌, ◌==◌, ℕ, length, Option, Some, None, refl, sym, ap, subst, ◌∙◌, inl, inr, option_map, if◌then◌else◌}
 use Rattle.std.proofs.lemmas.Bool.{cases_eq}
-use Rattle.order_law.specs.Events.{freed}
+use Rattle.order_law.specs.Events.{without_creator}
 use Rattle.order_law.specs.Tasks.{Keyed}
-use Rattle.turn_law.specs.Commit as turns
-use Rattle.turn_law.specs.Tasks as bags
+use Rattle.task_law.specs.Commit as turns
+use Rattle.task_law.specs.Tasks as bags
 use Rattle.spec_state.specs.declared.task.Creator.{Creator}
 use Rattle.spec_state.specs.declared.task.Creator.TheVariants.{Committed, Live}
 use Rattle.spec_state.specs.declared.task.Task.{Task}
 use Rattle.spec_state.specs.declared.task.TaskId.{TaskId}
 use Rattle.spec_state.specs.View.{View, task_at}
-use Rattle.spec_state.specs.Groups.{keyed, keyed_task, logged, logged_task, bag_tasks, bag_task, bag_creator, live_creator}
+use Rattle.spec_state.specs.Groups.{keyed_tasks, keyed_task, logged_tasks, logged_task, bag_tasks, bag_task, bag_creator, live_creator}
 use Rattle.spec_state.specs.Changes.{Commits, creator_after, after_commit}
 use Rattle.spec_law.proofs.Tasks.Returned.{same_test, other_test}
 use Rattle.spec_law.proofs.Aborted.Taken.{none_of}
@@ -85,7 +85,7 @@ module _ (old new : View) (commit : Commits old new) where
   pub leaves : task_at new commit.id ≡ None
   leaves =
       commit.each commit.id
-      ∙ ap (after_commit commit.id number commit.id) commit.least.at.there
+      ∙ ap (after_commit commit.id number commit.id) commit.least.queued_at.there
       ∙ ap (λ b. if b then None else Some (left commit.task)) (same_test commit.id)
 
   -- where there was none there is none
@@ -119,15 +119,15 @@ module _ (old new : View) (commit : Commits old new) where
   each_left holds was k now at = let is = was_there k now at in subst (holds k) (sym is.is) (was k is.was is.other is.there)
 
   -- the order of tasks
-  pub keyed_child : (k : ℕ) (x : Keyed) → k ≢ commit.id → keyed old k ≡ Some x → x.creator ≡ Some commit.id → keyed new k ≡ Some (freed x)
+  pub keyed_child : (k : ℕ) (x : Keyed) → k ≢ commit.id → keyed_tasks old k ≡ Some x → x.creator ≡ Some commit.id → keyed_tasks new k ≡ Some (without_creator x)
   keyed_child k x other at child =
       let read = mapped_some keyed_task (task_at old k) x at in
       ap (option_map keyed_task) (stays k read.0 other read.1)
       ∙ ap (λ c. Some (record (keyed_task read.0) { creator = c })) (freed_creator commit.id number read.0.creator (sym (ap (λ y. y.creator) read.2) ∙ child))
-      ∙ ap (λ y. Some (freed y)) (sym read.2)
+      ∙ ap (λ y. Some (without_creator y)) (sym read.2)
 
   -- and any other stays as it was
-  pub keyed_other : (k : ℕ) (x : Keyed) → k ≢ commit.id → keyed old k ≡ Some x → x.creator ≢ Some commit.id → keyed new k ≡ Some x
+  pub keyed_other : (k : ℕ) (x : Keyed) → k ≢ commit.id → keyed_tasks old k ≡ Some x → x.creator ≢ Some commit.id → keyed_tasks new k ≡ Some x
   keyed_other k x other at free =
       let read = mapped_some keyed_task (task_at old k) x at in
       ap (option_map keyed_task) (stays k read.0 other read.1)
@@ -135,15 +135,15 @@ module _ (old new : View) (commit : Commits old new) where
       ∙ ap Some (sym read.2)
 
   -- memory
-  pub logged_stays : (k : ℕ) → k ≢ commit.id → logged new k ≡ logged old k
+  pub logged_stays : (k : ℕ) → k ≢ commit.id → logged_tasks new k ≡ logged_tasks old k
   logged_stays k other = by_was (task_at old k) refl
     where
-      by_was : (was : Option Task) → task_at old k ≡ was → logged new k ≡ logged old k
+      by_was : (was : Option Task) → task_at old k ≡ was → logged_tasks new k ≡ logged_tasks old k
       by_was None none = ap (option_map logged_task) (none_stays k none) ∙ sym (ap (option_map logged_task) none)
       by_was (Some t) there = ap (option_map logged_task) (stays k t other there) ∙ sym (ap (option_map logged_task) there)
 
   -- the bags
-  bag_child : (k : ℕ) (x : bags.Task) (index : ℕ) → k ≢ commit.id → bag_tasks old k ≡ Some x → x.creator ≡ bags.Live commit.id index
+  bag_child : (k : ℕ) (x : bags.BagTask) (index : ℕ) → k ≢ commit.id → bag_tasks old k ≡ Some x → x.creator ≡ bags.Live commit.id index
       → bag_tasks new k ≡ Some (turns.with_turn x number index)
   bag_child k x index other at child =
       let read = mapped_some bag_task (task_at old k) x at in
@@ -152,7 +152,7 @@ module _ (old new : View) (commit : Commits old new) where
       ∙ ap (λ y. Some (turns.with_turn y number index)) (sym read.2)
 
   -- a task of another creator stays as it was
-  bag_other : (k : ℕ) (x : bags.Task) → k ≢ commit.id → bag_tasks old k ≡ Some x → ((index : ℕ) → x.creator ≢ bags.Live commit.id index) → bag_tasks new k ≡ Some x
+  bag_other : (k : ℕ) (x : bags.BagTask) → k ≢ commit.id → bag_tasks old k ≡ Some x → ((index : ℕ) → x.creator ≢ bags.Live commit.id index) → bag_tasks new k ≡ Some x
   bag_other k x other at free =
       let read = mapped_some bag_task (task_at old k) x at in
       ap (option_map bag_task) (stays k read.0 other read.1)
@@ -160,7 +160,7 @@ module _ (old new : View) (commit : Commits old new) where
       ∙ ap Some (sym read.2)
 
   -- for the bags it is a commit of this number
-  pub bags_commit : turns.Commits (bag_tasks old) (bag_tasks new) commit.id number
+  pub bags_commit : turns.CommitsInBags (bag_tasks old) (bag_tasks new) commit.id number
   bags_commit =
       record {
         gone = ap (option_map bag_task) leaves;

@@ -4,12 +4,12 @@ use Rattle.std.specs.Prelude.{Contains}
 use Rattle.fractal_vt.specs.declared.level.Level.{Level}
 use Rattle.guest_image.specs.ImageValue.{ImageValue}
 use Rattle.serial_machine.specs.BagValue.{BagValue}
-use Rattle.spill_store.specs.Entries.{Entry as Spilled}
-use Rattle.turn_law.specs.Commit.{Matches}
-use Rattle.turn_law.specs.Domains.{FitsBags}
-use Rattle.turn_law.specs.Sound.{AreSound}
-use Rattle.turn_law.specs.Tasks.{IsSpilled}
-use Rattle.turn_law.proofs.Proved.{commits_keep}
+use Rattle.spill_store.specs.SpilledTasks.{Spilled}
+use Rattle.task_law.specs.Commit.{Matches}
+use Rattle.task_law.specs.Domains.{FitsBags}
+use Rattle.task_law.specs.Sound.{AreSound}
+use Rattle.task_law.specs.Tasks.{IsSpilled}
+use Rattle.task_law.proofs.Proved.{commits_keep}
 use Rattle.spec_state.specs.declared.task.Creator.{Creator}
 use Rattle.spec_state.specs.declared.task.Creator.TheVariants.{Committed, Live}
 use Rattle.spec_state.specs.declared.task.Status.{Status}
@@ -63,14 +63,14 @@ module _ (image : ImageValue) (old new : View) (sound : Sound image old) (commit
   -- the domains of its children are there
   child_fits : (index : ℕ) (d : Descriptor) → IsMadeBy old commit.id index d → FitsBags (domains_of d.kinds d.domain) stack
   child_fits index d made =
-      let both : Some made.creator ≡ Some commit.task = sym made.there ∙ commit.least.at.there in
+      let both : Some made.creator ≡ Some commit.task = sym made.there ∙ commit.least.queued_at.there in
       let same : made.creator ≡ commit.task = cc in
       let at = sym (ap (λ t. slice_get t.spawns index) same) ∙ made.made in
-      let is = made.is ∙ ap (λ t. child_descriptor t made.spawn) same in
+      let is = made.descriptor_is ∙ ap (λ t. child_descriptor t made.spawn) same in
       let fits = have image old new sound commit in
       subst (λ e. FitsBags (domains_of e.kinds e.domain) stack) (sym is)
       ((keeps_domains image old new sound commit).children index made.spawn _ at
-      (child_domains commit.task (sound.sizes.kinds commit.id commit.task commit.least.at.there) made.spawn.place
+      (child_domains commit.task (sound.sizes.kinds commit.id commit.task commit.least.queued_at.there) made.spawn.place
       (fits.inside index made.spawn at) (fits.outside index made.spawn at)))
 
   -- the domains of each task of a committed creator
@@ -90,8 +90,8 @@ module _ (image : ImageValue) (old new : View) (sound : Sound image old) (commit
               turn = turn;
               index = index;
               creator = ap bag_creator free;
-              at = refl;
-              is = refl;
+              depth_is = refl;
+              pending_is = refl;
             })))
             (sound.tasks.domains id was.was turn index was.there free)
         | inr child ↦
@@ -125,12 +125,12 @@ module _ (image : ImageValue) (old new : View) (sound : Sound image old) (commit
         there = stays old new commit creator.0 by.creator live.1 by.there;
         spawn = by.spawn;
         made = by.made;
-        is = ap descriptor_of was.is ∙ by.is;
+        descriptor_is = ap descriptor_of was.is ∙ by.descriptor_is;
       }
 
   module _ (few : length old.history < old.settings.commits) (heir : Option ℕ) where
     same_spilled : all_spilled new ≡ all_spilled old
-    same_spilled = ap (λ v. all_spilled v) commit.rest
+    same_spilled = ap (λ v. all_spilled v) commit.frame
 
     -- a spilled task is one of before
     before : (s : Spilled) → Contains (all_spilled new) s → Contains (all_spilled old) s
@@ -154,7 +154,7 @@ module _ (image : ImageValue) (old new : View) (sound : Sound image old) (commit
     pub commit_keeps_tasks : SoundTasks image new heir (state image old new sound commit)
     commit_keeps_tasks =
         let longer = one_longer old new commit in
-        let settings : new.settings ≡ old.settings = ap (λ v. v.settings) commit.rest in
+        let settings : new.settings ≡ old.settings = ap (λ v. v.settings) commit.frame in
         record {
           few = subst (λ s. length new.history ≤ s.commits) (sym settings) (omega (arith, longer, few));
           output = commit.output ∙ ap (λ bytes. bytes ++ commit.task.bytes) sound.tasks.output;
@@ -165,7 +165,7 @@ module _ (image : ImageValue) (old new : View) (sound : Sound image old) (commit
           stands = each_left old new commit (λ k t. StandsAs image new.version new.settings.budget t t.status)
               (λ k t other there. stands_still image new.version new.settings.budget (left old new commit t).creator t t.status
               (subst (λ s. StandsAs image new.version s.budget t t.status) (sym settings)
-              (subst (λ n. StandsAs image n old.settings.budget t t.status) (sym (ap (λ (v : View). v.version) commit.rest)) (sound.tasks.stands k t there))));
+              (subst (λ n. StandsAs image n old.settings.budget t t.status) (sym (ap (λ (v : View). v.version) commit.frame)) (sound.tasks.stands k t there))));
           children = λ id task creator index at. children_now id task at creator index;
           spilled_children = λ s has next. (let low = firm s (before s has) in absurd (omega (arith, low, next, longer)));
         }

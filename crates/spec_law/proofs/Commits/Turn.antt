@@ -3,22 +3,22 @@ use Rattle.std.proofs.Common.{◌≡◌, ◌+◌, ◌++◌, ℕ, true, [], lengt
 use Rattle.std.specs.Prelude.{IsSome}
 use Rattle.std.proofs.lemmas.List.{length-map}
 use Rattle.fractal_vt.specs.Keys.{levels}
-use Rattle.fractal_vt.specs.Levels.{closed}
+use Rattle.fractal_vt.specs.Levels.{closed_level}
 use Rattle.guest_image.specs.ImageValue.{ImageValue}
-use Rattle.memory_law.specs.Accesses.{replayed, Replays}
+use Rattle.memory_law.specs.Accesses.{after_accesses, Replays}
 use Rattle.run_law.proofs.Proved.{count-run, done-placed}
 use Rattle.pending_list.specs.declared.task.PendingTask.{PendingTask}
-use Rattle.serial_machine.specs.State.{State, IsStack}
-use Rattle.serial_machine.specs.TaskRun.{Done, begun}
+use Rattle.serial_machine.specs.State.{SerialState, IsStack}
+use Rattle.serial_machine.specs.TaskRun.{Done, task_at_start}
 use Rattle.serial_machine.specs.TaskState.{TaskState}
-use Rattle.serial_machine.specs.Turn.{turn, stack_after, context_of, run_of}
+use Rattle.serial_machine.specs.Turn.{turn, stack_after, context_in_bag, run_in_bag}
 use Rattle.serial_machine.proofs.Proved.{IsStack-inner}
-use Rattle.turn_law.specs.Commit.{Matches, HasTurn, HaveDomains, IsLeast, IsNextTurn}
-use Rattle.turn_law.specs.Domains.{FitsBags, KeepsDomains}
-use Rattle.turn_law.specs.Logged.{LoggedRun, IsFinished}
-use Rattle.turn_law.specs.Sound.{AreSound}
-use Rattle.turn_law.specs.Tasks.{pending}
-use Rattle.turn_law.proofs.Proved.{commit_is_turn, contexts_fit, end_on, finished, have_domains, least_has_turn, logged_on, logged_run_is_turn, turns_keep_domains}
+use Rattle.task_law.specs.Commit.{Matches, HasTurn, HaveDomains, IsLeastInBags, IsNextTurn}
+use Rattle.task_law.specs.Domains.{FitsBags, KeepsDomains}
+use Rattle.task_law.specs.Logged.{LoggedRun, IsFinished}
+use Rattle.task_law.specs.Sound.{AreSound}
+use Rattle.task_law.specs.Tasks.{pending}
+use Rattle.task_law.proofs.Proved.{commit_is_turn, contexts_fit, end_on, finished, have_domains, least_has_turn, logged_on, logged_run_is_turn, turns_keep_domains}
 use Rattle.spec_state.specs.declared.task.Task.{Task}
 use Rattle.spec_state.specs.View.{View, queue_at}
 use Rattle.spec_state.specs.Tasks.{depth_of, start_context, is_dispatched}
@@ -48,13 +48,13 @@ least_is_heir view (Some h) is id task least runs =
     least_is_one view (Queued is.0.tile is.1.place) (Queued task.tile least.place) is.1.least least.least in
     let tile : is.0.tile ≡ task.tile = cc in
     let place : is.1.place ≡ least.place = cc in
-    let both : Some h ≡ Some id = sym is.1.at.queued ∙ (λ i. slice_get (queue_at view (tile i)) (place i)) ∙ least.at.queued in
+    let both : Some h ≡ Some id = sym is.1.queued_at.queued ∙ (λ i. slice_get (queue_at view (tile i)) (place i)) ∙ least.queued_at.queued in
     both
 
 module _ (image : ImageValue) (old new : View) (sound : Sound image old) (commit : Commits old new) where
   -- the task has come to its end
   ended : IsSome commit.task.key.tb × HasEnded image old.version old.settings.budget commit.task
-  ended = subst (StandsAs image old.version old.settings.budget commit.task) commit.finished_is (sound.tasks.stands commit.id commit.task commit.least.at.there)
+  ended = subst (StandsAs image old.version old.settings.budget commit.task) commit.finished_is (sound.tasks.stands commit.id commit.task commit.least.queued_at.there)
 
   -- its dispatch number
   pub numbered : (n : ℕ) × (commit.task.key.tb ≡ Some n)
@@ -84,21 +84,21 @@ module _ (image : ImageValue) (old new : View) (sound : Sound image old) (commit
   pub front : IsForemost old sound.sizes sound.heir (depth_of commit.task) commit.task.key.ts
   front =
       let least = commit.least in
-      let key = queued_key old commit.task.tile least.place commit.id commit.task least.least.key least.at least.least.has in
+      let key = queued_key old commit.task.tile least.place commit.id commit.task least.least.key least.queued_at least.least.has in
       let inner = least_is_innermost image old sound (Queued commit.task.tile least.place) least.least commit.id (keyed_task commit.task)
-      (queued_stands old sound.heir commit.id commit.task least.at.there) (ap levels (sym key)) in
+      (queued_stands old sound.heir commit.id commit.task least.queued_at.there) (ap levels (sym key)) in
       foremost old sound.sizes sound.heir (keyed_task commit.task) (depth_of commit.task) commit.task.key.ts inner
-      (ap (λ n. n + 1) (length-map commit.task.key.domain closed)) refl
+      (ap (λ n. n + 1) (length-map commit.task.key.domain closed_level)) refl
 
   -- the pending task of the serial machine
   abbrev pub p : PendingTask
   p = pending commit.turn commit.index (bag_task commit.task).body commit.task.key.ts
 
   -- it is the least task for the bags
-  is_least : IsLeast (length old.history) (bag_tasks old) (bags_spilled old) commit.id (bag_task commit.task) commit.turn commit.index
+  is_least : IsLeastInBags (length old.history) (bag_tasks old) (bags_spilled old) commit.id (bag_task commit.task) commit.turn commit.index
   is_least =
       record {
-        there = ap (option_map bag_task) commit.least.at.there;
+        there = ap (option_map bag_task) commit.least.queued_at.there;
         creator = ap bag_creator commit.creator;
         deepest = front.deepest;
         first = front.first;
@@ -116,14 +116,15 @@ module _ (image : ImageValue) (old new : View) (sound : Sound image old) (commit
 
   -- the domains of the task are those of the bags, and its calls depend on them
   in_bags : FitsBags (domains_of commit.task.kinds commit.task.key.domain) sound.serial.stack
-  in_bags = sound.tasks.domains commit.id commit.task commit.turn commit.index commit.least.at.there commit.creator
+  in_bags =
+      sound.tasks.domains commit.id commit.task commit.turn commit.index commit.least.queued_at.there commit.creator
 
   -- its calls depended on what those of its serial turn depend on
-  same_context : context_of image.version next.bag next.outer p ≡ start_context old.version commit.task
+  same_context : context_in_bag image.version next.bag next.outer p ≡ start_context old.version commit.task
   same_context =
       let start = starts_so commit.task in
       let deep : depth_of commit.task ≡ length start.rest + 1 = ap (λ n. n + 1) (sym start.long) in
-      ap (λ v. context_of v next.bag next.outer p) (sym sound.version)
+      ap (λ v. context_in_bag v next.bag next.outer p) (sym sound.version)
       ∙ contexts_fit old.version sound.serial.stack p start.own start.rest is_stack (subst (λ ds. FitsBags ds sound.serial.stack) start.is in_bags)
       (record { bag = next.bag; outer = next.outer; may = next.may; deep = next.deep ∙ deep })
       ∙ sym (start.context old.version)
@@ -133,25 +134,26 @@ module _ (image : ImageValue) (old new : View) (sound : Sound image old) (commit
   after = done_so_far image old.version old.settings.budget commit.task
 
   -- so its run by its log is a finished one on the serial machine's memory
-  ends_so : IsFinished image old.settings.budget (length sound.serial.memory) (context_of image.version next.bag next.outer p) p commit.task.log after
+  ends_so : IsFinished image old.settings.budget (length sound.serial.memory) (context_in_bag image.version next.bag next.outer p) p commit.task.log after
   ends_so =
       let end = ended.1 in
-      let start = begun old.version commit.task.entry commit.task.key.ts commit.task.args [] in
+      let start = task_at_start old.version commit.task.entry commit.task.key.ts commit.task.args [] in
       subst (λ ctx. IsFinished image old.settings.budget (length sound.serial.memory) ctx p commit.task.log after) (sym same_context)
       (record {
         before = end.before;
         run = subst (λ v. LoggedRun image old.settings.budget (length sound.serial.memory) (start_context old.version commit.task)
-            (begun v commit.task.entry commit.task.key.ts commit.task.args []) commit.task.log end.before) sound.version
+            (task_at_start v commit.task.entry commit.task.key.ts commit.task.args []) commit.task.log end.before)
+            sound.version
             (logged_on image old.settings.budget image.data_size (start_context old.version commit.task) start sound.serial.memory end.ran replays);
         ends = end_on image old.settings.budget image.data_size (start_context old.version commit.task) start sound.serial.memory end.ends;
         leaves = end.leaves;
       })
 
   -- the serial machine's state after the turn
-  abbrev pub state : State
+  abbrev pub state : SerialState
   state = record {
     stack = stack_after next.bag next.outer p.name (sound.serial.count + 1) commit.task.key.ts commit.task.spawns commit.task.sub;
-    memory = replayed sound.serial.memory commit.task.log;
+    memory = after_accesses sound.serial.memory commit.task.log;
     output = sound.serial.output ++ commit.task.bytes;
     count = sound.serial.count + 1;
   }
@@ -166,9 +168,9 @@ module _ (image : ImageValue) (old new : View) (sound : Sound image old) (commit
   -- each child for a subdomain or for the superdomain has that domain
   pub have : HaveDomains (depth_of commit.task) commit.task.sub commit.task.spawns
   have =
-      let done : TaskState = record after { memory = replayed sound.serial.memory commit.task.log } in
-      let ran : run_of image old.settings.budget sound.serial next.bag next.outer p ≡ Done done =
-      finished image old.settings.budget (context_of image.version next.bag next.outer p) sound.serial.memory p commit.task.log after ends_so replays in
+      let done : TaskState = record after { memory = after_accesses sound.serial.memory commit.task.log } in
+      let ran : run_in_bag image old.settings.budget sound.serial next.bag next.outer p ≡ Done done =
+      finished image old.settings.budget (context_in_bag image.version next.bag next.outer p) sound.serial.memory p commit.task.log after ends_so replays in
       have_domains next.bag next.outer (depth_of commit.task) commit.task.sub commit.task.spawns
       (subst IsStack next.may.top (IsStack-inner sound.serial.stack is_stack)) next.deep
       (done-placed image old.settings.budget sound.serial next.bag next.outer p done ran)
@@ -177,7 +179,7 @@ module _ (image : ImageValue) (old new : View) (sound : Sound image old) (commit
   pub is_next : IsNextTurn (length old.history) (bag_tasks old) (bag_tasks new) commit.id (bag_task commit.task) commit.turn commit.index
   is_next =
       record {
-        there = ap (option_map bag_task) commit.least.at.there;
+        there = ap (option_map bag_task) commit.least.queued_at.there;
         dispatched = runs;
         creator = ap bag_creator commit.creator;
         commits = bags_commit old new commit;

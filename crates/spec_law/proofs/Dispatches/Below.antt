@@ -4,7 +4,7 @@ use Rattle.std.specs.declared.cmp.Ordering.TheVariants.{Less, Equal, Greater}
 use Rattle.fractal_vt.specs.declared.key.Key.{Key}
 use Rattle.fractal_vt.specs.Keys.{key_cmp}
 use Rattle.fractal_vt.proofs.Proved.{equal_keys_tie}
-use Rattle.spill_store.specs.Entries.{Entry as Spilled, open_key}
+use Rattle.spill_store.specs.SpilledTasks.{Spilled, open_key}
 use Rattle.spec_state.specs.declared.task.Task.{Task}
 use Rattle.spec_state.specs.View.{View, task_at, block_at}
 use Rattle.spec_state.specs.Tasks.{is_dispatched}
@@ -54,4 +54,4 @@ module _ (view : View) (id : ℕ) (x : Task) (least : IsLeastTask view id x) whe
   pub below_others : (heir : Option ℕ) → SoundOrder view heir → SoundSizes view → is_dispatched x ≡ true
       → (k : ℕ) (t : Task) → k ≢ id → task_at view k ≡ Some t → key_cmp x.key t.key ≡ Less
   below_others heir order sizes runs k t other there =
-      less_of (key_cmp x.key t.key) (upto_queued sizes k t there) (no_tie view heir order id k x t least.at.there there runs other)
+      less_of (key_cmp x.key t.key) (upto_queued sizes k t there) (no_tie view heir order id k x t least.queued_at.there there runs other)

@@ -9,12 +9,12 @@ use Rattle.memory_law.specs.Events as memory
 use Rattle.memory_law.specs.Notes.{notes_of}
 use Rattle.memory_law.specs.Tasks.{Logged, Earlier}
 use Rattle.memory_law.proofs.Proved.{dispatch_keeps_chain}
-use Rattle.serial_machine.specs.State.{State}
+use Rattle.serial_machine.specs.State.{SerialState}
 use Rattle.spec_state.specs.declared.task.Task.{Task}
 use Rattle.spec_state.specs.View.{View, task_at}
 use Rattle.spec_state.specs.Filters.{HasNotes}
 use Rattle.spec_state.specs.Tasks.{idle_again, is_dispatched}
-use Rattle.spec_state.specs.Groups.{keyed_task, logged, logged_task}
+use Rattle.spec_state.specs.Groups.{keyed_task, logged_tasks, logged_task}
 use Rattle.spec_state.specs.Changes.{Dispatches}
 use Rattle.spec_law.specs.Sound.{SoundMemory, SoundOrder}
 use Rattle.spec_law.proofs.Dispatches.One.{after, now, was, was_this, each_after}
@@ -32,7 +32,7 @@ module _ (old new : View) (heir : Option ℕ) (tile : ℕ) (d : Dispatches tile 
       omega (arith, below)
 
   -- so each other dispatched task is before it or behind it
-  earlier : (k : ℕ) (x : Logged) → k ≢ d.id → logged old k ≡ Some x → x.dispatched ≡ true → Earlier x started_log ⊎ Earlier started_log x
+  earlier : (k : ℕ) (x : Logged) → k ≢ d.id → logged_tasks old k ≡ Some x → x.dispatched ≡ true → Earlier x started_log ⊎ Earlier started_log x
   earlier k x other at runs =
       let read = mapped_some logged_task (task_at old k) x at in
       subst (λ y. Earlier y started_log ⊎ Earlier started_log y) (sym read.2) (by_order read.0 read.1 (key_cmp read.0.key (now old new tile d).key) refl)
@@ -44,7 +44,7 @@ module _ (old new : View) (heir : Option ℕ) (tile : ℕ) (d : Dispatches tile 
       by_order t there Greater is = inr (key_cmp_total.antisymm (now old new tile d).key t.key ∙ ap ordering_reverse is)
 
   -- for memory an idle task is dispatched with an empty log
-  dispatches : memory.Dispatches (logged old) (logged new) d.id started_log
+  dispatches : memory.DispatchesInLogs (logged_tasks old) (logged_tasks new) d.id started_log
   dispatches =
       record {
         idle = λ x at. (
@@ -60,10 +60,10 @@ module _ (old new : View) (heir : Option ℕ) (tile : ℕ) (d : Dispatches tile 
       }
 
   -- which keeps the chain of accesses, and what filters say of logs
-  pub dispatched_memory : (serial : State) → SoundMemory old serial → SoundMemory (after old new tile d) serial
+  pub dispatched_memory : (serial : SerialState) → SoundMemory old serial → SoundMemory (after old new tile d) serial
   dispatched_memory serial sound =
       record {
-        chained = dispatch_keeps_chain old.settings.line (logged old) (logged new) d.id started_log serial.memory old.memory dispatches sound.chained;
+        chained = dispatch_keeps_chain old.settings.line (logged_tasks old) (logged_tasks new) d.id started_log serial.memory old.memory dispatches sound.chained;
         noted = each_after old new tile d (λ k t. HasNotes t.lines (notes_of old.settings.line t.log))
             (sound.noted d.id d.task (was old new tile d)) (λ k t other there. sound.noted k t there);
       }

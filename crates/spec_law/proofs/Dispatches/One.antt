@@ -2,7 +2,7 @@
 use Rattle.std.proofs.Common.{◌≡◌, ◌≢◌, ◌⊎◌, ◌+◌, ℕ, Option, Some, sym, ap, subst, ◌∙◌, inl, inr}
 use Rattle.std.proofs.lemmas.Bool.{cases_eq}
 use Rattle.guest_image.specs.ImageValue.{ImageValue}
-use Rattle.serial_machine.specs.State.{State}
+use Rattle.serial_machine.specs.State.{SerialState}
 use Rattle.spec_state.specs.declared.task.Status.TheVariants as status
 use Rattle.spec_state.specs.declared.task.Task.{Task}
 use Rattle.spec_state.specs.View.{View, task_at}
@@ -21,7 +21,7 @@ module _ (old new : View) (tile : ℕ) (d : Dispatches tile old new) where
 
   -- the new view is that one
   pub is_after : new ≡ after
-  is_after = d.rest ∙ (λ i. record old { tasks = new.tasks; next = d.next i; cores = d.cores i })
+  is_after = d.frame ∙ (λ i. record old { tasks = new.tasks; next = d.next i; cores = d.cores i })
 
   -- the task as it is then
   abbrev pub now : Task
@@ -29,15 +29,15 @@ module _ (old new : View) (tile : ℕ) (d : Dispatches tile old new) where
 
   -- the task as it was
   pub was : task_at old d.id ≡ Some d.task
-  was = d.least.this.there
+  was = d.least.idle.there
 
   -- a task of this id was this one
   pub was_this : (k : ℕ) (t : Task) → k ≡ d.id → task_at old k ≡ Some t → t ≡ d.task
   was_this k t same there = let both : Some t ≡ Some d.task = sym there ∙ ap (task_at old) same ∙ was in cc
 
   -- it had done nothing
-  pub was_idle : (image : ImageValue) (heir : Option ℕ) (serial : State) → SoundTasks image old heir serial → d.task ≡ idle_again old.version d.task
-  was_idle image heir serial tasks = subst (StandsAs image old.version old.settings.budget d.task) d.least.this.idle (tasks.stands d.id d.task was)
+  pub was_idle : (image : ImageValue) (heir : Option ℕ) (serial : SerialState) → SoundTasks image old heir serial → d.task ≡ idle_again old.version d.task
+  was_idle image heir serial tasks = subst (StandsAs image old.version old.settings.budget d.task) d.least.idle.idle (tasks.stands d.id d.task was)
 
   -- each task is the dispatched one, or was there
   pub which : (k : ℕ) (t : Task) → task_at new k ≡ Some t → ((k ≡ d.id) × (t ≡ now)) ⊎ ((k ≢ d.id) × (task_at old k ≡ Some t))

@@ -1,13 +1,13 @@
 -- A dispatch keeps the group of order.
 use Rattle.std.proofs.Common.{◌≡◌, ◌<◌, ◌+◌, ◌-◌, ℕ, List, length, Option, Some, None, ap, arith, map, option_map, slice_get, nat_lt, if◌then◌else◌}
-use Rattle.fractal_vt.specs.Levels.{closed}
+use Rattle.fractal_vt.specs.Levels.{closed_level}
 use Rattle.order_law.specs.Events as order
 use Rattle.order_law.specs.Events.{beside}
 use Rattle.order_law.specs.Tasks.{Keyed}
 use Rattle.order_law.proofs.Proved.{dispatch_law, rename_keeps_order}
 use Rattle.spec_state.specs.declared.numbers.TheConstants.{DISPATCH_NUMBERS}
 use Rattle.spec_state.specs.View.{View, task_at}
-use Rattle.spec_state.specs.Groups.{all_keyed, all_spilled, keyed, keyed_spilled, keyed_task}
+use Rattle.spec_state.specs.Groups.{all_keyed, all_spilled, keyed_tasks, keyed_spilled, keyed_task}
 use Rattle.spec_state.specs.Changes.{Dispatches}
 use Rattle.spec_law.specs.Sound.{SoundOrder}
 use Rattle.spec_law.proofs.Tasks.Rebound.{rebound, task_there, entry_idle}
@@ -25,10 +25,10 @@ module _ (old new : View) (heir : Option ℕ) (tile : ℕ) (d : Dispatches tile 
 
   -- the tasks by the ids of before
   abbrev middle : ℕ → Option Keyed
-  middle = beside (length old.tasks) (keyed new) entries
+  middle = beside (length old.tasks) (keyed_tasks new) entries
 
   -- for the order of tasks an idle one gets the next number
-  dispatches : order.Dispatches (all_keyed old heir) middle old.next
+  dispatches : order.DispatchesInKeys (all_keyed old heir) middle old.next
   dispatches =
       record {
         id = d.id;
@@ -36,7 +36,7 @@ module _ (old new : View) (heir : Option ℕ) (tile : ℕ) (d : Dispatches tile 
         there = queued_stands old heir d.id d.task (was old new tile d);
         idle = open';
         changes = record {
-          changed = task_there (length old.tasks) (keyed new) entries d.id
+          changed = task_there (length old.tasks) (keyed_tasks new) entries d.id
               (keyed_task (now old new tile d)) low (ap (option_map keyed_task) d.changes.changed);
           others = λ k other. ap (λ o. if nat_lt k (length old.tasks) then o else slice_get entries (k - length old.tasks))
               (ap (option_map keyed_task) (d.changes.others k other));
@@ -44,7 +44,7 @@ module _ (old new : View) (heir : Option ℕ) (tile : ℕ) (d : Dispatches tile 
       }
 
   -- each task lies below the bound of before and that of now
-  bounded : (k : ℕ) (x : Keyed) → keyed new k ≡ Some x → (k < length old.tasks) × (k < length new.tasks)
+  bounded : (k : ℕ) (x : Keyed) → keyed_tasks new k ≡ Some x → (k < length old.tasks) × (k < length new.tasks)
   bounded k x at =
       let read = mapped_some keyed_task (task_at new k) x at in (
         each_after old new tile d (λ j t. j < length old.tasks) low (λ j t other there. id_below old j t there) k read.0 read.1,
@@ -56,10 +56,10 @@ module _ (old new : View) (heir : Option ℕ) (tile : ℕ) (d : Dispatches tile 
   dispatched_order left sound = record {
     order =
         rename_keeps_order middle (all_keyed (after old new tile d) heir)
-        (map closed old.path) (old.next + 1)
-        (rebound (length old.tasks) (length new.tasks) (keyed new) entries bounded
+        (map closed_level old.path) (old.next + 1)
+        (rebound (length old.tasks) (length new.tasks) (keyed_tasks new) entries bounded
         (entry_idle (length old.history) heir (all_spilled old)))
         (dispatch_law (all_keyed old heir) middle
-        (map closed old.path) old.next dispatches sound.order);
+        (map closed_level old.path) old.next dispatches sound.order);
     numbers = omega (arith, left);
   }

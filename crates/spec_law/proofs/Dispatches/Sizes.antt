@@ -8,15 +8,16 @@ use Rattle.spec_state.specs.declared.task.Status.TheVariants.{Idle, Running, Fin
 use Rattle.spec_state.specs.View.{View, task_at, cores_at}
 use Rattle.spec_state.specs.Tasks.{depth_of}
 use Rattle.spec_state.specs.Changes.{Dispatches}
-use Rattle.spec_law.specs.Sound.{HoldsCore, HasTask, SoundSizes}
+use Rattle.spec_law.specs.Sound.{SoundSizes}
 use Rattle.spec_state.proofs.Proved.{holder_now, others_now, counts_now, this_or_other}
+use Rattle.spec_state.specs.Stored.{HasCore, HasTask}
 use Rattle.spec_law.proofs.Dispatches.One.{after, now, was, was_this, which, each_after}
 
 module _ (old new : View) (tile : ℕ) (d : Dispatches tile old new) (sizes : SoundSizes old) where
   -- the dispatched task is of this tile
   own_tile : d.task.tile ≡ tile
   own_tile =
-      let has = (sizes.queued_are tile d.id).0 d.least.this.queued in
+      let has = (sizes.queued_are tile d.id).0 d.least.idle.queued in
       sym (ap (λ t. t.tile) (was_this old new tile d d.id has.0 refl has.1)) ∙ has.2
 
   -- a task whose status is none of an idle one is another one, and stays
@@ -24,7 +25,7 @@ module _ (old new : View) (tile : ℕ) (d : Dispatches tile old new) (sizes : So
   busy_stays kind none at k has = (other, (has.0, d.changes.others k other ∙ has.1, has.2, has.3))
     where
       other : k ≢ d.id
-      other same = none (subst kind (ap (λ t. t.status) (was_this old new tile d k has.0 same has.1) ∙ d.least.this.idle) has.3)
+      other same = none (subst kind (ap (λ t. t.status) (was_this old new tile d k has.0 same has.1) ∙ d.least.idle.idle) has.3)
 
   -- a task whose status is none of a running one was there
   not_started : (kind : Status → Type 0) → (kind (Running d.core) → ⊥) → (at k : ℕ) → HasTask (after old new tile d) at k kind → HasTask old at k kind
@@ -49,7 +50,7 @@ module _ (old new : View) (tile : ℕ) (d : Dispatches tile old new) (sizes : So
   ]
 
   -- each core that is held is held by its task
-  held_forth : (at c k : ℕ) → slice_get (cores_at (after old new tile d) at) c ≡ Some (Some k) → HasTask (after old new tile d) at k (λ status. HoldsCore status c)
+  held_forth : (at c k : ℕ) → slice_get (cores_at (after old new tile d) at) c ≡ Some (Some k) → HasTask (after old new tile d) at k (λ status. HasCore status c)
   held_forth at c k held = elim (this_or_other at tile c d.core) [
     | inl this ↦
         let both : Some (Some k) ≡ Some (Some d.id) =
@@ -58,16 +59,16 @@ module _ (old new : View) (tile : ℕ) (d : Dispatches tile old new) (sizes : So
         let same : k ≡ d.id = cc in
         (now old new tile d, ap (task_at new) same ∙ d.changes.changed, own_tile ∙ sym this.0, sym this.1)
     | inr other ↦
-        (busy_stays (λ status. HoldsCore status c) (λ is. is) at k
+        (busy_stays (λ status. HasCore status c) (λ is. is) at k
         ((sizes.held_are at c k).0 (sym (others_now old tile d.core None (Some d.id) d.free.free at c other) ∙ held))).1
   ]
 
   -- and each task that has a core holds it
-  held_back : (at c k : ℕ) → HasTask (after old new tile d) at k (λ status. HoldsCore status c) → slice_get (cores_at (after old new tile d) at) c ≡ Some (Some k)
+  held_back : (at c k : ℕ) → HasTask (after old new tile d) at k (λ status. HasCore status c) → slice_get (cores_at (after old new tile d) at) c ≡ Some (Some k)
   held_back at c k has = elim (which old new tile d k has.0 has.1) [
     | inl here ↦
         let here_tile : tile ≡ at = sym own_tile ∙ sym (ap (λ t. t.tile) here.1) ∙ has.2 in
-        let here_core : d.core ≡ c = subst (λ t. HoldsCore t.status c) here.1 has.3 in
+        let here_core : d.core ≡ c = subst (λ t. HasCore t.status c) here.1 has.3 in
         sym (λ i. slice_get (cores_at (after old new tile d) (here_tile i)) (here_core i)) ∙ holder_now old tile d.core None (Some d.id) d.free.free
         ∙ ap (λ j. Some (Some j)) (sym here.0)
     | inr there ↦

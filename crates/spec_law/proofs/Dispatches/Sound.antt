@@ -3,13 +3,13 @@ use Rattle.std.proofs.Common.{◌≡◌, ◌<◌, ◌≤◌, ◌∷◌, ℕ, tru
 use Rattle.std.specs.Prelude.{Contains}
 use Rattle.std.proofs.lemmas.Bool.Decides.{nat_tests}
 use Rattle.guest_image.specs.ImageValue.{ImageValue}
-use Rattle.fractal_vt.specs.Levels.{closed}
+use Rattle.fractal_vt.specs.Levels.{closed_level}
 use Rattle.order_law.specs.Events.{beside}
 use Rattle.order_law.specs.Ordered.{IsOrdered}
-use Rattle.spill_store.specs.Entries.{Entry as Spilled}
+use Rattle.spill_store.specs.SpilledTasks.{Spilled}
 use Rattle.spec_state.specs.declared.numbers.TheConstants.{DISPATCH_NUMBERS}
 use Rattle.spec_state.specs.View.{View}
-use Rattle.spec_state.specs.Groups.{all_spilled, heir_unless, keyed, keyed_spilled}
+use Rattle.spec_state.specs.Groups.{all_spilled, heir_unless, keyed_tasks, keyed_spilled}
 use Rattle.spec_state.specs.Least.{IsHeir}
 use Rattle.spec_state.specs.Changes.{Dispatches}
 use Rattle.spec_law.specs.Keeping.{DispatchStaysSound}
@@ -41,7 +41,7 @@ read_alike count one other (s ∷ entries) low =
 order_alike : (view : View) (one other : Option ℕ) → ((s : Spilled) → Contains (all_spilled view) s → s.desc.name.creator ≤ length view.history)
     → SoundOrder view one → SoundOrder view other
 order_alike view one other low sound = record {
-  order = subst (λ entries. IsOrdered (beside (length view.tasks) (keyed view) entries) (map closed view.path) view.next)
+  order = subst (λ entries. IsOrdered (beside (length view.tasks) (keyed_tasks view) entries) (map closed_level view.path) view.next)
       (read_alike (length view.history) one other (all_spilled view) low) sound.order;
   numbers = sound.numbers;
 }

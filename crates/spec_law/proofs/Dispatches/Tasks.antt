@@ -2,14 +2,14 @@
 use Rattle.std.proofs.Common.{◌≡◌, ◌≢◌, ◌+◌, ◌≤◌, ℕ, true, false, length, Option, Some, None, refl, sym, ap, subst, ◌∙◌, inl, inr, arith, option_map, slice_get, is_some, unwrap_or}
 use Rattle.std.specs.Prelude.{Contains}
 use Rattle.guest_image.specs.ImageValue.{ImageValue}
-use Rattle.serial_machine.specs.State.{State}
-use Rattle.spill_store.specs.Entries.{Entry as Spilled}
-use Rattle.turn_law.specs.Domains.{FitsBags}
-use Rattle.turn_law.specs.Grows.{Starts}
-use Rattle.turn_law.specs.Logged.{none}
-use Rattle.turn_law.specs.Sound.{AreSound, SameFree}
-use Rattle.turn_law.specs.Tasks as bags
-use Rattle.turn_law.proofs.Proved.{dispatches_keep, idle_least}
+use Rattle.serial_machine.specs.State.{SerialState}
+use Rattle.spill_store.specs.SpilledTasks.{Spilled}
+use Rattle.task_law.specs.Domains.{FitsBags}
+use Rattle.task_law.specs.Grows.{DispatchesInBags}
+use Rattle.task_law.specs.Logged.{none}
+use Rattle.task_law.specs.Sound.{AreSound, SameFree}
+use Rattle.task_law.specs.Tasks as bags
+use Rattle.task_law.proofs.Proved.{dispatches_keep, idle_least}
 use Rattle.spec_state.specs.declared.task.Creator.{Creator}
 use Rattle.spec_state.specs.declared.task.Creator.TheVariants.{Committed, Live}
 use Rattle.spec_state.specs.declared.task.Status.TheVariants.{Running}
@@ -34,9 +34,9 @@ starts_running : (image : ImageValue) (version budget next core : ℕ) (t : Task
 starts_running image version budget next core t idle =
     subst (λ x. StandsAs image version budget (started version next core x) (Running core)) (sym idle) (refl, none)
 
-module _ (image : ImageValue) (old new : View) (heir : Option ℕ) (serial : State) (tile : ℕ) (d : Dispatches tile old new) (idle : d.task ≡ idle_again old.version d.task) (order : SoundOrder old heir) (sound : SoundTasks image old heir serial) where
+module _ (image : ImageValue) (old new : View) (heir : Option ℕ) (serial : SerialState) (tile : ℕ) (d : Dispatches tile old new) (idle : d.task ≡ idle_again old.version d.task) (order : SoundOrder old heir) (sound : SoundTasks image old heir serial) where
   -- it has made no child
-  childless : (k index : ℕ) (x : bags.Task) → bag_tasks old k ≡ Some x → x.creator ≢ bags.Live d.id index
+  childless : (k index : ℕ) (x : bags.BagTask) → bag_tasks old k ≡ Some x → x.creator ≢ bags.Live d.id index
   childless k index x at made =
       let read = mapped_some bag_task (task_at old k) x at in
       let live = live_of read.0.creator d.id index (sym (ap (λ y. y.creator) read.2) ∙ made) in
@@ -48,14 +48,14 @@ module _ (image : ImageValue) (old new : View) (heir : Option ℕ) (serial : Sta
       absurd (cc (sym open' ∙ number))
 
   -- for the bags it starts
-  starts : Starts (bag_tasks old) (bag_tasks new) d.id (bag_task d.task)
+  starts : DispatchesInBags (bag_tasks old) (bag_tasks new) d.id (bag_task d.task)
   starts =
       record {
         there = ap (option_map bag_task) (was old new tile d);
         idle = ap is_dispatched idle;
         fresh = ap (λ t. t.spawns) idle;
         childless = childless;
-        now = ap (option_map bag_task) d.changes.changed;
+        new_is = ap (option_map bag_task) d.changes.changed;
         others = λ k other. ap (option_map bag_task) (d.changes.others k other);
       }
 
@@ -75,7 +75,7 @@ module _ (image : ImageValue) (old new : View) (heir : Option ℕ) (serial : Sta
     there = d.changes.others id other ∙ made.there;
     spawn = made.spawn;
     made = made.made;
-    is = made.is;
+    descriptor_is = made.descriptor_is;
   }
     where
       other : id ≢ d.id

@@ -9,14 +9,14 @@ use Rattle.run_law.proofs.Proved.{HasDomain}
 use Rattle.task_desc.specs.declared.desc.Place.{Place}
 use Rattle.task_desc.specs.declared.desc.Place.TheVariants.{Same, Sub, Super}
 use Rattle.task_desc.specs.declared.desc.Spawn.{Spawn}
-use Rattle.turn_law.specs.Tasks.{IsChildDepth}
+use Rattle.task_law.specs.Tasks.{IsChildDepth}
 use Rattle.spec_state.specs.declared.task.Task.{Task}
 use Rattle.rv_core.specs.LegValue.{LegValue}
-use Rattle.spec_state.specs.Changes.{passed}
+use Rattle.spec_state.specs.Changes.{task_past_leg}
 use Rattle.spec_state.specs.Tasks.{depth_of, outer_kind, own_level, child_domain, child_kinds, child_descriptor, sub_bit}
 
 -- the descriptor of a child is that which its creator would have given it before it went on
-pub descriptor_same : (task : Task) (leg : LegValue) (spawn other : Spawn) → child_descriptor (record (passed task leg) { spawns = task.spawns ++ other ∷ [] }) spawn ≡ child_descriptor task spawn
+pub descriptor_same : (task : Task) (leg : LegValue) (spawn other : Spawn) → child_descriptor (record (task_past_leg task leg) { spawns = task.spawns ++ other ∷ [] }) spawn ≡ child_descriptor task spawn
 descriptor_same task leg spawn other = refl
 
 -- all levels but the last of one, where there is one

@@ -9,13 +9,13 @@ use Rattle.fractal_vt.proofs.Proved.{equal_keys_tie, key_cmp_total}
 use Rattle.guest_image.specs.ImageValue.{ImageValue}
 use Rattle.order_law.specs.Events.{IsPlaced}
 use Rattle.serial_machine.specs.Run.{IsRun}
-use Rattle.serial_machine.specs.State.{State}
+use Rattle.serial_machine.specs.State.{SerialState}
 use Rattle.task_desc.specs.declared.desc.Spawn.{Spawn}
-use Rattle.turn_law.specs.Commit.{Matches}
-use Rattle.turn_law.specs.Domains.{FitsBags}
-use Rattle.turn_law.specs.Grows as grows
-use Rattle.turn_law.specs.Sound.{AreSound, SameFree}
-use Rattle.turn_law.proofs.Proved.{enqueues_keep}
+use Rattle.task_law.specs.Commit.{Matches}
+use Rattle.task_law.specs.Domains.{FitsBags}
+use Rattle.task_law.specs.Grows as grows
+use Rattle.task_law.specs.Sound.{AreSound, SameFree}
+use Rattle.task_law.proofs.Proved.{enqueues_keep}
 use Rattle.spec_state.specs.declared.emitted.TheConstants.{MAX_EMITTED}
 use Rattle.spec_state.specs.declared.task.Creator.TheVariants.{Committed, Live}
 use Rattle.spec_state.specs.declared.task.Task.{Task}
@@ -25,7 +25,7 @@ use Rattle.spec_state.specs.Tasks.{Descriptor, child_descriptor, depth_of, descr
 use Rattle.spec_state.specs.Groups.{bag_task, bag_tasks, bags_spilled, domains_of, keyed_task, live_creator}
 use Rattle.spec_state.specs.Least.{IsHeir}
 use Rattle.spec_state.specs.Opening.{Adds}
-use Rattle.spec_state.specs.Room.{HasFreeEntry}
+use Rattle.spec_state.specs.Room.{QueueHasRoom}
 use Rattle.spec_law.specs.Sound.{IsMadeBy, Sound, SoundMemory, SoundOrder, SoundSizes, SoundTasks, StandsAs, StaysSound}
 use Rattle.spec_law.proofs.Adds.Heir.{add_keeps_heir}
 use Rattle.spec_state.proofs.Proved.{still_there}
@@ -64,11 +64,11 @@ pub record MakesChild (image : ImageValue) (old new : View) (tasks : List (Optio
   pub creator : child.creator ≡ Live (record { 0 = id }) (length task.spawns)
   pub made : slice_get work.spawns (length task.spawns) ≡ Some spawn
   pub descriptor : descriptor_of child ≡ child_descriptor (worked task work) spawn
-  pub bags : grows.Enqueues (bag_tasks old) (bag_tasks new) id c (bag_task task) spawn (depth_of child)
+  pub bags : grows.EnqueuesInBags (bag_tasks old) (bag_tasks new) id c (bag_task task) spawn (depth_of child)
   pub placed : IsPlaced (keyed_task task) (keyed_task child)
   pub above : key_cmp task.key child.key ≡ Less
   pub within : child.tile < old.settings.tiles
-  pub free : HasFreeEntry old child.tile
+  pub free : QueueHasRoom old child.tile
   pub kinds : child.kinds < 2 ^ depth_of child
 
 module _ (image : ImageValue) (old new : View) (tasks : List (Option Task)) (id c : ℕ) (task work child : Task) (spawn : Spawn) (makes : MakesChild image old new tasks id c task work child spawn) where
@@ -92,7 +92,7 @@ module _ (image : ImageValue) (old new : View) (tasks : List (Option Task)) (id 
       let upto = not_below_least old sizes h id least.0 task least.1 makes.step.there in
       each_stepped old mid id (worked task work) makes.step.changes (λ k t. k ≡ h → key_cmp t.key child.key ≡ Less)
       (λ k t other there same. (
-      let both : Some t ≡ Some least.0 = sym there ∙ ap (task_at old) same ∙ least.1.at.there in
+      let both : Some t ≡ Some least.0 = sym there ∙ ap (task_at old) same ∙ least.1.queued_at.there in
       let eq : t ≡ least.0 = cc in
       subst (λ y. key_cmp y.key child.key ≡ Less) (sym eq) (below_third least.0.key task.key child.key upto makes.above)
       ))
@@ -103,7 +103,7 @@ module _ (image : ImageValue) (old new : View) (tasks : List (Option Task)) (id 
       add_keeps_heir mid new c child makes.adds (subst (λ n. child.tile < n) (sym sizes.queues) makes.within) heir makes.idle
       (heir_below sizes heir is) (step_keeps_heir old mid id task work makes.step heir is)
 
-  module _ (heir : Option ℕ) (serial : State) (sound : SoundTasks image old heir serial) where
+  module _ (heir : Option ℕ) (serial : SerialState) (sound : SoundTasks image old heir serial) where
     -- all tasks but the child stand as their statuses say
     stand_mid : (k : ℕ) (t : Task) → task_at mid k ≡ Some t → StandsAs image old.version old.settings.budget t t.status
     stand_mid = stand_still old mid id task work makes.step makes.kids image heir serial sound makes.stands
@@ -125,7 +125,7 @@ module _ (image : ImageValue) (old new : View) (tasks : List (Option Task)) (id 
     -- what a task made it has made still
     made_now : (k index : ℕ) (d : Descriptor) → IsMadeBy mid k index d → IsMadeBy (added_to mid new) k index d
     made_now k index d made =
-        record { creator = made.creator; there = still_there mid new c child makes.adds k made.creator made.there; spawn = made.spawn; made = made.made; is = made.is }
+        record { creator = made.creator; there = still_there mid new c child makes.adds k made.creator made.there; spawn = made.spawn; made = made.made; descriptor_is = made.descriptor_is }
 
     -- the child is as the task made it
     child_made : IsMadeBy (added_to mid new) id (length task.spawns) (descriptor_of child)
@@ -135,7 +135,7 @@ module _ (image : ImageValue) (old new : View) (tasks : List (Option Task)) (id 
           there = still_there mid new c child makes.adds id (worked task work) makes.step.changes.changed;
           spawn = spawn;
           made = makes.made;
-          is = makes.descriptor;
+          descriptor_is = makes.descriptor;
         }
 
     abbrev InBags : ℕ → Task → Type 0
@@ -176,14 +176,14 @@ module _ (image : ImageValue) (old new : View) (tasks : List (Option Task)) (id 
         }
 
     pub make_keeps_tasks : SoundTasks image new heir serial
-    make_keeps_tasks = subst (λ v. SoundTasks image v heir serial) (sym makes.adds.rest) kept
+    make_keeps_tasks = subst (λ v. SoundTasks image v heir serial) (sym makes.adds.frame) kept
 
   pub make_stays_sound : (sound : Sound image old) → StaysSound image old sound new
   make_stays_sound sound = (
     record {
-      version = ap (λ v. v.version) makes.adds.rest ∙ sound.version;
+      version = ap (λ v. v.version) makes.adds.frame ∙ sound.version;
       serial = sound.serial;
-      is_run = subst (λ v. IsRun image v.settings.budget v.history sound.serial) (sym makes.adds.rest) sound.is_run;
+      is_run = subst (λ v. IsRun image v.settings.budget v.history sound.serial) (sym makes.adds.frame) sound.is_run;
       heir = sound.heir;
       is_heir = make_keeps_heir sound.sizes sound.heir sound.is_heir;
       tasks = make_keeps_tasks sound.heir sound.serial sound.tasks;

@@ -5,19 +5,19 @@ use Rattle.std.proofs.lemmas.List.{get_or-set_same, get_or-set_other}
 use Rattle.guest_image.specs.ImageValue.{ImageValue}
 use Rattle.rv_core.specs.LegValue.{LegValue}
 use Rattle.run_law.proofs.Proved.{HasDomain, IsPlaced}
-use Rattle.task_step.specs.declared.request.Request.TheVariants.{Enqueue}
-use Rattle.task_step.specs.TaskState.{TaskState, begun}
+use Rattle.task_request.specs.declared.request.Request.TheVariants.{Enqueue}
+use Rattle.task_request.specs.TaskState.{TaskState, task_at_start}
 use Rattle.task_desc.specs.declared.desc.Spawn.{Spawn}
-use Rattle.turn_law.specs.Grows as grows
-use Rattle.turn_law.proofs.Proved.{get_front, get_last}
+use Rattle.task_law.specs.Grows as grows
+use Rattle.task_law.proofs.Proved.{get_front, get_last}
 use Rattle.spec_state.specs.declared.task.Task.{Task}
 use Rattle.spec_state.specs.View.{View, task_at}
 use Rattle.spec_state.specs.Tasks.{depth_of, progress_at, start_context}
 use Rattle.spec_state.specs.Groups.{bag_task, bag_tasks}
-use Rattle.spec_state.specs.Changes.{Enqueues, passed}
+use Rattle.spec_state.specs.Changes.{Enqueues, task_past_leg}
 use Rattle.spec_law.specs.Keeping.{AsksAt, EnqueueStaysSound, IsLegOf}
 use Rattle.spec_state.specs.Opening.{Adds}
-use Rattle.spec_state.specs.Room.{HasFreeEntry}
+use Rattle.spec_state.specs.Room.{QueueHasRoom}
 use Rattle.spec_law.specs.RoomLaws.{child_of}
 use Rattle.spec_law.specs.Sound.{Sound, StandsAs, StaysSound}
 use Rattle.spec_law.proofs.Enqueues.Calls.{child_depth, child_room, descriptor_same}
@@ -42,7 +42,7 @@ module _ (image : ImageValue) (old new : View) (sound : Sound image old) (tile c
 
   -- the task that makes it, once it has
   abbrev pub work : Task
-  work = record (passed task leg) { spawns = task.spawns ++ spawn ∷ [] }
+  work = record (task_past_leg task leg) { spawns = task.spawns ++ spawn ∷ [] }
 
   -- as its run has it
   abbrev after : TaskState
@@ -86,7 +86,7 @@ module _ (image : ImageValue) (old new : View) (sound : Sound image old) (tile c
     vacant = none_there;
     changes = record { changed = does.made; others = λ k other. sym (as_new k other) };
     queues = does.queues;
-    rest = does.rest;
+    frame = does.frame;
   }
 
   -- the children that it made stay so
@@ -104,7 +104,7 @@ module _ (image : ImageValue) (old new : View) (sound : Sound image old) (tile c
   pub has_domain : HasDomain (start_context old.version task).outer after.sub spawn.place
   has_domain =
       let placed : IsPlaced (start_context old.version task).outer after =
-      run_placed image old.settings.budget image.data_size (start_context old.version task) (begun old.version task.entry task.key.ts task.args [])
+      run_placed image old.settings.budget image.data_size (start_context old.version task) (task_at_start old.version task.entry task.key.ts task.args [])
       (ran_call image old sound tile core id leg task (Enqueue spawn) after at tt refl) tt
       in
       placed_at (start_context old.version task).outer after.sub after.spawns (length task.spawns) spawn placed last_made
@@ -115,13 +115,14 @@ module _ (image : ImageValue) (old new : View) (sound : Sound image old) (tile c
       ((stood image old sound tile core id leg task taken).0, ran_call image old sound tile core id leg task (Enqueue spawn) after at tt refl)
 
   -- for the bags it is an enqueue
-  pub bag_enqueues : grows.Enqueues (bag_tasks old) (bag_tasks new) id does.child (bag_task task) spawn (depth_of child)
+  pub bag_enqueues : grows.EnqueuesInBags (bag_tasks old) (bag_tasks new) id does.child (bag_task task) spawn
+      (depth_of child)
   bag_enqueues = record {
     there = ap (option_map bag_task) there;
     dispatched = (stood image old sound tile core id leg task taken).0;
     unused = ap (option_map bag_task) does.vacant;
     place = child_depth task after.sub spawn.place has_domain;
-    now = ap (option_map bag_task) does.parent;
+    new_is = ap (option_map bag_task) does.parent;
     made = ap (option_map bag_task) does.made;
     others = λ k other other_child. ap (option_map bag_task) (does.others k other other_child);
   }
@@ -131,7 +132,7 @@ module _ (image : ImageValue) (old new : View) (sound : Sound image old) (tile c
   lists = lists_stay old mid id task work steps_one sound.sizes refl refl (λ is. is, λ is. is) (λ held. (λ is. is, λ is. is))
 
   -- it makes a child
-  makes : target < old.settings.tiles → HasFreeEntry old target → MakesChild image old new (slice_set new.tasks does.child None) id does.child task work child spawn
+  makes : target < old.settings.tiles → QueueHasRoom old target → MakesChild image old new (slice_set new.tasks does.child None) id does.child task work child spawn
   makes within free =
       let number = there_is task.key.tb (stood image old sound tile core id leg task taken).0 in
       let above = child_is_above image old tile core id target leg task spawn sound taken.takes at.asks in
@@ -158,7 +159,7 @@ module _ (image : ImageValue) (old new : View) (sound : Sound image old) (tile c
         kinds = child_room task after.sub spawn.place has_domain (sound.sizes.kinds id task there);
       }
 
-  pub enqueued : target < old.settings.tiles → HasFreeEntry old target → StaysSound image old sound new
+  pub enqueued : target < old.settings.tiles → QueueHasRoom old target → StaysSound image old sound new
   enqueued within free =
       make_stays_sound image old new (slice_set new.tasks does.child None) id does.child task work child spawn (makes within free) sound
 

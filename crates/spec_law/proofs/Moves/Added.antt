@@ -5,8 +5,8 @@ use Rattle.std.proofs.lemmas.List.{map-append}
 use Rattle.std.proofs.lemmas.List.Elements.{All-contains, Contains-get_or, Contains-append_left, Contains-append_right, Contains-append_cases}
 use Rattle.std.specs.Ordering.{is_lt, nat_cmp}
 use Rattle.std.specs.Prelude.{length, slice_get, slice_index_or, slice_set, All, Contains, flat_map, map}
-use Rattle.spill_store.specs.Entries.{Entry as Spilled, by_key, pushed}
-use Rattle.spill_store.specs.Pushing.{all_pushed}
+use Rattle.spill_store.specs.SpilledTasks.{Spilled, by_key, after_push}
+use Rattle.spill_store.specs.Pushing.{after_pushes}
 use Rattle.spec_law.proofs.Tasks.Contained.{head_or_behind}
 
 -- these elements are added to the first list one after another, each at some place, which makes the second
@@ -37,24 +37,24 @@ added_within left right (e ∷ es) before after adds = (
 )
 
 -- a push adds its entry
-pushed_between : (block : List Spilled) (e : Spilled) → (front : List Spilled) × (back : List Spilled) × (block ≡ front ++ back) × (pushed block e ≡ front ++ e ∷ back)
+pushed_between : (block : List Spilled) (e : Spilled) → (front : List Spilled) × (back : List Spilled) × (block ≡ front ++ back) × (after_push block e ≡ front ++ e ∷ back)
 pushed_between [] e = ([], [], refl, refl)
 pushed_between (y ∷ ys) e = by_case (is_lt (by_key e y)) (pushed_between ys e)
   where
-    by_case : (b : Bool) → (front : List Spilled) × (back : List Spilled) × (ys ≡ front ++ back) × (pushed ys e ≡ front ++ e ∷ back)
-        → (front : List Spilled) × (back : List Spilled) × (y ∷ ys ≡ front ++ back) × ((if b then e ∷ y ∷ ys else y ∷ pushed ys e) ≡ front ++ e ∷ back)
+    by_case : (b : Bool) → (front : List Spilled) × (back : List Spilled) × (ys ≡ front ++ back) × (after_push ys e ≡ front ++ e ∷ back)
+        → (front : List Spilled) × (back : List Spilled) × (y ∷ ys ≡ front ++ back) × ((if b then e ∷ y ∷ ys else y ∷ after_push ys e) ≡ front ++ e ∷ back)
     by_case true more = ([], y ∷ ys, refl, refl)
     by_case false more = (y ∷ more.0, more.1, ap (λ zs. y ∷ zs) more.2, ap (λ zs. y ∷ zs) more.3)
 
 -- and several pushes theirs
-pub pushes_each : (es block : List Spilled) → AddsEach es block (all_pushed block es)
+pub pushes_each : (es block : List Spilled) → AddsEach es block (after_pushes block es)
 pushes_each [] block = refl
 pushes_each (e ∷ es) block =
     let put = pushed_between block e in (
       put.0,
       put.1,
       put.2,
-      subst (λ xs. AddsEach es xs (all_pushed (pushed block e) es)) put.3 (pushes_each es (pushed block e)),
+      subst (λ xs. AddsEach es xs (after_pushes (after_push block e) es)) put.3 (pushes_each es (after_push block e)),
     )
 
 -- one list of several stands among all of them between the same two parts, whichever takes its place
@@ -73,13 +73,13 @@ around_one (ys ∷ lists) (suc at) below =
 
 -- what is pushed into one block is added to all of them together
 pub pushed_in_one : (blocks : List (List Spilled)) (at : ℕ) (es : List Spilled) → at < length blocks
-    → AddsEach es (flat_map (λ block. block) blocks) (flat_map (λ block. block) (slice_set blocks at (all_pushed (slice_index_or blocks at []) es)))
+    → AddsEach es (flat_map (λ block. block) blocks) (flat_map (λ block. block) (slice_set blocks at (after_pushes (slice_index_or blocks at []) es)))
 pushed_in_one blocks at es below =
     let around = around_one blocks at below in
     let block = slice_index_or blocks at [] in
-    subst (λ xs. AddsEach es xs (flat_map (λ b. b) (slice_set blocks at (all_pushed block es)))) (sym around.2)
-    (subst (λ xs. AddsEach es (around.0 ++ (block ++ around.1)) xs) (sym (around.3 (all_pushed block es)))
-    (added_within around.0 around.1 es block (all_pushed block es) (pushes_each es block)))
+    subst (λ xs. AddsEach es xs (flat_map (λ b. b) (slice_set blocks at (after_pushes block es)))) (sym around.2)
+    (subst (λ xs. AddsEach es (around.0 ++ (block ++ around.1)) xs) (sym (around.3 (after_pushes block es)))
+    (added_within around.0 around.1 es block (after_pushes block es) (pushes_each es block)))
 
 -- what stood there stands there still
 pub added_was : {X : Type 0} (es before after : List X) (x : X) → AddsEach es before after → Contains before x → Contains after x

@@ -6,13 +6,13 @@ use Rattle.std.specs.Ordering.{ordering_reverse}
 use Rattle.std.specs.declared.cmp.Ordering.TheVariants.{Less, Greater}
 use Rattle.std.proofs.lemmas.List.Elements.{recursion_from_All, Contains-get_or}
 use Rattle.std.proofs.lemmas.Option.{slice_get-get_or}
-use Rattle.spill_store.specs.Entries.{Entry as Spilled}
+use Rattle.spill_store.specs.SpilledTasks.{Spilled}
 use Rattle.task_desc.specs.declared.desc.Name.{Name}
-use Rattle.turn_law.specs.Tasks as bags
-use Rattle.turn_law.specs.Tasks.{Names, SpilledTask}
-use Rattle.turn_law.specs.Sound.{AreSound, SameFree}
-use Rattle.turn_law.specs.Moves as move
-use Rattle.turn_law.proofs.Proved.{coalesces_keep}
+use Rattle.task_law.specs.Tasks as bags
+use Rattle.task_law.specs.Tasks.{Names, SpilledBagTask}
+use Rattle.task_law.specs.Sound.{AreSound, SameFree}
+use Rattle.task_law.specs.Moves as move
+use Rattle.task_law.proofs.Proved.{coalesces_keep}
 use Rattle.spec_state.specs.declared.task.Creator.{Creator}
 use Rattle.spec_state.specs.declared.task.Status.TheVariants.{Idle}
 use Rattle.spec_state.specs.declared.task.Task.{Task}
@@ -40,7 +40,7 @@ module _ (count least : ℕ) (runs : Bool) (tile : ℕ) (old new : View) (c : Co
   moved_apart : AreApart c.ids
   moved_apart =
       apart_from (Precedes old tile) c.ids c.chosen.rising
-      (λ k there precedes. (let one = c.chosen.movable k there in not_before_itself old tile k one.0 one.1.this.queued one.1.this.there precedes))
+      (λ k there precedes. (let one = c.chosen.movable k there in not_before_itself old tile k one.0 one.1.idle.queued one.1.idle.there precedes))
 
   -- each of them moves
   all_movable : AllByRecursion (IsMovable old tile) c.ids
@@ -49,16 +49,16 @@ module _ (count least : ℕ) (runs : Bool) (tile : ℕ) (old new : View) (c : Co
   -- one of them
   moves_one : (id : ℕ) (s : Spilled) → IsMovable old tile id → IsSpilledAs old id s → MovesOne count least runs (bag_tasks old) id (bag_spilled s)
   moves_one id s movable as_is =
-      let both : Some movable.0 ≡ Some as_is.task = sym movable.1.this.there ∙ as_is.there in
+      let both : Some movable.0 ≡ Some as_is.task = sym movable.1.idle.there ∙ as_is.there in
       let same : movable.0 ≡ as_is.task = cc in
       record {
         task = bag_task as_is.task;
         name = as_is.name;
         there = ap (option_map bag_task) as_is.there;
-        idle = idle id as_is.task as_is.there (ap (λ t. t.status) (sym same) ∙ movable.1.this.idle);
+        idle = idle id as_is.task as_is.there (ap (λ t. t.status) (sym same) ∙ movable.1.idle.idle);
         named = names as_is.task.creator as_is.name as_is.named;
         heir = heirs as_is.task.creator as_is.name as_is.named;
-        is = ap bag_spilled as_is.is;
+        is = ap bag_spilled as_is.spilled_is;
       }
 
   -- all of them
@@ -70,7 +70,7 @@ module _ (count least : ℕ) (runs : Bool) (tile : ℕ) (old new : View) (c : Co
   move_all (id ∷ ids) (s ∷ moved) movable zip = (moves_one id s movable.0 zip.0, move_all ids moved movable.1 zip.1)
 
   -- for the bags they are spilled one after another
-  bags_coalesce : move.Coalesces count least runs c.ids (bag_tasks old) (bags_spilled old) (bag_tasks new) (bags_spilled new)
+  bags_coalesce : move.CoalescesInBags count least runs c.ids (bag_tasks old) (bags_spilled old) (bag_tasks new) (bags_spilled new)
   bags_coalesce =
       one_by_one count least runs c.ids (map bag_spilled c.moved) (bag_tasks old) (bag_tasks new) (bags_spilled old) (bags_spilled new)
       moved_apart (move_all c.ids c.moved all_movable c.spilled)

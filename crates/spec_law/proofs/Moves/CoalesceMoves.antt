@@ -3,8 +3,8 @@ use Rattle.std.proofs.Common.{◌≡◌, ◌⊎◌, ◌<◌, ◌∷◌, ℕ, zer
 use Rattle.std.specs.Prelude.{Contains, flat_map}
 use Rattle.std.specs.List.{AllZip}
 use Rattle.guest_image.specs.ImageValue.{ImageValue}
-use Rattle.serial_machine.specs.State.{State}
-use Rattle.spill_store.specs.Entries.{Entry as Spilled}
+use Rattle.serial_machine.specs.State.{SerialState}
+use Rattle.spill_store.specs.SpilledTasks.{Spilled}
 use Rattle.spec_state.specs.declared.task.Status.TheVariants.{Idle}
 use Rattle.spec_state.specs.declared.task.Task.{Task}
 use Rattle.spec_state.specs.View.{View, task_at}
@@ -34,13 +34,13 @@ zipped_right R (k ∷ ids) (e ∷ ss) zip s (suc i, below, at) =
     let rest = zipped_right R ids ss zip.1 s (i, omega (arith, below), at) in
     (rest.0, (suc rest.1.0, (let under = rest.1.1 in omega (arith, under)), rest.1.2), rest.2)
 
-module _ (image : ImageValue) (old new : View) (heir : Option ℕ) (serial : State) (tile : ℕ) (tasks : SoundTasks image old heir serial) (sizes : SoundSizes old) (c : Coalesces tile old new) where
+module _ (image : ImageValue) (old new : View) (heir : Option ℕ) (serial : SerialState) (tile : ℕ) (tasks : SoundTasks image old heir serial) (sizes : SoundSizes old) (c : Coalesces tile old new) where
   -- the tile has a block
   pub inside : tile < length old.blocks
   inside =
       let first = some_first c.ids c.some in
       let movable = c.chosen.movable first.0 first.1 in
-      let below = list_within old.queues tile first.0 movable.1.this.queued in
+      let below = list_within old.queues tile first.0 movable.1.idle.queued in
       let queues = sizes.queues in
       let blocks = sizes.blocks in
       omega (arith, below, queues, blocks)
@@ -57,13 +57,13 @@ module _ (image : ImageValue) (old new : View) (heir : Option ℕ) (serial : Sta
   moved_idle : (id : ℕ) (t : Task) → Contains c.ids id → task_at old id ≡ Some t → t ≡ idle_again old.version t
   moved_idle id t has there =
       let movable = c.chosen.movable id has in
-      let both : Some movable.0 ≡ Some t = sym movable.1.this.there ∙ there in
+      let both : Some movable.0 ≡ Some t = sym movable.1.idle.there ∙ there in
       let same : movable.0 ≡ t = cc in
-      idle_is id t there (ap (λ x. x.status) (sym same) ∙ movable.1.this.idle)
+      idle_is id t there (ap (λ x. x.status) (sym same) ∙ movable.1.idle.idle)
 
   -- what is spilled under such an id is its task
   spill_of : (id : ℕ) (s : Spilled) → Contains c.ids id → (as_is : IsSpilledAs old id s) → IsSpillOf old as_is.task s
-  spill_of id s has as_is = record { idle = moved_idle id as_is.task has as_is.there; name = as_is.name; named = as_is.named; is = as_is.is }
+  spill_of id s has as_is = record { idle = moved_idle id as_is.task has as_is.there; name = as_is.name; named = as_is.named; is = as_is.spilled_is }
 
   -- what moved is added to the spilled tasks
   pub spilled_added : AddsEach c.moved (all_spilled old) (all_spilled new)

@@ -5,8 +5,8 @@ use Rattle.std.specs.List.{AllZip, AllByRecursion, AllPairs}
 use Rattle.std.proofs.lemmas.Bool.{cases_eq}
 use Rattle.std.proofs.lemmas.List.Elements.{recursion_from_All}
 use Rattle.task_desc.specs.declared.desc.Name.{Name}
-use Rattle.turn_law.specs.Tasks.{Task, Live, Names, SpilledTask}
-use Rattle.turn_law.specs.Moves.{Coalesces, spilled_of}
+use Rattle.task_law.specs.Tasks.{BagTask, Live, Names, SpilledBagTask}
+use Rattle.task_law.specs.Moves.{CoalescesInBags, spilled_of}
 use Rattle.spec_law.proofs.Moves.Added.{AddsEach}
 use Rattle.spec_law.proofs.Tasks.Contained.{head_or_behind}
 
@@ -29,28 +29,28 @@ not_first_of : (id : ℕ) (ids : List ℕ) (k : ℕ) → (k ≡ id → ⊥) → 
 not_first_of id ids k other not_behind c = elim (head_or_behind id ids k c) [ inl same ↦ other (sym same) | inr behind ↦ not_behind behind ]
 
 -- nothing where the id is this one
-abbrev gone_if : {A B : Type 0} → A ⊎ B → Option Task → Option Task
+abbrev gone_if : {A B : Type 0} → A ⊎ B → Option BagTask → Option BagTask
 gone_if (inl a) o = None
 gone_if (inr b) o = o
 
 -- where it is this one, nothing is left
-gone_at : {A : Type 0} (c : A ⊎ (A → ⊥)) (o : Option Task) → A → gone_if c o ≡ None
+gone_at : {A : Type 0} (c : A ⊎ (A → ⊥)) (o : Option BagTask) → A → gone_if c o ≡ None
 gone_at (inl a) o is = refl
 gone_at (inr not) o is = absurd (not is)
 
 -- and where it is another one, all is
-gone_not : {A : Type 0} (c : A ⊎ (A → ⊥)) (o : Option Task) → (A → ⊥) → gone_if c o ≡ o
+gone_not : {A : Type 0} (c : A ⊎ (A → ⊥)) (o : Option BagTask) → (A → ⊥) → gone_if c o ≡ o
 gone_not (inl a) o other = absurd (other a)
 gone_not (inr not) o other = refl
 
 -- the tasks without this one
-abbrev but : ℕ → (ℕ → Option Task) → ℕ → Option Task
+abbrev but : ℕ → (ℕ → Option BagTask) → ℕ → Option BagTask
 but id tasks k = gone_if (cases_eq k id) (tasks k)
 
 module _ (count least : ℕ) (runs : Bool) where
   -- the idle firm task of this id is spilled so
-  pub record MovesOne (tasks : ℕ → Option Task) (id : ℕ) (e : SpilledTask) : Type 0 where
-    pub task : Task
+  pub record MovesOne (tasks : ℕ → Option BagTask) (id : ℕ) (e : SpilledBagTask) : Type 0 where
+    pub task : BagTask
     pub name : Name
     pub there : tasks id ≡ Some task
     pub idle : task.dispatched ≡ false
@@ -59,7 +59,7 @@ module _ (count least : ℕ) (runs : Bool) where
     pub is : e ≡ spilled_of name task
 
   -- the others are spilled so without the first one too
-  behind_moves : (id : ℕ) (tasks : ℕ → Option Task) (ids : List ℕ) (es : List SpilledTask) → AllByRecursion (λ k. k ≢ id) ids → AllZip (MovesOne tasks) ids es
+  behind_moves : (id : ℕ) (tasks : ℕ → Option BagTask) (ids : List ℕ) (es : List SpilledBagTask) → AllByRecursion (λ k. k ≢ id) ids → AllZip (MovesOne tasks) ids es
       → AllZip (MovesOne (but id tasks)) ids es
   behind_moves id tasks [] [] apart zip = tt
   behind_moves id tasks [] (e ∷ es) apart zip = absurd zip
@@ -79,9 +79,10 @@ module _ (count least : ℕ) (runs : Bool) where
       )
 
   -- several tasks that are spilled, each at some place, are spilled one after another
-  pub one_by_one : (ids : List ℕ) (es : List SpilledTask) (old new : ℕ → Option Task) (before after : List SpilledTask)
+  pub one_by_one : (ids : List ℕ) (es : List SpilledBagTask) (old new : ℕ → Option BagTask)
+      (before after : List SpilledBagTask)
       → AreApart ids → AllZip (MovesOne old) ids es → ((k : ℕ) → Contains ids k → new k ≡ None) → ((k : ℕ) → (Contains ids k → ⊥) → new k ≡ old k)
-      → AddsEach es before after → Coalesces count least runs ids old before new after
+      → AddsEach es before after → CoalescesInBags count least runs ids old before new after
   one_by_one [] [] old new before after apart zip gone others same = (λ k. others k (λ c. omega (arith, c.1)), same)
   one_by_one [] (e ∷ es) old new before after apart zip gone others adds = absurd zip
   one_by_one (id ∷ ids) [] old new before after apart zip gone others adds = absurd zip
@@ -100,8 +101,8 @@ module _ (count least : ℕ) (runs : Bool) where
           heir = one.heir;
           front = adds.0;
           back = adds.1;
-          was = adds.2;
-          is = ap (λ x. adds.0 ++ x ∷ adds.1) one.is;
+          before_is = adds.2;
+          after_is = ap (λ x. adds.0 ++ x ∷ adds.1) one.is;
         },
         one_by_one ids es (but id old) new (adds.0 ++ e ∷ adds.1) after apart.1 (behind_moves id old ids es apart.0 zip.1)
             (λ k c. gone k (suc c.0, omega (arith, c.1), c.2)) still adds.3,

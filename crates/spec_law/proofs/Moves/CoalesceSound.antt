@@ -12,7 +12,7 @@ pub coalesce_stays_sound : CoalesceStaysSound
 coalesce_stays_sound image old new sound tile c =
     moved_sound image old new sound
     (coalesce_moves image old new sound.heir sound.serial tile sound.tasks sound.sizes c)
-    c.rest
+    c.frame
     (coalesce_sizes image old new sound.heir sound.serial tile sound.tasks sound.order sound.sizes c)
     (coalesced_bags (length old.history) (unwrap_or sound.heir 0) (is_some sound.heir) tile old new c
     (inside image old new sound.heir sound.serial tile sound.tasks sound.sizes c)

@@ -3,7 +3,7 @@ use Rattle.std.proofs.Common.{◌≡◌, ◌⊎◌, ◌+◌, ◌≤◌, nat_le, 
 use Rattle.std.specs.Prelude.{Contains, slice_get}
 use Rattle.std.proofs.lemmas.Bool.Decides.{nat_tests}
 use Rattle.task_desc.specs.declared.desc.Name.{Name}
-use Rattle.spill_store.specs.Entries.{Entry as Spilled, open_key}
+use Rattle.spill_store.specs.SpilledTasks.{Spilled, open_key}
 use Rattle.spec_state.specs.declared.task.Creator.{Creator}
 use Rattle.spec_state.specs.declared.task.Creator.TheVariants.{Committed, Live}
 use Rattle.spec_state.specs.declared.task.Task.{Task}
@@ -69,7 +69,7 @@ one_heir view (Some k) h one is =
     let same : Queued one.0.tile one.1.place ≡ Queued is.0.tile is.1.place = least_is_one view _ _ one.1.least is.1.least in
     let tile : one.0.tile ≡ is.0.tile = cc in
     let place : one.1.place ≡ is.1.place = cc in
-    sym one.1.at.queued ∙ (λ i. slice_get (queue_at view (tile i)) (place i)) ∙ is.1.at.queued
+    sym one.1.queued_at.queued ∙ (λ i. slice_get (queue_at view (tile i)) (place i)) ∙ is.1.queued_at.queued
 
 -- what is at most another passes the test for it
 low_test : (a b : ℕ) → a ≤ b → nat_le a b ≡ true

@@ -2,10 +2,10 @@
 use Rattle.std.proofs.Common.{◌≡◌, ℕ, true, List, length, Option, sym, ap, is_some, unwrap_or}
 use Rattle.serial_machine.specs.BagValue.{BagValue}
 use Rattle.task_desc.specs.declared.desc.Name.{Name}
-use Rattle.turn_law.specs.Commit.{Matches}
-use Rattle.turn_law.specs.Sound.{SameFree}
-use Rattle.turn_law.specs.Tasks as bags
-use Rattle.turn_law.specs.Tasks.{Names, SpilledTask}
+use Rattle.task_law.specs.Commit.{Matches}
+use Rattle.task_law.specs.Sound.{SameFree}
+use Rattle.task_law.specs.Tasks as bags
+use Rattle.task_law.specs.Tasks.{Names, SpilledBagTask}
 use Rattle.spec_state.specs.declared.task.Creator.{Creator}
 use Rattle.spec_state.specs.declared.task.Creator.TheVariants.{Committed, Live}
 use Rattle.spec_state.specs.View.{View}
@@ -25,7 +25,7 @@ module _ (view : View) (heir : Option ℕ) (is_heir : IsHeir view heir) where
   heirs_of (Live task index) name named k i is = ap is_some (one_heir view heir task.0 is_heir named.0)
 
 -- where the free tasks are the same ones, the bags have them still
-pub matches_still : (count : ℕ) (old new : ℕ → Option bags.Task) (before after : List SpilledTask) (stack : List BagValue)
+pub matches_still : (count : ℕ) (old new : ℕ → Option bags.BagTask) (before after : List SpilledBagTask) (stack : List BagValue)
     → SameFree count old before new after → Matches count old before stack → Matches count new after stack
 matches_still count old new before after stack same matches depth p = (
   λ free. (matches depth p).0 ((same depth p).1 free),

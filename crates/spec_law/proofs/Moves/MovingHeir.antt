@@ -5,7 +5,7 @@ use Rattle.std.specs.declared.cmp.Ordering.TheVariants.{Less, Greater}
 use Rattle.fractal_vt.specs.declared.key.Key.{Key}
 use Rattle.fractal_vt.specs.Keys.{key_cmp}
 use Rattle.fractal_vt.proofs.Proved.{equal_keys_tie}
-use Rattle.spill_store.specs.Entries.{Entry as Spilled, open_key}
+use Rattle.spill_store.specs.SpilledTasks.{Spilled, open_key}
 use Rattle.spec_state.specs.declared.task.Task.{Task}
 use Rattle.spec_state.specs.View.{View, task_at}
 use Rattle.spec_state.specs.Tasks.{is_dispatched}
@@ -56,7 +56,7 @@ pub least_still : (one other : View) (heir : Option ℕ) → SoundOrder one heir
     → ((spot : Spot) (key : Key) → HasKey other spot key → (to : Spot) × HasKey one to key)
     → (id : ℕ) (x : Task) → IsLeastTask one id x → is_dispatched x ≡ true → IsLeastTask other id x
 least_still one other heir order sizes stays was spots id x least runs =
-    makes_least other sizes id x (stays id x least.at.there runs) others
+    makes_least other sizes id x (stays id x least.queued_at.there runs) others
     (λ tile place s at. upto (Spilled_at tile place) (open_key s) (s, at, refl))
   where
     upto : (spot : Spot) (key : Key) → HasKey other spot key → key_cmp x.key key ≢ Greater
@@ -72,7 +72,7 @@ least_still one other heir order sizes stays was spots id x least runs =
         (λ tie. (
         let same : x.key ≡ t.key = (equal_keys_tie x.key t.key).0 tie in
         let run : is_dispatched t ≡ true = ap (λ key. is_some key.tb) (sym same) ∙ runs in
-        differs (sym (same_number one heir order id k x t least.at.there (was k t there run) runs (ap (λ key. key.tb) same)))
+        differs (sym (same_number one heir order id k x t least.queued_at.there (was k t there run) runs (ap (λ key. key.tb) same)))
         ))
 
 -- so the heir stays, and where there was none there is none

@@ -5,14 +5,14 @@ use Rattle.memory_law.specs.Events.{KeepsDispatched}
 use Rattle.memory_law.specs.Notes.{notes_of}
 use Rattle.memory_law.specs.Tasks.{Logged}
 use Rattle.memory_law.proofs.Proved.{idle_tasks_keep_chain}
-use Rattle.serial_machine.specs.State.{State}
+use Rattle.serial_machine.specs.State.{SerialState}
 use Rattle.spec_state.specs.declared.task.Status.{Status}
 use Rattle.spec_state.specs.declared.task.Status.TheVariants.{Idle, Running, Trapped, Finished}
 use Rattle.spec_state.specs.declared.task.Task.{Task}
 use Rattle.spec_state.specs.View.{View, version_of, task_at}
 use Rattle.spec_state.specs.Filters.{HasNotes}
 use Rattle.spec_state.specs.Tasks.{idle_again, is_dispatched}
-use Rattle.spec_state.specs.Groups.{logged, logged_task}
+use Rattle.spec_state.specs.Groups.{logged_tasks, logged_task}
 use Rattle.spec_law.specs.Sound.{StandsAs, SoundMemory, SoundTasks}
 use Rattle.spec_law.proofs.Accesses.Noted.{none_noted}
 use Rattle.spec_law.proofs.Moves.Moving.{Moves, moved_to, runs_still, runs_was}
@@ -27,14 +27,14 @@ stands_idle image version budget t Finished stands off = absurd (cc (stands.0, o
 
 -- what memory reads of dispatched tasks stays, where these do
 logs_stay : (one other : View) → ((k : ℕ) (t : Task) → task_at one k ≡ Some t → is_dispatched t ≡ true → task_at other k ≡ Some t)
-    → (id : ℕ) (x : Logged) → x.dispatched ≡ true → logged one id ≡ Some x → logged other id ≡ Some x
+    → (id : ℕ) (x : Logged) → x.dispatched ≡ true → logged_tasks one id ≡ Some x → logged_tasks other id ≡ Some x
 logs_stay one other stays id x runs at =
     let read = mapped_some logged_task (task_at one id) x at in
     ap (option_map logged_task) (stays id read.0 read.1 (sym (ap (λ y. y.dispatched) read.2) ∙ runs)) ∙ ap Some (sym read.2)
 
-module _ (image : ImageValue) (old new : View) (heir : Option ℕ) (serial : State) (moves : Moves old new) (tasks : SoundTasks image old heir serial) where
+module _ (image : ImageValue) (old new : View) (heir : Option ℕ) (serial : SerialState) (moves : Moves old new) (tasks : SoundTasks image old heir serial) where
   -- an idle task has an empty log
-  log_idle : (id : ℕ) (x : Logged) → logged new id ≡ Some x → x.dispatched ≡ false → x.log ≡ []
+  log_idle : (id : ℕ) (x : Logged) → logged_tasks new id ≡ Some x → x.dispatched ≡ false → x.log ≡ []
   log_idle id x at off =
       let read = mapped_some logged_task (task_at new id) x at in
       let idle : read.0 ≡ idle_again old.version read.0 = elim (moves.queued id read.0 read.1) [
@@ -44,7 +44,7 @@ module _ (image : ImageValue) (old new : View) (heir : Option ℕ) (serial : Sta
       ap (λ y. y.log) read.2 ∙ ap (λ t. t.log) idle
 
   -- for memory idle tasks come and go
-  keeps : KeepsDispatched (logged old) (logged new)
+  keeps : KeepsDispatched (logged_tasks old) (logged_tasks new)
   keeps =
       record {
         stay = λ id x runs. (logs_stay old new (runs_still old new moves) id x runs, logs_stay new old (runs_was old new moves) id x runs);
@@ -55,7 +55,7 @@ module _ (image : ImageValue) (old new : View) (heir : Option ℕ) (serial : Sta
   pub moved_memory : SoundMemory old serial → SoundMemory (moved_to old new) serial
   moved_memory sound =
       record {
-        chained = idle_tasks_keep_chain old.settings.line (logged old) (logged new) serial.memory old.memory keeps sound.chained;
+        chained = idle_tasks_keep_chain old.settings.line (logged_tasks old) (logged_tasks new) serial.memory old.memory keeps sound.chained;
         noted = λ id t at. elim (moves.queued id t at) [
           | inl was ↦ sound.noted id t was
           | inr spilled ↦

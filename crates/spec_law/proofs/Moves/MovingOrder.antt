@@ -1,6 +1,6 @@
 -- Tasks that move between queues and blocks keep the group of order.
 use Rattle.std.proofs.Common.{◌≡◌, ℕ, true, Option, Some, sym, ap, ◌∙◌, inl, inr, is_some, map}
-use Rattle.fractal_vt.specs.Levels.{closed}
+use Rattle.fractal_vt.specs.Levels.{closed_level}
 use Rattle.order_law.specs.Tasks.{Keyed, HasNumber}
 use Rattle.order_law.proofs.Proved.{rename_keeps_order, Renames}
 use Rattle.spec_state.specs.declared.task.Task.{Task}
@@ -53,6 +53,6 @@ module _ (old new : View) (heir : Option ℕ) (moves : Moves old new) (is_heir :
   pub moved_order : SoundOrder old heir → SoundOrder (moved_to old new) heir
   moved_order sound =
       record {
-        order = rename_keeps_order (all_keyed old heir) (all_keyed (moved_to old new) heir) (map closed old.path) old.next moved_renames sound.order;
+        order = rename_keeps_order (all_keyed old heir) (all_keyed (moved_to old new) heir) (map closed_level old.path) old.next moved_renames sound.order;
         numbers = sound.numbers;
       }

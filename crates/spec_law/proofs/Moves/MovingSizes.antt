@@ -2,9 +2,9 @@
 use Rattle.std.proofs.Common.{◌≡◌, ◌⊎◌, ◌+◌, ◌≤◌, ◌<◌, ◌^◌, ℕ, length, Option, Some, refl, sym, ap, subst, inl, inr, arith, map}
 use Rattle.std.specs.Prelude.{All, Contains, ◌↔◌}
 use Rattle.std.proofs.lemmas.List.{length-map}
-use Rattle.fractal_vt.specs.Levels.{closed}
+use Rattle.fractal_vt.specs.Levels.{closed_level}
 use Rattle.fractal_vt.specs.declared.vt.TheConstants.{MAX_LEVELS}
-use Rattle.spill_store.specs.Entries.{Entry as Spilled}
+use Rattle.spill_store.specs.SpilledTasks.{Spilled}
 use Rattle.task_desc.specs.Record.{IsDesc}
 use Rattle.tile_queues.specs.Queue.{AreDistinct}
 use Rattle.spec_state.specs.declared.emitted.TheConstants.{MAX_EMITTED}
@@ -15,7 +15,8 @@ use Rattle.spec_state.specs.View.{View, task_at}
 use Rattle.spec_state.specs.Tasks.{depth_of}
 use Rattle.spec_state.specs.Groups.{all_spilled, keyed_task}
 use Rattle.spec_state.specs.Queries.{IsQueued}
-use Rattle.spec_law.specs.Sound.{HoldsCore, HasTask, SoundOrder, SoundSizes}
+use Rattle.spec_state.specs.Stored.{HasCore, HasTask}
+use Rattle.spec_law.specs.Sound.{SoundOrder, SoundSizes}
 use Rattle.spec_law.proofs.Moves.Moving.{Moves, moved_to}
 use Rattle.spec_law.proofs.Tasks.Beside.{queued_stands}
 
@@ -47,8 +48,8 @@ module _ (old new : View) (heir : Option ℕ) (moves : Moves old new) (order : S
     | inl was ↦ sizes.spilled s was
     | inr queued ↦
         let shaped = order.order.shaped queued.0 (keyed_task queued.1) (queued_stands old heir queued.0 queued.1 queued.2) in
-        let few : length (map closed queued.1.key.domain) < MAX_LEVELS = shaped.0 in
-        let same : length (map closed queued.1.key.domain) ≡ length queued.1.key.domain = length-map queued.1.key.domain closed in
+        let few : length (map closed_level queued.1.key.domain) < MAX_LEVELS = shaped.0 in
+        let same : length (map closed_level queued.1.key.domain) ≡ length queued.1.key.domain = length-map queued.1.key.domain closed_level in
         subst IsEntryDesc (sym queued.3.is)
         (record { inside = omega arith; shallow = omega (arith, few, same); kinds = sizes.kinds queued.0 queued.1 queued.2 }, refl)
   ]
@@ -88,8 +89,8 @@ module _ (old new : View) (heir : Option ℕ) (moves : Moves old new) (order : S
           λ has. (sizes.finished_are tile id).1 (still_has (moved_to old new) old (λ status. status ≡ Finished) (λ is. absurd (cc (is))) was_or_idle tile id has),
         );
         held_are = λ tile core id. (
-          λ has. still_has old (moved_to old new) (λ status. HoldsCore status core) (λ is. is) stays tile id ((sizes.held_are tile core id).0 has),
-          λ has. (sizes.held_are tile core id).1 (still_has (moved_to old new) old (λ status. HoldsCore status core) (λ is. is) was_or_idle tile id has),
+          λ has. still_has old (moved_to old new) (λ status. HasCore status core) (λ is. is) stays tile id ((sizes.held_are tile core id).0 has),
+          λ has. (sizes.held_are tile core id).1 (still_has (moved_to old new) old (λ status. HasCore status core) (λ is. is) was_or_idle tile id has),
         );
         kinds = kinds;
         bytes = bytes;

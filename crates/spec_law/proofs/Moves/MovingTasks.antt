@@ -2,11 +2,11 @@
 use Rattle.std.proofs.Common.{◌≡◌, ◌+◌, ◌≤◌, ℕ, length, Option, Some, None, refl, sym, ap, subst, ◌∙◌, inl, inr, arith, slice_get, is_some, unwrap_or}
 use Rattle.std.specs.Prelude.{Contains}
 use Rattle.guest_image.specs.ImageValue.{ImageValue}
-use Rattle.serial_machine.specs.State.{State}
-use Rattle.spill_store.specs.Entries.{Entry as Spilled}
-use Rattle.turn_law.specs.Commit.{Matches}
-use Rattle.turn_law.specs.Domains.{FitsBags}
-use Rattle.turn_law.specs.Sound.{AreSound}
+use Rattle.serial_machine.specs.State.{SerialState}
+use Rattle.spill_store.specs.SpilledTasks.{Spilled}
+use Rattle.task_law.specs.Commit.{Matches}
+use Rattle.task_law.specs.Domains.{FitsBags}
+use Rattle.task_law.specs.Sound.{AreSound}
 use Rattle.spec_state.specs.declared.task.Creator.{Creator}
 use Rattle.spec_state.specs.declared.task.Creator.TheVariants.{Committed, Live}
 use Rattle.spec_state.specs.declared.task.Task.{Task}
@@ -18,11 +18,19 @@ use Rattle.spec_state.specs.Least.{IsHeir, HasName}
 use Rattle.spec_law.specs.Sound.{StandsAs, IsMadeBy, SoundTasks}
 use Rattle.spec_law.proofs.Moves.Moving.{IsSpillOf, Moves, moved_to, one_heir}
 
-module _ (image : ImageValue) (old new : View) (heir : Option ℕ) (serial : State) (moves : Moves old new) (is_heir : IsHeir old heir) (sound : SoundTasks image old heir serial) where
+module _ (image : ImageValue) (old new : View) (heir : Option ℕ) (serial : SerialState) (moves : Moves old new) (is_heir : IsHeir old heir) (sound : SoundTasks image old heir serial) where
   -- a creator has made a child, and so is not idle: it stays
   made_still : (id index : ℕ) (d : Descriptor) → IsMadeBy old id index d → IsMadeBy (moved_to old new) id index d
   made_still id index d made = elim (moves.queued_still id made.creator made.there) [
-    | inl stays ↦ record { creator = made.creator; there = stays; spawn = made.spawn; made = made.made; is = made.is }
+    | inl stays
+        ↦ record {
+          creator = made.creator;
+          there = stays;
+          spawn = made.spawn;
+          made = made.made;
+          descriptor_is =
+              made.descriptor_is;
+        }
     | inr spilled ↦
         let none : slice_get made.creator.spawns index ≡ None = ap (λ t. slice_get t.spawns index) spilled.2.idle in
         absurd (cc (none, made.made))

@@ -4,10 +4,10 @@ use Rattle.std.specs.Prelude.{Contains, flat_map, slice_set}
 use Rattle.std.proofs.lemmas.Bool.{cases_eq}
 use Rattle.std.proofs.lemmas.List.{map-append}
 use Rattle.std.proofs.lemmas.List.Elements.{Contains-append_left, Contains-append_right, Contains-append_cases}
-use Rattle.spill_store.specs.Entries.{Entry as Spilled}
-use Rattle.turn_law.specs.Moves.{SpillsOne}
-use Rattle.turn_law.specs.Sound.{AreSound, SameFree}
-use Rattle.turn_law.proofs.Proved.{splits_keep}
+use Rattle.spill_store.specs.SpilledTasks.{Spilled}
+use Rattle.task_law.specs.Moves.{SpillsOneInBags}
+use Rattle.task_law.specs.Sound.{AreSound, SameFree}
+use Rattle.task_law.proofs.Proved.{splits_keep}
 use Rattle.spec_state.specs.declared.task.Task.{Task}
 use Rattle.spec_state.specs.View.{View, task_at}
 use Rattle.spec_state.specs.Tasks.{descriptor_of, idle_task, spilled_as, spilled_descriptor}
@@ -23,12 +23,12 @@ use Rattle.spec_law.proofs.Tasks.Places.{get_contains, place_in_all}
 module _ (old new : View) (tile : ℕ) (sizes : SoundSizes old) (c : Splits tile old new) where
   -- the task that comes back
   abbrev pub back_task : Task
-  back_task = idle_task old.version (spilled_descriptor c.s) c.creator tile
+  back_task = idle_task old.version (spilled_descriptor c.spilled) c.creator tile
 
   -- all spilled tasks, before and after, around the one that comes back
-  parts : (front : List Spilled) × (back : List Spilled) × (all_spilled old ≡ front ++ c.s ∷ back) × (all_spilled new ≡ front ++ back)
+  parts : (front : List Spilled) × (back : List Spilled) × (all_spilled old ≡ front ++ c.spilled ∷ back) × (all_spilled new ≡ front ++ back)
   parts =
-      let less = less_in_one old.blocks tile c.least.place c.s c.least.least.there in (
+      let less = less_in_one old.blocks tile c.least.place c.spilled c.least.least.there in (
         less.0,
         less.1,
         less.2,
@@ -38,18 +38,18 @@ module _ (old new : View) (tile : ℕ) (sizes : SoundSizes old) (c : Splits tile
       )
 
   -- it was spilled
-  was_there : Contains (all_spilled old) c.s
+  was_there : Contains (all_spilled old) c.spilled
   was_there =
-      let all = place_in_all old.blocks tile c.least.place c.s c.least.least.there in
-      get_contains (all_spilled old) all.0 c.s all.1
+      let all = place_in_all old.blocks tile c.least.place c.spilled c.least.least.there in
+      get_contains (all_spilled old) all.0 c.spilled all.1
 
   -- the entry is that of the task
-  entry_is : c.s ≡ spilled_as c.s.desc.name (descriptor_of back_task)
-  entry_is = let deep = (sizes.spilled c.s was_there).1 in λ i. record { desc = record c.s.desc { depth = sym deep i }; domain = c.s.domain }
+  entry_is : c.spilled ≡ spilled_as c.spilled.desc.name (descriptor_of back_task)
+  entry_is = let deep = (sizes.spilled c.spilled was_there).1 in λ i. record { desc = record c.spilled.desc { depth = sym deep i }; domain = c.spilled.domain }
 
   -- it is the same task as the entry, under its name
-  spill : IsSpillOf old back_task c.s
-  spill = record { idle = refl; name = c.s.desc.name; named = c.named; is = entry_is }
+  spill : IsSpillOf old back_task c.spilled
+  spill = record { idle = refl; name = c.spilled.desc.name; named = c.named; is = entry_is }
 
   -- what stands under its id is this task
   pub is_back : (k : ℕ) (t : Task) → k ≡ c.id → task_at new k ≡ Some t → t ≡ back_task
@@ -65,22 +65,23 @@ module _ (old new : View) (tile : ℕ) (sizes : SoundSizes old) (c : Splits tile
   -- each queued task was queued, or is the one that comes back
   queued_was : (k : ℕ) (t : Task) → task_at new k ≡ Some t → (task_at old k ≡ Some t) ⊎ IsSpilledIn old old t
   queued_was k t at = elim (cases_eq k c.id) [
-    | inl same ↦ inr (c.s, was_there, subst (λ x. IsSpillOf old x c.s) (sym (is_back k t same at)) spill)
+    | inl same ↦ inr (c.spilled, was_there, subst (λ x. IsSpillOf old x c.spilled) (sym (is_back k t same at)) spill)
     | inr other ↦ inl (sym (c.changes.others k other) ∙ at)
   ]
 
   -- each spilled task was spilled
   spilled_was : (s : Spilled) → Contains (all_spilled new) s → Contains (all_spilled old) s
   spilled_was s has = subst (λ xs. Contains xs s) (sym parts.2) (elim (Contains-append_cases parts.0 parts.1 s (subst (λ xs. Contains xs s) parts.3 has)) [
-    | inl front ↦ Contains-append_left parts.0 (c.s ∷ parts.1) s front
-    | inr back ↦ Contains-append_right parts.0 (c.s ∷ parts.1) s (Contains-append_right (c.s ∷ []) parts.1 s back)
+    | inl front ↦ Contains-append_left parts.0 (c.spilled ∷ parts.1) s front
+    | inr back
+        ↦ Contains-append_right parts.0 (c.spilled ∷ parts.1) s (Contains-append_right (c.spilled ∷ []) parts.1 s back)
   ])
 
   -- each that was spilled is so still, or has come back
   spilled_still : (s : Spilled) → Contains (all_spilled old) s → Contains (all_spilled new) s ⊎ IsQueuedIn old new s
-  spilled_still s has = elim (Contains-append_cases parts.0 (c.s ∷ parts.1) s (subst (λ xs. Contains xs s) parts.2 has)) [
+  spilled_still s has = elim (Contains-append_cases parts.0 (c.spilled ∷ parts.1) s (subst (λ xs. Contains xs s) parts.2 has)) [
     | inl front ↦ inl (subst (λ xs. Contains xs s) (sym parts.3) (Contains-append_left parts.0 parts.1 s front))
-    | inr rest ↦ elim (head_or_behind c.s parts.1 s rest) [
+    | inr rest ↦ elim (head_or_behind c.spilled parts.1 s rest) [
       | inl same ↦ inr (c.id, back_task, c.changes.changed, subst (IsSpillOf old back_task) same spill)
       | inr back ↦ inl (subst (λ xs. Contains xs s) (sym parts.3) (Contains-append_right parts.0 parts.1 s back))
     ]
@@ -97,21 +98,21 @@ module _ (old new : View) (tile : ℕ) (sizes : SoundSizes old) (c : Splits tile
 
   -- for the bags it is a spill read backwards
   module _ (heir : Option ℕ) (is_heir : IsHeir old heir) where
-    bags_split : SpillsOne (length old.history) (unwrap_or heir 0) (is_some heir) (bag_tasks new) (bag_tasks old) (bags_spilled new) (bags_spilled old) c.id
+    bags_split : SpillsOneInBags (length old.history) (unwrap_or heir 0) (is_some heir) (bag_tasks new) (bag_tasks old) (bags_spilled new) (bags_spilled old) c.id
     bags_split =
         record {
           task = bag_task back_task;
-          name = c.s.desc.name;
+          name = c.spilled.desc.name;
           there = ap (option_map bag_task) c.changes.changed;
           idle = refl;
           gone = ap (option_map bag_task) c.vacant;
           others = λ k other. sym (ap (option_map bag_task) (c.changes.others k other));
-          named = names_of old heir is_heir c.creator c.s.desc.name c.named;
-          heir = heirs_of old heir is_heir c.creator c.s.desc.name c.named;
+          named = names_of old heir is_heir c.creator c.spilled.desc.name c.named;
+          heir = heirs_of old heir is_heir c.creator c.spilled.desc.name c.named;
           front = map bag_spilled parts.0;
           back = map bag_spilled parts.1;
-          was = ap (map bag_spilled) parts.3 ∙ map-append bag_spilled parts.0 parts.1;
-          is = ap (map bag_spilled) parts.2 ∙ map-append bag_spilled parts.0 (c.s ∷ parts.1)
+          before_is = ap (map bag_spilled) parts.3 ∙ map-append bag_spilled parts.0 parts.1;
+          after_is = ap (map bag_spilled) parts.2 ∙ map-append bag_spilled parts.0 (c.spilled ∷ parts.1)
               ∙ ap (λ s. map bag_spilled parts.0 ++ bag_spilled s ∷ map bag_spilled parts.1) entry_is;
         }
 

@@ -1,4 +1,4 @@
--- A split leaves task queues bounded, and holding the queued tasks, where the tile's had a free entry.
+-- A split leaves task queues bounded, and holding the queued tasks, where the tile's had a free place.
 use Rattle.std.proofs.Common.{◌≡◌, ◌≢◌, ◌⊎◌, ◌+◌, ◌<◌, ◌≤◌, ◌∷◌, ◌++◌, ℕ, [], length, Option, Some, sym, ap, subst, ◌∙◌, inl, inr, arith, slice_index_or, length-append, get_or-set_other, get_or-set_same}
 use Rattle.std.specs.Prelude.{Contains, All}
 use Rattle.std.proofs.lemmas.Bool.{cases_eq}
@@ -8,15 +8,16 @@ use Rattle.std.proofs.lemmas.List.Quantifiers.{all_pairs_push}
 use Rattle.tile_queues.specs.Queue.{AreDistinct}
 use Rattle.spec_state.specs.View.{View, task_at, queue_at}
 use Rattle.spec_state.specs.Queries.{IsQueued}
-use Rattle.spec_state.specs.Room.{Splits, HasFreeEntry}
-use Rattle.spec_law.specs.Sound.{HasTask, SoundOrder, SoundSizes}
+use Rattle.spec_state.specs.Room.{Splits, QueueHasRoom}
+use Rattle.spec_state.specs.Stored.{HasTask}
+use Rattle.spec_law.specs.Sound.{SoundOrder, SoundSizes}
 use Rattle.spec_law.proofs.Tasks.Contained.{head_or_behind}
 use Rattle.spec_law.proofs.Moves.Moving.{moved_to}
 use Rattle.spec_law.proofs.Moves.MovingSizes.{moved_sizes}
 use Rattle.spec_law.proofs.Moves.SplitMoves.{back_task, is_back, queued_still, split_moves}
 use Rattle.spec_law.proofs.Tasks.Distinct.{distinct_at}
 
-module _ (old new : View) (heir : Option ℕ) (tile : ℕ) (order : SoundOrder old heir) (sizes : SoundSizes old) (within : tile < old.settings.tiles) (free : HasFreeEntry old tile) (c : Splits tile old new) where
+module _ (old new : View) (heir : Option ℕ) (tile : ℕ) (order : SoundOrder old heir) (sizes : SoundSizes old) (within : tile < old.settings.tiles) (free : QueueHasRoom old tile) (c : Splits tile old new) where
   -- the tile has a queue
   below : tile < length old.queues
   below = let queues = sizes.queues in omega (arith, within, queues)

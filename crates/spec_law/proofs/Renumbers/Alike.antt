@@ -4,7 +4,7 @@ use Rattle.std.specs.Ordering.{ordering_then}
 use Rattle.std.specs.declared.cmp.Ordering.TheVariants.{Greater}
 use Rattle.fractal_vt.specs.declared.key.Key.{Key}
 use Rattle.fractal_vt.specs.Keys.{key_cmp}
-use Rattle.spill_store.specs.Entries.{Entry as Spilled, open_key}
+use Rattle.spill_store.specs.SpilledTasks.{Spilled, open_key}
 use Rattle.spec_state.specs.declared.task.Task.{Task}
 use Rattle.spec_state.specs.View.{View, task_at, queue_at, block_at}
 use Rattle.spec_state.specs.Filters.{has_touched, has_written}
@@ -12,7 +12,7 @@ use Rattle.spec_state.specs.Tasks.{is_dispatched}
 use Rattle.spec_state.specs.Groups.{live_creator}
 use Rattle.spec_state.specs.Least.{Spot, Queued, Spilled_at, HasKey, IsLeastSpot, IsLeastTask, IsHeir, spot_cmp}
 use Rattle.spec_state.specs.Queries.{IsLater, HasLine, Conflicts}
-use Rattle.spec_state.specs.Aborts.{Pulls, IsCascade}
+use Rattle.spec_state.specs.Aborts.{PullsInView, IsCascade}
 
 -- the task with another key, which is dispatched or not as the first
 pub record IsSameBut (x y : Task) : Type 0 where
@@ -97,13 +97,13 @@ module _ (a b : View) (alike : AreAlike a b) where
   -- and so is the least task
   pub least_forth : (id : ℕ) (x : Task) → IsLeastTask a id x → (y : Task) × IsLeastTask b id y × IsSameBut x y
   least_forth id x least =
-      let other = alike.forth id x least.at.there in
+      let other = alike.forth id x least.queued_at.there in
       let tile : x.tile ≡ other.0.tile = sym (ap (λ t. t.tile) other.2.is) in (
         other.0,
         record {
           place = least.place;
-          at = record {
-            queued = subst (λ t. slice_get (queue_at b t) least.place ≡ Some id) tile (ap (λ ids. slice_get ids least.place) (alike.queues x.tile) ∙ least.at.queued);
+          queued_at = record {
+            queued = subst (λ t. slice_get (queue_at b t) least.place ≡ Some id) tile (ap (λ ids. slice_get ids least.place) (alike.queues x.tile) ∙ least.queued_at.queued);
             there = other.1;
           };
           least = subst (λ t. IsLeastSpot b (Queued t least.place)) tile (least_spot_forth (Queued x.tile least.place) least.least);
@@ -137,7 +137,7 @@ module _ (a b : View) (alike : AreAlike a b) where
       record { other = later.0; later = later.1; has_line = has_line write conflict.other later.0 line later.2 conflict.has_line }
 
   -- what is taken back with a task is taken back with it there
-  pub pulls_forth : (one other : ℕ) → Pulls a one other → Pulls b one other
+  pub pulls_forth : (one other : ℕ) → PullsInView a one other → PullsInView b one other
   pulls_forth one other (inl child) =
       let there = alike.forth other child.child child.there in
       inl (record { child = there.0; there = there.1; made_by = ap (λ t. live_creator t.creator) there.2.is ∙ child.made_by })

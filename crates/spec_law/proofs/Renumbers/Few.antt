@@ -6,7 +6,7 @@ use Rattle.std.proofs.lemmas.List.{length-map, length-append}
 use Rattle.std.proofs.lemmas.List.Elements.{All-head, All-tail, All-weaker, Contains-append_cases, Contains-append_left, Contains-append_right}
 use Rattle.std.proofs.lemmas.List.Kept.{AllPairs-from_increasing}
 use Rattle.fractal_vt.specs.declared.level.Level.{Level}
-use Rattle.fractal_vt.specs.Levels.{closed}
+use Rattle.fractal_vt.specs.Levels.{closed_level}
 use Rattle.guest_image.specs.ImageValue.{ImageValue}
 use Rattle.order_law.specs.Ordered.{IsNumberOf}
 use Rattle.order_law.specs.Tasks.{Keyed, HasNumber}
@@ -14,7 +14,7 @@ use Rattle.order_law.proofs.Proved.{held_law}
 use Rattle.spec_state.specs.declared.numbers.TheConstants.{MAX_NUMBERS_IN_USE}
 use Rattle.spec_state.specs.declared.task.Task.{Task}
 use Rattle.spec_state.specs.View.{View, task_at}
-use Rattle.spec_state.specs.Groups.{all_keyed, all_spilled, keyed, keyed_spilled, keyed_task}
+use Rattle.spec_state.specs.Groups.{all_keyed, all_spilled, keyed_tasks, keyed_spilled, keyed_task}
 use Rattle.spec_state.specs.Numbers.{IsInUse, IsPathsOrTasks, IsTieOf, on_path, in_domain, of_task, of_spilled}
 use Rattle.tile_queues.specs.Queue.{AreDistinct}
 use Rattle.spec_law.specs.Sound.{Sound}
@@ -53,12 +53,12 @@ fewer (n ∷ numbers) xs rising each =
     omega (arith, rest, whole, fewer_places)
 
 -- levels whose tiebreaker this is
-tie_is_number : (ds : List Level) (n : ℕ) → IsTieOf ds n → IsNumberOf n (map closed ds)
+tie_is_number : (ds : List Level) (n : ℕ) → IsTieOf ds n → IsNumberOf n (map closed_level ds)
 tie_is_number [] n has = absurd (omega (arith, has.1))
 tie_is_number (d ∷ ds) n (zero, low, is) = inl (ap Some is)
 tie_is_number (d ∷ ds) n (suc k, low, is) = inr (tie_is_number ds n (k, omega (arith, low), is))
 
-number_is_tie : (ds : List Level) (n : ℕ) → IsNumberOf n (map closed ds) → IsTieOf ds n
+number_is_tie : (ds : List Level) (n : ℕ) → IsNumberOf n (map closed_level ds) → IsTieOf ds n
 number_is_tie [] n no_way = absurd no_way
 number_is_tie (d ∷ ds) n (inl here) = let same : d.tb ≡ n = cc in (0, omega arith, same)
 number_is_tie (d ∷ ds) n (inr later) =
@@ -91,7 +91,7 @@ tie_in (Some t) = t.key.tb
 
 module _ (image : ImageValue) (view : View) (sound : Sound image view) where
   -- a number of the path or of a dispatched task, as the order says it
-  of_number : (n : ℕ) → IsNumberOf n (map closed view.path) ⊎ ((k : ℕ) × (x : Keyed) × (all_keyed view sound.heir k ≡ Some x) × HasNumber x n)
+  of_number : (n : ℕ) → IsNumberOf n (map closed_level view.path) ⊎ ((k : ℕ) × (x : Keyed) × (all_keyed view sound.heir k ≡ Some x) × HasNumber x n)
       → IsPathsOrTasks view n
   of_number n (inl on) = inl (number_is_tie view.path n on)
   of_number n (inr task) = elim (which view sound.heir task.0 task.1 task.2) [
@@ -102,14 +102,14 @@ module _ (image : ImageValue) (view : View) (sound : Sound image view) where
   -- all tasks stand below some id
   bounded : (k : ℕ) (x : Keyed) → all_keyed view sound.heir k ≡ Some x
       → k < length view.tasks + length (map (keyed_spilled (length view.history) sound.heir) (all_spilled view))
-  bounded = below_all (length view.tasks) (keyed view) (map (keyed_spilled (length view.history) sound.heir) (all_spilled view))
+  bounded = below_all (length view.tasks) (keyed_tasks view) (map (keyed_spilled (length view.history) sound.heir) (all_spilled view))
       (λ j y there. (let read = mapped_some keyed_task (task_at view j) y there in id_below view j read.0 read.1))
 
   -- each number of a domain is one of them
   of_domain : (k : ℕ) (x : Keyed) (n : ℕ) → all_keyed view sound.heir k ≡ Some x → IsNumberOf n x.domain → IsPathsOrTasks view n
   of_domain k x n there is =
       of_number n (held_law (length view.tasks + length (map (keyed_spilled (length view.history) sound.heir) (all_spilled view)))
-      (all_keyed view sound.heir) (map closed view.path) view.next bounded sound.order.order k x n there is)
+      (all_keyed view sound.heir) (map closed_level view.path) view.next bounded sound.order.order k x n there is)
 
   -- and so is each that is in use
   pub used_is_held : (n : ℕ) → IsInUse view n → IsPathsOrTasks view n
@@ -144,7 +144,7 @@ module _ (image : ImageValue) (view : View) (sound : Sound image view) where
   held_few : length held ≤ MAX_NUMBERS_IN_USE
   held_few =
       let short = sound.order.order.path_short in
-      let same_path = length-map view.path closed in
+      let same_path = length-map view.path closed_level in
       let path_long = length-map view.path (λ (l : Level). l.tb) in
       let queues_long = together (map number) (λ ids. length-map ids number) view.settings.task_queue view.queues
       (All-weaker (λ ids. (length ids ≤ view.settings.task_queue) × AreDistinct ids) (λ ids. length ids ≤ view.settings.task_queue) (λ ids is. is.0) view.queues sound.sizes.task_queues) in

@@ -2,7 +2,7 @@
 use Rattle.std.proofs.Common.{◌≡◌, ℕ, Bool, List, [], ◌∷◌, ◌++◌, Option, Some, None, refl, sym, ap, subst, ◌∙◌, if◌then◌else◌}
 use Rattle.std.specs.Prelude.{slice_index, length}
 use Rattle.fractal_vt.specs.Levels.{levels_cmp}
-use Rattle.memory_law.specs.Accesses.{AllHaveRoom}
+use Rattle.memory_law.specs.Accesses.{AllLieIn}
 use Rattle.memory_law.specs.ByteChain.{byte_events, IsByteChain}
 use Rattle.memory_law.specs.Chain.{IsChained}
 use Rattle.memory_law.specs.Tasks.{Logged, IsNoted, log_of, logs, Ascends, IsByKey, undone_set}
@@ -72,7 +72,7 @@ module _ (a b : ℕ → Option Logged) (alike : AreLoggedAlike a b) where
   chain_forth line serial memory chained = record {
     ids = chained.ids;
     by_key = by_key_forth chained.ids chained.by_key;
-    room = subst (AllHaveRoom (length serial)) (sym (same_logs chained.ids)) chained.room;
+    room = subst (AllLieIn (length serial)) (sym (same_logs chained.ids)) chained.room;
     size = chained.size;
     chain = λ k. subst (λ all. IsByteChain (slice_index serial k) (byte_events k all) (slice_index memory k)) (sym (same_logs chained.ids)) (chained.chain k);
     noted = λ id task there.

@@ -4,9 +4,9 @@ use Rattle.std.specs.Prelude.{Contains}
 use Rattle.std.proofs.lemmas.List.{map-append}
 use Rattle.fractal_vt.specs.declared.key.Key.{Key}
 use Rattle.fractal_vt.specs.Keys.{key_cmp}
-use Rattle.fractal_vt.specs.Renumbered.{renumbered, renumbered_key, HoldsKey}
+use Rattle.fractal_vt.specs.Renumbered.{renumbered_levels, renumbered_key, HoldsKey}
 use Rattle.fractal_vt.proofs.Proved.{keeps_order}
-use Rattle.spill_store.specs.Entries.{Entry as Spilled, open_key, renumbered_entry}
+use Rattle.spill_store.specs.SpilledTasks.{Spilled, open_key, renumbered_spilled}
 use Rattle.spec_state.specs.declared.task.Task.{Task}
 use Rattle.spec_state.specs.View.{View, task_at, block_at}
 use Rattle.spec_state.specs.Groups.{all_spilled}
@@ -38,14 +38,14 @@ module _ (old new : View) (r : Renumbers old new) where
   abbrev pub after : View
   after = record old {
     tasks = map (option_map (renumbered_task r.table)) old.tasks;
-    blocks = map (map (renumbered_entry r.table)) old.blocks;
-    path = renumbered r.table old.path;
+    blocks = map (map (renumbered_spilled r.table)) old.blocks;
+    path = renumbered_levels r.table old.path;
     next = length r.table;
   }
 
   -- the new view is that one
   pub is_after : new ≡ after
-  is_after = r.rest ∙ (λ i. record old { tasks = r.tasks i; blocks = r.blocks i; path = r.path i; next = r.next i })
+  is_after = r.frame ∙ (λ i. record old { tasks = r.tasks i; blocks = r.blocks i; path = r.path i; next = r.next i })
 
   -- each task is renumbered
   pub each : (id : ℕ) → task_at after id ≡ option_map (renumbered_task r.table) (task_at old id)
@@ -65,26 +65,26 @@ module _ (old new : View) (r : Renumbers old new) where
   each_now holds before id t there = let w = was id t there in subst (holds id) (sym w.2) (before id w.0 w.1)
 
   -- the spilled tasks, of a tile and of all
-  pub block_is : (tile : ℕ) → block_at after tile ≡ map (renumbered_entry r.table) (block_at old tile)
-  block_is tile = list_mapped (map (renumbered_entry r.table)) refl old.blocks tile
+  pub block_is : (tile : ℕ) → block_at after tile ≡ map (renumbered_spilled r.table) (block_at old tile)
+  block_is tile = list_mapped (map (renumbered_spilled r.table)) refl old.blocks tile
 
-  pub all_are : all_spilled after ≡ map (renumbered_entry r.table) (all_spilled old)
-  all_are = flat_mapped (renumbered_entry r.table) old.blocks
+  pub all_are : all_spilled after ≡ map (renumbered_spilled r.table) (all_spilled old)
+  all_are = flat_mapped (renumbered_spilled r.table) old.blocks
 
   pub spilled_now : (tile place : ℕ) (s : Spilled) → slice_get (block_at old tile) place ≡ Some s
-      → slice_get (block_at after tile) place ≡ Some (renumbered_entry r.table s)
-  spilled_now tile place s at = ap (λ ss. slice_get ss place) (block_is tile) ∙ get_mapped (renumbered_entry r.table) (block_at old tile) place s at
+      → slice_get (block_at after tile) place ≡ Some (renumbered_spilled r.table s)
+  spilled_now tile place s at = ap (λ ss. slice_get ss place) (block_is tile) ∙ get_mapped (renumbered_spilled r.table) (block_at old tile) place s at
 
   pub spilled_was : (tile place : ℕ) (t : Spilled) → slice_get (block_at after tile) place ≡ Some t
-      → (s : Spilled) × (slice_get (block_at old tile) place ≡ Some s) × (t ≡ renumbered_entry r.table s)
+      → (s : Spilled) × (slice_get (block_at old tile) place ≡ Some s) × (t ≡ renumbered_spilled r.table s)
   spilled_was tile place t at =
-      got_mapped (renumbered_entry r.table) (block_at old tile) place t (sym (ap (λ ss. slice_get ss place) (block_is tile)) ∙ at)
+      got_mapped (renumbered_spilled r.table) (block_at old tile) place t (sym (ap (λ ss. slice_get ss place) (block_is tile)) ∙ at)
 
   -- a spilled task that is there was there
-  pub spilled_before : (s : Spilled) → Contains (all_spilled after) s → (w : Spilled) × Contains (all_spilled old) w × (s ≡ renumbered_entry r.table w)
+  pub spilled_before : (s : Spilled) → Contains (all_spilled after) s → (w : Spilled) × Contains (all_spilled old) w × (s ≡ renumbered_spilled r.table w)
   spilled_before s has = among (all_spilled old) (subst (λ ss. Contains ss s) all_are has)
     where
-      among : (ss : List Spilled) → Contains (map (renumbered_entry r.table) ss) s → (w : Spilled) × Contains ss w × (s ≡ renumbered_entry r.table w)
+      among : (ss : List Spilled) → Contains (map (renumbered_spilled r.table) ss) s → (w : Spilled) × Contains ss w × (s ≡ renumbered_spilled r.table w)
       among [] has = absurd (omega (arith, has.1))
       among (w ∷ ss) (zero, low, is) = (w, (0, omega arith, refl), sym is)
       among (w ∷ ss) (suc k, low, is) =

@@ -1,7 +1,7 @@
 -- A renumbering keeps the group of sizes.
 use Rattle.std.proofs.Common.{◌≡◌, ◌+◌, ◌<◌, ◌≤◌, ◌^◌, ℕ, length, sym, ap, subst, ◌∙◌, map}
 use Rattle.std.proofs.lemmas.List.{length-map}
-use Rattle.spill_store.specs.Entries.{renumbered_entry}
+use Rattle.spill_store.specs.SpilledTasks.{renumbered_spilled}
 use Rattle.task_desc.specs.Record.{IsDesc}
 use Rattle.spec_state.specs.declared.emitted.TheConstants.{MAX_EMITTED}
 use Rattle.spec_state.specs.declared.task.Status.{Status}
@@ -9,7 +9,8 @@ use Rattle.spec_state.specs.declared.task.Status.TheVariants.{Finished}
 use Rattle.spec_state.specs.View.{View}
 use Rattle.spec_state.specs.Tasks.{depth_of}
 use Rattle.spec_state.specs.Numbers.{Renumbers, renumbered_task}
-use Rattle.spec_law.specs.Sound.{HoldsCore, HasTask, SoundSizes}
+use Rattle.spec_state.specs.Stored.{HasCore, HasTask}
+use Rattle.spec_law.specs.Sound.{SoundSizes}
 use Rattle.spec_law.proofs.Renumbers.One.{after, each_now, now, spilled_before, was}
 use Rattle.spec_law.proofs.Renumbers.Tasks.{deep}
 
@@ -31,7 +32,7 @@ module _ (old new : View) (r : Renumbers old new) (sizes : SoundSizes old) where
         queues = sizes.queues;
         finished = sizes.finished;
         cores = sizes.cores;
-        blocks = length-map old.blocks (map (renumbered_entry r.table)) ∙ sizes.blocks;
+        blocks = length-map old.blocks (map (renumbered_spilled r.table)) ∙ sizes.blocks;
         task_queues = sizes.task_queues;
         commit_queues = sizes.commit_queues;
         core_counts = sizes.core_counts;
@@ -44,8 +45,8 @@ module _ (old new : View) (r : Renumbers old new) (sizes : SoundSizes old) where
           λ has. (sizes.finished_are tile id).1 (had (λ status. status ≡ Finished) tile id has),
         );
         held_are = λ tile core id. (
-          λ has. has_now (λ status. HoldsCore status core) tile id ((sizes.held_are tile core id).0 has),
-          λ has. (sizes.held_are tile core id).1 (had (λ status. HoldsCore status core) tile id has),
+          λ has. has_now (λ status. HasCore status core) tile id ((sizes.held_are tile core id).0 has),
+          λ has. (sizes.held_are tile core id).1 (had (λ status. HasCore status core) tile id has),
         );
         kinds = each_now old new r (λ k t. t.kinds < 2 ^ depth_of t)
             (λ k w at. subst (λ d. w.kinds < 2 ^ (d + 1)) (sym (deep r.table w.key.domain)) (sizes.kinds k w at));

@@ -9,12 +9,12 @@ use Rattle.fractal_vt.specs.Renumbered.{place_in, renumbered_key, HoldsKey}
 use Rattle.guest_image.specs.ImageValue.{ImageValue}
 use Rattle.memory_law.specs.Notes.{notes_of}
 use Rattle.memory_law.specs.Tasks.{Logged, undone_set}
-use Rattle.spill_store.specs.Entries.{open_key, renumbered_entry}
+use Rattle.spill_store.specs.SpilledTasks.{open_key, renumbered_spilled}
 use Rattle.spec_state.specs.declared.numbers.TheConstants.{DISPATCH_NUMBERS}
 use Rattle.spec_state.specs.declared.task.Task.{Task}
 use Rattle.spec_state.specs.View.{View, task_at}
 use Rattle.spec_state.specs.Filters.{HasNotes}
-use Rattle.spec_state.specs.Groups.{logged, logged_task}
+use Rattle.spec_state.specs.Groups.{logged_tasks, logged_task}
 use Rattle.spec_state.specs.Aborts.{IsUndone}
 use Rattle.spec_state.specs.Numbers.{Renumbers, renumbered_task}
 use Rattle.spec_law.specs.Renumbering.{RenumberingStaysSound, RenumberingSaysSame, SaySame}
@@ -44,8 +44,8 @@ module _ (old new : View) (r : Renumbers old new) where
       let same : y ≡ renumbered_task r.table x = cc in
       (subst (HoldsKey r.table) (sym is) (holds_task old new r id x there), is' ∙ ap (λ (t : Task). t.key) same ∙ ap (renumbered_key r.table) (sym is))
   key_pair k l (of_spilled tile place s t at at' is is') =
-      let both : Some t ≡ Some (renumbered_entry r.table s) = sym at' ∙ spilled_now old new r tile place s at in
-      let same : t ≡ renumbered_entry r.table s = cc in
+      let both : Some t ≡ Some (renumbered_spilled r.table s) = sym at' ∙ spilled_now old new r tile place s at in
+      let same : t ≡ renumbered_spilled r.table s = cc in
       (subst (HoldsKey r.table) (sym is) (holds_placed old new r tile place s at), is' ∙ ap open_key same ∙ ap (renumbered_key r.table) (sym is))
 
   -- the views are alike
@@ -53,7 +53,7 @@ module _ (old new : View) (r : Renumbers old new) where
   alike = record {
     forth = λ id x there. (renumbered_task r.table x, now old new r id x there, same_but x);
     back = λ id y there. (let w = was old new r id y there in (w.0, w.1, same_back w.0 y w.2));
-    spilled_forth = λ tile place s at. (renumbered_entry r.table s, spilled_now old new r tile place s at);
+    spilled_forth = λ tile place s at. (renumbered_spilled r.table s, spilled_now old new r tile place s at);
     spilled_back = λ tile place t at. (let s = spilled_was old new r tile place t at in (s.0, s.1));
     queues = λ tile. refl;
     size = length-map old.tasks (option_map (renumbered_task r.table));
@@ -64,7 +64,7 @@ module _ (old new : View) (r : Renumbers old new) where
   }
 
   -- and so they are for memory
-  pub logged_alike : AreLoggedAlike (logged old) (logged (after old new r))
+  pub logged_alike : AreLoggedAlike (logged_tasks old) (logged_tasks (after old new r))
   logged_alike = record {
     forth = λ id x at.
         (let read = mapped_some logged_task (task_at old id) x at in (
@@ -91,7 +91,7 @@ module _ (old new : View) (r : Renumbers old new) where
       logged_back : (t : Task) → memory.IsSameLogged (logged_task (renumbered_task r.table t)) (logged_task t)
       logged_back t = record { is = λ i. record (logged_task t) { dispatched = sym (still_some (place_in r.table) t.key.tb) i } }
 
-      pair : (id : ℕ) (x x' : Logged) → logged old id ≡ Some x → logged (after old new r) id ≡ Some x'
+      pair : (id : ℕ) (x x' : Logged) → logged_tasks old id ≡ Some x → logged_tasks (after old new r) id ≡ Some x'
           → (t : Task) × HoldsKey r.table t.key × (x.levels ≡ levels t.key) × (x'.levels ≡ levels (renumbered_key r.table t.key))
       pair id x x' at at' =
           let read = mapped_some logged_task (task_at old id) x at in
@@ -100,11 +100,11 @@ module _ (old new : View) (r : Renumbers old new) where
           (read.0, holds_task old new r id read.0 read.1, ap (λ (l : Logged). l.levels) read.2, ap (λ (l : Logged). l.levels) same)
 
 -- what is undone in one view is undone in another that is alike for memory and has the same memory
-undone_forth : (a b : View) → AreLoggedAlike (logged a) (logged b) → b.memory ≡ a.memory → (set : ℕ → Bool) (left : List ℕ) → IsUndone a set left → IsUndone b set left
+undone_forth : (a b : View) → AreLoggedAlike (logged_tasks a) (logged_tasks b) → b.memory ≡ a.memory → (set : ℕ → Bool) (left : List ℕ) → IsUndone a set left → IsUndone b set left
 undone_forth a b alike same set left undone = record {
   ids = undone.ids;
-  by_key = by_key_forth (logged a) (logged b) alike undone.ids undone.by_key;
-  is = undone.is ∙ sym (same_undone (logged a) (logged b) alike set undone.ids a.memory) ∙ ap (undone_set set (logged b) undone.ids) (sym same);
+  by_key = by_key_forth (logged_tasks a) (logged_tasks b) alike undone.ids undone.by_key;
+  memory_is = undone.memory_is ∙ sym (same_undone (logged_tasks a) (logged_tasks b) alike set undone.ids a.memory) ∙ ap (undone_set set (logged_tasks b) undone.ids) (sym same);
 }
 
 module _ (old new : View) (r : Renumbers old new) where
@@ -113,8 +113,8 @@ module _ (old new : View) (r : Renumbers old new) where
   back = turned old (after old new r) (alike old new r)
 
   -- and so it is for memory
-  logged_back : AreLoggedAlike (logged (after old new r)) (logged old)
-  logged_back = memory.turned (logged old) (logged (after old new r)) (logged_alike old new r)
+  logged_back : AreLoggedAlike (logged_tasks (after old new r)) (logged_tasks old)
+  logged_back = memory.turned (logged_tasks old) (logged_tasks (after old new r)) (logged_alike old new r)
 
   -- each view says what the other says
   says_same : SaySame r.table old (after old new r)
@@ -150,7 +150,7 @@ renumbering_stays_sound image old new sound r =
         is_heir = heir_forth old (after old new r) (alike old new r) sound.heir sound.is_heir;
         tasks = renumbered_tasks image old new r sound.heir sound.serial sound.is_heir sound.order sound.tasks;
         memory = record {
-          chained = chain_forth (logged old) (logged (after old new r)) (logged_alike old new r) old.settings.line sound.serial.memory old.memory sound.memory.chained;
+          chained = chain_forth (logged_tasks old) (logged_tasks (after old new r)) (logged_alike old new r) old.settings.line sound.serial.memory old.memory sound.memory.chained;
           noted = each_now old new r (λ k t. HasNotes t.lines (notes_of old.settings.line t.log)) (λ k w at. sound.memory.noted k w at);
         };
         order = record {

@@ -3,20 +3,20 @@ use Rattle.std.proofs.Common.{◌≡◌, ◌+◌, ◌-◌, ◌*◌, ◌/◌, ◌
 use Rattle.std.specs.Prelude.{Contains}
 use Rattle.std.proofs.lemmas.List.{length-map}
 use Rattle.fractal_vt.specs.declared.level.Level.{Level}
-use Rattle.fractal_vt.specs.Renumbered.{place_in, renumbered, renumbered_level}
+use Rattle.fractal_vt.specs.Renumbered.{place_in, renumbered_levels, renumbered_level}
 use Rattle.guest_image.specs.ImageValue.{ImageValue}
-use Rattle.serial_machine.specs.State.{State}
-use Rattle.task_step.specs.TaskState.{TaskState, begun}
-use Rattle.task_step.specs.declared.request.Request.{Request}
-use Rattle.task_step.specs.declared.request.Request.TheVariants.{End, Trap}
-use Rattle.spill_store.specs.Entries.{Entry as Spilled, renumbered_entry}
+use Rattle.serial_machine.specs.State.{SerialState}
+use Rattle.task_request.specs.TaskState.{TaskState, task_at_start}
+use Rattle.task_request.specs.declared.request.Request.{Request}
+use Rattle.task_request.specs.declared.request.Request.TheVariants.{End, Trap}
+use Rattle.spill_store.specs.SpilledTasks.{Spilled, renumbered_spilled}
 use Rattle.task_desc.specs.declared.desc.Place.{Place}
 use Rattle.task_desc.specs.declared.desc.Place.TheVariants.{Same, Sub, Super}
 use Rattle.task_desc.specs.declared.desc.Spawn.{Spawn}
-use Rattle.turn_law.specs.Commit.{Matches}
-use Rattle.turn_law.specs.Domains.{Domain, FitsBags}
-use Rattle.turn_law.specs.Logged.{Asks, LoggedRun}
-use Rattle.turn_law.specs.Sound.{AreSound}
+use Rattle.task_law.specs.Commit.{Matches}
+use Rattle.task_law.specs.Domains.{Domain, FitsBags}
+use Rattle.task_law.specs.Logged.{Asks, LoggedRun}
+use Rattle.task_law.specs.Sound.{AreSound}
 use Rattle.spec_state.specs.declared.task.Creator.TheVariants.{Committed, Live}
 use Rattle.spec_state.specs.declared.task.Status.{Status}
 use Rattle.spec_state.specs.declared.task.Status.TheVariants.{Idle, Running, Trapped, Finished}
@@ -34,26 +34,26 @@ use Rattle.spec_law.proofs.Renumbers.One.{after, all_are, each, each_now, now, s
 
 module _ (table : List ℕ) where
   -- a domain is as deep as before
-  pub deep : (ds : List Level) → length (renumbered table ds) ≡ length ds
+  pub deep : (ds : List Level) → length (renumbered_levels table ds) ≡ length ds
   deep ds = length-map ds (renumbered_level table)
 
   -- its floor is the same
-  floor_same : (floor : ℕ) (ds : List Level) → floor_in floor (renumbered table ds) ≡ floor_in floor ds
+  floor_same : (floor : ℕ) (ds : List Level) → floor_in floor (renumbered_levels table ds) ≡ floor_in floor ds
   floor_same floor [] = refl
   floor_same floor (d ∷ ds) = floor_same d.ts ds
 
   -- and so are the kinds and floors of all domains on it
-  domains_same : (outer : List Domain) (floor kinds : ℕ) (ds : List Level) → domains_behind outer floor kinds (renumbered table ds) ≡ domains_behind outer floor kinds ds
+  domains_same : (outer : List Domain) (floor kinds : ℕ) (ds : List Level) → domains_behind outer floor kinds (renumbered_levels table ds) ≡ domains_behind outer floor kinds ds
   domains_same outer floor kinds [] = refl
   domains_same outer floor kinds (d ∷ ds) =
       domains_same (record { kind = kind_at 0 kinds; floor = floor } ∷ outer) d.ts (kinds / 2) ds
 
-  taken_same : (n : ℕ) (ds : List Level) → take n (renumbered table ds) ≡ renumbered table (take n ds)
+  taken_same : (n : ℕ) (ds : List Level) → take n (renumbered_levels table ds) ≡ renumbered_levels table (take n ds)
   taken_same zero ds = refl
   taken_same (suc n) [] = refl
   taken_same (suc n) (d ∷ ds) = ap (λ xs. renumbered_level table d ∷ xs) (taken_same n ds)
 
-  joined : (xs : List Level) (y : Level) → renumbered table (xs ++ y ∷ []) ≡ renumbered table xs ++ renumbered_level table y ∷ []
+  joined : (xs : List Level) (y : Level) → renumbered_levels table (xs ++ y ∷ []) ≡ renumbered_levels table xs ++ renumbered_level table y ∷ []
   joined [] y = refl
   joined (x ∷ xs) y = ap (λ zs. renumbered_level table x ∷ zs) (joined xs y)
 
@@ -75,13 +75,13 @@ module _ (table : List ℕ) where
   bag_same : (t : Task) → bag_task (renumbered_task table t) ≡ bag_task t
   bag_same t = λ i. record (bag_task t) { depth = deep t.key.domain i + 1; dispatched = still_some (place_in table) t.key.tb i }
 
-  bags_of : (ss : List Spilled) → map bag_spilled (map (renumbered_entry table) ss) ≡ map bag_spilled ss
+  bags_of : (ss : List Spilled) → map bag_spilled (map (renumbered_spilled table) ss) ≡ map bag_spilled ss
   bags_of [] = refl
   bags_of (s ∷ ss) = ap (λ bs. bag_spilled s ∷ bs) (bags_of ss)
 
   -- a descriptor with the places of its tiebreakers
   abbrev renumbered_descriptor : Descriptor → Descriptor
-  renumbered_descriptor d = record d { domain = renumbered table d.domain }
+  renumbered_descriptor d = record d { domain = renumbered_levels table d.domain }
 
   -- the own level of a dispatched task
   own_same : (t : Task) (n : ℕ) → t.key.tb ≡ Some n → own_level (renumbered_task table t) ≡ renumbered_level table (own_level t)
@@ -90,11 +90,11 @@ module _ (table : List ℕ) where
       ∙ sym (ap (λ tb. renumbered_level table (record { ts = t.key.ts; tb = unwrap_or tb 0 })) is)
 
   -- the domain of its child
-  child_same : (t : Task) (n : ℕ) → t.key.tb ≡ Some n → (place : Place) → child_domain (renumbered_task table t) place ≡ renumbered table (child_domain t place)
+  child_same : (t : Task) (n : ℕ) → t.key.tb ≡ Some n → (place : Place) → child_domain (renumbered_task table t) place ≡ renumbered_levels table (child_domain t place)
   child_same t n is Same = refl
-  child_same t n is Sub = ap (λ own. renumbered table t.key.domain ++ own ∷ []) (own_same t n is) ∙ sym (joined t.key.domain (own_level t))
+  child_same t n is Sub = ap (λ own. renumbered_levels table t.key.domain ++ own ∷ []) (own_same t n is) ∙ sym (joined t.key.domain (own_level t))
   child_same t n is Super =
-      ap (λ k. take (k - 1) (renumbered table t.key.domain)) (deep t.key.domain) ∙ taken_same (length t.key.domain - 1) t.key.domain
+      ap (λ k. take (k - 1) (renumbered_levels table t.key.domain)) (deep t.key.domain) ∙ taken_same (length t.key.domain - 1) t.key.domain
 
   kinds_same : (t : Task) (place : Place) → child_kinds (renumbered_task table t) place ≡ child_kinds t place
   kinds_same t Same = refl
@@ -114,7 +114,7 @@ module _ (table : List ℕ) where
 
   module _ (image : ImageValue) (version budget : ℕ) where
     ran : (t : Task) (p : TaskState) → RanTo image version budget t p → RanTo image version budget (renumbered_task table t) p
-    ran t p done = subst (λ ctx. LoggedRun image budget image.data_size ctx (begun version t.entry t.key.ts t.args []) t.log p) (sym (context_same version t)) done
+    ran t p done = subst (λ ctx. LoggedRun image budget image.data_size ctx (task_at_start version t.entry t.key.ts t.args []) t.log p) (sym (context_same version t)) done
 
     asks : (t : Task) (p : TaskState) (request : Request) → AsksNext image version budget t p request → AsksNext image version budget (renumbered_task table t) p request
     asks t p request asked = subst (λ ctx. Asks image budget image.data_size ctx p request) (sym (context_same version t)) asked
@@ -143,7 +143,7 @@ module _ (table : List ℕ) where
       },
     )
 
-module _ (image : ImageValue) (old new : View) (r : Renumbers old new) (heir : Option ℕ) (serial : State) (is_heir : IsHeir old heir) (order : SoundOrder old heir) (sound : SoundTasks image old heir serial) where
+module _ (image : ImageValue) (old new : View) (r : Renumbers old new) (heir : Option ℕ) (serial : SerialState) (is_heir : IsHeir old heir) (order : SoundOrder old heir) (sound : SoundTasks image old heir serial) where
   -- for the bags all tasks are the same
   same_bags : bag_tasks (after old new r) ≡ bag_tasks old
   same_bags = λ i id. (ap (option_map bag_task) (each old new r id) ∙ by_task (task_at old id)) i
@@ -163,7 +163,8 @@ module _ (image : ImageValue) (old new : View) (r : Renumbers old new) (heir : O
     there = now old new r id made.creator made.there;
     spawn = made.spawn;
     made = made.made;
-    is = ap (renumbered_descriptor r.table) made.is ∙ made_same r.table made.creator n is made.spawn;
+    descriptor_is = ap (renumbered_descriptor r.table) made.descriptor_is
+        ∙ made_same r.table made.creator n is made.spawn;
   }
 
   child_made : (id : ℕ) (t : Task) → task_at old id ≡ Some t → (creator : TaskId) (index : ℕ) → t.creator ≡ Live creator index
@@ -176,11 +177,11 @@ module _ (image : ImageValue) (old new : View) (r : Renumbers old new) (heir : O
       made_still creator.0 index (descriptor_of t) has.number made (sym (ap (λ x. x.last.tb) same) ∙ has.dispatched)
 
   spilled_made : (s : Spilled) → Contains (all_spilled old) s → s.desc.name.creator ≡ length old.history + 1
-      → (id : ℕ) × (heir ≡ Some id) × IsMadeBy (after old new r) id s.desc.name.index (spilled_descriptor (renumbered_entry r.table s))
+      → (id : ℕ) × (heir ≡ Some id) × IsMadeBy (after old new r) id s.desc.name.index (spilled_descriptor (renumbered_spilled r.table s))
   spilled_made s has next =
       let made = sound.spilled_children s has next in
       let is : IsHeir old (Some made.0) = subst (IsHeir old) made.1 is_heir in
-      let both : Some made.2.creator ≡ Some is.0 = sym made.2.there ∙ is.1.at.there in
+      let both : Some made.2.creator ≡ Some is.0 = sym made.2.there ∙ is.1.queued_at.there in
       let same : made.2.creator ≡ is.0 = cc in
       let number = number_of is.0.key.tb is.2 in
       (made.0, made.1, made_still made.0 s.desc.name.index (spilled_descriptor s) number.0 made.2 (ap (λ (t : Task). t.key.tb) same ∙ number.1))

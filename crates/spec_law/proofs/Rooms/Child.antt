@@ -4,7 +4,7 @@ use Rattle.std.proofs.lemmas.List.{length-map, length_push, map-append}
 use Rattle.std.specs.Prelude.{Ok}
 use Rattle.std.specs.declared.cmp.Ordering.TheVariants.{Less}
 use Rattle.fractal_vt.specs.Keys.{last, key_cmp}
-use Rattle.fractal_vt.specs.Levels.{closed}
+use Rattle.fractal_vt.specs.Levels.{closed_level}
 use Rattle.fractal_vt.specs.declared.level.Level.{Level}
 use Rattle.fractal_vt.specs.declared.vt.TheConstants.{MAX_LEVELS}
 use Rattle.guest_image.specs.ImageValue.{ImageValue}
@@ -18,10 +18,10 @@ use Rattle.serial_machine.specs.Legs.{SubFits}
 use Rattle.serial_machine.proofs.Proved.{request-sub_fits}
 use Rattle.task_desc.specs.declared.calls.TheConstants.{MAX_DEPTH}
 use Rattle.task_desc.specs.Calls.{allowed_at, allowed_sub, allowed_super}
-use Rattle.task_step.specs.declared.request.Request.TheVariants.{Enqueue}
-use Rattle.task_step.specs.TaskState.{TaskState, begun, context}
-use Rattle.task_step.proofs.Proved.{AllowedBy, request_at-allowed}
-use Rattle.turn_law.proofs.Proved.{logged-holds}
+use Rattle.task_request.specs.declared.request.Request.TheVariants.{Enqueue}
+use Rattle.task_request.specs.TaskState.{TaskState, task_at_start, context}
+use Rattle.task_request.proofs.Proved.{AllowedBy, request_at-allowed_spawn}
+use Rattle.task_law.proofs.Proved.{logged-holds}
 use Rattle.task_desc.specs.declared.desc.Place.{Place}
 use Rattle.task_desc.specs.declared.desc.Place.TheVariants.{Same, Sub, Super}
 use Rattle.task_desc.specs.declared.desc.Spawn.{Spawn}
@@ -77,7 +77,7 @@ module _ (version : ℕ) (task : Task) (id : ℕ) (before : TaskState) where
   -- a child as the order reads it
   abbrev keyed_child : Place → ℕ → Keyed
   keyed_child place ts = record {
-    domain = map closed (child_domain task place);
+    domain = map closed_level (child_domain task place);
     last = record { ts = ts; tb = None };
     kinds = ordered_to (length (child_domain task place)) (child_kinds task place);
     ordered = is_ordered_at (length (child_domain task place)) (child_kinds task place);
@@ -97,7 +97,7 @@ module _ (version : ℕ) (task : Task) (id : ℕ) (before : TaskState) where
   sub_placed number asked ts kind numbered low fits sub shallow allows =
       let next : depth_of task ≡ suc size = omega arith in
       let long : length (child_domain task Sub) ≡ suc size = length_push task.key.domain (own_level task) ∙ next in
-      let own : closed (own_level task) ≡ last task.key =
+      let own : closed_level (own_level task) ≡ last task.key =
       ap (λ tb. record { ts = task.key.ts; tb = Some (unwrap_or tb 0) }) numbered ∙ ap (λ tb. record { ts = task.key.ts; tb = tb }) (sym numbered) in
       let bit : sub_bit task.sub < 2 = bit_low task.sub in
       let few : task.kinds < 2 ^ suc size = subst (λ n. task.kinds < 2 ^ n) next low in
@@ -107,12 +107,14 @@ module _ (version : ℕ) (task : Task) (id : ℕ) (before : TaskState) where
       ∙ kind_added (suc size) task.kinds (sub_bit task.sub) few bit ∙ ap (λ k. sub_bit k == 1) sub in
       inr (inl (
         (
-          map-append closed task.key.domain (own_level task ∷ []) ∙ ap (λ l. map closed task.key.domain ++ l ∷ []) own,
+          map-append closed_level task.key.domain (own_level task ∷ [])
+              ∙ ap (λ l. map closed_level task.key.domain ++ l ∷ []) own,
           ap (λ n. ordered_to n (child_kinds task Sub)) long ∙ ap (ordered_to (suc size)) same
               ∙ ordered_below (suc size) task.kinds (sub_bit task.sub) ∙ ordered_more size task.kinds,
         ),
         (λ e. free_is (context (start_context version task) before) kind asked ts allows (unordered_from kind (sym ordered ∙ e))),
-        subst (λ n. n < MAX_LEVELS) (sym (length-map (child_domain task Sub) closed ∙ long)) (deep size fits shallow),
+        subst (λ n. n < MAX_LEVELS) (sym (length-map (child_domain task Sub) closed_level ∙ long))
+            (deep size fits shallow),
       ))
     where
       deep : (n : ℕ) → n < MAX_DEPTH → n + 1 ≢ MAX_DEPTH → suc n < MAX_DEPTH
@@ -129,9 +131,9 @@ module _ (version : ℕ) (task : Task) (id : ℕ) (before : TaskState) where
       let ordered : is_ordered_at (length (child_domain task Super)) (child_kinds task Super) ≡ is_ordered_at n task.kinds =
       ap (λ k. is_ordered_at k (child_kinds task Super)) long ∙ ap (λ k. is_ordered_at n (task.kinds % 2 ^ k)) is ∙ kind_low n task.kinds in
       inr (inr (
-        closed end.level,
+        closed_level end.level,
         (
-          ap (map closed) end.is ∙ map-append closed (take (size - 1) task.key.domain) (end.level ∷ []),
+          ap (map closed_level) end.is ∙ map-append closed_level (take (size - 1) task.key.domain) (end.level ∷ []),
           sym (ordered_low size task.kinds) ∙ ap (λ k. ordered_to k (child_kinds task Super)) is ∙ ordered_more n (child_kinds task Super)
               ∙ ap (λ k. ordered_to k (child_kinds task Super) ++ is_ordered_at k (child_kinds task Super) ∷ []) (sym long),
         ),
@@ -172,9 +174,9 @@ module _ (image : ImageValue) (view : View) (sound : Sound image view) (id : ℕ
       let did = subst (StandsAs image view.version view.settings.budget task) takes.runs.running (sound.tasks.stands id task there) in
       let number = there_is task.key.tb did.0 in
       let shaped = sound.order.order.shaped id (keyed_task task) (queued_stands view sound.heir id task there) in
-      let fits : length task.key.domain < MAX_LEVELS = subst (λ n. n < MAX_LEVELS) (length-map task.key.domain closed) shaped.0 in
+      let fits : length task.key.domain < MAX_LEVELS = subst (λ n. n < MAX_LEVELS) (length-map task.key.domain closed_level) shaped.0 in
       let shallow = logged-holds image view.settings.budget image.data_size (start_context view.version task) (λ t. SubFits (depth_of task) t.sub)
-      (begun view.version task.entry task.key.ts task.args []) (λ t core here. here) (request-sub_fits (start_context view.version task)) did.1 tt in
+      (task_at_start view.version task.entry task.key.ts task.args []) (λ t core here. here) (request-sub_fits (start_context view.version task)) did.1 tt in
       subst (λ place. IsPlaced (keyed_task task) (keyed_child view.version task id at_call place spawn.ts)) (sym (ap (λ s. s.place) is))
       (placed view.version task id at_call number.0 number.1 (sound.sizes.kinds id task there) fits shallow refl asked.place asked.ts spawn.ts allows)
 
@@ -191,6 +193,6 @@ module _ (image : ImageValue) (view : View) (sound : Sound image view) (id : ℕ
 
 pub child_is_above : ChildIsAbove
 child_is_above image view tile core id to leg task spawn sound takes asks =
-    let allows : AllowedBy (context_of view.version task) (Enqueue spawn) = subst (AllowedBy (context_of view.version task)) asks (request_at-allowed (context_of view.version task) leg.to leg.stop) in
+    let allows : AllowedBy (context_of view.version task) (Enqueue spawn) = subst (AllowedBy (context_of view.version task)) asks (request_at-allowed_spawn (context_of view.version task) leg.to leg.stop) in
     let is_placed = asked_placed image view sound id task leg tile core to spawn takes allows in
     (is_placed, placed_above image view sound id task leg tile core to spawn takes is_placed)

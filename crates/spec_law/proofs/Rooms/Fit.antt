@@ -8,9 +8,9 @@ use Rattle.fractal_vt.proofs.Proved.{key_cmp_total}
 use Rattle.fractal_vt.specs.Keys.{levels, key_cmp}
 use Rattle.fractal_vt.specs.Levels.{levels_cmp}
 use Rattle.guest_image.specs.ImageValue.{ImageValue}
-use Rattle.turn_law.specs.Room as room
-use Rattle.turn_law.specs.Room.{Waiting}
-use Rattle.turn_law.specs.Tasks.{In}
+use Rattle.task_law.specs.Room as room
+use Rattle.task_law.specs.Room.{RoomTask}
+use Rattle.task_law.specs.Tasks.{In}
 use Rattle.spec_state.specs.declared.task.Creator.{Creator}
 use Rattle.spec_state.specs.declared.task.Creator.TheVariants.{Committed, Live}
 use Rattle.spec_state.specs.declared.task.Status.{Status}
@@ -18,7 +18,7 @@ use Rattle.spec_state.specs.declared.task.Status.TheVariants.{Idle, Running, Tra
 use Rattle.spec_state.specs.declared.task.Task.{Task}
 use Rattle.spec_state.specs.View.{View, task_at, queue_at}
 use Rattle.spec_state.specs.Tasks.{is_dispatched}
-use Rattle.spec_state.specs.Groups.{live_creator, waiting_task}
+use Rattle.spec_state.specs.Groups.{live_creator, room_task}
 use Rattle.spec_state.specs.Least.{Queued, IsQueuedAt, spot_cmp, IsHeir, IsFirm}
 use Rattle.spec_state.specs.Queries.{IsQueued}
 use Rattle.spec_state.specs.Room.{Asker, Enqueuer, Splitter}
@@ -57,14 +57,15 @@ pub heirs_are_one : (view : View) (heir : Option ℕ) (id : ℕ) → IsHeir view
 heirs_are_one view None id none is = absurd (none id is.0 is.1 is.2)
 heirs_are_one view (Some other) id one is =
     let same = least_is_one view _ _ one.1.least is.1.least in
-    ap Some (queued_is view one.0.tile one.1.place is.0.tile is.1.place other id one.0 is.0 same one.1.at is.1.at)
+    ap Some (queued_is view one.0.tile one.1.place is.0.tile is.1.place other id one.0 is.0 same one.1.queued_at
+    is.1.queued_at)
 
 -- a firm task is one for the laws of room, and the other way round
-firm_to : (view : View) (heir : Option ℕ) → IsHeir view heir → (task : Task) → IsFirm view task → room.IsFirm heir (waiting_task task)
+firm_to : (view : View) (heir : Option ℕ) → IsHeir view heir → (task : Task) → IsFirm view task → room.IsFirmInQueue heir (room_task task)
 firm_to view heir is task (inl committed) = inl (ap live_creator committed.2)
 firm_to view heir is task (inr child) = inr (child.0, ap live_creator child.2, heirs_are_one view heir child.0 is child.3)
 
-firm_from : (view : View) (heir : Option ℕ) → IsHeir view heir → (task : Task) → room.IsFirm heir (waiting_task task) → IsFirm view task
+firm_from : (view : View) (heir : Option ℕ) → IsHeir view heir → (task : Task) → room.IsFirmInQueue heir (room_task task) → IsFirm view task
 firm_from view heir is task firm = by_creator task.creator refl firm
   where
     by_creator : (c : Creator) → task.creator ≡ c → (live_creator c ≡ None) ⊎ ((l : ℕ) × (live_creator c ≡ Some l) × (heir ≡ Some l)) → IsFirm view task
@@ -91,22 +92,22 @@ open_is_idle image view task Finished stands open' = absurd (cc (stands.0, open'
 pub movable_is_movable : MovableIsMovable
 movable_is_movable image view sound tile id = (
   λ moves. (
-    contains_in (queue_at view tile) id moves.1.this.queued,
-    waiting_task moves.0,
-    ap (option_map waiting_task) moves.1.this.there,
-    idle_is_open image view moves.0 (sound.tasks.stands id moves.0 moves.1.this.there) moves.1.this.idle,
+    contains_in (queue_at view tile) id moves.1.idle.queued,
+    room_task moves.0,
+    ap (option_map room_task) moves.1.idle.there,
+    idle_is_open image view moves.0 (sound.tasks.stands id moves.0 moves.1.idle.there) moves.1.idle.idle,
     firm_to view sound.heir sound.is_heir moves.0 moves.1.firm,
   ),
   λ moves.
-      let from = mapped_some waiting_task (task_at view id) moves.1 moves.2 in (
+      let from = mapped_some room_task (task_at view id) moves.1 moves.2 in (
         from.0,
         record {
-          this = record {
+          idle = record {
             queued = in_contains (queue_at view tile) id moves.0;
             there = from.1;
             idle = open_is_idle image view from.0 from.0.status (sound.tasks.stands id from.0 from.1) (sym (ap (λ w. w.dispatched) from.2) ∙ moves.3);
           };
-          firm = firm_from view sound.heir sound.is_heir from.0 (subst (room.IsFirm sound.heir) from.2 moves.4);
+          firm = firm_from view sound.heir sound.is_heir from.0 (subst (room.IsFirmInQueue sound.heir) from.2 moves.4);
         },
       ),
 )
@@ -125,11 +126,11 @@ asks_under Splitter id is = absurd (cc (is))
 
 pub victim_is_victim : VictimIsVictim
 victim_is_victim view tile asker id task victim = record {
-  there = ap (option_map waiting_task) victim.there;
+  there = ap (option_map room_task) victim.there;
   queued = contains_in (queue_at view tile) id victim.queued;
   other = λ is. victim.other (asks_under asker id is);
   latest = λ k w at other there above.
-      let from = mapped_some waiting_task (task_at view k) w there in
+      let from = mapped_some room_task (task_at view k) w there in
       let greater : key_cmp from.0.key task.key ≡ Greater = sym (ap (λ z. levels_cmp z.levels (levels task.key)) from.2) ∙ above in
       elim (cases_eq k id) [
         | inl here ↦

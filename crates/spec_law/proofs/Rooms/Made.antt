@@ -1,14 +1,14 @@
--- Each rule of room leaves a free entry.
+-- Each rule of room leaves a free place.
 use Rattle.std.proofs.Common.{◌≡◌, ℕ, ◌<◌, ◌≤◌, Bool, true, false, List, [], length, Some, None, option_map, refl, sym, ap, subst, ◌∙◌, inl, inr, arith, slice_index_or, if◌then◌else◌}
 use Rattle.std.proofs.lemmas.Bool.{cases_lt}
 use Rattle.std.proofs.lemmas.List.{get_or_past}
-use Rattle.turn_law.proofs.Proved.{shorter, shorter_or_same}
+use Rattle.task_law.proofs.Proved.{shorter, shorter_or_same}
 use Rattle.spec_state.specs.declared.task.Task.{Task}
 use Rattle.spec_state.specs.View.{View, task_at, queue_at}
 use Rattle.spec_state.specs.Tasks.{idle_again}
-use Rattle.spec_state.specs.Groups.{live_creator, waiting_task, waiting}
-use Rattle.spec_state.specs.Aborts.{IsCascade, Aborts, Only, is_marked, is_marked_creator, taken_back}
-use Rattle.spec_state.specs.Room.{Asker, HasFreeEntry, IsVictim, MakesRoom, has_free_entry, coalesces, aborts_victim, aborts_creator}
+use Rattle.spec_state.specs.Groups.{live_creator, room_task, room_tasks}
+use Rattle.spec_state.specs.Aborts.{IsCascade, Aborts, OnlyNode, is_marked, is_marked_creator, taken_back}
+use Rattle.spec_state.specs.Room.{Asker, QueueHasRoom, IsVictim, MakesRoom, queue_has_room, coalesces, aborts_victim, aborts_creator}
 use Rattle.spec_law.specs.RoomLaws.{RoomIsMade}
 use Rattle.spec_law.specs.Sound.{SoundSizes}
 use Rattle.spec_law.proofs.Tasks.Beside.{id_below}
@@ -23,7 +23,7 @@ marked_within marks id marked = elim (cases_lt id (length marks)) [
 ]
 
 -- a cascade takes the children of its first task
-child_marked : (view : View) (marks : List Bool) (id creator : ℕ) (task : Task) → IsCascade view (Only creator) marks → task_at view id ≡ Some task → live_creator task.creator ≡ Some creator
+child_marked : (view : View) (marks : List Bool) (id creator : ℕ) (task : Task) → IsCascade view (OnlyNode creator) marks → task_at view id ≡ Some task → live_creator task.creator ≡ Some creator
     → (is_marked marks id ≡ true) × (is_marked marks creator ≡ true)
 child_marked view marks id creator task cascade there made_by =
     let first = cascade.least.holds creator refl in
@@ -52,37 +52,37 @@ bounded view sizes tile = elim (cases_lt tile (length view.queues)) [
 -- the queue of a tile after an abort
 aborted_queue : (firsts : ℕ → Type 0) (old new : View) (aborted tile : ℕ) → (aborts : Aborts firsts old aborted new) → length (queue_at new tile) ≤ length (queue_at old tile)
 aborted_queue firsts old new aborted tile aborts =
-    subst (λ queue. length queue ≤ length (queue_at old tile)) (sym (ap (λ queues. slice_index_or queues tile []) aborts.queues ∙ queue_is (waiting new) old.queues tile))
-    (shorter_or_same (waiting new) (queue_at old tile))
+    subst (λ queue. length queue ≤ length (queue_at old tile)) (sym (ap (λ queues. slice_index_or queues tile []) aborts.queues ∙ queue_is (room_tasks new) old.queues tile))
+    (shorter_or_same (room_tasks new) (queue_at old tile))
 
 -- an abort of the victim's creator takes the victim out of the queue
 creator_queue : (old new : View) (aborted tile v creator : ℕ) (asker : Asker) (task : Task) → IsVictim old tile asker v task → live_creator task.creator ≡ Some creator
-    → Aborts (Only creator) old aborted new → length (queue_at new tile) < length (queue_at old tile)
+    → Aborts (OnlyNode creator) old aborted new → length (queue_at new tile) < length (queue_at old tile)
 creator_queue old new aborted tile v creator asker task victim made_by aborts =
     let marked = child_marked old aborts.marks v creator task aborts.cascade victim.there made_by in
     let gone : task_at new v ≡ None =
     aborts.each v ∙ ap (taken_back old.version aborts.marks v) victim.there ∙ taken_gone old.version aborts.marks v creator task marked.0 marked.1 made_by in
-    subst (λ queue. length queue < length (queue_at old tile)) (sym (ap (λ queues. slice_index_or queues tile []) aborts.queues ∙ queue_is (waiting new) old.queues tile))
-    (shorter (waiting new) v (queue_at old tile) (ap (option_map waiting_task) gone) (contains_in (queue_at old tile) v victim.queued))
+    subst (λ queue. length queue < length (queue_at old tile)) (sym (ap (λ queues. slice_index_or queues tile []) aborts.queues ∙ queue_is (room_tasks new) old.queues tile))
+    (shorter (room_tasks new) v (queue_at old tile) (ap (option_map room_task) gone) (contains_in (queue_at old tile) v victim.queued))
 
--- a queue that is shorter than one that holds no more than it may has a free entry
-has_room : (old new : View) (tile : ℕ) → SoundSizes old → new.settings ≡ old.settings → length (queue_at new tile) < length (queue_at old tile) → HasFreeEntry new tile
+-- a queue that is shorter than one that holds no more than it may has a free place
+has_room : (old new : View) (tile : ℕ) → SoundSizes old → new.settings ≡ old.settings → length (queue_at new tile) < length (queue_at old tile) → QueueHasRoom new tile
 has_room old new tile sizes same less =
     let most = bounded old sizes tile in
     subst (λ settings. length (queue_at new tile) < settings.task_queue) (sym same) (omega (arith, less, most))
 
 -- whoever asks
 pub leaves_entry : (tile : ℕ) (asker : Asker) (old : View) {aborted : ℕ} {new : View} → SoundSizes old
-    → MakesRoom tile asker old aborted new → HasFreeEntry new tile
-leaves_entry tile asker old sizes (has_free_entry free) = free
+    → MakesRoom tile asker old aborted new → QueueHasRoom new tile
+leaves_entry tile asker old sizes (queue_has_room free) = free
 leaves_entry tile asker old sizes (coalesces new full moves) =
-    has_room old new tile sizes (ap (λ view. view.settings) moves.rest) (coalesce_makes_room tile old new moves).0
+    has_room old new tile sizes (ap (λ view. view.settings) moves.frame) (coalesce_makes_room tile old new moves).0
 leaves_entry tile asker old sizes (aborts_victim aborted v task mid new full none asks victim firm aborts moves) =
     let less = (coalesce_makes_room tile mid new moves).0 in
-    let upto = aborted_queue (Only v) old mid aborted tile aborts in
-    has_room old new tile sizes (ap (λ view. view.settings) moves.rest ∙ ap (λ view. view.settings) aborts.rest) (omega (arith, less, upto))
+    let upto = aborted_queue (OnlyNode v) old mid aborted tile aborts in
+    has_room old new tile sizes (ap (λ view. view.settings) moves.frame ∙ ap (λ view. view.settings) aborts.frame) (omega (arith, less, upto))
 leaves_entry tile asker old sizes (aborts_creator aborted v creator task new full none asks victim loose made_by aborts) =
-    has_room old new tile sizes (ap (λ view. view.settings) aborts.rest) (creator_queue old new aborted tile v creator asker task victim made_by aborts)
+    has_room old new tile sizes (ap (λ view. view.settings) aborts.frame) (creator_queue old new aborted tile v creator asker task victim made_by aborts)
 
 pub room_is_made : RoomIsMade
 room_is_made image tile aborted asker old new sound makes = leaves_entry tile asker old sound.sizes makes

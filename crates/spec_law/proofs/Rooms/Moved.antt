@@ -8,12 +8,12 @@ use Rattle.std.specs.Ordering.{nat_cmp, ordering_then, ordering_reverse}
 use Rattle.std.specs.declared.cmp.Ordering.TheVariants.{Less, Equal, Greater}
 use Rattle.fractal_vt.proofs.Proved.{key_cmp_total}
 use Rattle.fractal_vt.specs.Keys.{key_cmp}
-use Rattle.spill_store.specs.Entries.{Entry as Spilled, open_key, IsLeastEntry}
-use Rattle.turn_law.specs.Room.{Waiting, queue_after}
-use Rattle.turn_law.proofs.Proved.{shorter, shorter_or_same}
+use Rattle.spill_store.specs.SpilledTasks.{Spilled, open_key, IsLeastInBlock}
+use Rattle.task_law.specs.Room.{RoomTask, queue_after}
+use Rattle.task_law.proofs.Proved.{shorter, shorter_or_same}
 use Rattle.spec_state.specs.View.{View, queue_at, block_at}
 use Rattle.spec_state.specs.Tasks.{idle_task, spilled_descriptor}
-use Rattle.spec_state.specs.Groups.{waiting_task, waiting}
+use Rattle.spec_state.specs.Groups.{room_task, room_tasks}
 use Rattle.spec_state.specs.Least.{Spilled_at, place_cmp, IsLeastSpilled}
 use Rattle.spec_law.specs.RoomLaws.{CoalesceMakesRoom, SplitReturnsLeast}
 use Rattle.spec_law.proofs.Tasks.Ranked.{first_not_greater, not_greater_ties}
@@ -21,19 +21,19 @@ use Rattle.spec_law.proofs.Tasks.Contained.{some_first}
 use Rattle.spec_law.proofs.Rooms.Fit.{contains_in}
 
 -- the queue of a tile after those of tasks that have gone were taken out of each
-pub queue_is : (new : ℕ → Option Waiting) (queues : List (List ℕ)) (tile : ℕ) → slice_index_or (map (queue_after new) queues) tile [] ≡ queue_after new (slice_index_or queues tile [])
+pub queue_is : (new : ℕ → Option RoomTask) (queues : List (List ℕ)) (tile : ℕ) → slice_index_or (map (queue_after new) queues) tile [] ≡ queue_after new (slice_index_or queues tile [])
 queue_is new [] tile = refl
 queue_is new (q ∷ queues) zero = refl
 queue_is new (q ∷ queues) (suc tile) = queue_is new queues tile
 
 pub coalesce_makes_room : CoalesceMakesRoom
 coalesce_makes_room tile old new moves =
-    let now : (other : ℕ) → queue_at new other ≡ queue_after (waiting new) (queue_at old other) = λ other. ap (λ queues. slice_index_or queues other []) moves.queues ∙ queue_is (waiting new) old.queues other in
+    let now : (other : ℕ) → queue_at new other ≡ queue_after (room_tasks new) (queue_at old other) = λ other. ap (λ queues. slice_index_or queues other []) moves.queues ∙ queue_is (room_tasks new) old.queues other in
     let one = some_first moves.ids moves.some in
-    let gone : waiting new one.0 ≡ None = ap (option_map waiting_task) (moves.gone one.0 one.1) in
-    let queued = (moves.chosen.movable one.0 one.1).1.this.queued in (
-      subst (λ queue. length queue < length (queue_at old tile)) (sym (now tile)) (shorter (waiting new) one.0 (queue_at old tile) gone (contains_in (queue_at old tile) one.0 queued)),
-      λ other. subst (λ queue. length queue ≤ length (queue_at old other)) (sym (now other)) (shorter_or_same (waiting new) (queue_at old other)),
+    let gone : room_tasks new one.0 ≡ None = ap (option_map room_task) (moves.gone one.0 one.1) in
+    let queued = (moves.chosen.movable one.0 one.1).1.idle.queued in (
+      subst (λ queue. length queue < length (queue_at old tile)) (sym (now tile)) (shorter (room_tasks new) one.0 (queue_at old tile) gone (contains_in (queue_at old tile) one.0 queued)),
+      λ other. subst (λ queue. length queue ≤ length (queue_at old other)) (sym (now other)) (shorter_or_same (room_tasks new) (queue_at old other)),
     )
 
 -- what holds of all holds of what is found at a place
@@ -58,7 +58,7 @@ no_later tile p q upto = elim (cases_lt q p) [
   | inr low ↦ low
 ]
 
-module _ (view : View) (tile : ℕ) (least : IsLeastSpilled view tile) (place : ℕ) (s : Spilled) (first : IsLeastEntry (block_at view tile) place s) where
+module _ (view : View) (tile : ℕ) (least : IsLeastSpilled view tile) (place : ℕ) (s : Spilled) (first : IsLeastInBlock (block_at view tile) place s) where
   -- the open key at a place of the block
   key_there : (k : ℕ) (x : Spilled) → slice_get (block_at view tile) k ≡ Some x → slice_get (map open_key (block_at view tile)) k ≡ Some (open_key x)
   key_there k x at = slice_get-map open_key (block_at view tile) k ∙ ap (option_map open_key) at
@@ -115,7 +115,7 @@ module _ (view : View) (tile : ℕ) (least : IsLeastSpilled view tile) (place : 
 
 pub split_returns_least : SplitReturnsLeast
 split_returns_least tile old new least splits =
-    let is = taken_is_least old tile least splits.least.place splits.s splits.least.least in
-    let both : Some splits.s ≡ Some least.least.has.0 = sym is ∙ least.least.has.1 in
-    let same : splits.s ≡ least.least.has.0 = cc in
-    (is, (idle_task old.version (spilled_descriptor splits.s) splits.creator tile, splits.changes.changed, ap open_key same ∙ sym least.least.has.2))
+    let is = taken_is_least old tile least splits.least.place splits.spilled splits.least.least in
+    let both : Some splits.spilled ≡ Some least.least.has.0 = sym is ∙ least.least.has.1 in
+    let same : splits.spilled ≡ least.least.has.0 = cc in
+    (is, (idle_task old.version (spilled_descriptor splits.spilled) splits.creator tile, splits.changes.changed, ap open_key same ∙ sym least.least.has.2))

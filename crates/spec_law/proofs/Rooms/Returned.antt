@@ -9,7 +9,7 @@ use Rattle.std.specs.declared.cmp.Ordering.TheVariants.{Less, Equal, Greater}
 use Rattle.fractal_vt.proofs.Proved.{key_cmp_total}
 use Rattle.fractal_vt.specs.Keys.{key_cmp}
 use Rattle.fractal_vt.specs.declared.key.Key.{Key}
-use Rattle.spill_store.specs.Entries.{Entry as Spilled, open_key}
+use Rattle.spill_store.specs.SpilledTasks.{Spilled, open_key}
 use Rattle.spec_state.specs.declared.task.Task.{Task}
 use Rattle.spec_state.specs.View.{View, task_at, queue_at, block_at}
 use Rattle.spec_state.specs.Tasks.{idle_task, spilled_descriptor}
@@ -72,7 +72,7 @@ tile_within blocks tile place x at = elim (cases_lt tile (length blocks)) [
 module _ (tile : ℕ) (old new : View) (sizes : SoundSizes old) (least : IsLeastSpilled old tile) (splits : Splits tile old new) where
   -- the task that came back
   abbrev back : Task
-  back = idle_task old.version (spilled_descriptor splits.s) splits.creator tile
+  back = idle_task old.version (spilled_descriptor splits.spilled) splits.creator tile
 
   -- its place
   abbrev end : ℕ
@@ -92,10 +92,10 @@ module _ (tile : ℕ) (old new : View) (sizes : SoundSizes old) (least : IsLeast
   queue_kept t other = ap (λ queues. slice_index_or queues t []) splits.queues ∙ get_or-set_other old.queues tile t (queue_at old tile ++ splits.id ∷ []) [] other
 
   -- its key is the least one
-  key_is : open_key splits.s ≡ least.least.key
+  key_is : open_key splits.spilled ≡ least.least.key
   key_is =
-      let both : Some splits.s ≡ Some least.least.has.0 = sym (split_returns_least tile old new least splits).0 ∙ least.least.has.1 in
-      let same : splits.s ≡ least.least.has.0 = cc in
+      let both : Some splits.spilled ≡ Some least.least.has.0 = sym (split_returns_least tile old new least splits).0 ∙ least.least.has.1 in
+      let same : splits.spilled ≡ least.least.has.0 = cc in
       ap open_key same ∙ sym least.least.has.2
 
   -- what stands in a queue stood there before, or is the task that came back
@@ -134,39 +134,40 @@ module _ (tile : ℕ) (old new : View) (sizes : SoundSizes old) (least : IsLeast
   ]
 
   -- no task ranks above it
-  none_above : (other : Spot) (key : Key) → HasKey new other key → ranked_cmp (open_key splits.s) (Queued tile end) key other ≢ Greater
+  none_above : (other : Spot) (key : Key) → HasKey new other key → ranked_cmp (open_key splits.spilled) (Queued tile end) key other ≢ Greater
   none_above (Queued t p) key has = elim (queued_was t p has.0 has.2.queued) [
     | inl was ↦
         let there : task_at old has.0 ≡ Some has.1 = sym (splits.changes.others has.0 (not_vacant t p has.0 was)) ∙ has.2.there in
         let upto = least.least.least (Queued t p) key (has.0, has.1, record { queued = was; there = there }, has.3) in
-        let less : key_cmp (open_key splits.s) key ≡ Less = ap (λ low. key_cmp low key) key_is ∙ then_greater (key_cmp least.least.key key) upto in
+        let less : key_cmp (open_key splits.spilled) key ≡ Less = ap (λ low. key_cmp low key) key_is ∙ then_greater (key_cmp least.least.key key) upto in
         (λ e. absurd (cc (less, e)))
     | inr here ↦
         let both : Some has.1 ≡ Some back = sym has.2.there ∙ ap (task_at new) (sym here.2) ∙ splits.changes.changed in
         let task_is : has.1 ≡ back = cc in
-        let key_same : key ≡ open_key splits.s = has.3 ∙ ap (λ t. t.key) task_is in
+        let key_same : key ≡ open_key splits.spilled = has.3 ∙ ap (λ t. t.key) task_is in
         let spot_same : Queued tile end ≡ Queued t p = λ i. Queued (sym here.0 i) (sym here.1 i) in
-        subst (λ spot. ranked_cmp (open_key splits.s) (Queued tile end) key spot ≢ Greater) spot_same
-        (subst (λ k. ranked_cmp (open_key splits.s) (Queued tile end) k (Queued tile end) ≢ Greater) (sym key_same)
-        (itself_upto (open_key splits.s) (Queued tile end) (queued_ties tile end)))
+        subst (λ spot. ranked_cmp (open_key splits.spilled) (Queued tile end) key spot ≢ Greater) spot_same
+        (subst (λ k. ranked_cmp (open_key splits.spilled) (Queued tile end) k (Queued tile end) ≢ Greater)
+        (sym key_same)
+        (itself_upto (open_key splits.spilled) (Queued tile end) (queued_ties tile end)))
   ]
   none_above (Spilled_at t p) key has =
       let was = spilled_was t p has.0 has.1 in
       let upto = first_not_greater (key_cmp least.least.key key) (place_cmp tile least.place t was.0) (least.least.least (Spilled_at t was.0) key (has.0, was.1, has.2)) in
-      then_less (key_cmp (open_key splits.s) key) (λ e. upto (sym (ap (λ low. key_cmp low key) key_is) ∙ e))
+      then_less (key_cmp (open_key splits.spilled) key) (λ e. upto (sym (ap (λ low. key_cmp low key) key_is) ∙ e))
 
 pub split_keeps_least : SplitKeepsLeast
 split_keeps_least image tile old new sound least splits =
-    let task : Task = idle_task old.version (spilled_descriptor splits.s) splits.creator tile in
+    let task : Task = idle_task old.version (spilled_descriptor splits.spilled) splits.creator tile in
     let place : ℕ = length (queue_at old tile) in
     let stands : slice_get (queue_at new tile) place ≡ Some splits.id =
     ap (λ queue. slice_get queue place) (queue_now tile old new sound.sizes least splits) ∙ last_there (queue_at old tile) splits.id in (
       task,
       record {
         place = place;
-        at = record { queued = stands; there = splits.changes.changed };
+        queued_at = record { queued = stands; there = splits.changes.changed };
         least = record {
-          key = open_key splits.s;
+          key = open_key splits.spilled;
           has = (splits.id, task, record { queued = stands; there = splits.changes.changed }, refl);
           least = none_above tile old new sound.sizes least splits;
         };

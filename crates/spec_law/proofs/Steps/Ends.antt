@@ -12,7 +12,8 @@ use Rattle.spec_state.specs.declared.task.Task.{Task}
 use Rattle.spec_state.specs.View.{View, task_at, finished_at, cores_at}
 use Rattle.spec_state.specs.Queries.{IsRunning}
 use Rattle.spec_state.specs.Changes.{Finishes}
-use Rattle.spec_law.specs.Sound.{HoldsCore, HasTask, SoundSizes}
+use Rattle.spec_state.specs.Stored.{HasCore, HasTask}
+use Rattle.spec_law.specs.Sound.{SoundSizes}
 use Rattle.spec_law.proofs.Steps.One.{StepsOne, each_stepped, stepped_to}
 use Rattle.spec_law.proofs.Steps.Sizes.{FitsLists, has_forth}
 use Rattle.spec_law.proofs.Steps.Lists.{distinct_more, get_beside, get_put, only_one}
@@ -28,8 +29,8 @@ module _ (old new : View) (sizes : SoundSizes old) (tile core id : ℕ) (task : 
       record {
         there = runs.on.there;
         changes = ends.changes;
-        rest = ends.rest
-            ∙ (λ i. record old { tasks = new.tasks; memory = ap (λ v. v.memory) (sym ends.rest) i; finished = new.finished; cores = new.cores });
+        rest = ends.frame
+            ∙ (λ i. record old { tasks = new.tasks; memory = ap (λ v. v.memory) (sym ends.frame) i; finished = new.finished; cores = new.cores });
       }
 
   -- the view after it, whose lists are those of the new one
@@ -133,7 +134,7 @@ module _ (old new : View) (sizes : SoundSizes old) (tile core id : ℕ) (task : 
       (λ in_that finished. subst (λ n. Contains (finished_at now n) id) (sym in_tile ∙ in_that) finished_last) k t at in_other is
 
   -- what a core holds is a task on it
-  held_forth : (other c k : ℕ) → slice_get (cores_at now other) c ≡ Some (Some k) → HasTask now other k (λ status. HoldsCore status c)
+  held_forth : (other c k : ℕ) → slice_get (cores_at now other) c ≡ Some (Some k) → HasTask now other k (λ status. HasCore status c)
   held_forth other c k held =
       (was.0, ends.changes.others k not_this ∙ was.1, was.2, was.3)
     where
@@ -142,20 +143,20 @@ module _ (old new : View) (sizes : SoundSizes old) (tile core id : ℕ) (task : 
           let cell : slice_get (cores_at now other) c ≡ slice_get (cores_at now tile) core = λ i. slice_get (cores_at now (same i)) (at i) in
           absurd (cc (cell, held, core_free))
 
-      was : HasTask old other k (λ status. HoldsCore status c)
+      was : HasTask old other k (λ status. HasCore status c)
       was = (sizes.held_are other c k).0 (sym (cores_beside other c beside) ∙ held)
 
       not_this : k ≢ id
       not_this is =
           let same = is_task was.0 (ap (task_at old) (sym is) ∙ was.1) in
-          let on : HoldsCore task.status c = subst (λ t. HoldsCore t.status c) same was.3 in
-          let at : core ≡ c = subst (λ status. HoldsCore status c) runs.running on in
+          let on : HasCore task.status c = subst (λ t. HasCore t.status c) same was.3 in
+          let at : core ≡ c = subst (λ status. HasCore status c) runs.running on in
           beside (sym was.2 ∙ ap (λ t. t.tile) same ∙ in_tile) (sym at)
 
   -- each task on a core is held by it
-  held_back : (other c k : ℕ) → HasTask now other k (λ status. HoldsCore status c) → slice_get (cores_at now other) c ≡ Some (Some k)
+  held_back : (other c k : ℕ) → HasTask now other k (λ status. HasCore status c) → slice_get (cores_at now other) c ≡ Some (Some k)
   held_back other c k (t, at, in_other, is) =
-      each_stepped old new id ended ends.changes (λ j z. z.tile ≡ other → HoldsCore z.status c → slice_get (cores_at now other) c ≡ Some (Some j))
+      each_stepped old new id ended ends.changes (λ j z. z.tile ≡ other → HasCore z.status c → slice_get (cores_at now other) c ≡ Some (Some j))
       (λ j z not_this there in_that holds. held_still j not_this ((sizes.held_are other c j).1 (z, there, in_that, holds)))
       (λ in_that holds. absurd holds) k t at in_other is
     where

@@ -24,8 +24,8 @@ pub stays_least : (a b : View) → ((spot : Spot) (key : Key) → HasKey a spot 
 stays_least a b forth back queues k x t there tile least =
     record {
       place = least.place;
-      at = record {
-        queued = ap (λ lists. slice_get (slice_index_or lists t.tile []) least.place) queues ∙ ap (λ n. slice_get (queue_at a n) least.place) tile ∙ least.at.queued;
+      queued_at = record {
+        queued = ap (λ lists. slice_get (slice_index_or lists t.tile []) least.place) queues ∙ ap (λ n. slice_get (queue_at a n) least.place) tile ∙ least.queued_at.queued;
         there = there;
       };
       least = subst (λ n. IsLeastSpot b (Queued n least.place)) (sym tile) (same_least a b forth back (Queued x.tile least.place) least.least);
@@ -53,13 +53,13 @@ module _ (old new : View) (id : ℕ) (task work : Task) (step : StepsOne old new
   -- the heir of that view
   kept : (heir : Option ℕ) → IsHeir old heir → IsHeir now heir
   kept (Some k) (x, least, runs) =
-      let stays = stays_there old new id task work step k x least.at.there in (
+      let stays = stays_there old new id task work step k x least.queued_at.there in (
         stays.0,
         stays_least old now forth back refl k x stays.0 stays.1 (same_tile x stays.0 stays.2) least,
         ap (λ key. is_some key.tb) (same_key x stays.0 stays.2) ∙ runs,
       )
   kept None none = λ k t least runs.
-      (let from = origin old new id task work step k t least.at.there in
+      (let from = origin old new id task work step k t least.queued_at.there in
       none k from.was
       (stays_least now old back forth refl k t from.was from.there (sym (same_tile from.was t from.made)) least)
       (ap (λ key. is_some key.tb) (sym (same_key from.was t from.made)) ∙ runs))

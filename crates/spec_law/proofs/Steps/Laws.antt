@@ -8,21 +8,22 @@ use Rattle.run_law.proofs.Proved.{HasDomain, IsPlaced}
 use Rattle.task_desc.specs.declared.calls.TheConstants.{MAX_BYTES}
 use Rattle.task_desc.specs.declared.desc.Place.{Place}
 use Rattle.task_desc.specs.declared.desc.Place.TheVariants.{Same, Sub, Super}
-use Rattle.task_step.specs.declared.request.Request.{Request}
-use Rattle.task_step.specs.declared.request.Request.TheVariants as request
-use Rattle.task_step.specs.Conditions.{IsCall}
-use Rattle.task_step.specs.Steps.{Continues, after_request}
-use Rattle.task_step.specs.TaskState.{TaskState, begun}
-use Rattle.task_step.proofs.Proved.{allowed_by-room, AllowedBy, request_at-allowed}
-use Rattle.turn_law.specs.Logged.{call}
-use Rattle.turn_law.proofs.Proved.{on_memory}
+use Rattle.task_request.specs.declared.request.Request.{Request}
+use Rattle.task_request.specs.declared.request.Request.TheVariants as request
+use Rattle.task_request.specs.Conditions.{IsCall}
+use Rattle.task_request.specs.Effects.{Continues, after_request}
+use Rattle.task_request.specs.TaskState.{TaskState, task_at_start}
+use Rattle.task_request.proofs.Proved.{allowed_by-room, AllowedBy, request_at-allowed_spawn}
+use Rattle.task_law.specs.Logged.{call}
+use Rattle.task_law.proofs.Proved.{on_memory}
 use Rattle.spec_state.specs.declared.task.Status.TheVariants.{Trapped, Finished}
 use Rattle.spec_state.specs.declared.task.Task.{Task}
 use Rattle.spec_state.specs.View.{View}
 use Rattle.spec_state.specs.Tasks.{child_domain, child_kinds, context_of, progress_at, start_context}
 use Rattle.spec_state.specs.Changes.{Keeps}
+use Rattle.spec_state.specs.Stored.{HasCore}
 use Rattle.spec_law.specs.Keeping.{AsksAt, ByteStaysSound, EndStaysSound, IsLegOf, QuantumStaysSound, SubStaysSound, TrapStaysSound}
-use Rattle.spec_law.specs.Sound.{HoldsCore, RanTo, Sound, StandsAs, StaysSound}
+use Rattle.spec_law.specs.Sound.{RanTo, Sound, StandsAs, StaysSound}
 use Rattle.spec_law.proofs.Steps.Runs.{Leaves, placed_at, request_leaves, run_placed}
 use Rattle.spec_law.proofs.Steps.Ends.{end_fits, end_steps}
 use Rattle.spec_law.proofs.Steps.Sound.{asks_next, keeps_sound, ran_leg, step_stays_sound, stood}
@@ -49,7 +50,7 @@ trap_stays_sound image old new sound tile core id cause leg task at keeps =
       },
     )
     (λ is. absurd (cc (is)), λ is. absurd (cc (sym running ∙ is)))
-    (λ c. (λ is. subst (λ status. HoldsCore status c) (sym running) is, λ is. subst (λ status. HoldsCore status c) running is))
+    (λ c. (λ is. subst (λ status. HasCore status c) (sym running) is, λ is. subst (λ status. HasCore status c) running is))
     (sound.sizes.bytes id task taken.takes.runs.on.there)
 
 -- the kinds of a child that was made stay: a subdomain is made once
@@ -75,7 +76,7 @@ module _ (image : ImageValue) (old : View) (sound : Sound image old) (tile core 
   -- what the call leaves
   pub left : ((after.sub ≡ task.sub) ⊎ (task.sub ≡ None)) × (length task.bytes ≤ MAX_BYTES → length after.bytes ≤ MAX_BYTES)
   left =
-      let allows : AllowedBy (context_of old.version task) asked = subst (AllowedBy (context_of old.version task)) at.asks (request_at-allowed (context_of old.version task) leg.to leg.stop) in
+      let allows : AllowedBy (context_of old.version task) asked = subst (AllowedBy (context_of old.version task)) at.asks (request_at-allowed_spawn (context_of old.version task) leg.to leg.stop) in
       subst (Leaves (progress_at [] leg.to task)) goes
       (request_leaves (start_context old.version task) (progress_at [] leg.to task) asked (allowed_by-room (context_of old.version task) asked allows))
 
@@ -89,7 +90,7 @@ module _ (image : ImageValue) (old : View) (sound : Sound image old) (tile core 
   kids_stay : after.spawns ≡ task.spawns → KeepsChildren task (progressed task after)
   kids_stay spawns index spawn made =
       let placed : IsPlaced (start_context old.version task).outer (progress_at [] leg.to task) =
-      run_placed image old.settings.budget image.data_size (start_context old.version task) (begun old.version task.entry task.key.ts task.args [])
+      run_placed image old.settings.budget image.data_size (start_context old.version task) (task_at_start old.version task.entry task.key.ts task.args [])
       (ran_leg image old sound tile core id leg task taken) tt
       in
       let has = placed_at (start_context old.version task).outer task.sub task.spawns index spawn placed made in
@@ -124,7 +125,7 @@ end_stays_sound image old new sound tile core id leg task at few ends =
     let taken = at.is_leg in
     step_stays_sound image old new sound id task (record task { core = after_other_of leg.to; status = Finished })
     (end_steps old new sound.sizes tile core id task leg taken.takes.runs few ends)
-    (ap (λ v. v.memory) ends.rest) refl refl refl (λ index spawn at. (at, refl)) (
+    (ap (λ v. v.memory) ends.frame) refl refl refl (λ index spawn at. (at, refl)) (
       (stood image old sound tile core id leg task taken).0,
       record {
         before = progress_at [] leg.to task;

@@ -1,18 +1,18 @@
 -- A step of one task, after which its key, creator, tile and what it was made as are what they were: most groups read nothing else of it.
 use Rattle.std.proofs.Common.{◌≡◌, ◌≢◌, ◌<◌, ℕ, List, length, map, Option, Some, refl, sym, ap, subst, ◌∙◌, inl, inr, option_map}
 use Rattle.std.proofs.lemmas.Bool.{cases_eq}
-use Rattle.fractal_vt.specs.Levels.{closed}
+use Rattle.fractal_vt.specs.Levels.{closed_level}
 use Rattle.memory_law.specs.Chain.{IsChained}
 use Rattle.memory_law.specs.Notes.{notes_of}
 use Rattle.order_law.specs.Tasks.{Keyed}
 use Rattle.order_law.specs.Events.{beside}
 use Rattle.order_law.specs.Ordered.{IsOrdered}
 use Rattle.order_law.proofs.Proved.{rename_keeps_order, Renames}
-use Rattle.serial_machine.specs.State.{State}
+use Rattle.serial_machine.specs.State.{SerialState}
 use Rattle.spec_state.specs.declared.task.Task.{Task}
 use Rattle.spec_state.specs.View.{View, task_at, ChangesTask}
 use Rattle.spec_state.specs.Filters.{HasNotes}
-use Rattle.spec_state.specs.Groups.{all_keyed, all_spilled, bag_task, bag_tasks, keyed, keyed_spilled, keyed_task, logged, logged_task, waiting, waiting_task}
+use Rattle.spec_state.specs.Groups.{all_keyed, all_spilled, bag_task, bag_tasks, keyed_tasks, keyed_spilled, keyed_task, logged_tasks, logged_task, room_tasks, room_task}
 use Rattle.spec_law.specs.Sound.{SoundMemory, SoundOrder}
 use Rattle.spec_law.proofs.Tasks.Rebound.{rebound, entry_idle}
 use Rattle.spec_law.proofs.Tasks.Beside.{id_below, mapped_some}
@@ -74,15 +74,15 @@ module _ (old new : View) (id : ℕ) (task work : Task) (step : StepsOne old new
   all_alike see same = λ i k. alike (option_map see) old new id (Some (worked task work)) step.changes (ap Some same ∙ sym (ap (option_map see) step.there)) k i
 
   -- the order of tasks reads the same
-  pub keyed_same : keyed new ≡ keyed old
+  pub keyed_same : keyed_tasks new ≡ keyed_tasks old
   keyed_same = all_alike keyed_task refl
 
   -- so does room in a queue
-  pub waiting_same : waiting new ≡ waiting old
-  waiting_same = all_alike waiting_task refl
+  pub waiting_same : room_tasks new ≡ room_tasks old
+  waiting_same = all_alike room_task refl
 
   -- so does memory, where log and lines stay
-  pub logged_same : work.log ≡ task.log → work.lines ≡ task.lines → logged new ≡ logged old
+  pub logged_same : work.log ≡ task.log → work.lines ≡ task.lines → logged_tasks new ≡ logged_tasks old
   logged_same log lines = all_alike logged_task (λ i. logged_task (record task { log = log i; lines = lines i }))
 
   -- so do the bags, where the children stay
@@ -96,26 +96,27 @@ module _ (old new : View) (id : ℕ) (task work : Task) (step : StepsOne old new
       entries : List Keyed
       entries = map (keyed_spilled (length old.history) heir) (all_spilled old)
 
-      bounded : (k : ℕ) (x : Keyed) → keyed old k ≡ Some x → (k < length old.tasks) × (k < length new.tasks)
+      bounded : (k : ℕ) (x : Keyed) → keyed_tasks old k ≡ Some x → (k < length old.tasks) × (k < length new.tasks)
       bounded k x at =
           let was = mapped_some keyed_task (task_at old k) x at in
           let now = mapped_some keyed_task (task_at new k) x (ap (λ f. f k) keyed_same ∙ at) in
           (id_below old k was.0 was.1, id_below new k now.0 now.1)
 
-      kept : IsOrdered (all_keyed (stepped_to old new) heir) (map closed old.path) old.next
+      kept : IsOrdered (all_keyed (stepped_to old new) heir) (map closed_level old.path) old.next
       kept =
-          rename_keeps_order (all_keyed old heir) (all_keyed (stepped_to old new) heir) (map closed old.path) old.next
+          rename_keeps_order (all_keyed old heir) (all_keyed (stepped_to old new) heir)
+          (map closed_level old.path) old.next
           (subst (λ tasks. Renames (all_keyed old heir) (beside (length new.tasks) tasks entries)) (sym keyed_same)
-          (rebound (length old.tasks) (length new.tasks) (keyed old) entries bounded (entry_idle (length old.history) heir (all_spilled old))))
+          (rebound (length old.tasks) (length new.tasks) (keyed_tasks old) entries bounded (entry_idle (length old.history) heir (all_spilled old))))
           sound.order
 
   -- memory, where the step does not touch it
-  pub step_keeps_memory : (serial : State) → new.memory ≡ old.memory → work.log ≡ task.log → work.lines ≡ task.lines → SoundMemory old serial → SoundMemory new serial
+  pub step_keeps_memory : (serial : SerialState) → new.memory ≡ old.memory → work.log ≡ task.log → work.lines ≡ task.lines → SoundMemory old serial → SoundMemory new serial
   step_keeps_memory serial memory log lines sound = subst (λ v. SoundMemory v serial) (sym step.rest) (record { chained = chained; noted = noted })
     where
-      chained : IsChained old.settings.line (logged new) serial.memory new.memory
+      chained : IsChained old.settings.line (logged_tasks new) serial.memory new.memory
       chained =
-          subst (IsChained old.settings.line (logged new) serial.memory) (sym memory)
+          subst (IsChained old.settings.line (logged_tasks new) serial.memory) (sym memory)
           (subst (λ tasks. IsChained old.settings.line tasks serial.memory old.memory) (sym (logged_same log lines)) sound.chained)
 
       noted : (k : ℕ) (t : Task) → task_at new k ≡ Some t → HasNotes t.lines (notes_of old.settings.line t.log)

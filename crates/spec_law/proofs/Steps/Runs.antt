@@ -4,24 +4,24 @@ use Rattle.std.proofs.lemmas.List.{length-append}
 use Rattle.guest_image.specs.declared.image.Kind.{Kind}
 use Rattle.guest_image.specs.ImageValue.{ImageValue}
 use Rattle.rv_core.specs.declared.state.Core.{Core}
-use Rattle.rv_core.specs.Legs.{PlainSteps}
+use Rattle.rv_core.specs.Legs.{PlainInstructions}
 use Rattle.run_law.proofs.Proved.{HasDomain, HaveDomains, IsPlaced, request-placed}
 use Rattle.task_desc.specs.declared.calls.TheConstants.{MAX_BYTES}
 use Rattle.task_desc.specs.declared.desc.Ctx.{Ctx}
 use Rattle.task_desc.specs.declared.desc.Spawn.{Spawn}
-use Rattle.task_step.specs.declared.request.Request.{Request}
-use Rattle.task_step.specs.declared.request.Request.TheVariants as request
-use Rattle.task_step.specs.Conditions.{HasRoom}
-use Rattle.task_step.specs.Steps.{Stepped, Continues, Ends, Traps, after_request}
-use Rattle.task_step.specs.TaskState.{TaskState, context}
-use Rattle.turn_law.specs.Logged.{LoggedRun, plain}
-use Rattle.turn_law.proofs.Proved.{logged-holds}
+use Rattle.task_request.specs.declared.request.Request.{Request}
+use Rattle.task_request.specs.declared.request.Request.TheVariants as request
+use Rattle.task_request.specs.Conditions.{KeepsLimits}
+use Rattle.task_request.specs.Effects.{Continuation, Continues, Ends, Traps, after_request}
+use Rattle.task_request.specs.TaskState.{TaskState, context}
+use Rattle.task_law.specs.Logged.{LoggedRun, plain}
+use Rattle.task_law.proofs.Proved.{logged-holds}
 use Rattle.undo_log.specs.declared.access.Access.{Access}
 
 module _ (image : ImageValue) (budget size : ℕ) (ctx : Ctx) (start : TaskState) where
   -- a logged run goes on by plain instructions
   pub run_on : (log : List Access) (task : TaskState) (n : ℕ) (to : Core) → LoggedRun image budget size ctx start log task
-      → PlainSteps image size budget n task.core to → LoggedRun image budget size ctx start log (record task { core = to })
+      → PlainInstructions image size budget n task.core to → LoggedRun image budget size ctx start log (record task { core = to })
   run_on log task zero to run same = subst (λ core. LoggedRun image budget size ctx start log (record task { core = core })) same run
   run_on log task (suc n) to run (mid, front, last) =
       plain {log = log} {task = record task { core = mid }} to (run_on log task n mid run front) last
@@ -39,7 +39,7 @@ placed_at outer sub (s ∷ ss) zero spawn placed at = let same : s ≡ spawn = c
 placed_at outer sub (s ∷ ss) (suc index) spawn placed at = placed_at outer sub ss index spawn placed.1 at
 
 -- what a request leaves, as against what was there: a subdomain is made once at most, and bytes stay within their bound
-abbrev pub Leaves : TaskState → Stepped → Type 0
+abbrev pub Leaves : TaskState → Continuation → Type 0
 Leaves task (Continues after) =
     ((after.sub ≡ task.sub) ⊎ (task.sub ≡ None)) × (length task.bytes ≤ MAX_BYTES → length after.bytes ≤ MAX_BYTES)
 Leaves task (Ends after) = Unit {0}
@@ -50,7 +50,7 @@ one_more : (bytes : List ℕ) (byte : ℕ) → length bytes < MAX_BYTES → leng
 one_more bytes byte room = simp length-append (omega (arith, room))
 
 -- so with each for which there is room
-pub request_leaves : (ctx : Ctx) (task : TaskState) (asked : Request) → HasRoom (context ctx task) asked → Leaves task (after_request task asked)
+pub request_leaves : (ctx : Ctx) (task : TaskState) (asked : Request) → KeepsLimits (context ctx task) asked → Leaves task (after_request task asked)
 request_leaves ctx task request.Continue room = (inl refl, λ low. low)
 request_leaves ctx task (request.Load width rd offset) room = (inl refl, λ low. low)
 request_leaves ctx task (request.Store offset bytes value) room = (inl refl, λ low. low)

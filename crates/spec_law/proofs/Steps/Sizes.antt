@@ -9,7 +9,8 @@ use Rattle.spec_state.specs.declared.task.Status.TheVariants.{Finished}
 use Rattle.spec_state.specs.declared.task.Task.{Task}
 use Rattle.spec_state.specs.View.{View, task_at, finished_at, cores_at}
 use Rattle.spec_state.specs.Tasks.{depth_of}
-use Rattle.spec_law.specs.Sound.{HoldsCore, HasTask, SoundSizes}
+use Rattle.spec_state.specs.Stored.{HasCore, HasTask}
+use Rattle.spec_law.specs.Sound.{SoundSizes}
 use Rattle.spec_law.proofs.Steps.One.{StepsOne, each_stepped, origin, stepped_to, worked}
 
 -- the commit queues and the cores of a view hold its finished tasks and those on cores, and no more than they may
@@ -19,7 +20,7 @@ pub record FitsLists (view : View) : Type 0 where
   pub commit_queues : All (λ ids. (length ids ≤ view.settings.commit_queue) × AreDistinct ids) view.finished
   pub core_counts : All (λ held. length held ≡ view.settings.cores) view.cores
   pub finished_are : (tile id : ℕ) → Contains (finished_at view tile) id ↔ HasTask view tile id (λ status. status ≡ Finished)
-  pub held_are : (tile core id : ℕ) → (slice_get (cores_at view tile) core ≡ Some (Some id)) ↔ HasTask view tile id (λ status. HoldsCore status core)
+  pub held_are : (tile core id : ℕ) → (slice_get (cores_at view tile) core ≡ Some (Some id)) ↔ HasTask view tile id (λ status. HasCore status core)
 
 module _ (old new : View) (id : ℕ) (task work : Task) (step : StepsOne old new id task work) where
   -- a task whose status is of a kind has such a one still, where that is kept of the changed one
@@ -40,7 +41,7 @@ module _ (old new : View) (id : ℕ) (task work : Task) (step : StepsOne old new
 
   -- lists that stay hold the same tasks, where the task is finished or on a core as before
   pub lists_stay : SoundSizes old → new.finished ≡ old.finished → new.cores ≡ old.cores → (work.status ≡ Finished) ↔ (task.status ≡ Finished)
-      → ((core : ℕ) → HoldsCore work.status core ↔ HoldsCore task.status core) → FitsLists (stepped_to old new)
+      → ((core : ℕ) → HasCore work.status core ↔ HasCore task.status core) → FitsLists (stepped_to old new)
   lists_stay sizes finished cores ends holds =
       record {
         finished = ap length finished ∙ sizes.finished;
@@ -54,10 +55,10 @@ module _ (old new : View) (id : ℕ) (task work : Task) (step : StepsOne old new
               ((sizes.finished_are tile k).1 (has_back (λ status. status ≡ Finished) ends.0 tile k has)),
         );
         held_are = λ tile core k. (
-          λ held. has_forth (λ status. HoldsCore status core) (holds core).1 tile k
+          λ held. has_forth (λ status. HasCore status core) (holds core).1 tile k
               ((sizes.held_are tile core k).0 (ap (λ lists. slice_get (slice_index_or lists tile []) core) (sym cores) ∙ held)),
           λ has. ap (λ lists. slice_get (slice_index_or lists tile []) core) cores
-              ∙ (sizes.held_are tile core k).1 (has_back (λ status. HoldsCore status core) (holds core).0 tile k has),
+              ∙ (sizes.held_are tile core k).1 (has_back (λ status. HasCore status core) (holds core).0 tile k has),
         );
       }
 

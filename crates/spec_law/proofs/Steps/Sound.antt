@@ -3,20 +3,21 @@ use Rattle.std.proofs.Common.{◌≡◌, ◌≢◌, ◌≤◌, ℕ, [], length, 
 use Rattle.std.specs.Prelude.{◌↔◌}
 use Rattle.guest_image.specs.ImageValue.{ImageValue}
 use Rattle.rv_core.specs.LegValue.{LegValue}
-use Rattle.rv_core.specs.Legs.{PlainSteps}
+use Rattle.rv_core.specs.Legs.{PlainInstructions}
 use Rattle.serial_machine.specs.Run.{IsRun}
-use Rattle.task_step.specs.declared.request.Request.{Request}
-use Rattle.task_step.specs.declared.request.Request.TheVariants.{Continue}
-use Rattle.task_step.specs.Requests.{request_at}
-use Rattle.task_step.specs.TaskState.{begun}
+use Rattle.task_request.specs.declared.request.Request.{Request}
+use Rattle.task_request.specs.declared.request.Request.TheVariants.{Continue}
+use Rattle.task_request.specs.Requests.{request_at}
+use Rattle.task_request.specs.TaskState.{task_at_start}
 use Rattle.spec_state.specs.declared.emitted.TheConstants.{MAX_EMITTED}
 use Rattle.spec_state.specs.declared.task.Status.TheVariants.{Running, Finished}
 use Rattle.spec_state.specs.declared.task.Task.{Task}
 use Rattle.spec_state.specs.View.{View, task_at}
 use Rattle.spec_state.specs.Tasks.{context_of, progress_at, start_context}
 use Rattle.spec_state.specs.Changes.{Keeps, request_of}
+use Rattle.spec_state.specs.Stored.{HasCore}
 use Rattle.spec_law.specs.Keeping.{IsLegOf}
-use Rattle.spec_law.specs.Sound.{AsksNext, HoldsCore, RanTo, Sound, StandsAs, StaysSound}
+use Rattle.spec_law.specs.Sound.{AsksNext, RanTo, Sound, StandsAs, StaysSound}
 use Rattle.spec_law.proofs.Steps.One.{StepsOne, stepped_to, step_keeps_memory, step_keeps_order, worked}
 use Rattle.spec_law.proofs.Steps.Heir.{step_keeps_heir}
 use Rattle.spec_law.proofs.Steps.Tasks.{KeepsChildren, step_keeps_tasks}
@@ -49,12 +50,12 @@ keeps_steps old new id task work there keeps =
     record {
       there = there;
       changes = keeps.changes;
-      rest = keeps.rest
+      rest = keeps.frame
           ∙ (λ i. record old {
             tasks = new.tasks;
-            memory = ap (λ v. v.memory) (sym keeps.rest) i;
-            finished = ap (λ v. v.finished) (sym keeps.rest) i;
-            cores = ap (λ v. v.cores) (sym keeps.rest) i;
+            memory = ap (λ v. v.memory) (sym keeps.frame) i;
+            finished = ap (λ v. v.finished) (sym keeps.frame) i;
+            cores = ap (λ v. v.cores) (sym keeps.frame) i;
           });
     }
 
@@ -62,11 +63,11 @@ keeps_steps old new id task work there keeps =
 pub keeps_sound : (image : ImageValue) (old new : View) (sound : Sound image old) (id : ℕ) (task work : Task) → task_at old id ≡ Some task
     → Keeps id (worked task work) old new → work.log ≡ task.log → work.lines ≡ task.lines → work.spawns ≡ task.spawns → KeepsChildren task (worked task work)
     → StandsAs image old.version old.settings.budget (worked task work) work.status → (work.status ≡ Finished) ↔ (task.status ≡ Finished)
-    → ((core : ℕ) → HoldsCore work.status core ↔ HoldsCore task.status core) → length work.bytes ≤ MAX_EMITTED → StaysSound image old sound new
+    → ((core : ℕ) → HasCore work.status core ↔ HasCore task.status core) → length work.bytes ≤ MAX_EMITTED → StaysSound image old sound new
 keeps_sound image old new sound id task work there keeps log lines spawns kids stands ends holds bytes =
     let step = keeps_steps old new id task work there keeps in
-    step_stays_sound image old new sound id task work step (ap (λ v. v.memory) keeps.rest) log lines spawns kids stands
-    (lists_stay old new id task work step sound.sizes (ap (λ v. v.finished) keeps.rest) (ap (λ v. v.cores) keeps.rest) ends holds) bytes
+    step_stays_sound image old new sound id task work step (ap (λ v. v.memory) keeps.frame) log lines spawns kids stands
+    (lists_stay old new id task work step sound.sizes (ap (λ v. v.finished) keeps.frame) (ap (λ v. v.cores) keeps.frame) ends holds) bytes
 
 module _ (image : ImageValue) (old : View) (sound : Sound image old) (tile core id : ℕ) (leg : LegValue) (task : Task) (taken : IsLegOf image old tile core leg id task) where
   -- what a running task has done
@@ -77,8 +78,8 @@ module _ (image : ImageValue) (old : View) (sound : Sound image old) (tile core 
   pub ran_leg : RanTo image old.version old.settings.budget task (progress_at [] leg.to task)
   ran_leg =
       run_on image old.settings.budget image.data_size (start_context old.version task)
-      (begun old.version task.entry task.key.ts task.args []) task.log (progress_at [] task.core task) leg.steps leg.to stood.1
-      (subst (λ from. PlainSteps image image.data_size old.settings.budget leg.steps from leg.to) (sym taken.takes.from) taken.run.run)
+      (task_at_start old.version task.entry task.key.ts task.args []) task.log (progress_at [] task.core task) leg.steps leg.to stood.1
+      (subst (λ from. PlainInstructions image image.data_size old.settings.budget leg.steps from leg.to) (sym taken.takes.from) taken.run.run)
 
   -- what it asks for at the end of the leg it asks for next in its run
   pub asks_next : (request : Request) → request_of old task leg ≡ request → request ≢ Continue → AsksNext image old.version old.settings.budget task (progress_at [] leg.to task) request

@@ -2,11 +2,11 @@
 use Rattle.std.proofs.Common.{◌≡◌, ℕ, length, Option, Some, sym, ap, subst, ◌∙◌, inl, inr, slice_get, is_some, unwrap_or}
 use Rattle.std.proofs.lemmas.Bool.{cases_eq}
 use Rattle.guest_image.specs.ImageValue.{ImageValue}
-use Rattle.serial_machine.specs.State.{State}
+use Rattle.serial_machine.specs.State.{SerialState}
 use Rattle.task_desc.specs.declared.desc.Spawn.{Spawn}
-use Rattle.turn_law.specs.Commit.{Matches}
-use Rattle.turn_law.specs.Domains.{FitsBags}
-use Rattle.turn_law.specs.Sound.{AreSound}
+use Rattle.task_law.specs.Commit.{Matches}
+use Rattle.task_law.specs.Domains.{FitsBags}
+use Rattle.task_law.specs.Sound.{AreSound}
 use Rattle.spec_state.specs.declared.task.Creator.TheVariants.{Committed, Live}
 use Rattle.spec_state.specs.declared.task.Task.{Task}
 use Rattle.spec_state.specs.declared.task.TaskId.{TaskId}
@@ -35,13 +35,13 @@ module _ (old new : View) (id : ℕ) (task work : Task) (step : StepsOne old new
           there = ap (task_at new) is ∙ step.changes.changed;
           spawn = made.spawn;
           made = kid.0;
-          is = made.is ∙ ap (λ t. child_descriptor t made.spawn) same ∙ sym kid.1;
+          descriptor_is = made.descriptor_is ∙ ap (λ t. child_descriptor t made.spawn) same ∙ sym kid.1;
         }
-    | inr other ↦ record { creator = made.creator; there = step.changes.others k other ∙ made.there; spawn = made.spawn; made = made.made; is = made.is }
+    | inr other ↦ record { creator = made.creator; there = step.changes.others k other ∙ made.there; spawn = made.spawn; made = made.made; descriptor_is = made.descriptor_is }
   ]
 
   -- the domains of a task of a committed creator
-  pub domains_still : (image : ImageValue) (heir : Option ℕ) (serial : State) → SoundTasks image old heir serial
+  pub domains_still : (image : ImageValue) (heir : Option ℕ) (serial : SerialState) → SoundTasks image old heir serial
       → (k : ℕ) (t : Task) (turn index : ℕ) → task_at new k ≡ Some t → t.creator ≡ Committed turn index → FitsBags (domains_of t.kinds t.key.domain) serial.stack
   domains_still image heir serial sound k t turn index at creator =
       let from = origin old new id task work step k t at in
@@ -49,7 +49,7 @@ module _ (old new : View) (id : ℕ) (task work : Task) (step : StepsOne old new
       (sound.domains k from.was turn index from.there (sym (ap (λ z. z.creator) from.made) ∙ creator))
 
   -- a task of an uncommitted creator is as that made it
-  pub children_still : (image : ImageValue) (heir : Option ℕ) (serial : State) → SoundTasks image old heir serial
+  pub children_still : (image : ImageValue) (heir : Option ℕ) (serial : SerialState) → SoundTasks image old heir serial
       → (k : ℕ) (t : Task) (creator : TaskId) (index : ℕ) → task_at new k ≡ Some t → t.creator ≡ Live creator index
       → IsMadeBy (stepped_to old new) creator.0 index (descriptor_of t)
   children_still image heir serial sound k t creator index at is =
@@ -59,13 +59,13 @@ module _ (old new : View) (id : ℕ) (task work : Task) (step : StepsOne old new
       (sound.children k from.was creator index from.there (sym (ap (λ z. z.creator) from.made) ∙ is)))
 
   -- all tasks stand as their statuses say, where this one does
-  pub stand_still : (image : ImageValue) (heir : Option ℕ) (serial : State) → SoundTasks image old heir serial → StandsAs image old.version old.settings.budget (worked task work) work.status
+  pub stand_still : (image : ImageValue) (heir : Option ℕ) (serial : SerialState) → SoundTasks image old heir serial → StandsAs image old.version old.settings.budget (worked task work) work.status
       → (k : ℕ) (t : Task) → task_at new k ≡ Some t → StandsAs image old.version old.settings.budget t t.status
   stand_still image heir serial sound stands =
       each_stepped old new id (worked task work) step.changes (λ k t. StandsAs image old.version old.settings.budget t t.status) (λ k t other at. sound.stands k t at) stands
 
   -- the group of the view whose other parts are the old ones
-  kept : (image : ImageValue) (heir : Option ℕ) (serial : State) → SoundTasks image old heir serial → work.spawns ≡ task.spawns
+  kept : (image : ImageValue) (heir : Option ℕ) (serial : SerialState) → SoundTasks image old heir serial → work.spawns ≡ task.spawns
       → StandsAs image old.version old.settings.budget (worked task work) work.status → SoundTasks image (stepped_to old new) heir serial
   kept image heir serial sound spawns stands =
       record {
@@ -80,7 +80,7 @@ module _ (old new : View) (id : ℕ) (task work : Task) (step : StepsOne old new
         spilled_children = λ s has next. (let was = sound.spilled_children s has next in (was.0, was.1, made_still was.0 s.desc.name.index (spilled_descriptor s) was.2));
       }
 
-  pub step_keeps_tasks : (image : ImageValue) (heir : Option ℕ) (serial : State) → SoundTasks image old heir serial → work.spawns ≡ task.spawns
+  pub step_keeps_tasks : (image : ImageValue) (heir : Option ℕ) (serial : SerialState) → SoundTasks image old heir serial → work.spawns ≡ task.spawns
       → StandsAs image old.version old.settings.budget (worked task work) work.status → SoundTasks image new heir serial
   step_keeps_tasks image heir serial sound spawns stands =
       subst (λ v. SoundTasks image v heir serial) (sym step.rest) (kept image heir serial sound spawns stands)

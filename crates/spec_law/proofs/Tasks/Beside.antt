@@ -5,10 +5,10 @@ use Rattle.std.proofs.lemmas.Bool.Decides.{nat_tests}
 use Rattle.std.proofs.lemmas.List.{get_or_past}
 use Rattle.std.proofs.lemmas.Option.{slice_get-map}
 use Rattle.order_law.specs.Tasks.{Keyed}
-use Rattle.spill_store.specs.Entries.{Entry as Spilled}
+use Rattle.spill_store.specs.SpilledTasks.{Spilled}
 use Rattle.spec_state.specs.declared.task.Task.{Task}
 use Rattle.spec_state.specs.View.{View, task_at}
-use Rattle.spec_state.specs.Groups.{keyed, keyed_task, keyed_spilled, all_spilled, all_keyed}
+use Rattle.spec_state.specs.Groups.{keyed_tasks, keyed_task, keyed_spilled, all_spilled, all_keyed}
 
 -- what a mapped option holds comes from what the option holds
 pub mapped_some : {X Y : Type 0} (f : X → Y) (o : Option X) (y : Y) → option_map f o ≡ Some y → (x : X) × (o ≡ Some x) × (y ≡ f x)
@@ -38,7 +38,7 @@ module _ (view : View) (heir : Option ℕ) where
   -- a queued task stands under its id
   pub queued_stands : (id : ℕ) (task : Task) → task_at view id ≡ Some task → all_keyed view heir id ≡ Some (keyed_task task)
   queued_stands id task at =
-      ap (λ b. if b then keyed view id else slice_get (map spilled_key (all_spilled view)) (id - length view.tasks)) (low_test id (length view.tasks) (id_below view id task at))
+      ap (λ b. if b then keyed_tasks view id else slice_get (map spilled_key (all_spilled view)) (id - length view.tasks)) (low_test id (length view.tasks) (id_below view id task at))
       ∙ ap (option_map keyed_task) at
 
   -- a spilled task stands under some id
@@ -47,7 +47,7 @@ module _ (view : View) (heir : Option ℕ) where
       let bound = length view.tasks in
       let same : bound + k - bound ≡ k = omega arith in (
         bound + k,
-        ap (λ b. if b then keyed view (bound + k) else slice_get (map spilled_key (all_spilled view)) (bound + k - bound)) (high_test bound k)
+        ap (λ b. if b then keyed_tasks view (bound + k) else slice_get (map spilled_key (all_spilled view)) (bound + k - bound)) (high_test bound k)
             ∙ ap (slice_get (map spilled_key (all_spilled view))) same
             ∙ slice_get-map spilled_key (all_spilled view) k
             ∙ ap (option_map spilled_key) at,
@@ -65,7 +65,7 @@ module _ (view : View) (heir : Option ℕ) where
   pub which : (k : ℕ) (x : Keyed) → all_keyed view heir k ≡ Some x → IsQueuedThere k x ⊎ IsSpilledThere x
   which k x at = by_test (nat_lt k (length view.tasks)) at
     where
-      by_test : (b : Bool) → (if b then keyed view k else slice_get (map spilled_key (all_spilled view)) (k - length view.tasks)) ≡ Some x
+      by_test : (b : Bool) → (if b then keyed_tasks view k else slice_get (map spilled_key (all_spilled view)) (k - length view.tasks)) ≡ Some x
           → IsQueuedThere k x ⊎ IsSpilledThere x
       by_test true e = inl (mapped_some keyed_task (task_at view k) x e)
       by_test false e =

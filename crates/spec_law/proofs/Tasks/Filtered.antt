@@ -3,7 +3,7 @@ use Rattle.std.proofs.Common.{◌≡◌, ◌≤◌, ◌∷◌, ℕ, zero, suc, B
 use Rattle.std.specs.Prelude.{Contains, filter}
 use Rattle.std.proofs.lemmas.List.Elements.{All-contains, All-contains_itself, All-filter, filter_passes}
 use Rattle.std.proofs.lemmas.List.Filters.{length-filter_both}
-use Rattle.turn_law.specs.Room.{Waiting, kept_by, queue_after}
+use Rattle.task_law.specs.Room.{RoomTask, kept_by, queue_after}
 
 -- no more is left than was there
 pub filter_shorter : {X : Type 0} (p : X → Bool) (xs : List X) → length (filter p xs) ≤ length xs
@@ -33,7 +33,8 @@ filter_leaves p (y ∷ xs) x (suc k, below, at) passes = by_test (p y) (filter_l
     by_test false has = has
 
 -- a queue without the ids of tasks that have gone is filtered by what is there
-pub queue_filtered : (new : ℕ → Option Waiting) (ids : List ℕ) → queue_after new ids ≡ filter (λ k. is_some (new k)) ids
+pub queue_filtered : (new : ℕ → Option RoomTask) (ids : List ℕ)
+    → queue_after new ids ≡ filter (λ k. is_some (new k)) ids
 queue_filtered new [] = refl
 queue_filtered new (k ∷ ids) = by_kept (is_some (new k)) (queue_after new ids) ∙ ap (λ rest. cond (is_some (new k)) (k ∷ rest) rest) (queue_filtered new ids)
   where

@@ -2,12 +2,12 @@
 use Rattle.std.proofs.Common.{◌≡◌, ℕ, ◌+◌, ◌≤◌, nat_le, true, length, Option, Some, None, refl, sym, ap, ◌∙◌, inl, inr, arith}
 use Rattle.std.proofs.lemmas.Bool.Decides.{nat_tests}
 use Rattle.std.proofs.lemmas.List.{length-map}
-use Rattle.fractal_vt.specs.Levels.{closed}
+use Rattle.fractal_vt.specs.Levels.{closed_level}
 use Rattle.order_law.specs.Innermost.{IsInnermost}
 use Rattle.order_law.specs.Tasks.{Keyed}
 use Rattle.pending_list.specs.declared.task.PendingTask.{PendingTask}
-use Rattle.turn_law.specs.Tasks as bags
-use Rattle.turn_law.specs.Tasks.{In, IsFree, IsSpilled}
+use Rattle.task_law.specs.Tasks as bags
+use Rattle.task_law.specs.Tasks.{In, IsFree, IsSpilled}
 use Rattle.spec_state.specs.declared.task.Creator.{Creator}
 use Rattle.spec_state.specs.declared.task.Creator.TheVariants.{Committed, Live}
 use Rattle.spec_state.specs.View.{View, task_at}
@@ -48,8 +48,9 @@ module _ (view : View) (sizes : SoundSizes view) (heir : Option ℕ) where
         x = keyed_task from.0;
         there = queued_stands view heir q.id from.0 from.1;
         committed = committed_is_none from.0.creator q.turn q.index (sym (ap (λ t. t.creator) from.2) ∙ q.creator);
-        deep = ap (λ n. n + 1) (length-map from.0.key.domain closed) ∙ sym (ap (λ t. t.depth) from.2) ∙ q.at;
-        timed = sym (ap (λ t. t.ts) from.2) ∙ sym (ap (λ z. z.ts) q.is);
+        deep = ap (λ n. n + 1) (length-map from.0.key.domain closed_level) ∙ sym (ap (λ t. t.depth) from.2)
+            ∙ q.depth_is;
+        timed = sym (ap (λ t. t.ts) from.2) ∙ sym (ap (λ z. z.ts) q.pending_is);
       }
   free_is_keyed depth p (inr s) =
       let from = in_mapped bag_spilled (all_spilled view) (record { depth = depth; task = p }) s.0 in
@@ -62,7 +63,7 @@ module _ (view : View) (sizes : SoundSizes view) (heir : Option ℕ) where
         x = spilled_key view heir from.1;
         there = stands.1;
         committed = ap (λ b. heir_unless b heir) (le_test from.1.desc.name.creator (length view.history) low);
-        deep = ap (λ n. n + 1) (length-map from.1.domain closed) ∙ deep ∙ sym (ap (λ e. e.depth) from.3);
+        deep = ap (λ n. n + 1) (length-map from.1.domain closed_level) ∙ deep ∙ sym (ap (λ e. e.depth) from.3);
         timed = sym (ap (λ e. e.task.ts) from.3);
       }
 

@@ -8,7 +8,7 @@ use Rattle.std.specs.declared.cmp.Ordering.TheVariants.{Less, Equal, Greater}
 use Rattle.fractal_vt.specs.declared.key.Key.{Key}
 use Rattle.fractal_vt.specs.Keys.{key_cmp}
 use Rattle.fractal_vt.proofs.Proved.{key_cmp_total}
-use Rattle.spill_store.specs.Entries.{Entry as Spilled, open_key}
+use Rattle.spill_store.specs.SpilledTasks.{Spilled, open_key}
 use Rattle.spec_state.specs.declared.task.Task.{Task}
 use Rattle.spec_state.specs.View.{View, task_at, queue_at, block_at}
 use Rattle.spec_state.specs.Least.{Spot, Queued, Spilled_at, HasKey, IsQueuedAt, IsLeastTask, ranked_cmp, spot_cmp}
@@ -57,7 +57,7 @@ module _ (view : View) (sizes : SoundSizes view) where
       → ((tile place : ℕ) (s : Spilled) → slice_get (block_at view tile) place ≡ Some s → key_cmp x.key (open_key s) ≢ Greater)
       → IsLeastTask view id x
   makes_least id x there others spilled =
-      record { place = spot.0; at = spot.1; least = record { key = x.key; has = (id, x, spot.1, refl); least = by_spot } }
+      record { place = spot.0; queued_at = spot.1; least = record { key = x.key; has = (id, x, spot.1, refl); least = by_spot } }
     where
       spot : (place : ℕ) × IsQueuedAt view x.tile place id x
       spot = queued_at view sizes id x there

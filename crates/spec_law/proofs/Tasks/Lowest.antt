@@ -7,11 +7,11 @@ use Rattle.std.specs.declared.cmp.Ordering.{Ordering}
 use Rattle.std.specs.declared.cmp.Ordering.TheVariants.{Less, Equal, Greater}
 use Rattle.fractal_vt.specs.Levels.{levels_cmp}
 use Rattle.fractal_vt.proofs.Proved.{levels_cmp_total}
-use Rattle.order_law.specs.Tasks.{Keyed, levels}
+use Rattle.order_law.specs.Tasks.{Keyed, levels_of}
 
 -- the first task is not above the second
 abbrev pub IsUpto : Keyed → Keyed → Type 0
-IsUpto x y = is_gt (levels_cmp (levels x) (levels y)) ≡ false
+IsUpto x y = is_gt (levels_cmp (levels_of x) (levels_of y)) ≡ false
 
 -- one of the tasks below a bound, above none of them
 pub record IsLowest (tasks : ℕ → Option Keyed) (bound : ℕ) : Type 0 where
@@ -20,12 +20,12 @@ pub record IsLowest (tasks : ℕ → Option Keyed) (bound : ℕ) : Type 0 where
   pub there : tasks id ≡ Some task
   pub low : (k : ℕ) (y : Keyed) → k < bound → tasks k ≡ Some y → IsUpto task y
 
-turned : (x z : Keyed) → levels_cmp (levels x) (levels z) ≡ Greater → IsUpto z x
-turned x z greater = ap is_gt (levels_cmp_total.antisymm (levels z) (levels x) ∙ ap ordering_reverse greater)
+turned : (x z : Keyed) → levels_cmp (levels_of x) (levels_of z) ≡ Greater → IsUpto z x
+turned x z greater = ap is_gt (levels_cmp_total.antisymm (levels_of z) (levels_of x) ∙ ap ordering_reverse greater)
 
 -- the task before and one more
 with_one : (tasks : ℕ → Option Keyed) (bound : ℕ) (z : Keyed) → tasks bound ≡ Some z → IsLowest tasks bound → IsLowest tasks (suc bound)
-with_one tasks bound z is low = by_order (levels_cmp (levels low.task) (levels z)) refl
+with_one tasks bound z is low = by_order (levels_cmp (levels_of low.task) (levels_of z)) refl
   where
     same_task : (k : ℕ) (y : Keyed) → k ≡ bound → tasks k ≡ Some y → y ≡ z
     same_task k y same at = let both : Some y ≡ Some z = sym at ∙ ap tasks same ∙ is in cc
@@ -42,7 +42,7 @@ with_one tasks bound z is low = by_order (levels_cmp (levels low.task) (levels z
           ];
         }
 
-    by_order : (o : Ordering) → levels_cmp (levels low.task) (levels z) ≡ o → IsLowest tasks (suc bound)
+    by_order : (o : Ordering) → levels_cmp (levels_of low.task) (levels_of z) ≡ o → IsLowest tasks (suc bound)
     by_order Less less = stays (ap is_gt less)
     by_order Equal tie = stays (ap is_gt tie)
     by_order Greater greater =
@@ -51,8 +51,8 @@ with_one tasks bound z is low = by_order (levels_cmp (levels low.task) (levels z
           task = z;
           there = is;
           low = λ k y below at. elim (cases_eq k bound) [
-            | inl same ↦ subst (IsUpto z) (sym (same_task k y same at)) (ap is_gt (tied_itself levels_cmp_total (levels z)))
-            | inr other ↦ upto levels_cmp_total (levels z) (levels low.task) (levels y) (turned low.task z greater) (low.low k y (omega (arith, other)) at)
+            | inl same ↦ subst (IsUpto z) (sym (same_task k y same at)) (ap is_gt (tied_itself levels_cmp_total (levels_of z)))
+            | inr other ↦ upto levels_cmp_total (levels_of z) (levels_of low.task) (levels_of y) (turned low.task z greater) (low.low k y (omega (arith, other)) at)
           ];
         }
 
@@ -80,7 +80,7 @@ lowest tasks (suc bound) = by_task (tasks bound) refl (lowest tasks bound)
         | inl same ↦
             let both : Some y ≡ Some z = sym at ∙ ap tasks same ∙ is in
             let eq : y ≡ z = cc in
-            subst (IsUpto z) (sym eq) (ap is_gt (tied_itself levels_cmp_total (levels z)))
+            subst (IsUpto z) (sym eq) (ap is_gt (tied_itself levels_cmp_total (levels_of z)))
         | inr other ↦ absurd (cc (sym at ∙ none k (omega (arith, other))))
       ];
     })

@@ -6,16 +6,16 @@ use Rattle.std.proofs.lemmas.Option.{slice_get_read, slice_get-map}
 use Rattle.std.specs.declared.cmp.Ordering.TheVariants.{Greater}
 use Rattle.fractal_vt.specs.declared.key.Key.{Key}
 use Rattle.fractal_vt.specs.Keys.{levels, key_cmp}
-use Rattle.fractal_vt.specs.Levels.{closed, levels_cmp}
+use Rattle.fractal_vt.specs.Levels.{closed_level, levels_cmp}
 use Rattle.guest_image.specs.ImageValue.{ImageValue}
 use Rattle.order_law.specs.Innermost.{IsInnermost}
 use Rattle.order_law.specs.Tasks.{Keyed}
 use Rattle.order_law.specs.Tasks as order
 use Rattle.order_law.proofs.Proved.{innermost}
-use Rattle.spill_store.specs.Entries.{Entry as Spilled, open_key}
-use Rattle.turn_law.specs.Tasks.{IsSpilled}
-use Rattle.turn_law.specs.Commit.{HasTurn}
-use Rattle.turn_law.proofs.Proved.{least_has_turn}
+use Rattle.spill_store.specs.SpilledTasks.{Spilled, open_key}
+use Rattle.task_law.specs.Tasks.{IsSpilled}
+use Rattle.task_law.specs.Commit.{HasTurn}
+use Rattle.task_law.proofs.Proved.{least_has_turn}
 use Rattle.spec_state.specs.declared.task.Creator.{Creator}
 use Rattle.spec_state.specs.declared.task.Creator.TheVariants.{Committed, Live}
 use Rattle.spec_state.specs.declared.task.Task.{Task}
@@ -66,7 +66,7 @@ pub record HasSpot (view : View) (x : Keyed) : Type 0 where
   pub spot : Spot
   pub key : Key
   pub has : HasKey view spot key
-  pub same : order.levels x ≡ levels key
+  pub same : order.levels_of x ≡ levels key
 
 module _ (view : View) (sizes : SoundSizes view) (heir : Option ℕ) where
   -- each task stands at some spot
@@ -83,15 +83,15 @@ module _ (view : View) (sizes : SoundSizes view) (heir : Option ℕ) where
             record { queued = slice_get_read (queue_at view q.0.tile) (length (queue_at view q.0.tile)) at_tile.0 k refl at_tile.1 (sym at_tile.2); there = q.1 },
             refl,
           );
-          same = ap order.levels q.2;
+          same = ap order.levels_of q.2;
         }
     | inr s ↦
         let at_tile = place_in_one view.blocks s.0 s.1 s.2 in
-        record { spot = Spilled_at at_tile.0 at_tile.1; key = open_key s.1; has = (s.1, at_tile.2, refl); same = ap order.levels s.3 }
+        record { spot = Spilled_at at_tile.0 at_tile.1; key = open_key s.1; has = (s.1, at_tile.2, refl); same = ap order.levels_of s.3 }
   ]
 
   -- below what stands at the least spot ranks no task
-  pub none_below : (spot : Spot) (least : IsLeastSpot view spot) (k : ℕ) (x : Keyed) → all_keyed view heir k ≡ Some x → levels_cmp (levels least.key) (order.levels x) ≢ Greater
+  pub none_below : (spot : Spot) (least : IsLeastSpot view spot) (k : ℕ) (x : Keyed) → all_keyed view heir k ≡ Some x → levels_cmp (levels least.key) (order.levels_of x) ≢ Greater
   none_below spot least k x at e =
       let one = spot_of k x at in
       first_not_greater (key_cmp least.key one.key) (spot_cmp spot one.spot) (least.least one.spot one.key one.has)
@@ -99,19 +99,20 @@ module _ (view : View) (sizes : SoundSizes view) (heir : Option ℕ) where
 
 module _ (image : ImageValue) (view : View) (sound : Sound image view) where
   -- the task at the least spot stands innermost in the order of tasks
-  pub least_is_innermost : (spot : Spot) (least : IsLeastSpot view spot) (k : ℕ) (x : Keyed) → all_keyed view sound.heir k ≡ Some x → order.levels x ≡ levels least.key
+  pub least_is_innermost : (spot : Spot) (least : IsLeastSpot view spot) (k : ℕ) (x : Keyed) → all_keyed view sound.heir k ≡ Some x → order.levels_of x ≡ levels least.key
       → IsInnermost (all_keyed view sound.heir) x
   least_is_innermost spot least k x at same =
-      innermost (all_keyed view sound.heir) (map closed view.path) view.next k x sound.order.order
-      (record { there = at; least = λ j y there e. none_below view sound.sizes sound.heir spot least j y there (ap (λ ls. levels_cmp ls (order.levels y)) (sym same) ∙ e) })
+      innermost (all_keyed view sound.heir) (map closed_level view.path) view.next k x sound.order.order
+      (record { there = at; least = λ j y there e. none_below view sound.sizes sound.heir spot least j y there (ap (λ ls. levels_cmp ls (order.levels_of y)) (sym same) ∙ e) })
 
   -- where a queued task is the least, it may take the next turn
   may_take_turn : (id : ℕ) (task : Task) → IsLeastTask view id task → MayTakeTurn sound.serial.stack task
   may_take_turn id task is =
-      let key : is.least.key ≡ task.key = queued_key view task.tile is.place id task is.least.key is.at is.least.has in
-      let inner = least_is_innermost (Queued task.tile is.place) is.least id (keyed_task task) (queued_stands view sound.heir id task is.at.there) (ap levels (sym key)) in
+      let key : is.least.key
+      ≡ task.key = queued_key view task.tile is.place id task is.least.key is.queued_at is.least.has in
+      let inner = least_is_innermost (Queued task.tile is.place) is.least id (keyed_task task) (queued_stands view sound.heir id task is.queued_at.there) (ap levels (sym key)) in
       let by = none_is_committed task.creator inner.committed in
-      let front = foremost view sound.sizes sound.heir (keyed_task task) (depth_of task) task.key.ts inner (ap (λ n. n + 1) (length-map task.key.domain closed)) refl in
+      let front = foremost view sound.sizes sound.heir (keyed_task task) (depth_of task) task.key.ts inner (ap (λ n. n + 1) (length-map task.key.domain closed_level)) refl in
       record {
         turn = by.0;
         index = by.1;
@@ -119,7 +120,7 @@ module _ (image : ImageValue) (view : View) (sound : Sound image view) where
         next = least_has_turn (length view.history) (unwrap_or sound.heir 0) id by.0 by.1 (is_some sound.heir) (bag_tasks view) (bags_spilled view)
             sound.serial.stack (bag_task task) sound.tasks.names sound.tasks.matches
             (run_stack image view.settings.budget view.history sound.serial sound.is_run)
-            (record { there = ap (option_map bag_task) is.at.there; creator = ap bag_creator by.2; deepest = front.deepest; first = front.first });
+            (record { there = ap (option_map bag_task) is.queued_at.there; creator = ap bag_creator by.2; deepest = front.deepest; first = front.first });
       }
 
   -- a spilled task without an uncommitted creator has a committed one: were it a child of the heir, the heir would be its creator
@@ -143,7 +144,7 @@ module _ (image : ImageValue) (view : View) (sound : Sound image view) where
       let inner = least_is_innermost (Spilled_at tile place) is stands.0 (spilled_key view sound.heir s) stands.1 (ap levels (sym key)) in
       let low = firm_is_committed among.0 s among.1 inner.committed in
       let deep = (sound.sizes.spilled s (get_contains (all_spilled view) among.0 s among.1)).1 in
-      let front = foremost view sound.sizes sound.heir (spilled_key view sound.heir s) s.desc.depth s.desc.ts inner (ap (λ n. n + 1) (length-map s.domain closed) ∙ deep) refl in
+      let front = foremost view sound.sizes sound.heir (spilled_key view sound.heir s) s.desc.depth s.desc.ts inner (ap (λ n. n + 1) (length-map s.domain closed_level) ∙ deep) refl in
       let around = parted (bags_spilled view) among.0 (bag_spilled s) (slice_get-map bag_spilled (all_spilled view) among.0 ∙ ap (option_map bag_spilled) among.1) in (
         low,
         spilled_has_turn (length view.history) (unwrap_or sound.heir 0) (length view.tasks) (is_some sound.heir) (bag_tasks view) (bags_spilled view)

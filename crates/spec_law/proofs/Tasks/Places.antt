@@ -1,7 +1,7 @@
 -- What stands at the places of a list: of several lists one after another, of a mapped one, and of one that is parted.
 use Rattle.std.proofs.Common.{◌≡◌, ◌⊎◌, ℕ, zero, suc, List, [], ◌∷◌, ◌++◌, map, flat_map, Contains, Some, refl, sym, ap, inl, inr, arith, slice_get, slice_index_or}
 use Rattle.std.proofs.lemmas.Option.{slice_get_within, get_or_from_slice_get}
-use Rattle.turn_law.specs.Tasks.{In}
+use Rattle.task_law.specs.Tasks.{In}
 
 -- an element of the first list is one of both
 get_left : {X : Type 0} (xs ys : List X) (k : ℕ) (x : X) → slice_get xs k ≡ Some x → slice_get (xs ++ ys) k ≡ Some x

@@ -3,19 +3,19 @@
 use Rattle.std.proofs.Common.{◌≡◌, ◌⊎◌, ◌∷◌, [], ℕ, zero, suc, ◌+◌, ◌-◌, ◌<◌, Bool, true, false, List, length, Option, Some, None, refl, sym, ap, subst, ◌∙◌, inl, inr, arith, map, slice_get, nat_lt, nat_le, if◌then◌else◌}
 use Rattle.std.proofs.lemmas.Bool.Decides.{nat_tests}
 use Rattle.std.proofs.lemmas.Option.{slice_get_within}
-use Rattle.fractal_vt.specs.Levels.{closed}
+use Rattle.fractal_vt.specs.Levels.{closed_level}
 use Rattle.order_law.specs.Tasks.{Keyed}
 use Rattle.order_law.specs.Events as order
-use Rattle.order_law.specs.Events.{beside, IsEntry}
+use Rattle.order_law.specs.Events.{beside, IsAmongSpilled}
 use Rattle.order_law.specs.Ordered.{IsOrdered}
 use Rattle.order_law.proofs.Proved.{abort_law, rename_keeps_order, Renames}
-use Rattle.spill_store.specs.Entries.{Entry as Spilled}
+use Rattle.spill_store.specs.SpilledTasks.{Spilled}
 use Rattle.spec_state.specs.declared.task.Task.{Task}
 use Rattle.spec_state.specs.View.{View, task_at}
-use Rattle.spec_state.specs.Groups.{all_keyed, all_spilled, heir_unless, keyed, keyed_spilled, keyed_task}
+use Rattle.spec_state.specs.Groups.{all_keyed, all_spilled, heir_unless, keyed_tasks, keyed_spilled, keyed_task}
 use Rattle.spec_state.specs.Aborts.{is_marked}
 use Rattle.spec_law.specs.Sound.{SoundOrder}
-use Rattle.spec_law.specs.AbortLaws.{AbortKeepsOrder}
+use Rattle.spec_law.specs.AbortLaws.{AbortKeepsSoundOrder}
 use Rattle.spec_law.proofs.Tasks.Beside.{mapped_some, id_below}
 use Rattle.spec_law.proofs.Aborted.Taken.{gone_stays, order_aborts}
 
@@ -33,10 +33,11 @@ module _ (bound : ℕ) (tasks : ℕ → Option Keyed) (entries : List Keyed) whe
   pub high_is : (k : ℕ) → nat_lt k bound ≡ false → beside bound tasks entries k ≡ slice_get entries (k - bound)
   high_is k high = ap (λ b. if b then tasks k else slice_get entries (k - bound)) high
 
-  pub which : (k : ℕ) (x : Keyed) → beside bound tasks entries k ≡ Some x → (tasks k ≡ Some x) ⊎ IsEntry x entries
+  pub which : (k : ℕ) (x : Keyed) → beside bound tasks entries k ≡ Some x
+      → (tasks k ≡ Some x) ⊎ IsAmongSpilled x entries
   which k x at = by_test (nat_lt k bound) refl
     where
-      by_test : (b : Bool) → nat_lt k bound ≡ b → (tasks k ≡ Some x) ⊎ IsEntry x entries
+      by_test : (b : Bool) → nat_lt k bound ≡ b → (tasks k ≡ Some x) ⊎ IsAmongSpilled x entries
       by_test true low = inl (sym (low_is k low) ∙ at)
       by_test false high = inr (k - bound, sym (high_is k high) ∙ at)
 
@@ -51,14 +52,14 @@ module _ (bound : ℕ) (tasks : ℕ → Option Keyed) (entries : List Keyed) whe
   pub task_there : (k : ℕ) (x : Keyed) → k < bound → tasks k ≡ Some x → beside bound tasks entries k ≡ Some x
   task_there k x low at = low_is k (low_test k bound low) ∙ at
 
-  pub entry_there : (x : Keyed) → IsEntry x entries → (j : ℕ) × (beside bound tasks entries j ≡ Some x)
+  pub entry_there : (x : Keyed) → IsAmongSpilled x entries → (j : ℕ) × (beside bound tasks entries j ≡ Some x)
   entry_there x is =
       let same : bound + is.0 - bound ≡ is.0 = omega arith in
       (bound + is.0, high_is (bound + is.0) (high_test bound is.0) ∙ ap (slice_get entries) same ∙ is.1)
 
 -- entries that are idle stand under other ids where the bound is another one
 pub rebound : (bound other : ℕ) (tasks : ℕ → Option Keyed) (entries : List Keyed)
-    → ((k : ℕ) (x : Keyed) → tasks k ≡ Some x → (k < bound) × (k < other)) → ((x : Keyed) → IsEntry x entries → x.last.tb ≡ None)
+    → ((k : ℕ) (x : Keyed) → tasks k ≡ Some x → (k < bound) × (k < other)) → ((x : Keyed) → IsAmongSpilled x entries → x.last.tb ≡ None)
     → Renames (beside bound tasks entries) (beside other tasks entries)
 rebound bound other tasks entries bounded idle =
     record {
@@ -83,14 +84,14 @@ module _ (count : ℕ) (heir : Option ℕ) where
   entry_of (s ∷ entries) x zero at = let same : keyed_spilled count heir s ≡ x = cc in (s, sym same)
   entry_of (s ∷ entries) x (suc place) at = entry_of entries x place at
 
-  pub entry_idle : (entries : List Spilled) (x : Keyed) → IsEntry x (map (keyed_spilled count heir) entries) → x.last.tb ≡ None
+  pub entry_idle : (entries : List Spilled) (x : Keyed) → IsAmongSpilled x (map (keyed_spilled count heir) entries) → x.last.tb ≡ None
   entry_idle entries x is = let read = entry_of entries x is.0 is.1 in ap (λ t. t.last.tb) read.1
 
   heir_is : (b : Bool) (c : ℕ) → heir_unless b heir ≡ Some c → heir ≡ Some c
   heir_is true c is = absurd (cc)
   heir_is false c is = is
 
-  pub entry_creator : (entries : List Spilled) (x : Keyed) (c : ℕ) → IsEntry x (map (keyed_spilled count heir) entries) → x.creator ≡ Some c → heir ≡ Some c
+  pub entry_creator : (entries : List Spilled) (x : Keyed) (c : ℕ) → IsAmongSpilled x (map (keyed_spilled count heir) entries) → x.creator ≡ Some c → heir ≡ Some c
   entry_creator entries x c is made =
       let read = entry_of entries x is.0 is.1 in
       heir_is (nat_le read.0.desc.name.creator count) c (sym (ap (λ t. t.creator) read.1) ∙ made)
@@ -111,8 +112,9 @@ low_is_set bound set k low = ap (λ b. if b then set k else false) low
 
 -- an abort of queued tasks is one of all, where no entry's creator is in the set
 beside_aborts : (bound : ℕ) (set : ℕ → Bool) (old new : ℕ → Option Keyed) (entries : List Keyed)
-    → order.Aborts set old new → ((x : Keyed) (c : ℕ) → IsEntry x entries → x.creator ≡ Some c → set c ≡ false)
-    → order.Aborts (low_only bound set) (beside bound old entries) (beside bound new entries)
+    → order.AbortsInKeys set old new
+    → ((x : Keyed) (c : ℕ) → IsAmongSpilled x entries → x.creator ≡ Some c → set c ≡ false)
+    → order.AbortsInKeys (low_only bound set) (beside bound old entries) (beside bound new entries)
 beside_aborts bound set old new entries aborts spared = record { holds_children = holds; others = others; members = members }
   where
     holds : (k c : ℕ) (x : Keyed) → beside bound old entries k ≡ Some x → x.creator ≡ Some c → low_only bound set c ≡ true → low_only bound set k ≡ true
@@ -130,7 +132,7 @@ beside_aborts bound set old new entries aborts spared = record { holds_children 
         by_test false high = high_is bound new entries k high ∙ sym (high_is bound old entries k high)
 
     members : (k : ℕ) (x : Keyed) → low_only bound set k ≡ true → beside bound new entries k ≡ Some x
-        → (y : Keyed) × (beside bound old entries k ≡ Some y) × (x ≡ order.reopened y) × ((c : ℕ) → y.creator ≡ Some c → low_only bound set c ≡ false)
+        → (y : Keyed) × (beside bound old entries k ≡ Some y) × (x ≡ order.with_open_level y) × ((c : ℕ) → y.creator ≡ Some c → low_only bound set c ≡ false)
     members k x taken at =
         let is = low_of bound set k taken in
         let back = aborts.members k x is.1 (sym (low_is bound new entries k is.0) ∙ at) in
@@ -144,24 +146,24 @@ beside_aborts bound set old new entries aborts spared = record { holds_children 
 abbrev pub changed_to : View → View → View
 changed_to old new = record old { tasks = new.tasks; memory = new.memory; queues = new.queues; finished = new.finished; cores = new.cores }
 
-pub abort_keeps_order : AbortKeepsOrder
-abort_keeps_order marks old new heir takes spares sound = subst (λ v. SoundOrder v heir) (sym takes.rest) (record { order = kept; numbers = sound.numbers })
+pub abort_keeps_order : AbortKeepsSoundOrder
+abort_keeps_order marks old new heir takes spares sound = subst (λ v. SoundOrder v heir) (sym takes.frame) (record { order = kept; numbers = sound.numbers })
   where
     entries : List Keyed
     entries = map (keyed_spilled (length old.history) heir) (all_spilled old)
 
-    bounded : (k : ℕ) (x : Keyed) → keyed new k ≡ Some x → (k < length old.tasks) × (k < length new.tasks)
+    bounded : (k : ℕ) (x : Keyed) → keyed_tasks new k ≡ Some x → (k < length old.tasks) × (k < length new.tasks)
     bounded k x at = let read = mapped_some keyed_task (task_at new k) x at in (by_was (task_at old k) refl read.0 read.1, id_below new k read.0 read.1)
       where
         by_was : (was : Option Task) → task_at old k ≡ was → (t : Task) → task_at new k ≡ Some t → k < length old.tasks
         by_was None none t there = absurd (cc (gone_stays marks old new takes k none, there))
         by_was (Some w) is t there = id_below old k w is
 
-    kept : IsOrdered (all_keyed (changed_to old new) heir) (map closed old.path) old.next
+    kept : IsOrdered (all_keyed (changed_to old new) heir) (map closed_level old.path) old.next
     kept =
-        rename_keeps_order (beside (length old.tasks) (keyed new) entries) (all_keyed (changed_to old new) heir) (map closed old.path) old.next
-        (rebound (length old.tasks) (length new.tasks) (keyed new) entries bounded (entry_idle (length old.history) heir (all_spilled old)))
-        (abort_law (low_only (length old.tasks) (is_marked marks)) (all_keyed old heir) (beside (length old.tasks) (keyed new) entries) (map closed old.path) old.next
-        (beside_aborts (length old.tasks) (is_marked marks) (keyed old) (keyed new) entries (order_aborts marks old new takes)
+        rename_keeps_order (beside (length old.tasks) (keyed_tasks new) entries) (all_keyed (changed_to old new) heir) (map closed_level old.path) old.next
+        (rebound (length old.tasks) (length new.tasks) (keyed_tasks new) entries bounded (entry_idle (length old.history) heir (all_spilled old)))
+        (abort_law (low_only (length old.tasks) (is_marked marks)) (all_keyed old heir) (beside (length old.tasks) (keyed_tasks new) entries) (map closed_level old.path) old.next
+        (beside_aborts (length old.tasks) (is_marked marks) (keyed_tasks old) (keyed_tasks new) entries (order_aborts marks old new takes)
         (λ x c is made. spares c (entry_creator (length old.history) heir (all_spilled old) x c is made)))
         sound.order)

@@ -5,11 +5,11 @@ use Rattle.std.proofs.lemmas.Bool.Decides.{nat_tests}
 use Rattle.pending_list.specs.declared.task.PendingTask.{PendingTask}
 use Rattle.serial_machine.specs.BagValue.{BagValue}
 use Rattle.serial_machine.specs.State.{IsStack}
-use Rattle.turn_law.specs.Commit.{Matches, HasTurn}
-use Rattle.turn_law.specs.Moves.{SpillsOne}
-use Rattle.turn_law.specs.Sound.{AreSound, SameFree}
-use Rattle.turn_law.specs.Tasks.{Task, Committed, IsFree, IsSpilled, SpilledTask}
-use Rattle.turn_law.proofs.Proved.{least_has_turn, splits_keep}
+use Rattle.task_law.specs.Commit.{Matches, HasTurn}
+use Rattle.task_law.specs.Moves.{SpillsOneInBags}
+use Rattle.task_law.specs.Sound.{AreSound, SameFree}
+use Rattle.task_law.specs.Tasks.{BagTask, Committed, IsFree, IsSpilled, SpilledBagTask}
+use Rattle.task_law.proofs.Proved.{least_has_turn, splits_keep}
 
 -- a number passes the test for itself
 pub same_test : (n : ℕ) → (n == n) ≡ true
@@ -20,7 +20,7 @@ pub other_test : (k n : ℕ) → k ≢ n → (k == n) ≡ false
 other_test k n other = grind (arith, nat_tests)
 
 -- the spilled task as a queued one, idle
-abbrev back_again : SpilledTask → Task
+abbrev back_again : SpilledBagTask → BagTask
 back_again e = record {
   depth = e.depth;
   body = record { entry = e.task.entry; args = e.task.args };
@@ -30,13 +30,13 @@ back_again e = record {
   spawns = [];
 }
 
-module _ (count least id : ℕ) (runs : Bool) (tasks : ℕ → Option Task) (spilled front back : List SpilledTask) (e : SpilledTask) (vacant : tasks id ≡ None) (is : spilled ≡ front ++ e ∷ back) (low : e.task.name.creator ≤ count) where
+module _ (count least id : ℕ) (runs : Bool) (tasks : ℕ → Option BagTask) (spilled front back : List SpilledBagTask) (e : SpilledBagTask) (vacant : tasks id ≡ None) (is : spilled ≡ front ++ e ∷ back) (low : e.task.name.creator ≤ count) where
   -- the queued tasks with the spilled one among them
-  abbrev with_it : ℕ → Option Task
+  abbrev with_it : ℕ → Option BagTask
   with_it k = if k == id then Some (back_again e) else tasks k
 
   -- read backwards, its return is a spill
-  returns : SpillsOne count least runs with_it tasks (front ++ back) spilled id
+  returns : SpillsOneInBags count least runs with_it tasks (front ++ back) spilled id
   returns = record {
     task = back_again e;
     name = e.task.name;
@@ -48,8 +48,8 @@ module _ (count least id : ℕ) (runs : Bool) (tasks : ℕ → Option Task) (spi
     heir = λ creator index live. absurd (cc (live));
     front = front;
     back = back;
-    was = refl;
-    is = is;
+    before_is = refl;
+    after_is = is;
   }
 
   -- the free tasks are the same ones

@@ -1,8 +1,8 @@
 use Rattle.std.proofs.Common.{arith, map}
 use Rattle.std.proofs.lemmas.List.{with_items_is}
-use Rattle.book_event.specs.declared.event.Event.TheVariants as event
-use Rattle.book_event.specs.Comes.{Comes}
-use Rattle.book_move.specs.Moving.{book_of}
+use Rattle.event_def.specs.declared.event.Event.TheVariants as event
+use Rattle.event_def.specs.Comes.{Comes}
+use Rattle.event_def.specs.Book.{book_of}
 use Rattle.conflict_book.proofs.Slices.{as_slice}
 use Rattle.conflict_book.proofs.events.come_step.Goals as goal
 

@@ -9,7 +9,7 @@ returns-in-Check-clause-found g c = c.check_report.ensures.found _ _
 pub returns-in-Save-clause-found : goal.returns-in-Save-clause-found
 returns-in-Save-clause-found g c =
     let placers = map g.P.Placer.policy c.args.placers.items in
-    let taps = map g.T.Tap.reading c.args.taps.items in
+    let taps = map g.T.Tap.notes c.args.taps.items in
     saved_behind c.args.request c.args.image c.args.rest.now placers taps c.save_image.result (search rules)
     c.save_image.ensures.found
 
@@ -18,7 +18,7 @@ returns-in-Run g c =
     let request = c.args.request in
     let image = c.args.image in
     let placers = map g.P.Placer.policy c.args.placers.items in
-    let taps = map g.T.Tap.reading c.args.taps.items in
+    let taps = map g.T.Tap.notes c.args.taps.items in
     let made = c.run_image-made.result in
     let found = c.run_finding.result in
     record {

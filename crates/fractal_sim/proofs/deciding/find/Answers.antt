@@ -1,7 +1,7 @@
 use Rattle.std.proofs.Common.{◌≡◌, ◌≤◌, drop, length, map, Ok, Some, rules}
 use Rattle.guest_image.specs.ImageValue.{IsImage}
 use Rattle.guest_image.specs.Reading.{image_of}
-use Rattle.command_line.specs.Requests.{request_of, IsLimited}
+use Rattle.command_line.specs.Requests.{request_of_words, IsLimited}
 use Rattle.sim_io.specs.Parts.{ReadsAll}
 use Rattle.fractal_sim.specs.Call.{input_of}
 use Rattle.fractal_sim.specs.Given.{Reads, ReadsImage, input_limit}
@@ -17,11 +17,11 @@ split_at-requires g c =
 pub returns : goal.returns
 returns g c =
     let placers = map g.P.Placer.policy c.args.placers.items in
-    let taps = map g.T.Tap.reading c.args.taps.items in
+    let taps = map g.T.Tap.notes c.args.taps.items in
     let input = input_of c.args.words.now placers taps (g.S.Source.state c.args.source.now) (g.S.Source.state c.read_all.new.source) in
     let request = c.in-Ok.request in
     let image = c.in-Ok-read_image.read.0 in
-    let asked : request_of input.words ≡ Some request = search rules in
+    let asked : request_of_words input.words ≡ Some request = search rules in
     let reads : Reads request.command = search rules in
     let bytes = c.in-Ok-read_all.bytes.items in
     let all : ReadsAll input.source_before input.source_after input_limit bytes = search rules in

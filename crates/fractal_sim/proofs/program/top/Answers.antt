@@ -10,9 +10,11 @@ returns g c =
     let call = call_on input (g.K.Sink.state c.args.sink.now) (g.K.Sink.state c.tell.new.sink) in
     let found = c.find-found.ensures.found in
     record {
-      run = holds input c.find-found.result c.tell.result found c.tell.ensures.kept;
-      laws = holds_lawful input c.tell.result;
-      steps = steps_told input c.find-found.result c.tell.result found c.tell.ensures.kept;
-      told = told call c.find-found.result c.tell.result found c.tell.ensures;
-      complete = complete call c.find-found.result c.tell.result found c.tell.ensures;
+      answers = record {
+        run = holds input c.find-found.result c.tell.result found c.tell.ensures.kept;
+        laws = holds_lawful input c.tell.result;
+        steps = steps_told input c.find-found.result c.tell.result found c.tell.ensures.kept;
+        told = told call c.find-found.result c.tell.result found c.tell.ensures;
+        complete = complete call c.find-found.result c.tell.result found c.tell.ensures;
+      };
     }

@@ -7,5 +7,5 @@ returns-in-Some c =
     let stopped = c.args.stopped in
     let pendings = c.in-Some.pending in
     let is : stopped.pending ≡ Some pendings = search rules in
-    kept_frozen c.args.image c.args.settings.workers stopped pendings c.told_steps-steps.result c.keep_frozen.result is
-    c.told_steps-steps.ensures c.keep_frozen.ensures
+    kept_frozen c.args.image c.args.settings.workers stopped pendings c.event_count-steps.result c.keep_frozen.result is
+    c.event_count-steps.ensures c.keep_frozen.ensures

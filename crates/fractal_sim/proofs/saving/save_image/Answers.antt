@@ -5,7 +5,7 @@ use Rattle.fractal_sim.proofs.saving.save_image.Goals as goal
 pub returns : goal.returns
 returns g c =
     let placers = map g.P.Placer.policy c.args.placers.items in
-    let taps = map g.T.Tap.reading c.args.taps.items in
+    let taps = map g.T.Tap.notes c.args.taps.items in
     let e = c.run_to_save-made.ensures in
     let made = c.run_to_save-made.result in
     let found = c.save_finding.result in

@@ -1,5 +1,5 @@
 use Rattle.std.proofs.Common.{◌≡◌, rules, subst}
-use Rattle.sim_io.specs.Parts.{Takes, TakesFront}
+use Rattle.sim_io.specs.Parts.{SinkTakes, TakesFront}
 use Rattle.fractal_sim.specs.Texts.{journal_fault_line}
 use Rattle.fractal_sim.proofs.telling.tell_journal_fault.Goals as goal
 
@@ -10,6 +10,6 @@ returns g c =
     let after = g.K.Sink.state c.tell_line.new.sink in
     record {
       kept = c.tell_line.ensures.empty;
-      told = λ well. let t = c.tell_line.ensures.told well in (t.0, subst (Takes before after) line t.1);
+      told = λ well. let t = c.tell_line.ensures.told well in (t.0, subst (SinkTakes before after) line t.1);
       failed = λ ill. let f = c.tell_line.ensures.failed ill in (f.0, subst (TakesFront before after) line f.1);
     }

@@ -1,13 +1,13 @@
 use Rattle.std.proofs.Common.{ℕ, map, Vec, Global}
-use Rattle.conflict_book.specs.Seen.{view_of}
+use Rattle.conflict_book.specs.BookViews.{view_of}
 use Rattle.machine_run.proofs.Scripts.{left_in_part, left_is_traced}
 use Rattle.machine_run.proofs.Standing.{if_told}
 use Rattle.machine_run.proofs.playing.trace_begun.Goals as goal
 
 pub returns-in-Ok-clause-traced : goal.returns-in-Ok-clause-traced
 returns-in-Ok-clause-traced g c = λ settings placers taps is_opening.
-    let opening = view_of g.P.Placer.policy g.T.Tap.reading c.args.book in
-    let last = view_of g.P.Placer.policy g.T.Tap.reading c.play_and_tell.new.book in
+    let opening = view_of g.P.Placer.policy g.T.Tap.notes c.args.book in
+    let last = view_of g.P.Placer.policy g.T.Tap.notes c.play_and_tell.new.book in
     let ran = c.leave_standing.result in
     let lists = map (λ (list : Vec ℕ Global). list.items) c.in-Ok.lists.items in
     left_is_traced g.row.N.Denot g.N.Naming.image settings c.args.script.now placers taps opening is_opening last
@@ -16,8 +16,8 @@ returns-in-Ok-clause-traced g c = λ settings placers taps is_opening.
 
 pub returns-in-Err-clause-part : goal.returns-in-Err-clause-part
 returns-in-Err-clause-part g c = λ settings placers taps is_opening none.
-    let opening = view_of g.P.Placer.policy g.T.Tap.reading c.args.book in
-    let last = view_of g.P.Placer.policy g.T.Tap.reading c.play_and_tell.new.book in
+    let opening = view_of g.P.Placer.policy g.T.Tap.notes c.args.book in
+    let last = view_of g.P.Placer.policy g.T.Tap.notes c.play_and_tell.new.book in
     let ran = c.leave.result in
     left_in_part g.row.N.Denot g.N.Naming.image settings c.args.script.now placers taps opening is_opening last
     ran.closed c.leave.ensures.closes ran.end c.in-Err.ensures.out_of_memory none

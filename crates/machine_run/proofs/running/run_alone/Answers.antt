@@ -1,8 +1,8 @@
 use Rattle.std.proofs.Common.{sym, subst}
 use Rattle.std.specs.Prelude.{IfSome, Some, ◌≡◌}
-use Rattle.book_event.specs.End.{HasEnd}
-use Rattle.conflict_book.specs.Seen.{view_of}
-use Rattle.machine_run.specs.Least.{end_of}
+use Rattle.event_def.specs.End.{HasEnd}
+use Rattle.conflict_book.specs.BookViews.{view_of}
+use Rattle.machine_run.specs.Least.{end_of_halt}
 use Rattle.machine_run.proofs.Least.{halted, left_is_least_run}
 use Rattle.machine_run.proofs.Standing.{over_is_closed, over_stands_if}
 use Rattle.machine_run.proofs.AtLimit.{told_has, with_end}
@@ -10,7 +10,7 @@ use Rattle.machine_run.proofs.running.run_alone.Goals as goal
 
 pub stop-requires-clause-stands : goal.stop-requires-clause-stands
 stop-requires-clause-stands g c =
-    let last = view_of g.P.Placer.policy g.T.Tap.reading c.run_least-halt.new.self in
+    let last = view_of g.P.Placer.policy g.T.Tap.notes c.run_least-halt.new.self in
     over_stands_if last.view c.end_of.result
     (subst (λ end. IfSome end (HasEnd last.view)) (sym c.end_of.ensures)
     (halted g.row.N.Denot g.N.Naming.image last c.run_least-halt.result c.run_least-halt.ensures.halts))
@@ -19,17 +19,17 @@ pub returns-clause-least : goal.returns-clause-least
 returns-clause-least g c = λ settings placers taps valid is_opening.
     let N = g.row.N.Denot in
     let image = g.N.Naming.image in
-    let opening = view_of g.P.Placer.policy g.T.Tap.reading c.args.book in
-    let last = view_of g.P.Placer.policy g.T.Tap.reading c.run_least-halt.new.self in
+    let opening = view_of g.P.Placer.policy g.T.Tap.notes c.args.book in
+    let last = view_of g.P.Placer.policy g.T.Tap.notes c.run_least-halt.new.self in
     let ran = c.stop.result.ran in
     let halt = c.run_least-halt.result in
-    with_end N image settings placers taps ran.closed (end_of halt) ran.end
+    with_end N image settings placers taps ran.closed (end_of_halt halt) ran.end
     (subst (λ end. IfSome ran.end (λ told. end ≡ Some told)) c.end_of.ensures c.stop.ensures.end)
     (left_is_least_run image settings placers taps opening is_opening N last c.requires.fits valid ran.closed halt c.run_least-halt.ensures c.stop.ensures.closes)
 
 pub returns-clause-over : goal.returns-clause-over
 returns-clause-over g c = λ unfinished.
-    let last = view_of g.P.Placer.policy g.T.Tap.reading c.run_least-halt.new.self in
+    let last = view_of g.P.Placer.policy g.T.Tap.notes c.run_least-halt.new.self in
     over_is_closed last.view c.stop.result.ran.end
     (told_has last.view c.end_of.result c.stop.result.ran.end
     (subst (λ end. IfSome end (HasEnd last.view)) (sym c.end_of.ensures)

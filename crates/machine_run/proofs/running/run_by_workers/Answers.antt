@@ -1,7 +1,7 @@
 use Rattle.std.proofs.Common.{sym, subst}
 use Rattle.std.specs.Prelude.{IfSome}
-use Rattle.book_event.specs.End.{HasEnd}
-use Rattle.conflict_book.specs.Seen.{view_of}
+use Rattle.event_def.specs.End.{HasEnd}
+use Rattle.conflict_book.specs.BookViews.{view_of}
 use Rattle.machine_run.proofs.Least.{halted_there}
 use Rattle.machine_run.proofs.Standing.{over_is_closed, over_stands_if}
 use Rattle.machine_run.proofs.AtLimit.{told_has}
@@ -10,14 +10,14 @@ use Rattle.machine_run.proofs.running.run_by_workers.Goals as goal
 pub stop-requires-clause-stands : goal.stop-requires-clause-stands
 stop-requires-clause-stands g c =
     let drained = c.run_tiles-drained.result in
-    let last = view_of g.P.Placer.policy g.T.Tap.reading drained.book in
+    let last = view_of g.P.Placer.policy g.T.Tap.notes drained.book in
     over_stands_if last.view c.end_of.result
     (subst (λ end. IfSome end (HasEnd last.view)) (sym c.end_of.ensures) (halted_there last.view drained.halt c.run_tiles-drained.ensures.halt))
 
 pub returns-clause-over : goal.returns-clause-over
 returns-clause-over g c = λ unfinished.
     let drained = c.run_tiles-drained.result in
-    let last = view_of g.P.Placer.policy g.T.Tap.reading drained.book in
+    let last = view_of g.P.Placer.policy g.T.Tap.notes drained.book in
     over_is_closed last.view c.stop.result.ran.end
     (told_has last.view c.end_of.result c.stop.result.ran.end
     (subst (λ end. IfSome end (HasEnd last.view)) (sym c.end_of.ensures) (halted_there last.view drained.halt c.run_tiles-drained.ensures.halt))

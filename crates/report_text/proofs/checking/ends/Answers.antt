@@ -1,5 +1,5 @@
 use Rattle.std.proofs.Common.{◌<◌, ◌∙◌, sym, subst, rules, length}
-use Rattle.serial_machine.specs.Turn.{Refuses}
+use Rattle.serial_machine.specs.Turn.{RefusesTurn}
 use Rattle.serial_machine.specs.Run.{IsEnd}
 use Rattle.report_text.proofs.Replays.{trap-none, trap-why, match-both, none-other}
 use Rattle.report_text.proofs.checking.ends.Goals as goal
@@ -13,7 +13,7 @@ pub returns-else-is_memory-clause-verdict : goal.returns-else-is_memory-clause-v
 returns-else-is_memory-clause-verdict c = λ journal len. match-both c.is_trap.result c.is_trap.ensures
     (λ same. subst (λ e. IsEnd c.args.image.now c.args.serial.now.budget c.args.commits journal c.args.serial.now.state e) (sym c.in-Trap.is)
     (let lt : length journal < c.args.commits = search (rules, len) in
-    (lt, subst (λ f. Refuses c.args.image.now c.args.serial.now.budget c.args.serial.now.state c.in-Trap.name f) same c.in-Err.ensures.refused)))
+    (lt, subst (λ f. RefusesTurn c.args.image.now c.args.serial.now.budget c.args.serial.now.state c.in-Trap.name f) same c.in-Err.ensures.refused)))
     (λ other is.
     let trap = subst (λ e. IsEnd c.args.image.now c.args.serial.now.budget c.args.commits journal c.args.serial.now.state e) c.in-Trap.is is in
     other (trap-why c.args.image.now c.args.serial.now.budget c.args.serial.now.state c.in-Trap.name c.in-Trap.cause c.in-Trap.pc c.in-Err.fault trap.1 c.in-Err.ensures.refused c.if-is_memory.ensures))

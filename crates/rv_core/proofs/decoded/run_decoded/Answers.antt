@@ -2,12 +2,12 @@ use Rattle.std.proofs.Common.{◌≡◌, ◌<◌, ◌-◌, arith, subst, Option,
 use Rattle.rv_core.specs.declared.state.Stop.{Stop}
 use Rattle.rv_core.specs.Next.{Stops}
 use Rattle.rv_core.specs.Legs.{next_at}
-use Rattle.rv_core.proofs.Runs.{PlainSteps-append, next_at-other}
+use Rattle.rv_core.proofs.Runs.{PlainInstructions-append, next_at-other}
 use Rattle.rv_core.proofs.decoded.run_decoded.Goals as goal
 
 pub loop-steps-preserved : goal.loop-steps-preserved
 loop-steps-preserved g c = record {
-  run = PlainSteps-append _ _ _ _ _ _ _ _ c.loop-steps.invariant.run c.turn-more.ensures.run;
+  run = PlainInstructions-append _ _ _ _ _ _ _ _ c.loop-steps.invariant.run c.turn-more.ensures.run;
   bound = omega arith;
   used = omega arith;
 }
@@ -18,7 +18,7 @@ returns-in-Some-clause-leg g c =
     × (next_at c.args.image.now c.args.data_size c.args.budget c.turn-more.new.core ≡ Stops found)) in
     let (early, stands) = subst Ends c.in-Some.is c.turn-more.ensures.stopped in
     record {
-      run = PlainSteps-append _ _ _ _ _ _ _ _ c.loop-steps.invariant.run c.turn-more.ensures.run;
+      run = PlainInstructions-append _ _ _ _ _ _ _ _ c.loop-steps.invariant.run c.turn-more.ensures.run;
       bound = omega arith;
       full = λ e. absurd (omega arith);
       next = λ _. stands;

@@ -1,5 +1,5 @@
 use Rattle.std.proofs.Common.{◌≡◌, ◌-◌, ◌≤◌, length}
-use Rattle.serial_machine.specs.Legs.{end_of}
+use Rattle.serial_machine.specs.Legs.{end_of_task}
 use Rattle.serial_machine.proofs.running.run.Given as goal
 
 abbrev pub invariant-legs : goal.invariant-legs
@@ -7,7 +7,7 @@ invariant-legs l = record {
   first : l.task.first ≡ l.fn.task.first;
   used : l.task.task.core.used ≤ l.budget;
   memory : length l.task.task.memory ≡ length l.fn.task.task.memory;
-  same : end_of l.image l.budget l.ctx l.task.task ≡ end_of l.image l.budget l.ctx l.fn.task.task;
+  same : end_of_task l.image l.budget l.ctx l.task.task ≡ end_of_task l.image l.budget l.ctx l.fn.task.task;
 }
 
 abbrev pub decreases-legs : goal.decreases-legs

@@ -1,5 +1,5 @@
 use Rattle.std.proofs.Common.{◌∙◌, ap, arith, get_or, add-one}
-use Rattle.serial_machine.proofs.Stacks.{bags-set, HaveRoom-set}
+use Rattle.serial_machine.proofs.Stacks.{bags-set, HaveSpare-set}
 use Rattle.serial_machine.proofs.stack.widen.Goals as goal
 
 pub returns-in_err-reserve-clause-same : goal.returns-in_err-reserve-clause-same
@@ -17,5 +17,5 @@ loop-bag-preserved c =
           bags-set c.loop-bag.stack c.loop-bag.bag-index (record old { tasks = c.reserve.new.self }) c.bag-item.result (omega arith)
           (ap (λ items. record { depth = old.depth; kind = old.kind; floor = old.floor; owner = old.owner; tasks = items }) c.reserve.ensures.tasks)
           ∙ c.loop-bag.invariant.same;
-      room = rw add-one (HaveRoom-set c.args.more c.loop-bag.stack c.loop-bag.bag-index (record old { tasks = c.reserve.new.self }) (omega arith) c.in_ok-reserve.ensures.room c.loop-bag.invariant.room);
+      room = rw add-one (HaveSpare-set c.args.more c.loop-bag.stack c.loop-bag.bag-index (record old { tasks = c.reserve.new.self }) (omega arith) c.in_ok-reserve.ensures.room c.loop-bag.invariant.room);
     }

@@ -1,6 +1,6 @@
 use Rattle.std.proofs.Common.{ℕ, ◌++◌, ◌∷◌, [], refl, ap, subst, ◌∙◌, sym}
 use Rattle.rv_core.specs.Legs.{after_load_of}
-use Rattle.rv_core.specs.Memory.{load_bytes}
+use Rattle.rv_core.specs.Memory.{load_width}
 use Rattle.undo_log.specs.Number.{number_at, IsAccessible}
 use Rattle.undo_log.specs.Undo.{Load, access_of}
 use Rattle.spec_state.specs.StateValue.{StateValue}
@@ -12,8 +12,8 @@ pub load_with-raw-requires-clause-within : goal.load_with-raw-requires-clause-wi
 load_with-raw-requires-clause-within g c =
     let size : ℕ = g.N.Naming.image.data_size in
     let inside = asks_inside size _ _ _ _ c.requires.asks c.to-to.ensures.run.inside in
-    subst (λ n. IsAccessible n c.args.offset c.bytes_of_load.result) (sym c.state.invariant.4.memory)
-    (subst (IsAccessible size c.args.offset) (sym c.bytes_of_load.ensures) inside)
+    subst (λ n. IsAccessible n c.args.offset c.width_of_load.result) (sym c.state.invariant.4.memory)
+    (subst (IsAccessible size c.args.offset) (sym c.width_of_load.ensures) inside)
 
 pub invariant_of-state : goal.invariant_of-state
 invariant_of-state g c =
@@ -21,11 +21,11 @@ invariant_of-state g c =
     let was = c.state.invariant.4.tasks c.args.id.0 _ found in
     let inside = asks_inside g.N.Naming.image.data_size _ _ _ _ c.requires.asks c.to-to.ensures.run.inside in
     let log = log_accessible _ _ _ _ c.load_with-raw.ensures.logged was.accesses
-    (subst (IsAccessible g.N.Naming.image.data_size c.args.offset) (sym c.bytes_of_load.ensures) inside) in (
+    (subst (IsAccessible g.N.Naming.image.data_size c.args.offset) (sym c.width_of_load.ensures) inside) in (
       c.state.invariant.0,
       c.state.invariant.1,
       c.state.invariant.2,
-      slots_set _ _ _ _ _ _ _ _ _ _ _ _ _ c.state.invariant.3 found,
+      slots_set _ _ _ _ _ _ _ c.state.invariant.3 found,
       stored_set _ _ c.args.id.0 _ _ _ c.state.invariant.4 found (same_place _ _ refl refl)
           (formed_kept _ _ _ _ was refl refl refl (keeps_some _ _ _) was.inner was.children log)
           c.state.invariant.4.memory,
@@ -35,7 +35,7 @@ invariant_of-state g c =
 
 pub returns-clause-loads : goal.returns-clause-loads
 returns-clause-loads g c tile core task takes had =
-    let bytes = c.bytes_of_load.ensures in
+    let bytes = c.width_of_load.ensures in
     let width = c.args.width in
     let rd = c.args.rd in
     let memory = c.state.inside.memory in
@@ -45,7 +45,7 @@ returns-clause-loads g c tile core task takes had =
     (c.load_with-raw.ensures.value ∙ ap (number_at memory offset) bytes) in
     let log_is = c.load_with-raw.ensures.logged
     ∙ ap (λ n. c.index_mut-task.result.now.log ++ access_of memory (Load offset n) ∷ []) bytes in
-    accessed c.args.id.0 _ task (Load offset (load_bytes width))
-    (λ m. after_load_of c.args.leg.now.to width rd (number_at m offset (load_bytes width)))
+    accessed c.args.id.0 _ task (Load offset (load_width width))
+    (λ m. after_load_of c.args.leg.now.to width rd (number_at m offset (load_width width)))
     _ _ _ _ _ _ (ap (λ (v : StateValue). v.view) c.state.view_is) c.index_mut-task.ensures.value takes.runs.on.there
     core_is log_is c.mark.ensures refl had

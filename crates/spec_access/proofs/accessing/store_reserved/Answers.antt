@@ -10,7 +10,7 @@ use Rattle.spec_access.proofs.accessing.store_reserved.Goals as goal
 pub store_with-requires-clause-within : goal.store_with-requires-clause-within
 store_with-requires-clause-within g c =
     let inside = asks_inside g.N.Naming.image.data_size _ _ _ _ c.requires.asks c.to-to.ensures.run.inside in
-    subst (λ n. IsAccessible n c.args.offset c.args.bytes) (sym c.state.invariant.4.memory) inside
+    subst (λ n. IsAccessible n c.args.offset c.args.width) (sym c.state.invariant.4.memory) inside
 
 pub invariant_of-state : goal.invariant_of-state
 invariant_of-state g c =
@@ -21,7 +21,7 @@ invariant_of-state g c =
       c.state.invariant.0,
       c.state.invariant.1,
       c.state.invariant.2,
-      slots_set _ _ _ _ _ _ _ _ _ _ _ _ _ c.state.invariant.3 found,
+      slots_set _ _ _ _ _ _ _ c.state.invariant.3 found,
       stored_set _ _ c.args.id.0 _ _ _ c.state.invariant.4 found (same_place _ _ refl refl)
           (formed_kept _ _ _ _ was refl refl refl (keeps_some _ _ _) was.inner was.children log)
           (c.store_with.ensures.size ∙ c.state.invariant.4.memory),
@@ -31,7 +31,7 @@ invariant_of-state g c =
 
 pub returns-clause-stores : goal.returns-clause-stores
 returns-clause-stores g c tile core task takes had =
-    accessed c.args.id.0 _ task (Store c.args.offset c.args.bytes c.args.value) (λ m. after_other_of c.args.leg.now.to)
+    accessed c.args.id.0 _ task (Store c.args.offset c.args.width c.args.value) (λ m. after_other_of c.args.leg.now.to)
     _ _ _ _ _ _ (ap (λ (v : StateValue). v.view) c.state.view_is) c.index_mut-task.ensures.value takes.runs.on.there
     c.put_behind.ensures
     c.store_with.ensures.logged c.mark.ensures c.store_with.ensures.stored had

@@ -10,7 +10,7 @@ invariant_of-state g c =
       c.state.invariant.0,
       c.state.invariant.1,
       c.state.invariant.2,
-      slots_set _ _ _ _ _ _ _ _ _ _ _ _ _ c.state.invariant.3 found,
+      slots_set _ _ _ _ _ _ _ c.state.invariant.3 found,
       stored_set _ _ c.args.id.0 _ _ _ c.state.invariant.4 found (trapped_place _ _ _ _ refl c.held_core-core.ensures refl)
           (formed_kept _ _ _ _ was refl refl refl
           (running_has _ _ _ c.held_core-core.ensures) was.inner was.children was.accesses)

@@ -13,7 +13,7 @@ invariant_of-state g c =
       c.state.invariant.0,
       c.state.invariant.1,
       c.state.invariant.2,
-      slots_set _ _ _ _ _ _ _ _ _ _ _ _ _ c.state.invariant.3 found,
+      slots_set _ _ _ _ _ _ _ c.state.invariant.3 found,
       stored_set _ _ c.args.id.0 _ _ _ c.state.invariant.4 found (same_place _ _ refl refl)
           (formed_kept _ _ _ _ was refl refl refl (keeps_some _ _ _)
           (λ some. omega (arith, was.depth, room.1)) was.children was.accesses) c.state.invariant.4.memory,

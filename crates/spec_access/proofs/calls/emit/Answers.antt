@@ -3,25 +3,26 @@ use Rattle.spec_access.specs.Asking.{Asks}
 use Rattle.spec_access.proofs.Found.{one_request, found_is, same_byte}
 use Rattle.spec_access.proofs.calls.emit.Goals as goal
 
-pub asked-requires : goal.asked-requires
-asked-requires g c =
+pub request_of_task-requires : goal.request_of_task-requires
+request_of_task-requires g c =
     let asks = c.requires.asks.1 in record { takes = (asks.tile, asks.core, asks.task, asks.takes) }
 
 pub byte_of-byte-requires : goal.byte_of-byte-requires
 byte_of-byte-requires g c = (
   c.requires.asks.0,
-  one_request _ _ _ _ _ c.asked.ensures c.requires.asks.1,
+  one_request _ _ _ _ _ c.request_of_task.ensures c.requires.asks.1,
 )
 
 pub put_byte-requires : goal.put_byte-requires
 put_byte-requires g c = record {
-  asks = subst (Asks c.args.state.now.view c.args.leg.now c.args.task.0) c.byte_of-byte.ensures c.asked.ensures;
+  asks = subst
+      (Asks c.args.state.now.view c.args.leg.now c.args.task.0) c.byte_of-byte.ensures c.request_of_task.ensures;
 }
 
 pub returns-clause-emits : goal.returns-clause-emits
 returns-clause-emits g c tile core t byte takes is =
     let leg = c.args.leg.now in
     let view = c.args.state.now.view in
-    let found = found_is view leg c.args.task.0 _ c.asked.ensures tile core t _ takes is in
+    let found = found_is view leg c.args.task.0 _ c.request_of_task.ensures tile core t _ takes is in
     same_byte c.args.task.0 t leg view _ _ _ (sym c.byte_of-byte.ensures ∙ found)
     (c.put_byte.ensures.emits tile core t takes)

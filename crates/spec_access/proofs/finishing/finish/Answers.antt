@@ -61,7 +61,7 @@ invariant_of-state g c =
       tiles_kept _ _ _ _ _ _ _ tiles c.put_finished.ensures.count
           (c.put_finished.ensures.capacities _ tiles.commit_queues) c.free_core.ensures.tiles,
       c.free_core.ensures.counts _ c.state.invariant.2,
-      slots_set _ _ _ _ _ _ _ _ _ _ _ _ _ c.state.invariant.3 found,
+      slots_set _ _ _ _ _ _ _ c.state.invariant.3 found,
       stored_ended _ _ c.args.id.0 _ _ _ _ _ c.state.invariant.4 found runs
           (omega (arith, queued, queues_are, ids_are, tiles.queue_count, tiles.finished_count))
           (omega (

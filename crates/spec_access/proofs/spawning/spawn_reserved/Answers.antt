@@ -3,7 +3,7 @@ use Rattle.std.proofs.lemmas.Option.{same_Some}
 use Rattle.spec_state.specs.declared.task.Task.{Task}
 use Rattle.spec_state.specs.StateValue.{StateValue}
 use Rattle.spec_state.specs.View.{View, task_at}
-use Rattle.spec_state.specs.Room.{HasFreeEntry}
+use Rattle.spec_state.specs.Room.{QueueHasRoom}
 use Rattle.spec_state.specs.Stored.{IsWellFormed}
 use Rattle.spec_access.proofs.Enqueued.{asks_made, child_formed, enqueued, child_of_same}
 use Rattle.spec_access.proofs.spawning.spawn_reserved.Goals as goal
@@ -14,20 +14,20 @@ child_of-child-requires-clause-made g c = asks_made _ _ _ _ _ _ c.requires.asks
 
 pub put-requires-clause-tile : goal.put-requires-clause-tile
 put-requires-clause-tile g c =
-    let rest = (c.add_spawn.ensures.keeps c.requires.asks.task c.requires.asks.takes.runs.on.there).rest in
+    let rest = (c.add_spawn.ensures.keeps c.requires.asks.task c.requires.asks.takes.runs.on.there).frame in
     subst (λ tile. tile < c.add_spawn.new.state.view.settings.tiles)
     (sym (ap (λ (t : Task). t.tile) c.child_of-child.ensures))
     (subst (λ (v : View). c.args.tile < v.settings.tiles) (sym rest) c.requires.tile)
 
 pub put-requires-clause-free : goal.put-requires-clause-free
 put-requires-clause-free g c =
-    let rest = (c.add_spawn.ensures.keeps c.requires.asks.task c.requires.asks.takes.runs.on.there).rest in
-    subst (HasFreeEntry c.add_spawn.new.state.view) (sym (ap (λ (t : Task). t.tile) c.child_of-child.ensures))
-    (subst (λ (v : View). HasFreeEntry v c.args.tile) (sym rest) c.requires.free)
+    let rest = (c.add_spawn.ensures.keeps c.requires.asks.task c.requires.asks.takes.runs.on.there).frame in
+    subst (QueueHasRoom c.add_spawn.new.state.view) (sym (ap (λ (t : Task). t.tile) c.child_of-child.ensures))
+    (subst (λ (v : View). QueueHasRoom v c.args.tile) (sym rest) c.requires.free)
 
 pub put-requires-clause-formed : goal.put-requires-clause-formed
 put-requires-clause-formed g c =
-    let rest = (c.add_spawn.ensures.keeps c.requires.asks.task c.requires.asks.takes.runs.on.there).rest in
+    let rest = (c.add_spawn.ensures.keeps c.requires.asks.task c.requires.asks.takes.runs.on.there).frame in
     let size = g.N.Naming.image.data_size in
     let child = c.child_of-child.result in
     let made = asks_made _ _ _ _ _ _ c.requires.asks

@@ -4,8 +4,8 @@ use Rattle.spec_commit.proofs.coalescing.coalesce.Goals as goal
 
 pub spill_all-requires-clause-some : goal.spill_all-requires-clause-some
 spill_all-requires-clause-some g c =
-    some_chosen c.args.tile c.args.state.now.view c.reserve_pushes.new.state.view c.chosen-ids.result.items c.as_slice.result.now c.reserve_pushes.ensures.view c.requires.some
-    c.chosen-ids.ensures c.as_slice.ensures.value
+    some_chosen c.args.tile c.args.state.now.view c.reserve_pushes.new.state.view c.chosen_tasks-ids.result.items c.as_slice.result.now c.reserve_pushes.ensures.view c.requires.some
+    c.chosen_tasks-ids.ensures c.as_slice.ensures.value
 
 pub returns-clause-ok : goal.returns-clause-ok
 returns-clause-ok g c =

@@ -12,7 +12,7 @@ invariant_of-state g c =
       c.state.invariant.0,
       c.state.invariant.1,
       c.state.invariant.2,
-      slots_adopted _ _ c.adopt.new.tasks.slots _ c.adopt.new.tasks.capacity c.state.inside.queues.items _ _ _ _ _ _ c.state.invariant.3 c.adopt.ensures.len c.adopt.ensures.capacity,
+      slots_adopted _ _ c.adopt.new.tasks.slots c.state.inside.queues.items _ c.adopt.new.tasks.capacity c.state.invariant.3 c.adopt.ensures.len c.adopt.ensures.capacity,
       stored_adopted g.N.Naming.image.data_size c.args.id.0 c.count-turn.result _ c.adopt.new.tasks.slots (λ k. inr (c.adopt.ensures.each k)) upto c.state.invariant.4,
       indexed_adopted c.args.id.0 c.count-turn.result _ c.adopt.new.tasks.slots (λ k. inr (c.adopt.ensures.each k)) _ _ _ _ c.state.invariant.5,
       noted_adopted c.args.id.0 c.count-turn.result _ c.adopt.new.tasks.slots _ _ c.adopt.ensures.each c.forget.ensures.complete c.forget.ensures.others c.state.invariant.6,

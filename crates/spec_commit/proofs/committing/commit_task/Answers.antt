@@ -13,7 +13,8 @@ record_commit-entry-requires-clause-closed g c =
     let least = c.requires.least in
     let task : Task = least.0 in
     let there : task_at c.reserve_output.new.state.view c.args.id.0 ≡ Some task =
-    subst (λ (v : View). task_at v c.args.id.0 ≡ Some task) (sym c.reserve_output.ensures.view) least.1.at.there in
+    subst (λ (v : View). task_at v c.args.id.0 ≡ Some task)
+    (sym c.reserve_output.ensures.view) least.1.queued_at.there in
     let formed = c.is_stored.ensures.tasks c.args.id.0 task there in
     subst (λ o. IfSome o (λ (t : Task). IsSome t.key.tb)) (sym there)
     (formed.dispatched ∙ ap (λ (s : Status). is_some (kept_core s task.core)) least.2)
@@ -25,7 +26,7 @@ returns-clause-ok g c =
     let entry = c.record_commit-entry.result in
     let least = c.requires.least in
     let task : Task = least.0 in
-    let there : task_at made id ≡ Some task = subst (λ (v : View). task_at v id ≡ Some task) (sym c.reserve_output.ensures.view) least.1.at.there in
+    let there : task_at made id ≡ Some task = subst (λ (v : View). task_at v id ≡ Some task) (sym c.reserve_output.ensures.view) least.1.queued_at.there in
     commits_recorded g.N.Naming.image.data_size id c.args.state.now.view made c.record_commit-entry.new.state.view c.take_out.new.self.view c.adopt_children.new.state.view
     task entry c.reserve_output.ensures.view c.is_stored.ensures there
     (subst (λ o. IfSome o (λ (t : Task). c.record_commit-entry.new.state.view

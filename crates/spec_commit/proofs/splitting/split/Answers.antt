@@ -1,5 +1,5 @@
 use Rattle.std.proofs.Common.{◌∙◌, ap, length}
-use Rattle.spill_store.specs.Entries.{Entry as Spilled}
+use Rattle.spill_store.specs.SpilledTasks.{Spilled}
 use Rattle.spec_state.specs.StateValue.{StateValue}
 use Rattle.spec_commit.proofs.Named.{taken_there, named_by_heir}
 use Rattle.spec_commit.proofs.splitting.split.Goals as goal

@@ -15,15 +15,15 @@ later-requires-clause-earlier g c =
 pub later-requires-clause-own : goal.later-requires-clause-own
 later-requires-clause-own g c =
     live_at g.N.Naming.image.data_size c.args.state.now.view c.args.tile c.loop-id.id-index _ c.is_stored.ensures
-    (item_at c.args.state.now.view c.args.tile c.queued-id-items.result.now c.loop-id.id-index c.queued-id-items.ensures.ids c.loop-id-test.true)
+    (item_at c.args.state.now.view c.args.tile c.queue_ids-id-items.result.now c.loop-id.id-index c.queue_ids-id-items.ensures.ids c.loop-id-test.true)
 
 pub loop-id-preserved : goal.loop-id-preserved
 loop-id-preserved g c =
     let asker : Asker = asker_of (option_map (λ (id : TaskId). id.0) c.args.asker) in
-    let item = item_at c.args.state.now.view c.args.tile c.queued-id-items.result.now c.loop-id.id-index c.queued-id-items.ensures.ids c.loop-id-test.true in
+    let item = item_at c.args.state.now.view c.args.tile c.queue_ids-id-items.result.now c.loop-id.id-index c.queue_ids-id-items.ensures.ids c.loop-id-test.true in
     elim c.if-not-is_asker.branch [
       | then-not-is_asker w ↦
-          let is = later_is g.N.Naming.image.data_size c.args.state.now.view c.args.tile c.is_stored.ensures c.queued-id-items.ensures.distinct asker c.loop-id.id-index _ item
+          let is = later_is g.N.Naming.image.data_size c.args.state.now.view c.args.tile c.is_stored.ensures c.queue_ids-id-items.ensures.distinct asker c.loop-id.id-index _ item
           c.loop-id.latest c.loop-id.invariant.some c.loop-id.invariant.none w.later.result
           (λ asks. (let yes = c.is_asker.ensures.1 asks in let no = w.if-not-is_asker.true in cc)) w.later.ensures in
           record {
@@ -33,19 +33,19 @@ loop-id-preserved g c =
       | else-not-is_asker w ↦
           let asks = c.is_asker.ensures.0 (search rules) in
           record {
-            some = passed_some g.N.Naming.image.data_size c.args.state.now.view c.args.tile c.is_stored.ensures c.queued-id-items.ensures.distinct asker c.loop-id.id-index _ item
+            some = passed_some g.N.Naming.image.data_size c.args.state.now.view c.args.tile c.is_stored.ensures c.queue_ids-id-items.ensures.distinct asker c.loop-id.id-index _ item
                 c.loop-id.latest c.loop-id.invariant.some c.loop-id.invariant.none asks _ w.latest-is;
-            none = passed_none g.N.Naming.image.data_size c.args.state.now.view c.args.tile c.is_stored.ensures c.queued-id-items.ensures.distinct asker c.loop-id.id-index _ item
+            none = passed_none g.N.Naming.image.data_size c.args.state.now.view c.args.tile c.is_stored.ensures c.queue_ids-id-items.ensures.distinct asker c.loop-id.id-index _ item
                 c.loop-id.latest c.loop-id.invariant.some c.loop-id.invariant.none asks _ w.latest-is;
           }
     ]
 
 pub unreachable-requires : goal.unreachable-requires
 unreachable-requires g c =
-    one_is_other c.args.state.now.view c.args.tile _ c.loop-id.id-index c.queued-id-items.result.now c.queued-id-items.ensures.distinct c.queued-id-items.ensures.ids
-    (c.queued-id-items.ensures.long c.requires.full) c.loop-id-test.false (c.loop-id.invariant.none (search rules))
+    one_is_other c.args.state.now.view c.args.tile _ c.loop-id.id-index c.queue_ids-id-items.result.now c.queue_ids-id-items.ensures.distinct c.queue_ids-id-items.ensures.ids
+    (c.queue_ids-id-items.ensures.long c.requires.full) c.loop-id-test.false (c.loop-id.invariant.none (search rules))
 
 pub returns : goal.returns
 returns g c =
-    is_victim g.N.Naming.image.data_size c.args.state.now.view c.args.tile _ c.loop-id.id-index _ c.queued-id-items.result.now c.is_stored.ensures c.queued-id-items.ensures.ids c.loop-id-test.false
+    is_victim g.N.Naming.image.data_size c.args.state.now.view c.args.tile _ c.loop-id.id-index _ c.queue_ids-id-items.result.now c.is_stored.ensures c.queue_ids-id-items.ensures.ids c.loop-id-test.false
     c.loop-id.latest c.in-Some.is c.loop-id.invariant.some

@@ -35,7 +35,7 @@ invariant_of-state g c =
       c.state.invariant.0,
       c.state.invariant.1,
       cores_counted c.state.inside.cores.items c.args.tile c.args.core c.state.inside.settings.cores c.args.id c.index_mut-2.result.now within c.index_mut-2.ensures.value c.state.invariant.2,
-      slots_kept _ _ _ _ _ _ _ _ _ _ _ _ _ c.state.invariant.3 (same_count c.state.inside.tasks.slots c.args.id.0 c.index_mut.result.now c.start.new.task c.index_mut.ensures.value)
+      slots_kept _ _ _ _ _ _ _ c.state.invariant.3 (same_count c.state.inside.tasks.slots c.args.id.0 c.index_mut.result.now c.start.new.task c.index_mut.ensures.value)
           (omega (arith, c.close.ensures.count)) c.close.ensures.capacity,
       stored_dispatched _ _ c.args.tile dispatches g.N.Naming.image.data_size c.state.invariant.4,
       indexed_closed c.state.inside.version c.state.inside.tasks.slots _ _ _ c.args.id.0 c.args.core c.state.inside.next _ _ c.index_mut.result.now c.start.new.task c.state.invariant.5 c.index_mut.ensures.value c.start.ensures

@@ -1,6 +1,6 @@
 use Rattle.std.proofs.Common.{rules, ◌∙◌, length, ap, refl, arith}
 use Rattle.std.proofs.lemmas.List.{length-map}
-use Rattle.commit_arbiter.specs.Indexed.{renumbered_entry as renumbered_indexed}
+use Rattle.commit_arbiter.specs.Indexed.{renumbered_candidate}
 use Rattle.spec_state.specs.Fits.{entries_in}
 use Rattle.spec_state.specs.StateValue.{StateValue}
 use Rattle.spec_dispatch.proofs.Renumbers.{blocks_held, few_tasks, index_held, indexed_after, is_table_here, noted_after, renumbers_seen, slots_renumbered, stored_renumbered}
@@ -8,7 +8,7 @@ use Rattle.spec_dispatch.proofs.renumbering.renumber.Goals as goal
 
 pub fill-requires : goal.fill-requires
 fill-requires g c =
-    let few = few_tasks _ _ _ _ _ _ _ _ _ _ _ _ _ c.state.invariant.0.valid c.state.invariant.1 c.state.invariant.3 in
+    let few = few_tasks _ _ _ _ _ _ _ c.state.invariant.0.valid c.state.invariant.1 c.state.invariant.3 in
     record { room = omega (arith, few, c.state.invariant.3.numbers) }
 
 pub renumber_blocks-requires-clause-held : goal.renumber_blocks-requires-clause-held
@@ -24,7 +24,7 @@ renumber-requires-clause-held g c =
 
 pub returns-clause-few : goal.returns-clause-few
 returns-clause-few g c =
-    let few = few_tasks _ _ _ _ _ _ _ _ _ _ _ _ _ c.state.invariant.0.valid c.state.invariant.1 c.state.invariant.3 in
+    let few = few_tasks _ _ _ _ _ _ _ c.state.invariant.0.valid c.state.invariant.1 c.state.invariant.3 in
     omega (arith, few, c.fill.ensures.few, c.as_slice-table.ensures.len)
 
 pub returns-clause-renumbers : goal.returns-clause-renumbers
@@ -44,10 +44,10 @@ invariant_of-state g c =
       c.state.invariant.0,
       search rules,
       c.state.invariant.2,
-      slots_renumbered _ _ _ _ _ _ _ _ _ _ c.state.invariant.3 c.as_slice-table.result.now _ _ _ _ _ c.renumber_tasks.ensures.slots c.renumber_tasks.ensures.capacity
-          (ap length c.renumber.ensures.entries ∙ length-map c.state.inside.index.entries (renumbered_indexed c.as_slice-table.result.now)) c.renumber.ensures.capacity c.fill.ensures.capacity,
+      slots_renumbered _ _ _ _ c.state.invariant.3 c.as_slice-table.result.now _ _ _ _ _ c.renumber_tasks.ensures.slots c.renumber_tasks.ensures.capacity
+          (ap length c.renumber.ensures.entries ∙ length-map c.state.inside.index.candidates (renumbered_candidate c.as_slice-table.result.now)) c.renumber.ensures.capacity c.fill.ensures.capacity,
       stored_renumbered _ _ renumbers g.N.Naming.image.data_size c.state.invariant.4,
-      indexed_after c.as_slice-table.result.now c.state.inside.tasks.slots c.renumber_tasks.new.tasks.slots _ _ _ c.state.inside.index.entries c.renumber.new.self.entries c.state.invariant.5
+      indexed_after c.as_slice-table.result.now c.state.inside.tasks.slots c.renumber_tasks.new.tasks.slots _ _ _ c.state.inside.index.candidates c.renumber.new.self.candidates c.state.invariant.5
           c.renumber_tasks.ensures.slots c.renumber.ensures.entries,
       noted_after c.as_slice-table.result.now c.state.inside.tasks.slots c.renumber_tasks.new.tasks.slots _ c.renumber_tasks.ensures.slots c.state.invariant.6,
     )

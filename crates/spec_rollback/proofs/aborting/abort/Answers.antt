@@ -3,8 +3,8 @@ use Rattle.std.specs.Prelude.{IsSome}
 use Rattle.abort_cascade.specs.Cascade.{Marked}
 use Rattle.memory_law.specs.Tasks.{IsByKey}
 use Rattle.spec_state.specs.View.{View, task_at}
-use Rattle.spec_state.specs.Groups.{logged}
-use Rattle.spec_state.specs.Aborts.{Aborts, Only}
+use Rattle.spec_state.specs.Groups.{logged_tasks}
+use Rattle.spec_state.specs.Aborts.{Aborts, OnlyNode}
 use Rattle.spec_rollback.proofs.Aborted.{aborts_of}
 use Rattle.spec_rollback.proofs.aborting.abort.Goals as goal
 
@@ -18,8 +18,8 @@ abort_marked-requires g c =
 
 pub returns-clause-aborts : goal.returns-clause-aborts
 returns-clause-aborts g c ids by_key =
-    aborts_of (Marked c.mark_one.new.state.scratch.marks) (Only c.args.task.0) c.args.state.now.view
+    aborts_of (Marked c.mark_one.new.state.scratch.marks) (OnlyNode c.args.task.0) c.args.state.now.view
     c.abort_marked.result c.abort_marked.new.state.view c.mark_one.ensures.marks
-    (subst (λ (v : View). (ids : List ℕ) → IsByKey (logged v) ids
+    (subst (λ (v : View). (ids : List ℕ) → IsByKey (logged_tasks v) ids
     → Aborts (Marked c.mark_one.new.state.scratch.marks) v c.abort_marked.result c.abort_marked.new.state.view)
     c.mark_one.ensures.view c.abort_marked.ensures.aborts ids by_key)

@@ -3,7 +3,7 @@ use Rattle.std.specs.Prelude.{IsSome}
 use Rattle.abort_cascade.specs.Cascade.{Marked}
 use Rattle.memory_law.specs.Tasks.{IsByKey, undone_set}
 use Rattle.spec_state.specs.View.{View, task_at}
-use Rattle.spec_state.specs.Groups.{logged}
+use Rattle.spec_state.specs.Groups.{logged_tasks}
 use Rattle.spec_state.specs.Aborts.{is_marked}
 use Rattle.spec_rollback.specs.TakenBack.{TakesThese}
 use Rattle.spec_rollback.proofs.Aborted.{aborts_from, members_there}
@@ -36,6 +36,6 @@ returns-clause-aborts g c =
     c.close_marks-found.ensures.listed.count rest
     (subst (λ (m : List Bool). TakesThese m (is_marked m) mid new) c.undo_marked.ensures.marks
     c.release_marked.ensures.takes)
-    (subst (λ (v : View). (ids : List ℕ) → IsByKey (logged v) ids
-    → mid.memory ≡ undone_set (is_marked marks) (logged v) ids v.memory) c.close_marks-found.ensures.view
+    (subst (λ (v : View). (ids : List ℕ) → IsByKey (logged_tasks v) ids
+    → mid.memory ≡ undone_set (is_marked marks) (logged_tasks v) ids v.memory) c.close_marks-found.ensures.view
     c.undo_marked.ensures.memory)

@@ -57,6 +57,6 @@ returns-clause-few g c =
     let members = few_members c.args.state.now.view c.state.inside.tasks.slots c.as_mut_slice.result.now
     c.close.new.marks c.state.inside.tasks.capacity (ap (λ (v : StateValue). v.view.tasks) c.state.view_is)
     c.close.ensures.least there in
-    let tasks = few_tasks _ _ _ _ _ _ _ _ _ _ _ _ _ c.state.invariant.0.valid c.state.invariant.1 c.state.invariant.3
+    let tasks = few_tasks _ _ _ _ _ _ _ c.state.invariant.0.valid c.state.invariant.1 c.state.invariant.3
     in
     omega (arith, members, tasks, c.close.ensures.size)

@@ -2,7 +2,7 @@ use Rattle.std.proofs.Common.{◌≡◌, ◌∙◌, sym, subst, length}
 use Rattle.std.proofs.lemmas.List.{length-map}
 use Rattle.std.proofs.lemmas.List.Elements.{All-map}
 use Rattle.std.specs.Option.{option_map}
-use Rattle.spill_store.specs.Entries.{BlockValue}
+use Rattle.spill_store.specs.SpilledTasks.{BlockValue}
 use Rattle.tile_queues.specs.Queue.{QueueValue}
 use Rattle.spec_state.specs.StateValue.{StateValue}
 use Rattle.spec_state.specs.declared.task.TaskId.{TaskId}

@@ -3,7 +3,7 @@ use Rattle.std.specs.Prelude.{IsSome}
 use Rattle.abort_cascade.specs.Cascade.{Marked}
 use Rattle.memory_law.specs.Tasks.{IsByKey, undone_set}
 use Rattle.spec_state.specs.View.{View, task_at}
-use Rattle.spec_state.specs.Groups.{logged}
+use Rattle.spec_state.specs.Groups.{logged_tasks}
 use Rattle.spec_state.specs.Aborts.{is_marked}
 use Rattle.spec_rollback.specs.Removed.{RemovesThese}
 use Rattle.spec_rollback.proofs.Emptied.{all_undone}
@@ -37,5 +37,5 @@ returns g c =
     (subst (λ (m : List Bool). RemovesThese (is_marked m) mid removed) c.undo_marked.ensures.marks
     c.remove_marked.ensures.removes)
     c.is_stored.ensures c.drop_spilled.ensures
-    (subst (λ (v : View). (ids : List ℕ) → IsByKey (logged v) ids
-    → mid.memory ≡ undone_set (is_marked marks) (logged v) ids v.memory) same c.undo_marked.ensures.memory)
+    (subst (λ (v : View). (ids : List ℕ) → IsByKey (logged_tasks v) ids
+    → mid.memory ≡ undone_set (is_marked marks) (logged_tasks v) ids v.memory) same c.undo_marked.ensures.memory)

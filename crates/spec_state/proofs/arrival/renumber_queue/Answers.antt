@@ -28,10 +28,10 @@ loop-place-preserved c =
     let t = task_at_place c.args.tasks.now.slots c.args.queues.now c.args.tile c.index-queues-tile.result c.ids-ids.result.now c.loop-place.place c.requires.theirs c.requires.tile (search rules) c.ids-ids.ensures.ids c.loop-place-test.true in
     let below = below_slots c.args.tasks.now.slots _ t.0 t.1 in
     let slots = c.capacity-slots.ensures.slots in (
-      one_more c.args.tasks.now.slots (map (λ (q : QueueValue). q.ids) c.args.queues.now) c.args.next c.args.tile c.args.arrivals.now.items c.loop-place.arrivals.items c.loop-place.index.entries
+      one_more c.args.tasks.now.slots (map (λ (q : QueueValue). q.ids) c.args.queues.now) c.args.next c.args.tile c.args.arrivals.now.items c.loop-place.arrivals.items c.loop-place.index.candidates
           c.loop-place.place (slice_index_or c.ids-ids.result.now c.loop-place.place 0) c.index.result.now c.requires.theirs c.loop-place.invariant.0 t.2 c.index.ensures
           (omega (arith, below, c.capacity-slots.ensures.slots, c.capacity-slots.ensures.value, c.requires.slots, c.loop-place.invariant.0.slots))
-          c.move_arrival.new.arrivals.items c.move_arrival.new.index.entries c.move_arrival.ensures.arrivals c.move_arrival.ensures.entries,
+          c.move_arrival.new.arrivals.items c.move_arrival.new.index.candidates c.move_arrival.ensures.arrivals c.move_arrival.ensures.entries,
       search rules,
       search rules,
     )

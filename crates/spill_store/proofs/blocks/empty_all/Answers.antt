@@ -1,5 +1,5 @@
 use Rattle.std.proofs.Common.{arith, ap, ◌∙◌, [], replicate}
-use Rattle.spill_store.specs.Entries.{BlockValue}
+use Rattle.spill_store.specs.SpilledTasks.{BlockValue}
 use Rattle.spill_store.proofs.Emptied.{all_give}
 use Rattle.spill_store.proofs.blocks.empty_all.Goals as goal
 

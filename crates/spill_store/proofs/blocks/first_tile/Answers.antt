@@ -1,15 +1,15 @@
 use Rattle.std.proofs.Common.{◌+◌, sym, subst, ◌∙◌, arith}
-use Rattle.spill_store.specs.Fronts.{lists_of}
+use Rattle.spill_store.specs.Fronts.{lists_in}
 use Rattle.spill_store.proofs.Tiles.{IsBest, best_none, best_over, best_stays}
 use Rattle.spill_store.proofs.blocks.first_tile.Goals.{then-comes_first, else-comes_first}
 use Rattle.spill_store.proofs.blocks.first_tile.Goals as goal
 
 pub loop-tile-init : goal.loop-tile-init
-loop-tile-init c = record { inside = omega arith; best = best_none (lists_of c.args.blocks.now) }
+loop-tile-init c = record { inside = omega arith; best = best_none (lists_in c.args.blocks.now) }
 
 pub loop-tile-preserved : goal.loop-tile-preserved
 loop-tile-preserved c =
-    let lists = lists_of c.args.blocks.now in
+    let lists = lists_in c.args.blocks.now in
     let l = c.loop-tile in
     elim c.if-comes_first.branch [
       | then-comes_first w ↦ record {

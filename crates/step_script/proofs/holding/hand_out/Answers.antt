@@ -1,7 +1,7 @@
 use Rattle.std.proofs.Common.{rules, ◌≡◌, get_or, Some, None, ap, sym, ◌∙◌}
 use Rattle.std.specs.List.{position}
-use Rattle.step_script.specs.Playing.{is_held_for, without}
-use Rattle.step_script.proofs.Held.{held-at_place, held-no_place, without-at_place, without_unheld}
+use Rattle.step_script.specs.Playing.{is_held_for, without_held_leg}
+use Rattle.step_script.proofs.Held.{held-at_place, held-no_place, without_held_leg-at_place, without_unheld}
 use Rattle.step_script.proofs.holding.hand_out.Goals as goal
 
 pub returns-in_err-place-clause-leg : goal.returns-in_err-place-clause-leg
@@ -31,5 +31,5 @@ returns-clause-rest g c =
     let place = c.in_ok-place.place in
     let found : position (is_held_for c.args.tile c.args.core) held ≡ Some place = search rules in
     c.forget.ensures
-    ∙ ap (λ left. without c.args.tile c.args.core left) c.remove-found.ensures.items
-    ∙ without-at_place c.args.tile c.args.core held place c.remove-found.result found
+    ∙ ap (λ left. without_held_leg c.args.tile c.args.core left) c.remove-found.ensures.items
+    ∙ without_held_leg-at_place c.args.tile c.args.core held place c.remove-found.result found

@@ -1,23 +1,23 @@
 use Rattle.std.proofs.Common.{rules, ◌≡◌, ◌+◌, ◌<◌, [], ◌∷◌, ◌++◌, length, refl, ◌∙◌}
-use Rattle.conflict_book.specs.Seen.{view_of}
+use Rattle.conflict_book.specs.BookViews.{view_of}
 use Rattle.step_script.proofs.Played.{one_more, some_played}
 use Rattle.step_script.proofs.playing.play.Goals as goal
 
 pub returns-in_err-said-clause-out_of_memory : goal.returns-in_err-said-clause-out_of_memory
 returns-in_err-said-clause-out_of_memory g c =
-    let old = view_of g.P.Placer.policy g.T.Tap.reading c.args.book.now in
+    let old = view_of g.P.Placer.policy g.T.Tap.notes c.args.book.now in
     some_played g.row.N.Denot g.N.Naming.image c.args.acts.now 0 old old old [] [] c.from_residual.result refl refl
 
 pub returns-in_err-one-clause-out_of_memory : goal.returns-in_err-one-clause-out_of_memory
 returns-in_err-one-clause-out_of_memory g c =
-    let seen = view_of g.P.Placer.policy g.T.Tap.reading in
+    let seen = view_of g.P.Placer.policy g.T.Tap.notes in
     some_played g.row.N.Denot g.N.Naming.image c.args.acts.now c.loop-act.act-index (seen c.args.book.now) (seen c.loop-act.book)
     (seen c.play_act.new.book) c.loop-act.said.items c.loop-act.held.items c.from_residual-in_err-one.result
     c.loop-act.invariant.played c.in_err-one.ensures.out_of_memory
 
 pub returns-in_err-push-clause-out_of_memory : goal.returns-in_err-push-clause-out_of_memory
 returns-in_err-push-clause-out_of_memory g c =
-    let seen = view_of g.P.Placer.policy g.T.Tap.reading in
+    let seen = view_of g.P.Placer.policy g.T.Tap.notes in
     let told = c.loop-act.said.items ++ c.in_ok-one.one ∷ [] in
     let inside : c.loop-act.act-index < length c.args.acts.now = search rules in
     some_played g.row.N.Denot g.N.Naming.image c.args.acts.now (c.loop-act.act-index + 1) (seen c.args.book.now) (seen c.play_act.new.book)

@@ -1,6 +1,6 @@
 use Rattle.std.proofs.Common.{rules, arith, ℕ, List, take, drop, ◌++◌, ◌+◌, ap, ◌∙◌}
 use Rattle.guest_image.specs.Numbers.{word_bytes, half_bytes}
-use Rattle.task_desc.specs.Record.{record_of, desc_of}
+use Rattle.task_desc.specs.Record.{record_bytes, desc_of}
 use Rattle.task_desc.proofs.RecordBytes.{InRange, desc_back}
 use Rattle.task_desc.proofs.record.put_desc.Goals as goal
 
@@ -9,7 +9,7 @@ put : ℕ → ℕ → List ℕ → List ℕ → List ℕ
 put at n word bytes = take at bytes ++ word ++ drop (at + n) bytes
 
 pub returns-clause-value : goal.returns-clause-value
-unfolding put record_of
+unfolding put record_bytes
 returns-clause-value c =
     let d = c.args.desc.now in
     c.put_half-2.ensures ∙ ap (put 34 2 (half_bytes d.kinds))

@@ -1,10 +1,10 @@
-use Rattle.conflict_book.specs.Seen.{view_of}
+use Rattle.conflict_book.specs.BookViews.{view_of}
 use Rattle.tile_worker.proofs.Holding.{still_over}
 use Rattle.tile_worker.proofs.hold.dispatch_own.Goals as goal
 
 pub returns-in-Over : goal.returns-in-Over
 returns-in-Over g c =
-    still_over g.row.N.Denot (view_of g.P.Placer.policy g.T.Tap.reading c.args.book.now)
-    (view_of g.P.Placer.policy g.T.Tap.reading c.loop-tile.book)
-    (view_of g.P.Placer.policy g.T.Tap.reading c.try_dispatch.new.book) c.try_dispatch.result c.try_dispatch.ensures c.in-Over.is
+    still_over g.row.N.Denot (view_of g.P.Placer.policy g.T.Tap.notes c.args.book.now)
+    (view_of g.P.Placer.policy g.T.Tap.notes c.loop-tile.book)
+    (view_of g.P.Placer.policy g.T.Tap.notes c.try_dispatch.new.book) c.try_dispatch.result c.try_dispatch.ensures c.in-Over.is
     c.loop-tile.invariant

@@ -1,4 +1,4 @@
-use Rattle.conflict_book.specs.Seen.{view_of}
+use Rattle.conflict_book.specs.BookViews.{view_of}
 use Rattle.tile_worker.proofs.running.run_tiles.Given as goal
 
 abbrev pub ghosts-work_all-L-Begun : goal.ghosts-work_all-L-Begun

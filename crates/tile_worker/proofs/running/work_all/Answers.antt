@@ -1,6 +1,6 @@
 use Rattle.std.proofs.Common.{◌∙◌, ap}
-use Rattle.book_event.specs.Book.{BookView}
-use Rattle.conflict_book.specs.Seen.{view_of}
+use Rattle.event_def.specs.Book.{BookView}
+use Rattle.conflict_book.specs.BookViews.{view_of}
 use Rattle.tile_worker.proofs.Begins.{begins_with_all, goes_on_from}
 use Rattle.tile_worker.proofs.running.work_all.Goals as goal
 
@@ -14,7 +14,7 @@ invariant_of-new g c =
 
 pub returns-clause-grows : goal.returns-clause-grows
 returns-clause-grows g c =
-    goes_on_from (view_of g.P.Placer.policy g.T.Tap.reading c.args.book)
-    (view_of g.P.Placer.policy g.T.Tap.reading c.into_inner-tallied.result.tallied.book)
-    (view_of g.P.Placer.policy g.T.Tap.reading c.settle.result.book) g.L.Begun.history g.L.Begun.output c.requires.history c.requires.output
+    goes_on_from (view_of g.P.Placer.policy g.T.Tap.notes c.args.book)
+    (view_of g.P.Placer.policy g.T.Tap.notes c.into_inner-tallied.result.tallied.book)
+    (view_of g.P.Placer.policy g.T.Tap.notes c.settle.result.book) g.L.Begun.history g.L.Begun.output c.requires.history c.requires.output
     c.into_inner-tallied.result.entries c.into_inner-tallied.result.bytes c.settle.ensures.book

@@ -1,9 +1,9 @@
 use Rattle.std.proofs.Common.{◌≡◌, ◌∙◌, ap, le_refl, length, subst, sym, take, List}
 use Rattle.std.proofs.lemmas.List.{take_all}
 use Rattle.progress_cell.specs.declared.reading.Reading.{Reading}
-use Rattle.book_event.specs.Book.{BookView}
+use Rattle.event_def.specs.Book.{BookView}
 use Rattle.conflict_book.specs.Counts.{counts_of}
-use Rattle.conflict_book.specs.Seen.{view_of}
+use Rattle.conflict_book.specs.BookViews.{view_of}
 use Rattle.tile_worker.specs.Readings.{AreReadings}
 use Rattle.tile_worker.proofs.Begins.{begins_with_all, goes_on_from}
 use Rattle.tile_worker.proofs.watching.watch_all.Goals as goal
@@ -28,7 +28,7 @@ returns-clause-readings g c =
 
 pub returns-clause-grows : goal.returns-clause-grows
 returns-clause-grows g c =
-    goes_on_from (view_of g.P.Placer.policy g.T.Tap.reading c.args.book)
-    (view_of g.P.Placer.policy g.T.Tap.reading c.into_inner-tallied.result.tallied.book)
-    (view_of g.P.Placer.policy g.T.Tap.reading c.settle.result.book) g.L.Begun.history g.L.Begun.output c.requires.history c.requires.output
+    goes_on_from (view_of g.P.Placer.policy g.T.Tap.notes c.args.book)
+    (view_of g.P.Placer.policy g.T.Tap.notes c.into_inner-tallied.result.tallied.book)
+    (view_of g.P.Placer.policy g.T.Tap.notes c.settle.result.book) g.L.Begun.history g.L.Begun.output c.requires.history c.requires.output
     c.into_inner-tallied.result.entries c.into_inner-tallied.result.bytes c.settle.ensures.book

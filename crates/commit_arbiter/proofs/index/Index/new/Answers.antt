@@ -6,6 +6,6 @@ use Rattle.commit_arbiter.proofs.index.Index.new.Goals as goal
 
 pub invariant_of-result : goal.invariant_of-result
 invariant_of-result c = (
-  subst (λ v. IsHeapIndex v.entries) (sym c.in_ok-slots.ensures) empty_heap,
-  sym (ap (λ v. closed_in v.entries) c.in_ok-slots.ensures),
+  subst (λ v. IsHeapIndex v.candidates) (sym c.in_ok-slots.ensures) empty_heap,
+  sym (ap (λ v. closed_in v.candidates) c.in_ok-slots.ensures),
 )

@@ -14,4 +14,4 @@ pub returns-clause-entries : goal.returns-clause-entries
 returns-clause-entries c =
     let s = c.self.inside in
     entries_popped s.table.items s.order.items c.pop.new.self.items c.in-Some.slot c.in-Some.ensures.items
-    ∙ ap (λ v. take (length v.entries - 1) v.entries) c.self.view_is
+    ∙ ap (λ v. take (length v.candidates - 1) v.candidates) c.self.view_is

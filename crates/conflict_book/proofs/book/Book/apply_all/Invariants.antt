@@ -1,14 +1,14 @@
 use Rattle.std.proofs.Common.{◌≡◌, ◌≤◌, length, take}
 use Rattle.std.specs.Prelude.{vec_capacity}
-use Rattle.book_event.specs.Happens.{HappenAll}
-use Rattle.conflict_book.specs.Seen.{view_of}
+use Rattle.event_def.specs.Happens.{HappenAll}
+use Rattle.conflict_book.specs.BookViews.{view_of}
 use Rattle.conflict_book.proofs.book.Book.apply_all.Given as goal
 
 abbrev pub invariant-loop-event : goal.invariant-loop-event
 invariant-loop-event g l = record {
-  happen : HappenAll (view_of g.P.Placer.policy g.T.Tap.reading l.fn.self) (take l.event-index l.fn.events.items) l.answers.items
-      (view_of g.P.Placer.policy g.T.Tap.reading l.self);
-  settings : (view_of g.P.Placer.policy g.T.Tap.reading l.self).view.settings ≡ (view_of g.P.Placer.policy g.T.Tap.reading l.fn.self).view.settings;
+  happen : HappenAll (view_of g.P.Placer.policy g.T.Tap.notes l.fn.self) (take l.event-index l.fn.events.items) l.answers.items
+      (view_of g.P.Placer.policy g.T.Tap.notes l.self);
+  settings : (view_of g.P.Placer.policy g.T.Tap.notes l.self).view.settings ≡ (view_of g.P.Placer.policy g.T.Tap.notes l.fn.self).view.settings;
   count : length l.answers.items ≡ l.event-index;
   room : length l.fn.events.items ≤ vec_capacity l.answers;
 }

@@ -5,12 +5,12 @@ use Rattle.conflict_book.proofs.book.Book.apply_legless.Goals as goal
 
 pub returns-in-Made-clause-happens : goal.returns-in-Made-clause-happens
 returns-in-Made-clause-happens g c =
-    part_made c.args.self.now.sound (map g.P.Placer.policy c.args.self.now.placers.items) (map g.T.Tap.reading c.args.self.now.taps.items) c.args.self.now.stopped c.if-self.false
+    part_made c.args.self.now.sound (map g.P.Placer.policy c.args.self.now.placers.items) (map g.T.Tap.notes c.args.self.now.taps.items) c.args.self.now.stopped c.if-self.false
     (event_of c.args.event) c.come.new.self.view (map g.P.Placer.policy c.come.new.placers.items) c.come.new.self.steps c.come.ensures.steps
-    c.in-Made.seen _ c.note.ensures (c.in-Made.ensures.comes (map g.T.Tap.reading c.args.self.now.taps.items))
+    c.in-Made.seen _ c.note.ensures (c.in-Made.ensures.comes (map g.T.Tap.notes c.args.self.now.taps.items))
 
 pub returns-in-Refused-clause-happens : goal.returns-in-Refused-clause-happens
 returns-in-Refused-clause-happens g c =
-    part_refused c.args.self.now.sound (map g.P.Placer.policy c.args.self.now.placers.items) (map g.T.Tap.reading c.args.self.now.taps.items) c.args.self.now.stopped c.if-self.false
+    part_refused c.args.self.now.sound (map g.P.Placer.policy c.args.self.now.placers.items) (map g.T.Tap.notes c.args.self.now.taps.items) c.args.self.now.stopped c.if-self.false
     (event_of c.args.event) c.come.new.self.view (map g.P.Placer.policy c.come.new.placers.items) c.come.new.self.steps c.come.ensures.steps
-    c.in-Refused.reply (c.in-Refused.ensures.comes (map g.T.Tap.reading c.args.self.now.taps.items))
+    c.in-Refused.reply (c.in-Refused.ensures.comes (map g.T.Tap.notes c.args.self.now.taps.items))

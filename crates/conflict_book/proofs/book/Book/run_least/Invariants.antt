@@ -1,7 +1,7 @@
-use Rattle.book_event.specs.Advancing.{AdvancesBy}
-use Rattle.conflict_book.specs.Seen.{view_of}
+use Rattle.event_def.specs.Advancing.{AdvancesBy}
+use Rattle.conflict_book.specs.BookViews.{view_of}
 use Rattle.conflict_book.proofs.book.Book.run_least.Given as goal
 
 abbrev pub invariant-loop-made : goal.invariant-loop-made
 invariant-loop-made g l =
-    AdvancesBy g.row.N.Denot g.N.Naming.image l.made (view_of g.P.Placer.policy g.T.Tap.reading l.fn.self) (view_of g.P.Placer.policy g.T.Tap.reading l.self)
+    AdvancesBy g.row.N.Denot g.N.Naming.image l.made (view_of g.P.Placer.policy g.T.Tap.notes l.fn.self) (view_of g.P.Placer.policy g.T.Tap.notes l.self)

@@ -1,18 +1,18 @@
 use Rattle.std.proofs.Common.{[], map, subst}
-use Rattle.book_event.specs.Book.{CountedView}
+use Rattle.event_def.specs.Book.{CountedView}
 use Rattle.conflict_book.specs.Halting.{NextComes}
-use Rattle.conflict_book.specs.Seen.{going}
+use Rattle.conflict_book.specs.BookViews.{going_book}
 use Rattle.conflict_book.proofs.Nexts.{next_comes_sound}
 use Rattle.conflict_book.proofs.book.SoundState.come_next.Goals as goal
 
 pub invariant_of-self : goal.invariant_of-self
 invariant_of-self g c =
     let before : CountedView = record { view = c.self.inside.state.view; steps = c.self.inside.steps } in
-    next_comes_sound g.row.N.Denot g.N.Naming.image (going before (map g.P.Placer.policy c.args.placers.now.items) []) c.come_least.result _ _
+    next_comes_sound g.row.N.Denot g.N.Naming.image (going_book before (map g.P.Placer.policy c.args.placers.now.items) []) c.come_least.result _ _
     c.self.invariant (c.come_least.ensures [] c.self.inside.steps)
 
 pub returns-clause-next : goal.returns-clause-next
 returns-clause-next g c taps =
-    subst (λ (v : CountedView). NextComes g.row.N.Denot g.N.Naming.image (going v (map g.P.Placer.policy c.args.placers.now.items) taps) c.come_least.result
+    subst (λ (v : CountedView). NextComes g.row.N.Denot g.N.Naming.image (going_book v (map g.P.Placer.policy c.args.placers.now.items) taps) c.come_least.result
     c.come_least.new.state.view (map g.P.Placer.policy c.come_least.new.placers.items)) c.self.view_is
     (c.come_least.ensures taps c.self.inside.steps)

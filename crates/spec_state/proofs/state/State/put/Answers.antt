@@ -11,7 +11,7 @@ use Rattle.spec_state.proofs.Put.{in_lists, slots_after, adds_seen_at, entered_p
 use Rattle.spec_state.proofs.state.State.put.Goals as goal
 
 pub fresh_arrival-arrival-requires-clause-room : goal.fresh_arrival-arrival-requires-clause-room
-fresh_arrival-arrival-requires-clause-room g c = few_indexed _ _ _ _ _ _ _ _ _ _ _ _ _ c.self.invariant.1 c.self.invariant.3
+fresh_arrival-arrival-requires-clause-room g c = few_indexed _ _ _ _ _ _ _ c.self.invariant.1 c.self.invariant.3
 
 pub fresh_arrival-arrival-requires-clause-theirs : goal.fresh_arrival-arrival-requires-clause-theirs
 fresh_arrival-arrival-requires-clause-theirs g c =
@@ -20,7 +20,7 @@ fresh_arrival-arrival-requires-clause-theirs g c =
 
 pub put_in-id-requires : goal.put_in-id-requires
 put_in-id-requires g c =
-    (has_slot _ c.self.inside.queues.items _ _ _ c.self.invariant.1 c.tile-tile.result (search rules) (search rules) _ _ _ _ _ _ _ _ c.self.invariant.3).0
+    (has_slot _ c.self.inside.queues.items _ _ _ c.self.invariant.1 c.tile-tile.result (search rules) (search rules) _ _ c.self.invariant.3).0
 
 pub put_last-requires-clause-absent : goal.put_last-requires-clause-absent
 put_last-requires-clause-absent g c has =
@@ -32,7 +32,7 @@ put_last-requires-clause-absent g c has =
 
 pub insert-requires-clause-room : goal.insert-requires-clause-room
 insert-requires-clause-room g c =
-    let room = (has_slot _ c.self.inside.queues.items _ _ _ c.self.invariant.1 c.tile-tile.result (search rules) (search rules) _ _ _ _ _ _ _ _ c.self.invariant.3).1 in
+    let room = (has_slot _ c.self.inside.queues.items _ _ _ c.self.invariant.1 c.tile-tile.result (search rules) (search rules) _ _ c.self.invariant.3).1 in
     omega (arith, room, c.fresh_arrival-arrival.ensures.count, c.fresh_arrival-arrival.ensures.capacity)
 
 pub insert-requires-clause-other : goal.insert-requires-clause-other
@@ -59,14 +59,14 @@ invariant_of-self g c =
     let within : tile < length c.self.inside.queues.items = search rules in
     let formed : IsWellFormed g.N.Naming.image.data_size (length c.self.inside.history.entries) c.args.task.now =
     subst (λ (v : StateValue). IsWellFormed g.N.Naming.image.data_size (length v.view.history) c.args.task.now) (sym c.self.view_is) c.requires.formed in
-    let indexed : IsIndexed c.self.inside.tasks.slots (map (λ (q : QueueValue). q.ids) c.self.inside.queues.items) c.fresh_arrival-arrival.new.arrivals.items c.fresh_arrival-arrival.result c.fresh_arrival-arrival.new.index.entries =
-    subst (λ queues. IsIndexed c.self.inside.tasks.slots (map (λ (q : QueueValue). q.ids) queues) c.fresh_arrival-arrival.new.arrivals.items c.fresh_arrival-arrival.result c.fresh_arrival-arrival.new.index.entries) c.as_slice.ensures.value c.fresh_arrival-arrival.ensures.indexed in
+    let indexed : IsIndexed c.self.inside.tasks.slots (map (λ (q : QueueValue). q.ids) c.self.inside.queues.items) c.fresh_arrival-arrival.new.arrivals.items c.fresh_arrival-arrival.result c.fresh_arrival-arrival.new.index.candidates =
+    subst (λ queues. IsIndexed c.self.inside.tasks.slots (map (λ (q : QueueValue). q.ids) queues) c.fresh_arrival-arrival.new.arrivals.items c.fresh_arrival-arrival.result c.fresh_arrival-arrival.new.index.candidates) c.as_slice.ensures.value c.fresh_arrival-arrival.ensures.indexed in
     let grown = in_lists _ c.self.inside.queues.items _ _ _ c.self.invariant.1 tile (search rules) queue c.index_mut.ensures.value (search rules) in (
       c.self.invariant.0,
       search rules,
       c.self.invariant.2,
-      slots_after _ c.self.inside.queues.items _ _ _ c.self.invariant.1 tile (search rules) queue c.index_mut.ensures.value (search rules) _ _ _ _ _ _ _ _ c.self.invariant.3 id after ids
-          c.put_in-id.new.tasks.slots c.put_in-id.new.tasks.capacity (length c.insert.new.self.entries) c.insert.new.self.capacity _
+      slots_after _ c.self.inside.queues.items _ _ _ c.self.invariant.1 tile (search rules) queue c.index_mut.ensures.value (search rules) _ _ c.self.invariant.3 id after ids
+          c.put_in-id.new.tasks.slots c.put_in-id.new.tasks.capacity (length c.insert.new.self.candidates) c.insert.new.self.capacity _
           c.put_in-id.ensures.len c.put_in-id.ensures.capacity
           (few_more _ _ _ _ c.insert.ensures.entries c.fresh_arrival-arrival.ensures.count)
           (c.insert.ensures.capacity ∙ c.fresh_arrival-arrival.ensures.capacity) (length-set _ id _ ∙ c.fresh_arrival-arrival.ensures.slots),

@@ -13,9 +13,9 @@ use Rattle.spec_state.proofs.Without.{seen_at}
 use Rattle.spec_state.proofs.Vacated.{own_finished, own_held, stored_back}
 use Rattle.spec_state.proofs.Kept.{same_count, slots_kept}
 use Rattle.spec_state.proofs.Noted.{noted_set}
-use Rattle.commit_arbiter.specs.Indexed.{entry_cmp, without as without_id}
-use Rattle.fractal_vt.specs.Sorted.{inserted}
-use Rattle.spec_state.specs.Stored.{entry_of}
+use Rattle.commit_arbiter.specs.Indexed.{candidate_cmp, without_candidate}
+use Rattle.fractal_vt.specs.Sorted.{after_insert}
+use Rattle.spec_state.specs.Stored.{candidate_of}
 use Rattle.spec_state.proofs.Left.{task_within, back_in, back_seen, indexed_again}
 use Rattle.spec_state.proofs.state.State.set_back.Goals as goal
 
@@ -69,13 +69,13 @@ invariant_of-self g c =
       c.self.invariant.0,
       search rules,
       search rules,
-      slots_kept _ _ (slice_set c.self.inside.tasks.slots c.args.id.0 (Some c.reset.new.task)) _ c.self.inside.queues.items _ (length c.open.new.self.entries) _ c.open.new.self.capacity _ _ _ _ c.self.invariant.3
+      slots_kept _ _ (slice_set c.self.inside.tasks.slots c.args.id.0 (Some c.reset.new.task)) c.self.inside.queues.items _ (length c.open.new.self.candidates) c.open.new.self.capacity c.self.invariant.3
           (same_count c.self.inside.tasks.slots c.args.id.0 _ c.reset.new.task c.index_mut-task.ensures.value) (omega (arith, c.open.ensures.count)) c.open.ensures.capacity,
       stored_back g.N.Naming.image.data_size _ _ c.args.id.0 back c.self.invariant.4,
       indexed_again _ (slice_set c.self.inside.tasks.slots c.args.id.0 (Some c.reset.new.task)) _ _ _ _ c.args.id.0 c.self.invariant.5
           (λ k other. get_or-set_other c.self.inside.tasks.slots c.args.id.0 k (Some c.reset.new.task) None other) c.reset.new.task
           (get_or-set_same c.self.inside.tasks.slots c.args.id.0 (Some c.reset.new.task) None below) _
-          (c.open.ensures.entries (entry_of c.self.inside.arrivals.items c.args.id.0 c.index_mut-task.result.now) (c.self.invariant.5.all c.args.id.0 _ c.index_mut-task.ensures.value) refl
-          ∙ ap (λ (t : Task). inserted entry_cmp (entry_of c.self.inside.arrivals.items c.args.id.0 t) (without_id c.args.id.0 c.self.inside.index.entries)) (sym c.reset.ensures)),
+          (c.open.ensures.entries (candidate_of c.self.inside.arrivals.items c.args.id.0 c.index_mut-task.result.now) (c.self.invariant.5.all c.args.id.0 _ c.index_mut-task.ensures.value) refl
+          ∙ ap (λ (t : Task). after_insert candidate_cmp (candidate_of c.self.inside.arrivals.items c.args.id.0 t) (without_candidate c.args.id.0 c.self.inside.index.candidates)) (sym c.reset.ensures)),
       noted_set c.self.inside.tasks.slots _ c.args.id.0 _ c.reset.new.task c.index_mut-task.ensures.value (ap (λ (t : Task). t.creator) c.reset.ensures) c.self.invariant.6,
     )

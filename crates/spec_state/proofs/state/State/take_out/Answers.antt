@@ -69,16 +69,16 @@ invariant_of-self g c =
     let leaves = leaves_in c.args.id.0 _ _ _ (sym (ap (λ (v : StateValue). v.view) c.self.view_is)) (returns-clause-leaves g c) in
     let held_now = with_items c.index_mut-3.result.now c.leave_core.new.cores in
     let items : held_now.items ≡ c.leave_core.new.cores = with_items_is c.index_mut-3.result.now c.leave_core.new.cores (search rules) in
-    let less = fewer c.args.id.0 c.self.inside.index.entries (has_entry _ _ _ _ _ c.self.invariant.5 c.args.id.0 c.index-task.result.now c.index-task.ensures) in (
+    let less = fewer c.args.id.0 c.self.inside.index.candidates (has_entry _ _ _ _ _ c.self.invariant.5 c.args.id.0 c.index-task.result.now c.index-task.ensures) in (
       c.self.invariant.0,
       tiles_left _ _ _ _ _ _ c.index-task.result.now.tile c.index_mut.result.now c.leave_queue.new.queue c.index_mut-2.result.now c.leave_commits.new.waiting c.self.invariant.1
           (search rules) c.index_mut.ensures.value (ap (λ (q : QueueValue). q.capacity) c.leave_queue.ensures.taken)
           (search rules) c.index_mut-2.ensures.value (ap (λ (q : QueueValue). q.capacity) c.leave_commits.ensures) (search rules),
       all_but_one (λ held. vec_len held ≡ c.self.inside.settings.cores) c.self.inside.cores.items c.index-task.result.now.tile c.index_mut-3.result.now held_now c.self.invariant.2
           (search rules) c.index_mut-3.ensures.value (λ was. search (rules, items, was)),
-      slots_left _ _ c.remove.new.self.slots _ c.remove.new.self.capacity c.self.inside.queues.items _ (length c.remove-2.new.self.entries) _ c.remove-2.new.self.capacity _ _ _ _ c.index-task.result.now.tile
+      slots_left _ _ c.remove.new.self.slots c.self.inside.queues.items _ c.remove.new.self.capacity (length c.remove-2.new.self.candidates) c.remove-2.new.self.capacity c.index-task.result.now.tile
           c.index_mut.result.now c.leave_queue.new.queue c.self.invariant.3 (search rules) c.index_mut.ensures.value c.leave_queue.ensures.one c.remove.ensures.len c.remove.ensures.capacity
-          (subst (λ n. n < length c.self.inside.index.entries) (sym (ap length c.remove-2.ensures.entries)) less) c.remove-2.ensures.capacity,
+          (subst (λ n. n < length c.self.inside.index.candidates) (sym (ap length c.remove-2.ensures.entries)) less) c.remove-2.ensures.capacity,
       stored_left g.N.Naming.image.data_size _ _ c.args.id.0 leaves c.self.invariant.4,
       indexed_gone _ c.remove.new.self.slots _ _ _ _ c.args.id.0 c.self.invariant.5 updates.others updates.changed _ _ leaves.queues c.remove-2.ensures.entries,
       noted_left _ c.remove.new.self.slots _ c.args.id.0 updates.changed updates.others c.self.invariant.6,

@@ -1,7 +1,7 @@
 use Rattle.std.proofs.Common.{rules, ◌≡◌, Some, sym, subst}
 use Rattle.std.specs.Option.{IfSome}
 use Rattle.fractal_vt.specs.Sorted.{IsInOrder}
-use Rattle.spill_store.specs.Entries.{by_key, first_key, IsLeastKey}
+use Rattle.spill_store.specs.SpilledTasks.{by_key, first_key, IsLeastKey}
 use Rattle.spill_store.proofs.Pushed.{key_of_first}
 use Rattle.spill_store.proofs.block.Block.front_key.Goals as goal
 

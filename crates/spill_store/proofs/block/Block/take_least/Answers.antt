@@ -2,7 +2,7 @@ use Rattle.std.proofs.Common.{◌≢◌, sym, ap, subst, ◌∙◌}
 use Rattle.std.proofs.Common.{Greater}
 use Rattle.fractal_vt.specs.Sorted.{IsInOrder}
 use Rattle.fractal_vt.proofs.Proved.{AllPairs-tail}
-use Rattle.spill_store.specs.Entries.{Entry, by_key, TakesLeast}
+use Rattle.spill_store.specs.SpilledTasks.{Spilled, by_key, TakesLeast}
 use Rattle.spill_store.proofs.Pushed.{takes_first}
 use Rattle.spill_store.proofs.block.Block.take_least.Goals as goal
 
@@ -11,13 +11,13 @@ invariant_of-self c = subst (λ v. IsInOrder by_key v.entries) (sym c.in_err-tak
 
 pub invariant_of-self-2 : goal.invariant_of-self-2
 invariant_of-self-2 c =
-    let entry : Entry = record { desc = c.in_ok-taken.taken.0; domain = c.in_ok-taken.taken.1 } in
+    let entry : Spilled = record { desc = c.in_ok-taken.taken.0; domain = c.in_ok-taken.taken.1 } in
     AllPairs-tail (λ a b. by_key a b ≢ Greater) entry c.take_first.new.self.entries (subst (IsInOrder by_key) c.in_ok-taken.ensures.first c.self.invariant)
 
 pub returns-clause-least : goal.returns-clause-least
 returns-clause-least c =
     let new = c.take_first.new.self.entries in
-    let entry : Entry = record { desc = c.in_ok-taken.taken.0; domain = c.in_ok-taken.taken.1 } in
+    let entry : Spilled = record { desc = c.in_ok-taken.taken.0; domain = c.in_ok-taken.taken.1 } in
     let was = c.in_ok-taken.ensures.first in
     subst (λ old. TakesLeast old new entry) (sym was ∙ ap (λ v. v.entries) c.self.view_is)
     (takes_first entry new (subst (IsInOrder by_key) was c.self.invariant))

@@ -1,6 +1,6 @@
 use Rattle.std.proofs.Common.{◌≡◌, length, drop, map, ap, ◌∙◌}
 use Rattle.std.proofs.lemmas.List.{take_at, length-map}
-use Rattle.spill_store.specs.Entries.{renumbered_entry}
+use Rattle.spill_store.specs.SpilledTasks.{renumbered_spilled}
 use Rattle.spill_store.specs.Shelved.{at_places}
 use Rattle.spill_store.proofs.Shelves.{places_renumbered}
 use Rattle.spill_store.proofs.shelf.Shelf.renumber.Goals as goal
@@ -8,7 +8,7 @@ use Rattle.spill_store.proofs.shelf.Shelf.renumber.Goals as goal
 pub returns-clause-entries : goal.returns-clause-entries
 returns-clause-entries c =
     let s = c.self.inside in
-    let f = renumbered_entry c.args.table.now in
+    let f = renumbered_spilled c.args.table.now in
     let long : length c.renumber_all.new.kept ≡ s.kept.len = ap length c.renumber_all.ensures ∙ length-map c.deref_mut.result.now f ∙ c.deref_mut.ensures.len in
     ap (λ t. at_places t s.order.items) (take_at c.renumber_all.new.kept (drop (length c.renumber_all.new.kept) s.kept.items) s.kept.len long ∙ c.renumber_all.ensures ∙ ap (map f) c.deref_mut.ensures.value)
     ∙ places_renumbered c.args.table.now s.kept.items s.order.items

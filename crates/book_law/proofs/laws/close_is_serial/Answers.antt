@@ -1,5 +1,0 @@
-use Rattle.book_law.proofs.Histories.{close_is_serial}
-use Rattle.book_law.proofs.laws.close_is_serial.Goals as goal
-
-pub returns : goal.returns
-returns c = close_is_serial

@@ -1,5 +1,0 @@
-use Rattle.book_law.proofs.Ends.{end_is_one}
-use Rattle.book_law.proofs.laws.end_is_one.Goals as goal
-
-pub returns : goal.returns
-returns c = end_is_one

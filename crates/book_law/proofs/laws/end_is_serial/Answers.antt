@@ -1,5 +1,0 @@
-use Rattle.book_law.proofs.Serials.Ends.{end_is_serial}
-use Rattle.book_law.proofs.laws.end_is_serial.Goals as goal
-
-pub returns : goal.returns
-returns c = end_is_serial

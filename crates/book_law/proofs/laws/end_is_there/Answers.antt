@@ -1,5 +1,0 @@
-use Rattle.book_law.proofs.Rests.RestThere.{end_is_there}
-use Rattle.book_law.proofs.laws.end_is_there.Goals as goal
-
-pub returns : goal.returns
-returns c = end_is_there

@@ -1,5 +1,0 @@
-use Rattle.book_law.proofs.Keeps.Events.{event_stays_sound}
-use Rattle.book_law.proofs.laws.event_stays_sound.Goals as goal
-
-pub returns : goal.returns
-returns g c = event_stays_sound g.row.N.Denot

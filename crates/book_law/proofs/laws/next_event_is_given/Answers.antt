@@ -1,5 +1,0 @@
-use Rattle.book_law.proofs.Given.{next_event_is_given}
-use Rattle.book_law.proofs.laws.next_event_is_given.Goals as goal
-
-pub returns : goal.returns
-returns g c = next_event_is_given g.row.N.Denot

@@ -1,5 +1,0 @@
-use Rattle.book_law.proofs.Openings.Opened.{opening_is_sound}
-use Rattle.book_law.proofs.laws.opening_is_sound.Goals as goal
-
-pub returns : goal.returns
-returns c = opening_is_sound

@@ -1,5 +1,0 @@
-use Rattle.book_law.proofs.Replies.{refusals_change_nothing}
-use Rattle.book_law.proofs.laws.refusals_change_nothing.Goals as goal
-
-pub returns : goal.returns
-returns g c = refusals_change_nothing g.row.N.Denot

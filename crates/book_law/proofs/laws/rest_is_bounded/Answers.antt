@@ -1,5 +1,0 @@
-use Rattle.book_law.proofs.Rests.Rest.{rest_is_bounded}
-use Rattle.book_law.proofs.laws.rest_is_bounded.Goals as goal
-
-pub returns : goal.returns
-returns c = rest_is_bounded

@@ -1,5 +1,0 @@
-use Rattle.book_event.specs.Events.{has_free}
-use Rattle.book_move.proofs.dispatching.clear_core.Goals as goal
-
-pub returns-in-Some : goal.returns-in-Some
-returns-in-Some g c = has_free c.in-Some.field-0 c.in-Some.ensures.some.free

@@ -1,9 +1,0 @@
-use Rattle.std.proofs.Common.{ap}
-use Rattle.std.specs.Prelude.{is_some}
-use Rattle.book_move.proofs.Dispatched.{busy_by}
-use Rattle.book_move.proofs.dispatching.is_busy.Goals as goal
-
-pub returns-in-None-clause-busy : goal.returns-in-None-clause-busy
-returns-in-None-clause-busy g c =
-    busy_by c.args.state.now.view c.args.tile c.args.id.0 c.requires.idle.0 c.is_least.result c.requires.idle.1
-    (c.free_core.ensures.none.0 (ap is_some c.in-None.is)) c.is_least.ensures

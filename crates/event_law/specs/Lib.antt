@@ -1,0 +1,2 @@
+-- Contracts mean it.
+pub mod Laws

@@ -1,0 +1,85 @@
+-- The least idle task of a tile.
+use Rattle.std.proofs.Common.{ℕ, ◌≡◌, ◌≢◌, inl, inr, Some, refl, sym, ap, subst, ◌∙◌}
+use Rattle.std.specs.Prelude.{slice_get}
+use Rattle.std.specs.Ordering.{ordering_reverse, ordering_then}
+use Rattle.std.specs.declared.cmp.Ordering.{Ordering}
+use Rattle.std.specs.declared.cmp.Ordering.TheVariants.{Less, Equal, Greater}
+use Rattle.std.proofs.lemmas.Bool.{cases_eq}
+use Rattle.fractal_vt.specs.Keys.{key_cmp}
+use Rattle.guest_image.specs.ImageValue.{ImageValue}
+use Rattle.spec_state.specs.declared.task.Status.TheVariants.{Idle}
+use Rattle.spec_state.specs.declared.task.Task.{Task}
+use Rattle.spec_state.specs.View.{View, queue_at}
+use Rattle.spec_state.specs.Least.{Queued, IsQueuedAt, IsLeastTask, ranked_cmp, spot_cmp}
+use Rattle.spec_state.specs.Queries.{IsLeastIdle}
+use Rattle.spec_law.specs.Sound.{Sound, SoundSizes}
+use Rattle.spec_law.proofs.Proved.{contains_get, distinct_at, least_key, one_place, ranked_turned, same_spot}
+use Rattle.event_law.proofs.Proved.{is_idle}
+
+-- an order that isn't greater is less where ties are out
+pub less_of : (o : Ordering) → o ≢ Greater → o ≢ Equal → o ≡ Less
+less_of Less a b = refl
+less_of Equal a b = absurd (b refl)
+less_of Greater a b = absurd (a refl)
+
+-- two answers after one another tie only where the second does
+then_tie : (o p : Ordering) → ordering_then o p ≡ Equal → p ≡ Equal
+then_tie Less p e = absurd (cc (e))
+then_tie Equal p e = e
+then_tie Greater p e = absurd (cc (e))
+
+module _ (view : View) (sizes : SoundSizes view) (tile id : ℕ) (task : Task) (least : IsLeastTask view id task) (there : task.tile ≡ tile) where
+  -- the least task stands at one place of its tile
+  least_at : IsQueuedAt view tile least.place id task
+  least_at = subst (λ t. IsQueuedAt view t least.place id task) there least.queued_at
+
+  -- another task of its tile ranks behind it
+  least_before : (k : ℕ) → k ≢ id → (q : ℕ) (y : Task) → IsQueuedAt view tile q k y
+      → ranked_cmp task.key (Queued tile least.place) y.key (Queued tile q) ≡ Less
+  least_before k other q y at =
+      let upto : ranked_cmp task.key (Queued tile least.place) y.key (Queued tile q) ≢ Greater =
+      subst (λ key. ranked_cmp key (Queued tile least.place) y.key (Queued tile q) ≢ Greater) (least_key view id task least)
+      (subst (λ t. ranked_cmp least.least.key (Queued t least.place) y.key (Queued tile q) ≢ Greater) there
+      (least.least.least (Queued tile q) y.key (k, y, at, refl))) in
+      less_of (ranked_cmp task.key (Queued tile least.place) y.key (Queued tile q)) upto
+      (λ tie.
+      let spots : Queued tile least.place ≡ Queued tile q =
+      same_spot (Queued tile least.place) (Queued tile q) (then_tie (key_cmp task.key y.key) (spot_cmp (Queued tile least.place) (Queued tile q)) tie) in
+      let places : least.place ≡ q = cc in
+      let both : Some k ≡ Some id = sym at.queued ∙ (ap (slice_get (queue_at view tile)) (sym places) ∙ least_at.queued) in
+      let same : k ≡ id = cc in
+      other same)
+
+  -- so, where it is idle, it is the least idle one of its tile
+  pub least_is_least_idle : task.status ≡ Idle → IsLeastIdle view tile id task
+  least_is_least_idle idle = record {
+    idle = is_idle view tile id task least idle there;
+    least = λ k x other idle_too p q y z at at_other.
+        let places : least.place ≡ p = one_place (queue_at view tile) least.place p id (distinct_at view.settings.task_queue view.queues tile sizes.task_queues)
+        least_at.queued at.queued in
+        let both : Some task ≡ Some y = sym least.queued_at.there ∙ at.there in
+        let same : task ≡ y = cc in
+        (λ i. ranked_cmp (sym same i).key (Queued tile (sym places i)) z.key (Queued tile q)) ∙ least_before k other q z at_other;
+  }
+
+-- an idle least task is the least idle one of its tile
+pub least_idle : (image : ImageValue) (view : View) (id : ℕ) (task : Task) → Sound image view
+    → IsLeastTask view id task → task.status ≡ Idle
+    → IsLeastIdle view task.tile id task
+least_idle image view id task sound least idle = least_is_least_idle view sound.sizes task.tile id task least refl idle
+
+-- a tile has one least idle task at most
+pub least_idle_is_one : (view : View) (tile a b : ℕ) (x y : Task) → IsLeastIdle view tile a x
+    → IsLeastIdle view tile b y → a ≡ b
+least_idle_is_one view tile a b x y one two = elim (cases_eq a b) [
+  | inl same ↦ same
+  | inr other ↦
+      let p = contains_get (queue_at view tile) a one.idle.queued in
+      let q = contains_get (queue_at view tile) b two.idle.queued in
+      let first : IsQueuedAt view tile p.0 a x = record { queued = p.1; there = one.idle.there } in
+      let second : IsQueuedAt view tile q.0 b y = record { queued = q.1; there = two.idle.there } in
+      let less = one.least b y (λ e. other (sym e)) two.idle p.0 q.0 x y first second in
+      let less_too = two.least a x other one.idle q.0 p.0 y x second first in
+      let turned = ranked_turned x.key (Queued tile p.0) y.key (Queued tile q.0) ∙ ap ordering_reverse less_too in
+      absurd (cc (sym less ∙ turned))
+]

@@ -1,0 +1,16 @@
+-- What the crates above may cite of these proofs.
+pub use Rattle.event_lemma.proofs.Asker.{commit_leaves_asker, commit_leaves_entry, conflicts_leave_asker}
+pub use Rattle.event_lemma.proofs.Causes.{abort_is_granted, child_no_stall, coalesce_is_granted, commit_is_granted, dispatch_is_granted}
+pub use Rattle.event_lemma.proofs.Causes.{empty_is_refused, free_no_stall, later_no_stall, latest_is_not_least, least_is_not_busy}
+pub use Rattle.event_lemma.proofs.Causes.{no_child_no_stall, no_end_no_stall, stall_is_refused, step_is_granted}
+pub use Rattle.event_lemma.proofs.Comes.{comes_stays_sound}
+pub use Rattle.event_lemma.proofs.Cores.{core_leaves_idle}
+pub use Rattle.event_lemma.proofs.Falling.{next_is_commit, next_is_dispatch, next_is_split, next_is_step}
+pub use Rattle.event_lemma.proofs.Holders.{finished_is_later, held_has_task, none_is_later}
+pub use Rattle.event_lemma.proofs.Leasts.{least_idle}
+pub use Rattle.event_lemma.proofs.Made.{makes_keeps_settings}
+pub use Rattle.event_lemma.proofs.Readings.{below_limit, least_is_firm, least_where, limit_ends, none_commits, none_is_least}
+pub use Rattle.event_lemma.proofs.Readings.{none_is_spilled, read_trap_ends, spilled_where, untrapped_goes_on}
+pub use Rattle.event_lemma.proofs.Rooms.{least_in_block, room_leaves, room_leaves_asker, room_leaves_block, taken_is_live, taker_asks}
+pub use Rattle.event_lemma.proofs.Rooms.{victim_moves}
+pub use Rattle.event_lemma.proofs.Views.{least_is_committed, sound_by_key, sound_named, sound_numbers, trap_ends}

@@ -1,0 +1,53 @@
+//! The abort of the latest dispatched task of a tile.
+
+ghost use Rattle.std.specs.Prelude.{◌≡◌, ◌<◌};
+ghost use Rattle.spec_law.specs.Sound.{Sound};
+ghost use Rattle.spec_state.specs.declared.task.Task.{Task};
+ghost use Rattle.spec_state.specs.Least.{IsTheLeast};
+ghost use Rattle.spec_state.specs.Queries.{IsLatestDispatched};
+ghost use Rattle.event_def.specs.declared.event.Came.TheVariants.{Made};
+ghost use Rattle.event_def.specs.declared.event.Event.TheVariants as event;
+ghost use Rattle.event_def.specs.End.{IsOver};
+ghost use Rattle.event_move.specs.Moving.{ComesSo};
+
+use crate::recording::record_of;
+use event_def::{Came, Reply};
+use event_room::{end_of, is_least};
+use rv_core::Naming;
+use spec_rollback::abort as take_back;
+use spec_state::{State, TaskId};
+use trace_tap::{Deed, Record};
+
+/// Takes the latest dispatched task of a tile back, which is not the least task, and the run isn't over.
+fn make_abort<N: Naming>(state: &mut State<N>, tile: u32, id: TaskId) -> Record
+    requires sound { Sound N.image state.old.view }
+    requires goes_on { IsOver state.old.view → ⊥ }
+    requires latest { (task : Task) × IsLatestDispatched state.old.view tile id.0 task }
+    requires other { IsTheLeast state.old.view id.0 → ⊥ }
+    ensures { ComesSo N state.old.view (event.Abort tile) (Made result) state.new.view }
+{
+    let aborted = take_back(state, id);
+    record_of(state, Deed::Abort, tile, aborted)
+}
+
+/// The event `Abort`: the latest dispatched task of a tile is taken back, with all that is taken back with it.
+/// Refused with `Ended`, `Empty` or `Firm`. It takes no memory.
+pub fn abort<N: Naming>(state: &mut State<N>, tile: u32) -> Came
+    requires sound { Sound N.image state.old.view }
+    requires tile { tile < state.old.view.settings.tiles }
+    ensures { ComesSo N state.old.view (event.Abort tile) result state.new.view }
+{
+    if end_of(state).is_some() {
+        return Came::Refused(Reply::Ended);
+    }
+    match state.latest(tile) {
+        None => Came::Refused(Reply::Empty),
+        Some(id) => {
+            if is_least(state, id) {
+                Came::Refused(Reply::Firm)
+            } else {
+                Came::Made(make_abort(state, tile, id))
+            }
+        }
+    }
+}

@@ -1,0 +1,84 @@
+-- How a full queue gets a free place where nothing in it moves.
+use Rattle.std.proofs.Common.{ℕ, ◌≡◌, inl, inr, Bool, true, false, List, Some, sym, ap, subst, ◌∙◌, arith}
+use Rattle.std.specs.Prelude.{◌↔◌, IfSome, IsSome, IsTrue, is_some}
+use Rattle.guest_image.specs.ImageValue.{ImageValue}
+use Rattle.memory_law.specs.Tasks.{IsByKey}
+use Rattle.spec_state.specs.declared.task.Task.{Task}
+use Rattle.spec_state.specs.View.{View, task_at}
+use Rattle.spec_state.specs.Aborts.{Aborts, OnlyNode}
+use Rattle.spec_state.specs.Groups.{logged_tasks, live_creator}
+use Rattle.spec_state.specs.Least.{IsFirm}
+use Rattle.spec_state.specs.Queries.{IsIdleFirm}
+use Rattle.spec_state.specs.Room.{Asker, Coalesces, QueueHasRoom, IsFull, IsLeastAsker, IsMovable, IsVictim, MakesRoom, NoneMoves, aborts_victim, aborts_creator}
+use Rattle.spec_law.specs.Sound.{Sound}
+use Rattle.event_lemma.specs.Forcing.{RunsIfTask}
+use Rattle.event_room.specs.Entering.{MayEnter}
+use Rattle.event_lemma.proofs.Proved.{sound_by_key, taken_is_live, victim_moves}
+
+-- a queue without a free place is full
+pub full_if_not : (view : View) (tile : ℕ) (free : Bool) → IsTrue free ↔ QueueHasRoom view tile → free ≡ false
+    → IsFull view tile
+full_if_not view tile free is none =
+    let not_free : QueueHasRoom view tile → ⊥ = λ has. absurd (cc (sym (is.1 has) ∙ none)) in omega (arith, not_free)
+
+-- one without an idle firm task has none that moves
+pub none_if_not : (view : View) (tile : ℕ) (some : Bool)
+    → IsTrue some ↔ ((id : ℕ) × (task : Task) × IsIdleFirm view tile id task) → some ≡ false
+    → NoneMoves view tile
+none_if_not view tile some is none id moves = absurd (cc (sym (is.1 (id, moves.0, moves.1)) ∙ none))
+
+-- whether a task is firm, where that is read
+pub is_firm : (view : View) (id : ℕ) (task : Task) (firm : Bool) → task_at view id ≡ Some task
+    → IfSome (task_at view id) (λ t. IsTrue firm ↔ IsFirm view t) → firm ≡ true → IsFirm view task
+is_firm view id task firm there read is = (subst (λ o. IfSome o (λ t. IsTrue firm ↔ IsFirm view t)) there read).0 is
+
+pub is_loose : (view : View) (id : ℕ) (task : Task) (firm : Bool) → task_at view id ≡ Some task
+    → IfSome (task_at view id) (λ t. IsTrue firm ↔ IsFirm view t) → firm ≡ false → IsFirm view task → ⊥
+is_loose view id task firm there read is holds =
+    absurd (cc (sym ((subst (λ o. IfSome o (λ t. IsTrue firm ↔ IsFirm view t)) there read).1 holds) ∙ is))
+
+-- in a sound view an abort is one
+pub aborted_one : (image : ImageValue) (old new : View) (id aborted : ℕ) → Sound image old
+    → ((ids : List ℕ) → IsByKey (logged_tasks old) ids → Aborts (OnlyNode id) old aborted new)
+    → Aborts (OnlyNode id) old aborted new
+aborted_one image old new id aborted sound aborts =
+    let by_key = sound_by_key image old sound in aborts by_key.0 by_key.1
+
+-- where nothing moves in a full queue, whoever it gives an entry to asks as the least task
+pub asks_as_least : (view : View) (tile : ℕ) (asker : Asker) → IsFull view tile → NoneMoves view tile
+    → MayEnter view tile asker → IsLeastAsker view tile asker
+asks_as_least view tile asker full none (inl free) = absurd (omega (arith, full, free))
+asks_as_least view tile asker full none (inr (inl moves)) = absurd (none moves.0 moves.1)
+asks_as_least view tile asker full none (inr (inr least)) = least
+
+-- once a firm victim is taken back, a task moves
+pub aborted_moves : (image : ImageValue) (tile : ℕ) (asker : Asker) (old : View) (v : ℕ) (task : Task) → Sound image old
+    → RunsIfTask old asker → IsLeastAsker old tile asker → IsVictim old tile asker v task → IsFirm old task
+    → (aborted : ℕ) (mid : View) → Aborts (OnlyNode v) old aborted mid
+    → (id : ℕ) × IsMovable mid tile id
+aborted_moves image tile asker old v task sound runs least victim firm aborted mid aborts =
+    (v, victim_moves image tile asker old v task sound runs least victim firm aborted mid aborts)
+
+-- the creator of another one is there
+pub creator_there : (image : ImageValue) (tile : ℕ) (asker : Asker) (old : View) (v creator : ℕ) (task : Task) → Sound image old
+    → RunsIfTask old asker → NoneMoves old tile → IsLeastAsker old tile asker → IsVictim old tile asker v task
+    → (IsFirm old task → ⊥) → IfSome (task_at old v) (λ t. live_creator t.creator ≡ Some creator)
+    → IsSome (task_at old creator)
+creator_there image tile asker old v creator task sound runs none least victim loose made_by =
+    let by = subst (λ o. IfSome o (λ t. live_creator t.creator ≡ Some creator)) victim.there made_by in
+    ap is_some (taken_is_live image tile asker old v creator task sound runs none least victim (inr (loose, by))).1
+
+-- so the queue gets a free place
+pub freed_by_victim : (tile : ℕ) (asker : Asker) (old mid : View) (v : ℕ) (task : Task) (aborted : ℕ) (new : View) → IsFull old tile
+    → NoneMoves old tile → IsLeastAsker old tile asker → IsVictim old tile asker v task → IsFirm old task
+    → Aborts (OnlyNode v) old aborted mid → Coalesces tile mid new → MakesRoom tile asker old aborted new
+freed_by_victim tile asker old mid v task aborted new full none least victim firm aborts moves =
+    aborts_victim aborted v task mid new full none least victim firm aborts moves
+
+pub freed_by_creator : (tile : ℕ) (asker : Asker) (old new : View) (v creator : ℕ) (task : Task) (aborted : ℕ) → IsFull old tile
+    → NoneMoves old tile → IsLeastAsker old tile asker → IsVictim old tile asker v task → (IsFirm old task → ⊥)
+    → IfSome (task_at old v) (λ t. live_creator t.creator ≡ Some creator) → Aborts (OnlyNode creator) old aborted new
+    → MakesRoom tile asker old aborted new
+freed_by_creator tile asker old new v creator task aborted full none least victim loose made_by aborts =
+    let by = subst (λ o. IfSome o (λ t. live_creator t.creator ≡ Some creator)) victim.there made_by in
+    aborts_creator aborted v creator task new full none least victim loose by aborts

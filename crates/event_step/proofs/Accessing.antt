@@ -1,0 +1,68 @@
+-- What is forced for an access leaves its room, and what its task asks for.
+use Rattle.std.proofs.Common.{ℕ, ◌≡◌, ◌<◌, ◌/◌, Bool, List, Some, Result, Ok, Err, sym, subst, ◌∙◌, length}
+use Rattle.std.specs.Prelude.{IsOk, OnOk, IfSome, Option}
+use Rattle.guest_image.specs.ImageValue.{ImageValue}
+use Rattle.rv_core.specs.LegValue.{LegValue}
+use Rattle.task_request.specs.declared.request.Request.{Request}
+use Rattle.spec_state.specs.declared.task.Task.{Task}
+use Rattle.spec_state.specs.View.{View, task_at}
+use Rattle.spec_state.specs.StateValue.{StateValue, CoversLog, CoversChild}
+use Rattle.spec_state.specs.Changes.{TakesLeg}
+use Rattle.spec_access.specs.Asking.{Asks}
+use Rattle.spec_state.specs.Aborts.{Aborts}
+use Rattle.spec_state.specs.Groups.{logged_tasks}
+use Rattle.spec_state.specs.Queries.{Conflicts}
+use Rattle.memory_law.specs.Tasks.{IsByKey}
+use Rattle.spec_law.specs.Sound.{Sound}
+use Rattle.event_def.specs.Events.{TakesConflicts}
+use Rattle.event_lemma.specs.Forcing.{TakesStill}
+use Rattle.event_lemma.proofs.Proved.{sound_by_key}
+use Rattle.event_step.proofs.Stepping.{asks_still}
+
+-- what holds where a call succeeds, and it does
+pub of_ok : {T E : Type 0} (result : Result T E) (P : Type 0) → OnOk result P → IsOk result → P
+of_ok (Ok value) P holds ok = holds
+of_ok (Err error) P holds ok = absurd (cc (ok))
+
+module _ (image : ImageValue) (old mid : View) (leg : LegValue) (id : ℕ)
+    (stays : (tile core : ℕ) (task : Task) → TakesLeg old tile core leg id task
+    → TakesStill image tile core leg id task old mid) where
+  -- a task that takes its leg still asks for the same
+  pub asks_on : (request : Request) → Asks old leg id request → Asks mid leg id request
+  asks_on request asks =
+      asks_still image old mid asks.tile asks.core id leg asks.task request asks asks.takes (stays asks.tile
+      asks.core asks.task asks.takes)
+
+  -- and is the same task
+  pub same_task : (request : Request) → Asks old leg id request → task_at mid id ≡ task_at old id
+  same_task request asks = (stays asks.tile asks.core asks.task asks.takes).there ∙ sym asks.takes.runs.on.there
+
+-- room for an access stays
+pub log_still : (old mid : StateValue) (id : ℕ) → task_at mid.view id ≡ task_at old.view id
+    → mid.spare.log ≡ old.spare.log
+    → CoversLog old id → CoversLog mid id
+log_still old mid id there room covers =
+    subst (λ n. IfSome (task_at mid.view id) (λ task. length task.log < n)) (sym room)
+    (subst (λ (o : Option Task). IfSome o (λ task. length task.log < old.spare.log)) (sym there) covers)
+
+-- so does room for a child
+pub child_still : (old mid : StateValue) (id : ℕ) → task_at mid.view id ≡ task_at old.view id
+    → mid.spare.spawns ≡ old.spare.spawns
+    → CoversChild old id → CoversChild mid id
+child_still old mid id there room covers =
+    subst (λ n. IfSome (task_at mid.view id) (λ task. length task.spawns < n)) (sym room)
+    (subst (λ (o : Option Task). IfSome o (λ task. length task.spawns < old.spare.spawns)) (sym there) covers)
+
+-- what conflicts with the task's access is taken back
+pub conflicts_taken : (image : ImageValue) (old new : View) (id line offset aborted : ℕ) (write : Bool) (task :
+    Task)
+    → Sound image old → task_at old id ≡ Some task → line ≡ offset / old.settings.line
+    → IfSome (task_at old id) (λ t. (ids : List ℕ) → IsByKey (logged_tasks old) ids
+    → Aborts (Conflicts old t line write) old aborted new)
+    → TakesConflicts task offset write old aborted new
+conflicts_taken image old new id line offset aborted write task sound there line_is aborts =
+    let by_key = sound_by_key image old sound in
+    let taken = subst (λ (o : Option Task). IfSome o (λ t. (ids : List ℕ) → IsByKey (logged_tasks old) ids
+    → Aborts (Conflicts old t line write) old aborted new))
+    there aborts in
+    subst (λ n. Aborts (Conflicts old task n write) old aborted new) line_is (taken by_key.0 by_key.1)

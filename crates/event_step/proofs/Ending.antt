@@ -1,0 +1,128 @@
+-- What comes of an end call.
+use Rattle.std.proofs.Common.{ℕ, ◌≡◌, inr, Bool, false, List, Option, Some, None, refl, subst}
+use Rattle.std.specs.Prelude.{IfSome, IsTrue, ◌↔◌}
+use Rattle.std.specs.declared.cmp.Ordering.TheVariants.{Less}
+use Rattle.fractal_vt.specs.Keys.{key_cmp}
+use Rattle.guest_image.specs.ImageValue.{ImageValue}
+use Rattle.memory_law.specs.Tasks.{IsByKey}
+use Rattle.place_policy.specs.Policy.{Policy}
+use Rattle.trace_tap.specs.declared.record.Deed.TheVariants.{Call}
+use Rattle.trace_tap.specs.declared.record.Record.{Record}
+use Rattle.trace_tap.specs.TapValue.{TapValue}
+use Rattle.rv_core.specs.LegValue.{LegValue}
+use Rattle.task_request.specs.declared.request.Request.TheVariants.{End}
+use Rattle.spec_state.specs.declared.task.Task.{Task}
+use Rattle.spec_state.specs.View.{View, task_at}
+use Rattle.spec_state.specs.Aborts.{Aborts, OnlyNode}
+use Rattle.spec_state.specs.Changes.{TakesLeg}
+use Rattle.spec_state.specs.Groups.{logged_tasks}
+use Rattle.spec_state.specs.Queries.{IsFinished, IsLatestFinished}
+use Rattle.spec_access.specs.Asking.{Asks, CommitQueueHasRoom}
+use Rattle.spec_law.specs.Sound.{Sound}
+use Rattle.event_def.specs.declared.event.Came.TheVariants.{Made, Refused}
+use Rattle.event_def.specs.declared.event.Event.TheVariants as event
+use Rattle.event_def.specs.declared.event.Reply.TheVariants as reply
+use Rattle.event_def.specs.Causes.{IsCommitFull, StallsAtEnd}
+use Rattle.event_def.specs.Comes.{Comes}
+use Rattle.event_def.specs.End.{IsOver}
+use Rattle.event_def.specs.Events.{FreesCommit, EndEvent, has_free}
+use Rattle.event_def.specs.Events as events
+use Rattle.event_def.specs.Trace.{record_of}
+use Rattle.event_def.specs.Book.{book_of}
+use Rattle.event_lemma.specs.Forcing.{TakesStill}
+use Rattle.event_lemma.proofs.Proved.{commit_leaves_asker, commit_leaves_entry, finished_is_later, no_child_no_stall, none_is_later, sound_by_key, stall_is_refused}
+use Rattle.event_step.specs.Ending.{HasLater, HasNoLater, SaysLater}
+use Rattle.event_step.proofs.Stepping.{asks_same, granted, made_granted}
+
+-- what holds of the task that stands there
+pub of_there : (o : Option Task) (P : Task → Type 0) (task : Task) → IfSome o P → o ≡ Some task → P task
+of_there o P task holds there = subst (λ (p : Option Task). IfSome p P) there holds
+
+-- where no task is finished, none is later
+pub none_finished : (view : View) (tile : ℕ) (o : Option Task) → ((k : ℕ) (x : Task)
+    → IsFinished view tile k x → ⊥)
+    → IfSome o (HasNoLater view tile)
+none_finished view tile None none = tt
+none_finished view tile (Some task) none = λ k x finished later. none k x finished
+
+-- where the latest finished task has the greater key, it is later
+pub one_later : (image : ImageValue) (view : View) (tile v : ℕ) (x : Task) (o : Option Task) (told : Bool)
+    → Sound image view
+    → IsLatestFinished view tile v x → IfSome o (λ task. SaysLater view v task told) → IsTrue told
+    → IfSome o (HasLater view tile v)
+one_later image view tile v x None told sound latest is told_so = tt
+one_later image view tile v x (Some task) told sound latest is told_so =
+    let less = (of_there (task_at view v) (λ y. IsTrue told ↔ (key_cmp task.key y.key ≡ Less)) x is
+    latest.of_kind.there).0 told_so in
+    (x, latest, finished_is_later image view sound tile v task x latest.of_kind less)
+
+-- and where it has not, none is
+pub none_later : (view : View) (tile v : ℕ) (x : Task) (o : Option Task) (told : Bool)
+    → IsLatestFinished view tile v x
+    → IfSome o (λ task. SaysLater view v task told) → told ≡ false → IfSome o (HasNoLater view tile)
+none_later view tile v x None told latest is told_so = tt
+none_later view tile v x (Some task) told latest is told_so =
+    none_is_later view tile v x task latest
+    (λ less.
+    let also = (of_there (task_at view v) (λ y. IsTrue told ↔ (key_cmp task.key y.key ≡ Less)) x is
+    latest.of_kind.there).1 less in
+    absurd (cc (also, told_so)))
+
+module _ (image : ImageValue) (old : View) (tile core id : ℕ) (leg : LegValue) (task : Task) (sound : Sound
+    image old)
+    (takes : TakesLeg old tile core leg id task) (v aborted : ℕ) (mid : View) (full : IsCommitFull old tile)
+    (later : HasLater old tile v task)
+    (aborts : (ids : List ℕ) → IsByKey (logged_tasks old) ids → Aborts (OnlyNode v) old aborted mid) where
+  -- an entry is freed by the latest task of the queue, which is later
+  pub frees : FreesCommit tile task old aborted mid
+  frees =
+      let by_key = sound_by_key image old sound in
+      events.aborts_latest aborted v later.0 mid full later.1 later.2 (aborts by_key.0 by_key.1)
+
+  -- the task that ends stays
+  pub stays : TakesStill image tile core leg id task old mid
+  stays = commit_leaves_asker image old tile core id leg task aborted mid sound takes frees
+
+  -- and has the entry
+  pub has_entry : CommitQueueHasRoom mid id
+  has_entry = (
+    tile,
+    core,
+    task,
+    stays.takes.runs.on,
+    commit_leaves_entry image old tile core id leg task
+        aborted mid sound takes frees,
+  )
+
+module _ (N : Type 0) (old : View) (placers : List Policy) (taps : List TapValue) (steps : ℕ)
+    (tile core id : ℕ) (leg : LegValue) (task : Task)
+    (goes_on : IsOver old → ⊥) (asks : Asks old leg id End) (takes : TakesLeg old tile core leg id task) where
+  -- an end call that doesn't stall is made
+  pub made_end : (StallsAtEnd old tile core leg → ⊥) → (aborted : ℕ) (new : View) (seen : Record)
+      → EndEvent tile core leg id task old aborted new → seen ≡ record_of Call tile None aborted new
+      → Comes {N = N} (book_of old placers taps steps) (event.Step tile core leg) (Made seen) new placers
+  made_end no_stall aborted new seen ends is =
+      made_granted N old placers taps steps tile core id leg task End goes_on asks takes aborted new placers seen
+      (granted N old placers taps steps tile core id leg task End goes_on asks takes
+      (no_child_no_stall (book_of old placers taps steps) tile core id leg task takes
+      (λ spawn same. absurd (cc (same, asks_same old tile core id leg task End asks takes))))
+      no_stall)
+      (ends, refl) is
+
+  -- one where the queue is full and holds no later task stalls
+  pub stalls_end : IsCommitFull old tile → HasNoLater old tile task
+      → Comes {N = N} (book_of old placers taps steps) (event.Step tile core leg) (Refused reply.Stall) old
+      placers
+  stalls_end full none = (
+    stall_is_refused N (book_of old placers taps steps) goes_on tile core leg
+        (inr (record {
+          id = id;
+          task = task;
+          takes = takes;
+          asks = asks_same old tile core id leg task End asks
+              takes;
+          full = full;
+          none_later = none;
+        })),
+    (refl, refl),
+  )

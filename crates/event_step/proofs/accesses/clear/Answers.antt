@@ -1,0 +1,15 @@
+use Rattle.event_lemma.proofs.Proved.{conflicts_leave_asker}
+use Rattle.event_step.proofs.Accessing.{conflicts_taken}
+use Rattle.event_step.proofs.accesses.clear.Goals as goal
+
+pub returns-clause-conflicts : goal.returns-clause-conflicts
+returns-clause-conflicts g c tile core task takes =
+    conflicts_taken g.N.Naming.image _ _ c.args.id.0 c.line_of-line.result c.args.offset
+    c.abort_conflicts.result c.args.write task
+    c.requires.sound takes.runs.on.there c.line_of-line.ensures c.abort_conflicts.ensures.aborts
+
+pub returns-clause-stays : goal.returns-clause-stays
+returns-clause-stays g c tile core task takes =
+    conflicts_leave_asker g.N.Naming.image _ tile core c.args.id.0 c.args.leg.now task c.args.offset
+    c.args.write c.abort_conflicts.result _
+    c.requires.sound takes (returns-clause-conflicts g c tile core task takes)

@@ -1,0 +1,29 @@
+-- What comes of a step, whoever observes it.
+use Rattle.std.specs.Prelude.{ℕ, List}
+use Rattle.place_policy.specs.Policy.{Policy}
+use Rattle.trace_tap.specs.TapValue.{TapValue}
+use Rattle.rv_core.specs.LegValue.{LegValue}
+use Rattle.spec_state.specs.declared.task.Task.{Task}
+use Rattle.spec_state.specs.View.{View}
+use Rattle.spec_state.specs.Changes.{TakesLeg}
+use Rattle.event_def.specs.declared.event.Came.{Came}
+use Rattle.event_def.specs.declared.event.Event.TheVariants as event
+use Rattle.event_def.specs.Book.{book_of}
+use Rattle.event_def.specs.Comes.{Comes}
+
+-- what comes of a step on this core of this tile, whatever taps there are and however many events were made
+abbrev pub StepComes : (N : Type 0) → ℕ → ℕ → LegValue → View → List Policy → Came → View → List Policy → Type 0
+StepComes N tile core leg old before came new after =
+    (taps : List TapValue) (steps : ℕ)
+    → Comes {N = N} (book_of old before taps steps) (event.Step tile core leg) came new after
+
+-- what comes of the step of the task of this id in this tile, on the core on which it takes the leg
+abbrev pub TaskComes : (N : Type 0) → ℕ → LegValue → ℕ → View → List Policy → Came → View → List Policy → Type 0
+TaskComes N tile leg id old before came new after =
+    (core : ℕ) (task : Task) → TakesLeg old tile core leg id task
+    → StepComes N tile core leg old before came new after
+
+-- and tells no placer
+abbrev pub QuietlyComes : (N : Type 0) → ℕ → LegValue → ℕ → View → Came → View → Type 0
+QuietlyComes N tile leg id old came new =
+    (placers : List Policy) → TaskComes N tile leg id old placers came new placers

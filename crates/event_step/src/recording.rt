@@ -1,0 +1,27 @@
+//! What the taps note.
+
+ghost use Rattle.std.specs.Prelude.{◌≡◌};
+ghost use Rattle.event_def.specs.Trace.{record_of};
+
+use rv_core::Naming;
+use spec_state::State;
+use trace_tap::{Deed, Record};
+
+/// The record of a deed in a tile that took so many tasks back and left this state.
+pub(crate) fn record_of<N: Naming>(
+    state: &State<N>,
+    deed: Deed,
+    tile: u32,
+    line: Option<u32>,
+    aborted: u32,
+) -> Record
+    ensures { result ≡ record_of deed tile line aborted state.now.view }
+{
+    Record {
+        deed,
+        tile,
+        line,
+        aborted,
+        commits: state.commit_count(),
+    }
+}

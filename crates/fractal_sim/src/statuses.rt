@@ -1,0 +1,40 @@
+//! The statuses that an outcome and the process show. Answers for each stand in `specs/Answers`.
+
+/// A run ended with nothing pending, a report was accepted, or a script was played to where it may go on.
+pub(crate) const DONE: u8 = 0;
+
+/// The words are refused.
+pub(crate) const USAGE: u8 = 1;
+
+/// The bytes begin with no image.
+pub(crate) const IMAGE_FAULT: u8 = 2;
+
+/// A run ended at a trap.
+pub(crate) const TRAP: u8 = 3;
+
+/// A run ended at its commit limit.
+pub(crate) const LIMIT: u8 = 4;
+
+/// Memory ran out.
+pub(crate) const NO_MEMORY: u8 = 5;
+
+/// The source failed.
+pub(crate) const SOURCE_FAULT: u8 = 6;
+
+/// The sink failed.
+pub(crate) const SINK_FAULT: u8 = 7;
+
+/// A report is refused.
+pub(crate) const REPORT_FAULT: u8 = 8;
+
+/// A script is refused.
+pub(crate) const SCRIPT_FAULT: u8 = 9;
+
+/// The source has more bytes than are read.
+pub(crate) const LONG: u8 = 10;
+
+/// A run can't be saved, since a task that pends is in a subdomain.
+pub(crate) const NESTED: u8 = 12;
+
+/// A run can't be saved, since more tasks pend than an image has.
+pub(crate) const TOO_MANY: u8 = 13;

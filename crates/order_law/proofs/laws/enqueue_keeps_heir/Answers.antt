@@ -1,0 +1,5 @@
+use Rattle.order_law.proofs.Heir.{spawn_heir}
+use Rattle.order_law.proofs.laws.enqueue_keeps_heir.Goals as goal
+
+pub returns : goal.returns
+returns c = spawn_heir

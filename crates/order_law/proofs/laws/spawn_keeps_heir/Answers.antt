@@ -1,5 +1,0 @@
-use Rattle.order_law.proofs.Heir.{spawn_heir}
-use Rattle.order_law.proofs.laws.spawn_keeps_heir.Goals as goal
-
-pub returns : goal.returns
-returns c = spawn_heir

@@ -1,5 +1,0 @@
-use Rattle.order_law.proofs.Spawned.{spawn_law}
-use Rattle.order_law.proofs.laws.spawn_keeps_order.Goals as goal
-
-pub returns : goal.returns
-returns c = spawn_law

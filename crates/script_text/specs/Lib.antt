@@ -1,0 +1,3 @@
+-- Contracts mean all of these.
+pub mod Replies
+pub mod Traces

@@ -1,5 +1,0 @@
-use Rattle.spec_law.proofs.Aborted.KeptSizes.{abort_keeps_sizes}
-use Rattle.spec_law.proofs.aborting.abort_keeps_sizes.Goals as goal
-
-pub returns : goal.returns
-returns c = abort_keeps_sizes

@@ -1,4 +1,0 @@
-pub mod Forcing
-pub mod Readings
-pub mod Falling
-pub mod Laws

@@ -1,0 +1,25 @@
+//! How a full task queue gets a free place.
+
+ghost use Rattle.task_law.specs.Room.{CoalesceShortensQueue, SomeRuleApplies, VictimIsLegal, VictimMakesRoom};
+
+/// At each queue with room for two tasks or more some rule applies: a place is free, or an idle firm task moves,
+/// or the asker stalls, or, where it is the least task, there is a victim.
+pub fn some_rule_applies()
+    ensures { SomeRuleApplies }
+{}
+
+/// What is aborted for a victim, itself where it is firm and else its creator, is dispatched, is not the asker, and
+/// is above it.
+pub fn victim_is_legal()
+    ensures { VictimIsLegal }
+{}
+
+/// After the abort of a victim the queue is shorter, or the victim is an idle firm task of it, which moves next.
+pub fn victim_makes_room()
+    ensures { VictimMakesRoom }
+{}
+
+/// Where an idle firm task stands in a queue, a coalescing makes that queue shorter.
+pub fn coalesce_shortens_queue()
+    ensures { CoalesceShortensQueue }
+{}

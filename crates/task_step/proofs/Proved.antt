@@ -1,5 +1,0 @@
--- What the crates above may cite of these proofs.
-pub use Rattle.task_step.proofs.Asked.{allowed_by-room, AllowedBy, call_at-is, request_at-allowed, request_at-call, request_at-continue}
-pub use Rattle.task_step.proofs.Asked.{request_at-end, request_at-load, request_at-store, sub_allowed-room}
-pub use Rattle.task_step.proofs.Reaching.{request_at-reaches}
-pub use Rattle.task_step.proofs.Stepping.{after_request-size, after_request-used, after_stop-used, HasSize, HasUsed}

@@ -1,4 +1,0 @@
-pub mod Requests
-pub mod Conditions
-pub mod TaskState
-pub mod Steps

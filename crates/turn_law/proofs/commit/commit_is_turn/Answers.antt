@@ -1,5 +1,0 @@
-use Rattle.turn_law.proofs.Turning.{commit_is_turn}
-use Rattle.turn_law.proofs.commit.commit_is_turn.Goals as goal
-
-pub returns : goal.returns
-returns c = commit_is_turn

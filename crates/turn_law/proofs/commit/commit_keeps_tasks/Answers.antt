@@ -1,5 +1,0 @@
-use Rattle.turn_law.proofs.Freed.{commits_keep}
-use Rattle.turn_law.proofs.commit.commit_keeps_tasks.Goals as goal
-
-pub returns : goal.returns
-returns c = commits_keep

@@ -1,5 +1,0 @@
-use Rattle.turn_law.proofs.Fitting.{contexts_fit}
-use Rattle.turn_law.proofs.commit.context_fits.Goals as goal
-
-pub returns : goal.returns
-returns c = contexts_fit

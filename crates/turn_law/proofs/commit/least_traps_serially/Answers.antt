@@ -1,5 +1,0 @@
-use Rattle.turn_law.proofs.Whole.{least_traps}
-use Rattle.turn_law.proofs.commit.least_traps_serially.Goals as goal
-
-pub returns : goal.returns
-returns c = least_traps

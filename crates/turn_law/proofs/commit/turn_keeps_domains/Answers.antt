@@ -1,5 +1,0 @@
-use Rattle.turn_law.proofs.Fitting.{turns_keep_domains}
-use Rattle.turn_law.proofs.commit.turn_keeps_domains.Goals as goal
-
-pub returns : goal.returns
-returns c = turns_keep_domains

@@ -1,5 +1,0 @@
-use Rattle.turn_law.proofs.Taken.{aborts_keep}
-use Rattle.turn_law.proofs.moves.abort_keeps_tasks.Goals as goal
-
-pub returns : goal.returns
-returns c = aborts_keep

@@ -1,5 +1,0 @@
-use Rattle.turn_law.proofs.Coalesce.{coalesces_keep}
-use Rattle.turn_law.proofs.moves.coalesce_keeps_tasks.Goals as goal
-
-pub returns : goal.returns
-returns c = coalesces_keep

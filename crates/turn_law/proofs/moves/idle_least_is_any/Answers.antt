@@ -1,5 +1,0 @@
-use Rattle.turn_law.proofs.Grown.{idle_least}
-use Rattle.turn_law.proofs.moves.idle_least_is_any.Goals as goal
-
-pub returns : goal.returns
-returns c = idle_least

@@ -1,5 +1,0 @@
-use Rattle.turn_law.proofs.Grown.{placements_keep}
-use Rattle.turn_law.proofs.moves.placement_keeps_tasks.Goals as goal
-
-pub returns : goal.returns
-returns c = placements_keep

@@ -1,5 +1,0 @@
-use Rattle.turn_law.proofs.Coalesce.{splits_keep}
-use Rattle.turn_law.proofs.moves.split_keeps_tasks.Goals as goal
-
-pub returns : goal.returns
-returns c = splits_keep

@@ -1,5 +1,0 @@
-use Rattle.turn_law.proofs.Advance.{advances_are_few}
-use Rattle.turn_law.proofs.progress.advances_are_few.Goals as goal
-
-pub returns : goal.returns
-returns c = advances_are_few

@@ -1,5 +1,0 @@
-use Rattle.turn_law.proofs.Advance.{events_advance}
-use Rattle.turn_law.proofs.progress.events_advance.Goals as goal
-
-pub returns : goal.returns
-returns c = events_advance

@@ -1,5 +1,0 @@
-use Rattle.turn_law.proofs.Victim.{some_rule_applies}
-use Rattle.turn_law.proofs.room.some_rule_applies.Goals as goal
-
-pub returns : goal.returns
-returns c = some_rule_applies
