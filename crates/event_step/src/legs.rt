@@ -16,7 +16,7 @@ use crate::enqueues::enqueue;
 use event_def::{Came, Reply};
 use event_room::end_of;
 use place_policy::Placer;
-use rv_core::{Leg, Naming};
+use rv_core::{Leg, Naming, Stop};
 use spec_access::request_of_task;
 use spec_state::{State, Status, Task, TaskId};
 use task_request::Request;
@@ -64,6 +64,10 @@ pub fn make_step<N: Naming, P: Placer>(
         let before = map P.policy placers.old in
         TaskComes N tile leg.now id.0 old before result state.new.view (map P.policy placers.new) }
 {
+    // Most legs end here, and need no request made for them.
+    if let Stop::Quantum = leg.stop() {
+        return go_on(state, tile, id, leg);
+    }
     match request_of_task(state, id, leg) {
         Request::Continue => go_on(state, tile, id, leg),
         Request::Load { width, rd, offset } => load(state, tile, id, leg, width, rd, offset),

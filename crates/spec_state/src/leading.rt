@@ -60,6 +60,7 @@ impl<N: Naming> State<N> {
 
     /// The least uncommitted task, and how it stands; None exactly where no task is uncommitted. It costs a look at
     /// the index and one at each tile's block.
+    #[inline(always)]
     pub fn least(&self) -> Option<Where>
         ensures some { IfSome result (IsLeast self.now.view) }
         ensures none { IsNone result ↔ IsAllCommitted self.now.view }
