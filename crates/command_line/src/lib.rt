@@ -9,5 +9,6 @@ mod reading;
 mod request;
 mod splitting;
 
+pub use number::number_between;
 pub use reading::read_words;
 pub use request::{Command, Refusal, Request};

@@ -8,7 +8,7 @@ ghost use Rattle.command_line.specs.Requests.{is_number, number_in, number_of};
 ghost use Rattle.command_line.specs.Settings.{between};
 
 /// The number that a text writes, where it is from `least` to `greatest`.
-pub(crate) fn number_between(least: u32, greatest: u32, text: &str) -> Option<u32>
+pub fn number_between(least: u32, greatest: u32, text: &str) -> Option<u32>
     ensures value { result ≡ number_in (between least greatest) text.now }
     ensures least { IfSome result (λ number. least ≤ number) }
     ensures greatest { IfSome result (λ number. number ≤ greatest) }

@@ -1,17 +1,12 @@
 -- The events for the least tasks.
-use Rattle.std.proofs.Common.{ℕ, ◌≡◌, ◌+◌, ◌*◌, ◌≤◌, ◌⊎◌, Bool, false, List, inl, inr, refl, sym, ap, subst, ◌∙◌, arith, add-one, suc, length}
-use Rattle.std.proofs.lemmas.Bool.{cases_eq}
+use Rattle.std.proofs.Common.{ℕ, ◌≡◌, ◌+◌, ◌*◌, ◌≤◌, Bool, false, List, inl, inr, refl, sym, ap, subst, ◌∙◌, arith, add-one, suc, length}
 use Rattle.std.proofs.lemmas.Nat.{mul-le}
 use Rattle.guest_image.specs.ImageValue.{ImageValue}
 use Rattle.place_policy.specs.Policy.{Policy}
-use Rattle.run_journal.specs.declared.end.End.TheVariants as ends
 use Rattle.task_request.specs.declared.request.Request.{Request}
 use Rattle.task_request.specs.declared.request.Request.TheVariants.{Continue, Load, Store, Enqueue, MakeSub, Emit, End, Trap}
 use Rattle.trace_tap.specs.declared.record.Record.{Record}
 use Rattle.trace_tap.specs.TapValue.{TapValue}
-use Rattle.spec_state.specs.declared.task.TaskId.{TaskId}
-use Rattle.spec_state.specs.declared.task.Where.TheVariants as where_
-use Rattle.spec_state.specs.Least.{IsLeast}
 use Rattle.spec_state.specs.View.{View}
 use Rattle.spec_law.specs.Sound.{Sound}
 use Rattle.event_def.specs.declared.event.Advance.{Advance}
@@ -27,27 +22,14 @@ use Rattle.event_def.specs.declared.event.Reply.TheVariants as reply
 use Rattle.event_def.specs.Advancing.{AdvanceAnswers, AdvancesBy, IsNextEvent}
 use Rattle.event_def.specs.Book.{BookView, CountedView}
 use Rattle.event_def.specs.Comes.{Comes, IsAsBefore}
-use Rattle.event_def.specs.End.{IsOver}
 use Rattle.event_def.specs.Happens.{Happens}
 use Rattle.event_def.specs.Trace.{deed_of}
 use Rattle.event_law.proofs.Proved.{advances_fall, least_event_is_granted, least_events_are_few, next_event_is_given, rest_is_there}
-use Rattle.event_lemma.proofs.Proved.{comes_stays_sound, least_is_committed, limit_ends, trap_ends}
+use Rattle.event_lemma.proofs.Proved.{comes_stays_sound}
 use Rattle.conflict_book.specs.Halting.{FallsIfMoved, AdvanceGoesOn, NextComes, RunsLeast, advance_by, advance_of}
 use Rattle.conflict_book.specs.Halting.{last_answer}
 use Rattle.conflict_book.specs.BookViews.{going_book, after_event}
 use Rattle.conflict_book.proofs.Telling.{happens_made, moved}
-
--- where the least task is trapped the run is over
-pub trapped_is_over : (image : ImageValue) (view : View) (id : TaskId) → Sound image view → IsLeast view (where_.Trapped id) → IsOver view
-trapped_is_over image view id sound is = by_limit (cases_eq (length view.history) view.settings.commits)
-  where
-    by_limit : (length view.history ≡ view.settings.commits) ⊎ (length view.history ≡ view.settings.commits → ⊥) → IsOver view
-    by_limit (inl full) = (ends.Limit, limit_ends view (where_.Trapped id) is full)
-    by_limit (inr few) =
-        let made = least_is_committed image view id.0 is.0 sound is.3 in (
-          ends.Trap (record { creator = made.0; index = made.1 }) is.2 is.0.core.pc,
-          trap_ends view id.0 is.1 is.2 made.0 made.1 is.0 few is.3 is.4 made.2,
-        )
 
 -- the event for the least task leaves a sound view
 pub next_comes_sound : (N : Type 0) (image : ImageValue) (book : BookView) (came : Came) (new : View) (placers : List Policy)

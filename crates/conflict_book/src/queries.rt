@@ -77,6 +77,14 @@ impl<N: Naming, P: Placer, T: Tap> Book<N, P, T> {
         self.sound.state().has_limits();
     }
 
+    /// The state, for whoever tells what stands in it.
+    pub fn state(&self) -> &State<N>
+        ensures view { result.now.view ≡ machine_view self.now }
+        ensures sound { Sound N.image result.now.view }
+    {
+        self.sound.state()
+    }
+
     /// What its parts take their memory from.
     pub fn alloc(&self) -> Global {
         self.sound.state().alloc()

@@ -10,7 +10,8 @@ pub use Rattle.event_lemma.proofs.Holders.{finished_is_later, held_has_task, non
 pub use Rattle.event_lemma.proofs.Leasts.{least_idle}
 pub use Rattle.event_lemma.proofs.Made.{makes_keeps_settings}
 pub use Rattle.event_lemma.proofs.Readings.{below_limit, least_is_firm, least_where, limit_ends, none_commits, none_is_least}
-pub use Rattle.event_lemma.proofs.Readings.{none_is_spilled, read_trap_ends, spilled_where, untrapped_goes_on}
+pub use Rattle.event_lemma.proofs.Readings.{none_is_spilled, read_trap_ends, spilled_where, trapped_is_over}
+pub use Rattle.event_lemma.proofs.Readings.{untrapped_goes_on}
 pub use Rattle.event_lemma.proofs.Rooms.{least_in_block, room_leaves, room_leaves_asker, room_leaves_block, taken_is_live, taker_asks}
 pub use Rattle.event_lemma.proofs.Rooms.{victim_moves}
 pub use Rattle.event_lemma.proofs.Views.{least_is_committed, sound_by_key, sound_named, sound_numbers, trap_ends}

@@ -1,6 +1,7 @@
 -- What the reading of the least task says: which task it is, whether it commits, and how the run ended or that it
 -- goes on.
-use Rattle.std.proofs.Common.{ℕ, ◌≡◌, ◌≢◌, ◌<◌, inl, Some, sym, ap, subst, ◌∙◌, arith}
+use Rattle.std.proofs.Common.{ℕ, ◌≡◌, ◌≢◌, ◌<◌, ◌⊎◌, inl, inr, Some, sym, ap, subst, ◌∙◌, arith}
+use Rattle.std.proofs.lemmas.Bool.{cases_eq}
 use Rattle.std.specs.Prelude.{◌↔◌, length, slice_get}
 use Rattle.guest_image.specs.ImageValue.{ImageValue}
 use Rattle.run_journal.specs.declared.end.End.TheVariants as ends
@@ -149,6 +150,19 @@ pub trapped_ends : (image : ImageValue) (view : View) (id core cause : ℕ) (tas
 trapped_ends image view id core cause task name sound few least trapped named =
     let by = least_is_committed image view id task sound least in
     trap_ends view id core cause name.creator name.index task few least trapped (named_by view task.creator by.0 by.1 name by.2 named)
+
+-- where the least task is trapped the run is over
+pub trapped_is_over : (image : ImageValue) (view : View) (id : TaskId) → Sound image view
+    → IsLeast view (where_.Trapped id) → IsOver view
+trapped_is_over image view id sound is = by_limit (cases_eq (length view.history) view.settings.commits)
+  where
+    by_limit : (length view.history ≡ view.settings.commits) ⊎ (length view.history ≡ view.settings.commits → ⊥) → IsOver view
+    by_limit (inl full) = (ends.Limit, limit_ends view (where_.Trapped id) is full)
+    by_limit (inr few) =
+        let made = least_is_committed image view id.0 is.0 sound is.3 in (
+          ends.Trap (record { creator = made.0; index = made.1 }) is.2 is.0.core.pc,
+          trap_ends view id.0 is.1 is.2 made.0 made.1 is.0 few is.3 is.4 made.2,
+        )
 
 -- by what is read of it: its cause, and its name
 pub read_trap_ends : (image : ImageValue) (view : View) (id : TaskId) (cause : ℕ) (task : Task) (name : Name)

@@ -1,4 +1,4 @@
--- What a walk picks of the tasks that it has seen.
+-- What a loop over tasks picks of those that it has seen, for the readers in src/latest, conflicts and queued.
 use Rattle.std.proofs.Common.{◌≡◌, ◌≢◌, ◌⊎◌, ◌<◌, ◌≤◌, ◌+◌, ◌∷◌, ◌++◌, ℕ, true, false, List, [], length}
 use Rattle.std.proofs.Common.{take, Option, Some, None, refl, sym, ap, subst, ◌∙◌, inl, inr, arith}
 use Rattle.std.proofs.Common.{slice_index_or}

@@ -1,10 +1,13 @@
 -- A view before the first task, and a task that comes to be.
-use Rattle.std.specs.Prelude.{◌≡◌, ◌<◌, ℕ, [], replicate, Some, None}
+use Rattle.std.specs.Prelude.{◌≡◌, ◌<◌, ℕ, List, [], Option, replicate, Some, None}
 use Rattle.guest_image.specs.ImageValue.{ImageValue}
 use Rattle.serial_machine.specs.Run.{opening_memory}
+use Rattle.spill_store.specs.SpilledTasks.{Spilled}
 use Rattle.task_desc.specs.declared.desc.Desc.{Desc}
+use Rattle.tile_queues.specs.Queue.{QueueValue}
 use Rattle.spec_state.specs.declared.settings.Settings.{Settings}
 use Rattle.spec_state.specs.declared.task.Task.{Task}
+use Rattle.spec_state.specs.Fits.{ids_in}
 use Rattle.spec_state.specs.View.{View, version_of, task_at, queued_last, ChangesTask}
 
 -- the view without a task: the initial data, and nothing else
@@ -24,6 +27,14 @@ pub record IsEmptyView (image : ImageValue) (settings : Settings) (view : View) 
     cores = replicate settings.tiles (replicate settings.cores None);
     blocks = replicate settings.tiles [];
   }
+
+-- the lists of all tiles hold no task
+pub record HoldNothing (settings : Settings) (queues finished : List QueueValue) (cores : List (List (Option ℕ)))
+    (blocks : List (List Spilled)) : Type 0 where
+  pub queues_are : ids_in queues ≡ replicate settings.tiles []
+  pub finished_are : ids_in finished ≡ replicate settings.tiles []
+  pub cores_are : cores ≡ replicate settings.tiles (replicate settings.cores None)
+  pub blocks_are : blocks ≡ replicate settings.tiles []
 
 -- the descriptor is that of a task of the image: its creator is the image, and its domain the root, of one kind;
 -- so what the type keeps of kinds and commit numbers holds of it

@@ -1,9 +1,11 @@
 //! A state without a task.
 
-ghost use Rattle.std.specs.Prelude.{◌≡◌, ◌<◌, ◌≤◌, ◌*◌, [], replicate, map, None, All, vec_len, IfOk};
+ghost use Rattle.std.specs.Prelude.{◌≡◌, ◌<◌, ◌≤◌, ◌*◌, [], replicate, map, length, None, All, IfOk};
+ghost use Rattle.std.specs.Prelude.{vec_len, vec_capacity};
 ghost use Rattle.spec_state.specs.Settings.{IsNamed, IsValid};
 ghost use Rattle.spec_state.specs.View.{core_ids};
-ghost use Rattle.spec_state.specs.Opening.{IsEmptyView};
+ghost use Rattle.spec_state.specs.Opening.{IsEmptyView, HoldNothing};
+ghost use Rattle.spec_state.specs.Fits.{HasTiles, HasSlots, entries_in};
 
 use crate::children::Children;
 use crate::history::History;
@@ -11,7 +13,7 @@ use crate::numbers::MAX_NUMBERS_IN_USE;
 use crate::reserving::Buffers;
 use crate::settings::Settings;
 use crate::state::State;
-use crate::task::TaskId;
+use crate::task::{Task, TaskId};
 use commit_arbiter::Index;
 use fractal_vt::Vt;
 use guest_image::Image;
@@ -21,7 +23,7 @@ use serial_machine::Bytes;
 use spill_store::Blocks;
 use std::alloc::{AllocError, Global};
 use std::marker::PhantomData;
-use tile_queues::Queue;
+use tile_queues::{CommitQueue, Queue, TaskQueue};
 use undo_log::Memory;
 
 /// An empty queue for each tile.
@@ -82,6 +84,77 @@ fn entries_of(settings: &Settings) -> u32
     settings.tiles * settings.task_queue
 }
 
+/// The lists of all tiles, which hold nothing.
+#[derive(Drop)]
+struct TileLists {
+    queues: Vec<TaskQueue>,
+    finished: Vec<CommitQueue>,
+    cores: Vec<Vec<Option<TaskId>>>,
+    blocks: Blocks,
+}
+
+impl TileLists {
+    /// Those of a machine of these settings; `AllocError` where memory runs out.
+    fn new(alloc: Global, settings: &Settings) -> Result<TileLists, AllocError>
+        requires { IsValid settings.now }
+        ensures tiles { IfOk result (λ lists. HasTiles settings.now lists.queues.items lists.finished.items
+            (vec_len lists.cores) (length lists.blocks.items)) }
+        ensures cores { IfOk result (λ lists. All (λ held. vec_len held ≡ settings.now.cores) lists.cores.items) }
+        ensures none { IfOk result (λ lists. HoldNothing settings.now lists.queues.items lists.finished.items
+            (map (λ cores. core_ids cores.items) lists.cores.items) (entries_in lists.blocks.items)) }
+    {
+        Ok(TileLists {
+            queues: empty_queues(alloc, settings.tiles, settings.task_queue)?,
+            finished: empty_queues(alloc, settings.tiles, settings.commit_queue)?,
+            cores: all_free_cores(alloc, settings.tiles, settings.cores)?,
+            blocks: Blocks::new(alloc, settings.tiles)?,
+        })
+    }
+}
+
+/// Memory for all tasks that the task queues may hold, and for what is noted of each. There is none yet.
+#[derive(Drop)]
+struct TaskMemory {
+    tasks: KeptSlab<Task>,
+    index: Index,
+    arrivals: Vec<u64>,
+    children: Children,
+    marks: Vec<bool>,
+    members: Vec<usize>,
+    numbers: Vec<u64>,
+}
+
+impl TaskMemory {
+    /// That of a machine of these settings; `AllocError` where memory runs out.
+    fn new(alloc: Global, settings: &Settings) -> Result<TaskMemory, AllocError>
+        requires { IsValid settings.now }
+        ensures slots { IfOk result (λ made. HasSlots settings.now made.tasks.slots [] (record {
+          slots = made.tasks.capacity;
+          indexed = length made.index.candidates;
+          capacity = made.index.capacity;
+          marks = vec_len made.marks;
+          members = vec_len made.members;
+          arrivals = length made.arrivals.items;
+          numbers = vec_capacity made.numbers;
+        })) }
+        ensures none { IfOk result (λ made. made.tasks.slots ≡ []) }
+        ensures index { IfOk result (λ made. made.index.candidates ≡ []) }
+    {
+        let entries = entries_of(settings);
+        let tasks = KeptSlab::with_capacity(alloc, entries as usize)?;
+        let slots = tasks.capacity();
+        Ok(TaskMemory {
+            tasks,
+            index: Index::new(alloc, entries)?,
+            arrivals: vec![in alloc; 0; slots]?,
+            children: Children::new(alloc, entries)?,
+            marks: vec![in alloc; false; slots]?,
+            members: vec![in alloc; 0; slots]?,
+            numbers: Vec::with_capacity(alloc, MAX_NUMBERS_IN_USE)?,
+        })
+    }
+}
+
 impl<N: Naming> State<N> {
     /// A state without a task, of a machine of valid settings, with the image's data. It has room for all tasks of
     /// its queues, for the whole history, for the marks of a cascade and for a renumbering; `AllocError` where
@@ -91,31 +164,33 @@ impl<N: Naming> State<N> {
         requires named { IsNamed image.now settings N.image N.budget N.commits }
         ensures { IfOk result (λ state. IsEmptyView N.image settings state.view) }
     {
-        let entries = entries_of(&settings);
-        let tasks = KeptSlab::with_capacity(alloc, entries as usize)?;
-        let slots = tasks.capacity();
+        let memory = Memory::new(alloc, image.initial(), image.data_size())?;
+        let history = History::new(alloc, settings.commits)?;
+        let decoded = Decoded::new(alloc, image)?;
+        let lists = TileLists::new(alloc, &settings)?;
+        let made = TaskMemory::new(alloc, &settings)?;
         Ok(State {
             version: image.version(),
             settings,
-            tasks,
-            memory: Memory::new(alloc, image.initial(), image.data_size())?,
-            history: History::new(alloc, settings.commits)?,
+            tasks: made.tasks,
+            memory,
+            history,
             output: Bytes::new(alloc),
             next: 0,
             path: Vt::empty(),
-            queues: empty_queues(alloc, settings.tiles, settings.task_queue)?,
-            finished: empty_queues(alloc, settings.tiles, settings.commit_queue)?,
-            cores: all_free_cores(alloc, settings.tiles, settings.cores)?,
-            blocks: Blocks::new(alloc, settings.tiles)?,
-            index: Index::new(alloc, entries)?,
-            arrivals: vec![in alloc; 0; slots]?,
+            queues: lists.queues,
+            finished: lists.finished,
+            cores: lists.cores,
+            blocks: lists.blocks,
+            index: made.index,
+            arrivals: made.arrivals,
             next_arrival: 0,
-            children: Children::new(alloc, entries)?,
-            marks: vec![in alloc; false; slots]?,
-            members: vec![in alloc; 0; slots]?,
-            numbers: Vec::with_capacity(alloc, MAX_NUMBERS_IN_USE)?,
+            children: made.children,
+            marks: made.marks,
+            members: made.members,
+            numbers: made.numbers,
             buffers: Buffers::new(alloc),
-            decoded: Decoded::new(alloc, image)?,
+            decoded,
             alloc,
             naming: PhantomData,
         })

@@ -1,4 +1,4 @@
-pub mod Held
+pub mod HeldLegs
 pub mod Played
 pub mod Ranges
 pub mod Steps

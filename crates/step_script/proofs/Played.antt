@@ -15,7 +15,7 @@ use Rattle.step_script.specs.declared.act.Act.TheVariants as acts
 use Rattle.step_script.specs.declared.saying.Said.{Said}
 use Rattle.step_script.specs.Playing.{HeldLeg, PlayState, HandsIn, HasLegAt, Steps, Takes, Gives, Does, DoesAll, PlaysSome, held_for, holding, plainly, without_held_leg}
 use Rattle.step_script.specs.Playing.{step_runs, take_holds, give_hands, give_stale}
-use Rattle.step_script.proofs.Held.{without_unheld}
+use Rattle.step_script.proofs.HeldLegs.{without_unheld}
 
 -- a leg of a running task is handed in
 pub steps_handed : {E : Type 0} (N : Type 0) (image : ImageValue) (tile core : ℕ) (old new : BookView) (leg : LegValue) (r : Result Said E)

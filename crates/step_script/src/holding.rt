@@ -10,7 +10,7 @@ use std::marker::Model;
 
 /// A leg that is held for a core of a tile.
 #[derive(Drop)]
-pub(crate) struct Held<N: Naming> {
+pub struct Held<N: Naming> {
     tile: u32,
     core: u32,
     leg: Leg<N>,
@@ -34,14 +34,14 @@ impl<N: Naming> Held<N> {
 }
 
 /// Gives up what is held for a core.
-pub(crate) fn forget<N: Naming>(held: &mut Vec<Held<N>>, tile: u32, core: u32)
+pub fn forget<N: Naming>(held: &mut Vec<Held<N>>, tile: u32, core: u32)
     ensures { held.new.items ≡ without_held_leg tile core held.old.items }
 {
     held.retain(|one| !one.is_for(tile, core));
 }
 
 /// Holds a leg for a core, in place of an older one.
-pub(crate) fn hold<N: Naming>(
+pub fn hold<N: Naming>(
     held: &mut Vec<Held<N>>,
     tile: u32,
     core: u32,
@@ -62,7 +62,7 @@ fn place_of<N: Naming>(held: &[Held<N>], tile: u32, core: u32) -> Option<usize>
 }
 
 /// Hands out the leg that is held for a core, for which nothing is held then; None where nothing was.
-pub(crate) fn hand_out<N: Naming>(held: &mut Vec<Held<N>>, tile: u32, core: u32) -> Option<Leg<N>>
+pub fn hand_out<N: Naming>(held: &mut Vec<Held<N>>, tile: u32, core: u32) -> Option<Leg<N>>
     ensures leg { result ≡ held_for tile core held.old.items }
     ensures rest { held.new.items ≡ without_held_leg tile core held.old.items }
 {

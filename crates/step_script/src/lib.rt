@@ -17,6 +17,7 @@ mod saying;
 
 pub use act::Act;
 pub use fault::ScriptFault;
-pub use playing::play;
+pub use holding::{Held, forget, hand_out, hold};
+pub use playing::{first_leg, leg_at, play, run_at};
 pub use reading::{read_script, written_scripts_read_back};
 pub use saying::{Said, Word};

@@ -84,7 +84,7 @@ fn hand_in_leg<N: Naming, P: Placer, T: Tap>(
 
 /// The leg of the running task on a core, from the core that it has, with the quantum of the settings; None where
 /// no task runs there.
-fn leg_at<N: Naming, P: Placer, T: Tap>(
+pub fn leg_at<N: Naming, P: Placer, T: Tap>(
     image: &Image,
     book: &Book<N, P, T>,
     tile: u32,
@@ -104,7 +104,7 @@ fn leg_at<N: Naming, P: Placer, T: Tap>(
 }
 
 /// The same in the place of another leg, which stays where no task runs there. It tells whether one does.
-fn run_at<N: Naming, P: Placer, T: Tap>(
+pub fn run_at<N: Naming, P: Placer, T: Tap>(
     leg: &mut Leg<N>,
     image: &Image,
     book: &Book<N, P, T>,
@@ -130,7 +130,7 @@ fn run_at<N: Naming, P: Placer, T: Tap>(
 }
 
 /// Some leg, from the first word of the text on.
-fn first_leg<N: Naming, P: Placer, T: Tap>(image: &Image, book: &Book<N, P, T>) -> Leg<N>
+pub fn first_leg<N: Naming, P: Placer, T: Tap>(image: &Image, book: &Book<N, P, T>) -> Leg<N>
     requires image { image.now ≡ N.image }
 {
     let start = Core::start(image.version(), TEXT_START, 0, [0; 3]);

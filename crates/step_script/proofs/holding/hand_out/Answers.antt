@@ -1,7 +1,7 @@
 use Rattle.std.proofs.Common.{rules, ◌≡◌, get_or, Some, None, ap, sym, ◌∙◌}
 use Rattle.std.specs.List.{position}
 use Rattle.step_script.specs.Playing.{is_held_for, without_held_leg}
-use Rattle.step_script.proofs.Held.{held-at_place, held-no_place, without_held_leg-at_place, without_unheld}
+use Rattle.step_script.proofs.HeldLegs.{held-at_place, held-no_place, without_held_leg-at_place, without_unheld}
 use Rattle.step_script.proofs.holding.hand_out.Goals as goal
 
 pub returns-in_err-place-clause-leg : goal.returns-in_err-place-clause-leg
