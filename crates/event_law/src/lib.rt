@@ -1,8 +1,7 @@
 //! The laws of events: whatever happens keeps a book sound, and so every history is a run of the serial machine.
 //!
-//! Each law is the contract of a function that does nothing and costs nothing. The book, `event_lemma`, `outcome_law`
-//! and
-//! runs stand on them. It stands on the words of events and on the laws of states.
+//! Each law is the contract of a function that does nothing and costs nothing. The book, `event_lemma`,
+//! `outcome_law` and runs stand on them. It stands on the words of events and on the laws of states.
 #![tactic(auto)]
 
 mod laws;

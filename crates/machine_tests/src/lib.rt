@@ -1,4 +1,4 @@
-//! Tests of the machine's public calls, from its state to whole runs and to runs that are saved.
+//! Tests of the machine's public calls: of the board, and from its state to whole runs and to runs that are saved.
 //!
 //! They stand in a crate of their own, without code, since a crate with tests is proved twice.
 #![tactic(auto)]

@@ -1,5 +1,5 @@
--- Views that are alike: the same but for the ids of tasks, what stands behind the last task, and how a filter holds
--- its lines.
+-- Views, and books of them, that are alike: the same but for the ids of tasks, what stands behind the last task, and
+-- how a filter holds its lines.
 use Rattle.std.specs.Prelude.{◌≡◌, ℕ, map, Option, Some, None, option_map}
 use Rattle.spec_state.specs.declared.task.Creator.{Creator}
 use Rattle.spec_state.specs.declared.task.Creator.TheVariants.{Committed, Live}

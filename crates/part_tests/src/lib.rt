@@ -1,4 +1,4 @@
-//! Tests of public calls of the crates from the instruction table up to the report and the words of a command line.
+//! Tests of public calls of the crates from memory up to the report and the words of a command line.
 //!
 //! They stand in a crate of their own, since a crate with tests is proved twice. It has no code but tests.
 #![tactic(auto)]

@@ -1,7 +1,7 @@
 //! The report of a run as a text: written line by line without memory, read back against its grammar, and checked
 //! against the serial machine. A writer keeps one line at a time; reading takes memory for what the text says and
-//! time linear in it; checking takes the time of the run, and no copy of the journal.
-//! It stands on the serial machine and on sinks; the program and `script_text` call it.
+//! time linear in it; checking takes the time of the run, and no copy of the journal. It stands on the serial
+//! machine, lines of texts and sinks; the program and `script_text` call it.
 #![tactic(auto)]
 
 mod checking;

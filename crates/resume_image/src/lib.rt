@@ -1,12 +1,12 @@
 //! A run that met its commit limit goes on later from an image of what it left.
 //!
-//! The saved image has the first one's text, the memory that the first run left, and the tasks that pend after it. What
-//! runs from it is what the first run would have gone on with: both journals, the second with its names shifted, are
-//! one run of the first image.
+//! The saved image has the first one's text, the memory that the first run left, and the tasks that pend after it.
+//! What runs from it is what the first run would have gone on with: both journals, the second with its names
+//! shifted, are one run of the first image.
 //!
-//! It stands on the book's frozen runs, on the serial machine and on the laws of runs; the program saves by it, and a
-//! library's caller joins. A saved image costs a copy of the text, the memory and the tasks, a joined journal a copy of
-//! both.
+//! It stands on the book's frozen runs, on the serial machine and on the laws of runs and of what pends; the
+//! program saves by it, and a library's caller joins. A saved image costs a copy of the text, the memory and the
+//! tasks, a joined journal a copy of both.
 #![tactic(auto)]
 
 mod fault;

@@ -2,7 +2,7 @@
 //!
 //! Both machines, the serial one and the speculative one, hand out these types, and reports are written from them.
 //! An entry is plain `Copy` data; a list is a `Vec` that contracts see as its items alone, and only to add an item
-//! takes memory. It stands on task names.
+//! takes memory. It stands on task names and spare memory.
 #![tactic(auto)]
 
 mod closed;

@@ -1,4 +1,4 @@
-//! A turn, on the parts of a machine.
+//! A turn of the serial machine, over its bags, memory, output and count.
 
 ghost use Rattle.std.specs.Prelude.{◌≡◌, ◌≤◌, ◌<◌, ◌+◌, ◌++◌, ◌∷◌, ◌^◌, ℕ, length, drop, IfOk, IfErr, OnOk, OnErr};
 ghost use Rattle.std.specs.Prelude.{Some, IsSome, ◌↔◌, MatchBool};

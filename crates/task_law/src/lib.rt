@@ -2,8 +2,8 @@
 //!
 //! Each law is a definition over functions from ids, and the contract of a function that does nothing and costs
 //! nothing; whoever holds a machine's tables states them of what it reads of its own tasks. It stands on the serial
-//! machine and on the laws of memory and of runs; the laws of states and events stand on it, and the state and the
-//! events cite it.
+//! machine and on the laws of memory and of runs; the laws of states and events stand on it, and the state, its
+//! rollback and commit, the events and the book cite it.
 #![tactic(auto)]
 
 mod commit;

@@ -2,7 +2,8 @@
 
 /// One load or store of a task, as its log keeps it.
 ///
-/// The width is 1, 2 or 4 bytes, and the offset is a multiple of it.
+/// The width is 1, 2 or 4 bytes, and the offset is a multiple of it: the type keeps neither, but the calls that note
+/// an access ask for both.
 #[derive(Clone, Copy, Debug, PartialEq, Eq)]
 pub struct Access {
     /// The first byte, counted from the start of the data.

@@ -1,4 +1,5 @@
-//! What a task does to memory, and how it is taken back.
+//! What a task does to memory, and how it is taken back. The serial machine stores by it, and both undo by it; the
+//! speculative one loads and stores by `covered`.
 
 ghost use Rattle.std.specs.Prelude.{◌≡◌, [], ◌∷◌, ◌++◌, length, IfOk, OnOk, OnErr};
 ghost use Rattle.undo_log.specs.Number.{number_at, IsAccessible};
