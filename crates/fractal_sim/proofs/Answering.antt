@@ -23,10 +23,11 @@ use Rattle.command_line.specs.declared.request.Request.{Request}
 use Rattle.fractal_sim.specs.declared.finding.Finding.{Finding}
 use Rattle.fractal_sim.specs.declared.finding.Finding.TheVariants as finding
 use Rattle.fractal_sim.specs.declared.finding.Loading.{Loading}
-use Rattle.fractal_sim.specs.declared.outcome.Outcome.{Outcome}
-use Rattle.fractal_sim.specs.Call.{Call, Input}
-use Rattle.fractal_sim.specs.Given.{HasImage, IsRead, IsGenerated, ReadsAsAsked, ReadsImage, input_limit}
-use Rattle.fractal_sim.specs.Runs.{closed_of, IsEmpty, HoldsRunOfInput, HoldsRunOrNothing, HoldsLawfulRun, IsReported, RunsRead, RunsToEnd, StopsAtLimit, LoadsToEnd}
+use Rattle.program_call.specs.declared.outcome.Outcome.{Outcome}
+use Rattle.program_call.specs.Call.{Call, Input, input_limit}
+use Rattle.fractal_sim.specs.Given.{HasImage, IsRead, IsGenerated, ReadsAsAsked, ReadsImage}
+use Rattle.program_call.specs.Outcomes.{IsEmpty, closed_of}
+use Rattle.fractal_sim.specs.Runs.{HoldsRunOfInput, HoldsRunOrNothing, HoldsLawfulRun, IsReported, RunsRead, RunsToEnd, StopsAtLimit, LoadsToEnd}
 use Rattle.fractal_sim.specs.Runs.{PlaysToEnd, TracesToEnd}
 use Rattle.fractal_sim.specs.declared.finding.Saving.{Saving}
 use Rattle.fractal_sim.specs.declared.finding.Saving.TheVariants as saving

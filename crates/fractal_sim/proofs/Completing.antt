@@ -12,9 +12,9 @@ use Rattle.command_line.specs.declared.request.Request.{Request}
 use Rattle.command_line.specs.Requests.{request_of_words}
 use Rattle.fractal_sim.specs.declared.finding.Finding.{Finding}
 use Rattle.fractal_sim.specs.declared.finding.Finding.TheVariants as finding
-use Rattle.fractal_sim.specs.declared.outcome.Outcome.{Outcome}
-use Rattle.fractal_sim.specs.Call.{Call, Input}
-use Rattle.fractal_sim.specs.Given.{Reads, ReadsInput, ReadsImage, input_limit}
+use Rattle.program_call.specs.declared.outcome.Outcome.{Outcome}
+use Rattle.program_call.specs.Call.{Call, Input, input_limit}
+use Rattle.fractal_sim.specs.Given.{Reads, ReadsInput, ReadsImage}
 use Rattle.fractal_sim.specs.Texts.{end_status, played_status}
 use Rattle.fractal_sim.specs.Complete as due
 use Rattle.fractal_sim.specs.Complete.{BeginsWithImage, IsDue, IsKnown, IsComplete}

@@ -15,11 +15,12 @@ use Rattle.command_line.specs.declared.request.Request.{Request}
 use Rattle.command_line.specs.Requests.{request_of_words}
 use Rattle.fractal_sim.specs.declared.finding.Finding.{Finding}
 use Rattle.fractal_sim.specs.declared.finding.Finding.TheVariants as finding
-use Rattle.fractal_sim.specs.declared.outcome.Outcome.{Outcome}
-use Rattle.fractal_sim.specs.Call.{Input}
+use Rattle.program_call.specs.declared.outcome.Outcome.{Outcome}
+use Rattle.program_call.specs.Call.{Input}
 use Rattle.fractal_sim.specs.Given.{HasImage, IsRead, IsGenerated}
 use Rattle.fractal_sim.specs.Runs as runs
-use Rattle.fractal_sim.specs.Runs.{closed_of, IsEmpty, Counts, IsRunMadeBy, MakesRun, PlaysScript, RunsImage, RunsRead, CountsEvents}
+use Rattle.program_call.specs.Outcomes.{IsEmpty, closed_of}
+use Rattle.fractal_sim.specs.Runs.{Counts, IsRunMadeBy, MakesRun, PlaysScript, RunsImage, RunsRead, CountsEvents}
 use Rattle.command_line.specs.declared.request.Command.{Command}
 use Rattle.command_line.specs.declared.request.Command.TheVariants as commands
 use Rattle.fractal_sim.specs.Deciding.{run_with_end, lists_of_traced, event_count, IsRunSo}

@@ -23,8 +23,8 @@ use Rattle.command_line.specs.Requests.{request_of_words}
 use Rattle.fractal_sim.specs.declared.finding.Finding.{Finding}
 use Rattle.fractal_sim.specs.declared.finding.Finding.TheVariants as finding
 use Rattle.fractal_sim.specs.declared.finding.Loading.{Loading}
-use Rattle.fractal_sim.specs.Call.{Input}
-use Rattle.fractal_sim.specs.Given.{Reads, ReadsAsAsked, ReadsImage, input_limit}
+use Rattle.program_call.specs.Call.{Input, input_limit}
+use Rattle.fractal_sim.specs.Given.{Reads, ReadsAsAsked, ReadsImage}
 use Rattle.fractal_sim.specs.Finding.{IsFound, IsLoaded, IsPlayed, IsRan}
 use Rattle.fractal_sim.specs.Deciding.{IsFoundBehind, IsLoadedSo, IsRunSo, IsSavedSo, IsClosedReport}
 use Rattle.fractal_sim.specs.Runs.{IsReported, RunsRead}

@@ -6,11 +6,11 @@ use Rattle.guest_image.specs.declared.fault.ImageFault.TheVariants as faults
 use Rattle.command_line.specs.declared.request.Command.TheVariants as commands
 use Rattle.command_line.specs.declared.request.Request.{Request}
 use Rattle.command_line.specs.Requests.{request_of_words, request_by, command_by, settings_by}
-use Rattle.fractal_sim.specs.declared.outcome.Outcome.{Outcome}
+use Rattle.program_call.specs.declared.outcome.Outcome.{Outcome}
 use Rattle.fractal_sim.specs.Answers as table
-use Rattle.fractal_sim.specs.Call.{Call, Input}
+use Rattle.program_call.specs.Call.{Call, Input}
 use Rattle.fractal_sim.specs.Given.{IsNoImage}
-use Rattle.fractal_sim.specs.Runs.{IsEmpty}
+use Rattle.program_call.specs.Outcomes.{IsEmpty}
 use Rattle.fractal_sim.specs.Texts.{image_fault_line}
 use Rattle.fractal_sim.specs.Twice.{ScriptCallsEndWell}
 

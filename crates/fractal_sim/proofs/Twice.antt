@@ -20,13 +20,13 @@ use Rattle.command_line.specs.declared.request.Command.TheVariants as commands
 use Rattle.command_line.specs.declared.request.Request.{Request}
 use Rattle.command_line.specs.Requests.{request_of_words}
 use Rattle.script_text.specs.Traces.{trace_text}
-use Rattle.fractal_sim.specs.declared.outcome.Outcome.{Outcome}
+use Rattle.program_call.specs.declared.outcome.Outcome.{Outcome}
 use Rattle.fractal_sim.specs.Answers as table
 use Rattle.fractal_sim.specs.Answers.{IsAnswer, TellsAnswer, TellsOutcome}
-use Rattle.fractal_sim.specs.Call.{Call, Input}
+use Rattle.program_call.specs.Call.{Call, Input, input_limit}
 use Rattle.fractal_sim.specs.Checks.{IsNoScriptAt}
-use Rattle.fractal_sim.specs.Given.{input_limit}
-use Rattle.fractal_sim.specs.Runs.{closed_of, IsEmpty, IsReported, IsScript, PlaysScript}
+use Rattle.program_call.specs.Outcomes.{IsEmpty, closed_of}
+use Rattle.fractal_sim.specs.Runs.{IsReported, IsScript, PlaysScript}
 use Rattle.fractal_sim.specs.Texts.{image_fault_line, script_fault_line, played_status, played_text}
 use Rattle.fractal_sim.specs.Twice.{EndsWell, ScriptCallsAreOne}
 use Rattle.fractal_sim.proofs.Answering.{same_some}

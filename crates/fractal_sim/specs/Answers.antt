@@ -14,11 +14,12 @@ use Rattle.load_gen.specs.declared.making.Load.{Load}
 use Rattle.step_script.specs.declared.saying.Said.{Said}
 use Rattle.command_line.specs.declared.request.Command.TheVariants.{Check}
 use Rattle.script_text.specs.Traces.{trace_text}
-use Rattle.fractal_sim.specs.declared.outcome.Outcome.{Outcome}
-use Rattle.fractal_sim.specs.Call.{Call, Input}
+use Rattle.program_call.specs.declared.outcome.Outcome.{Outcome}
+use Rattle.program_call.specs.Call.{Call, Input}
 use Rattle.fractal_sim.specs.Given.{ReadsAsAsked, IsUsage, IsUnread, IsLong, IsNoImage}
 use Rattle.fractal_sim.specs.Checks.{IsAcceptedReport, IsRefusedReport, IsNoScript}
-use Rattle.fractal_sim.specs.Runs.{closed_of, IsEmpty, HoldsRunOfInput, RunsToEnd, StopsAtLimit, LoadsToEnd, PlaysToEnd}
+use Rattle.program_call.specs.Outcomes.{IsEmpty, closed_of}
+use Rattle.fractal_sim.specs.Runs.{HoldsRunOfInput, RunsToEnd, StopsAtLimit, LoadsToEnd, PlaysToEnd}
 use Rattle.fractal_sim.specs.Runs.{TracesToEnd}
 use Rattle.fractal_sim.specs.Texts.{end_status, played_status, image_fault_line, journal_fault_line, script_fault_line}
 use Rattle.fractal_sim.specs.Texts.{accepted_line, nested_line, tasks_line, run_text, load_text, played_text}

@@ -12,7 +12,7 @@ use Rattle.report_text.specs.Check.{IsReportOf, IsVerdict}
 use Rattle.step_script.specs.Grammar.{acts_of}
 use Rattle.command_line.specs.declared.request.Command.TheVariants.{Check}
 use Rattle.command_line.specs.declared.request.Request.{Request}
-use Rattle.fractal_sim.specs.Call.{Input}
+use Rattle.program_call.specs.Call.{Input}
 use Rattle.fractal_sim.specs.Given.{ReadsImage}
 use Rattle.fractal_sim.specs.Runs.{PlaysScript}
 

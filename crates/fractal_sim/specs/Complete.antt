@@ -14,9 +14,9 @@ use Rattle.step_script.specs.declared.act.Act.{Act}
 use Rattle.command_line.specs.declared.request.Command.TheVariants as commands
 use Rattle.command_line.specs.declared.request.Request.{Request}
 use Rattle.command_line.specs.Requests.{request_of_words}
-use Rattle.fractal_sim.specs.declared.outcome.Outcome.{Outcome}
-use Rattle.fractal_sim.specs.Call.{Call, Input}
-use Rattle.fractal_sim.specs.Given.{input_limit, NeedsNoInput, Reads}
+use Rattle.program_call.specs.declared.outcome.Outcome.{Outcome}
+use Rattle.program_call.specs.Call.{Call, Input, IsFaultless, input_limit}
+use Rattle.fractal_sim.specs.Given.{NeedsNoInput, Reads}
 use Rattle.fractal_sim.specs.Checks.{IsNoScriptAt, IsWrongLine}
 use Rattle.fractal_sim.specs.Runs.{IsReported, IsScript, PlaysScript}
 use Rattle.fractal_sim.specs.Texts.{end_status, played_status}
@@ -66,11 +66,6 @@ pub data IsDue (words : List (List ℕ)) (bytes : List ℕ) : ℕ → Type 0 whe
   Refused : (request : Request) (image : ImageValue) (rest : List ℕ) (line : ℕ)
       → BeginsWithImage words bytes request image rest → request.command ≡ commands.Check
       → IsWrongLine image request rest line → IsDue words bytes 8
-
--- neither the source nor the sink failed in the call
-pub record IsFaultless (call : Call) : Type 0 where
-  pub source : Rose call.input.source_before.faults call.input.source_after.faults → ⊥
-  pub sink : Rose call.sink_before.faults call.sink_after.faults → ⊥
 
 -- these are the bytes that the source has, or whatever they are none is needed
 abbrev pub IsKnown : Input → List ℕ → Type 0

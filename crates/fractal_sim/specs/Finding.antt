@@ -18,10 +18,11 @@ use Rattle.fractal_sim.specs.declared.finding.Loading.{Loading}
 use Rattle.fractal_sim.specs.declared.finding.Saving.{Saving}
 use Rattle.fractal_sim.specs.declared.finding.Saving.TheVariants as saving
 use Rattle.fractal_sim.specs.declared.finding.Finding.TheVariants as finding
-use Rattle.fractal_sim.specs.declared.outcome.Outcome.{Outcome}
-use Rattle.fractal_sim.specs.Call.{Input}
+use Rattle.program_call.specs.declared.outcome.Outcome.{Outcome}
+use Rattle.program_call.specs.Call.{Input}
 use Rattle.fractal_sim.specs.Given.{ReadsImage, ReadsAsAsked, Generates, IsUsage, IsUnread, IsLong, IsNoImage}
-use Rattle.fractal_sim.specs.Runs.{closed_of, IsEmpty, IsReported, RunsRead}
+use Rattle.program_call.specs.Outcomes.{IsEmpty, closed_of}
+use Rattle.fractal_sim.specs.Runs.{IsReported, RunsRead}
 use Rattle.fractal_sim.specs.Checks.{IsAcceptedReport, IsRefusedReport, IsNoScript}
 use Rattle.fractal_sim.specs.Texts.{end_status, played_status, image_fault_line, journal_fault_line, script_fault_line}
 use Rattle.fractal_sim.specs.Texts.{accepted_line, nested_line, tasks_line, run_text, load_text, played_text}
@@ -175,12 +176,6 @@ pub record TellsFinding (found : Finding) (old new : SinkState) (o : Outcome) : 
   pub kept : OutcomeKeeps found o
   pub told : o.status ≢ 7 → (o.status ≡ status_of found) × TakesText old new (text_of found)
   pub failed : o.status ≡ 7 → Rose old.faults new.faults × IsSomeAnd (text_of found) (TakesFront old new)
-
--- the line was written and the status answered, or the sink failed on it (7); the outcome is empty
-pub record TellsLine (status : ℕ) (line : List ℕ) (old new : SinkState) (o : Outcome) : Type 0 where
-  pub empty : IsEmpty o
-  pub told : o.status ≢ 7 → (o.status ≡ status) × SinkTakes old new line
-  pub failed : o.status ≡ 7 → Rose old.faults new.faults × TakesFront old new line
 
 -- the text was written and the status answered, or the sink failed on it (7); the outcome holds this run
 pub record TellsStopped (status : ℕ) (text : List ℕ) (ran : Ran) (steps : Option ℕ) (old new : SinkState) (o : Outcome)

@@ -11,11 +11,7 @@ use Rattle.command_line.specs.declared.request.Command.{Command}
 use Rattle.command_line.specs.declared.request.Command.TheVariants as commands
 use Rattle.command_line.specs.declared.request.Request.{Request}
 use Rattle.command_line.specs.Requests.{request_of_words, IsLimited}
-use Rattle.fractal_sim.specs.Call.{Input}
-
--- the greatest number of bytes that are read
-abbrev pub input_limit : ℕ
-input_limit = 67108864
+use Rattle.program_call.specs.Call.{Input, input_limit}
 
 -- the command reads the source: each does but `load`
 abbrev pub Reads : Command → Type 0

@@ -1,5 +1,4 @@
 -- Contracts mean all but Finding and Deciding, which serve this crate alone.
-pub mod Call
 pub mod Given
 pub mod Runs
 pub mod Checks

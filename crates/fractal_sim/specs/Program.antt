@@ -1,6 +1,6 @@
 -- What an answer of the program says of its call.
-use Rattle.fractal_sim.specs.declared.outcome.Outcome.{Outcome}
-use Rattle.fractal_sim.specs.Call.{Call}
+use Rattle.program_call.specs.declared.outcome.Outcome.{Outcome}
+use Rattle.program_call.specs.Call.{Call}
 use Rattle.fractal_sim.specs.Runs.{HoldsRunOrNothing, HoldsLawfulRun, CountsEvents}
 use Rattle.fractal_sim.specs.Answers.{TellsOutcome}
 use Rattle.fractal_sim.specs.Complete.{IsComplete}

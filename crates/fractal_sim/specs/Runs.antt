@@ -19,21 +19,10 @@ use Rattle.command_line.specs.declared.request.Request.{Request}
 use Rattle.command_line.specs.Requests.{request_of_words}
 use Rattle.spec_state.specs.declared.pending.Pending.{Pending}
 use Rattle.spec_state.specs.Pendings.{RunLeaves}
-use Rattle.fractal_sim.specs.declared.outcome.Outcome.{Outcome}
-use Rattle.fractal_sim.specs.Call.{Input}
+use Rattle.program_call.specs.declared.outcome.Outcome.{Outcome}
+use Rattle.program_call.specs.Call.{Input}
+use Rattle.program_call.specs.Outcomes.{IsEmpty, closed_of}
 use Rattle.fractal_sim.specs.Given.{ReadsImage, Generates, HasImage}
-
--- the run that an outcome holds
-abbrev pub closed_of : Outcome → SerialRun
-closed_of o = record { journal = o.journal; memory = o.memory; output = o.output; end = o.end }
-
--- no run was made: journal, memory and output are empty, and there is no end and no count of events
-pub record IsEmpty (o : Outcome) : Type 0 where
-  pub journal : o.journal ≡ []
-  pub memory : o.memory ≡ []
-  pub output : o.output ≡ []
-  pub end : o.end ≡ None
-  pub steps : o.steps ≡ None
 
 -- the outcome holds a run of the image that the words ask for, with their limits
 pub record HoldsRunOfInput (input : Input) (o : Outcome) : Type 0 where

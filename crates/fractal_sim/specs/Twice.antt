@@ -3,9 +3,9 @@ use Rattle.std.specs.Prelude.{◌≡◌, ◌≢◌, ℕ, List, Some}
 use Rattle.sim_io.specs.Parts.{SinkTakes}
 use Rattle.command_line.specs.declared.request.Request.{Request}
 use Rattle.command_line.specs.Requests.{request_of_words}
-use Rattle.fractal_sim.specs.declared.outcome.Outcome.{Outcome}
+use Rattle.program_call.specs.declared.outcome.Outcome.{Outcome}
 use Rattle.fractal_sim.specs.Answers.{TellsOutcome}
-use Rattle.fractal_sim.specs.Call.{Call}
+use Rattle.program_call.specs.Call.{Call}
 use Rattle.fractal_sim.specs.Runs.{PlaysScript}
 
 -- the other call has the same words, placers and taps, and sources of the same bytes, which both tell

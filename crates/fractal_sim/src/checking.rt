@@ -7,7 +7,7 @@ ghost use Rattle.report_text.specs.Check.{IsReportOf};
 ghost use Rattle.command_line.specs.Requests.{IsLimited};
 ghost use Rattle.fractal_sim.specs.Deciding.{IsClosedReport, IsFoundBehind};
 ghost use Rattle.fractal_sim.specs.Finding.{IsWritable};
-ghost use Rattle.fractal_sim.specs.Given.{input_limit};
+ghost use Rattle.program_call.specs.Call.{input_limit};
 
 use crate::finding::Finding;
 use command_line::{Command, Request};

@@ -3,10 +3,11 @@
 ghost use Rattle.std.specs.Prelude.{◌≡◌, ◌≤◌, ◌<◌, ◌-◌, ◌^◌, length, map, true};
 ghost use Rattle.guest_image.specs.Reading.{image_of};
 ghost use Rattle.command_line.specs.Requests.{IsLimited};
-ghost use Rattle.fractal_sim.specs.Call.{input_of};
+ghost use Rattle.program_call.specs.Call.{input_of};
 ghost use Rattle.fractal_sim.specs.Deciding.{IsFoundBehind};
 ghost use Rattle.fractal_sim.specs.Finding.{IsFound, IsWritable};
-ghost use Rattle.fractal_sim.specs.Given.{input_limit, Reads};
+ghost use Rattle.program_call.specs.Call.{input_limit};
+ghost use Rattle.fractal_sim.specs.Given.{Reads};
 
 use crate::checking::check_report;
 use crate::finding::{Finding, Loading};

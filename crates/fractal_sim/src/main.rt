@@ -12,21 +12,19 @@ mod deciding;
 mod finding;
 mod laws;
 mod lines;
-mod outcome;
 mod playing;
 mod program;
 mod publishing;
 mod running;
 mod saving;
-mod statuses;
 mod telling;
 #[cfg(test)]
 mod tests;
 
 use place_policy::{ByHint, LeastLoaded, Placer, RoundRobin};
 use program::top;
+use program_call::NO_MEMORY;
 use sim_io::{StdSink, StdSource};
-use statuses::NO_MEMORY;
 use std::alloc::{AllocError, Global};
 use std::env;
 use std::io::{ErrorKind, Read};

@@ -5,7 +5,7 @@ ghost use Rattle.guest_image.specs.ImageValue.{IsImage};
 ghost use Rattle.command_line.specs.Requests.{IsLimited};
 ghost use Rattle.fractal_sim.specs.Deciding.{IsFoundBehind, play_finding, trace_finding, no_script_finding};
 ghost use Rattle.fractal_sim.specs.Finding.{IsWritable};
-ghost use Rattle.fractal_sim.specs.Given.{input_limit};
+ghost use Rattle.program_call.specs.Call.{input_limit};
 
 use crate::finding::Finding;
 use command_line::{Command, Request};

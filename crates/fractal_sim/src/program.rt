@@ -1,13 +1,13 @@
 //! The whole program but its entry.
 
 ghost use Rattle.std.specs.Prelude.{map};
-ghost use Rattle.fractal_sim.specs.Call.{call_on, input_of};
+ghost use Rattle.program_call.specs.Call.{call_on, input_of};
 ghost use Rattle.fractal_sim.specs.Program.{Answers};
 
 use crate::deciding::find;
-use crate::outcome::Outcome;
 use crate::telling::tell;
 use place_policy::Placer;
+use program_call::Outcome;
 use sim_io::{Sink, Source};
 use std::alloc::Global;
 use std::sync::Wait;

@@ -1,22 +1,19 @@
 //! What was found is written, and told by a status. Nothing here takes memory.
 
 ghost use Rattle.std.specs.Prelude.{◌≡◌, ◌≢◌, ◌<◌, ◌-◌, ◌^◌};
-ghost use Rattle.fractal_sim.specs.declared.statuses.TheConstants.{SINK_FAULT};
-ghost use Rattle.fractal_sim.specs.Finding.{IsWritable, TellsFinding, TellsLine};
-ghost use Rattle.fractal_sim.specs.Runs.{IsEmpty};
+ghost use Rattle.fractal_sim.specs.Finding.{IsWritable, TellsFinding};
 
 use crate::finding::Finding;
 use crate::lines::{image_line, journal_line, script_line};
-use crate::outcome::Outcome;
 use crate::publishing::{
     accept, publish, publish_load, publish_played, publish_stopped, publish_trace,
 };
-use crate::statuses::{
-    IMAGE_FAULT, LONG, NO_MEMORY, REPORT_FAULT, SCRIPT_FAULT, SINK_FAULT, SOURCE_FAULT, USAGE,
-};
 use guest_image::ImageFault;
-use serial_machine::{Bytes, Journal};
-use sim_io::{Sink, write_all};
+use program_call::{
+    IMAGE_FAULT, LONG, NO_MEMORY, Outcome, REPORT_FAULT, SCRIPT_FAULT, SOURCE_FAULT, USAGE,
+    tell_line,
+};
+use sim_io::Sink;
 use std::alloc::Global;
 
 /// Writes what was found. The status is 7 where the sink fails.
@@ -26,8 +23,8 @@ pub(crate) fn tell<K: Sink>(alloc: Global, sink: &mut K, found: Finding) -> Outc
 {
     match found {
         Finding::Usage => tell_line(alloc, sink, USAGE, b"fault usage\n"),
-        Finding::Memory => empty(alloc, NO_MEMORY),
-        Finding::Unread => empty(alloc, SOURCE_FAULT),
+        Finding::Memory => Outcome::empty(alloc, NO_MEMORY),
+        Finding::Unread => Outcome::empty(alloc, SOURCE_FAULT),
         Finding::Long => tell_line(alloc, sink, LONG, b"fault long\n"),
         Finding::NoImage(fault) => tell_image_fault(alloc, sink, fault),
         Finding::Refused(line) => tell_journal_fault(alloc, sink, line),
@@ -38,31 +35,6 @@ pub(crate) fn tell<K: Sink>(alloc: Global, sink: &mut K, found: Finding) -> Outc
         Finding::Loaded(load, image, ran, steps) => publish_load(sink, load, &image, ran, steps),
         Finding::Played(image, played) => publish_played(sink, &image, played),
         Finding::Traced(traced) => publish_trace(sink, traced),
-    }
-}
-
-fn empty(alloc: Global, status: u8) -> Outcome
-    ensures status { result.status ≡ status }
-    ensures empty { IsEmpty result }
-{
-    Outcome {
-        status,
-        journal: Journal::new(alloc),
-        memory: Bytes::new(alloc),
-        output: Bytes::new(alloc),
-        end: None,
-        steps: None,
-    }
-}
-
-/// Writes a line that tells why there is no run.
-fn tell_line<K: Sink>(alloc: Global, sink: &mut K, status: u8, line: &[u8]) -> Outcome
-    requires { status ≢ SINK_FAULT }
-    ensures { TellsLine status line.now (K.state sink.old) (K.state sink.new) result }
-{
-    match write_all(sink, line) {
-        Ok(()) => empty(alloc, status),
-        Err(_) => empty(alloc, SINK_FAULT),
     }
 }
 

@@ -11,9 +11,9 @@ mod runs;
 mod saves;
 mod schedules;
 
-use crate::outcome::Outcome;
 use crate::program::top;
 use place_policy::{ByHint, LeastLoaded, Placer, RoundRobin};
+use program_call::Outcome;
 use serial_machine::End;
 use sim_io::{MemSink, MemSource};
 use std::alloc::{Alloc, Global};

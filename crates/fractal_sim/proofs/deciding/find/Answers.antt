@@ -3,8 +3,8 @@ use Rattle.guest_image.specs.ImageValue.{IsImage}
 use Rattle.guest_image.specs.Reading.{image_of}
 use Rattle.command_line.specs.Requests.{request_of_words, IsLimited}
 use Rattle.sim_io.specs.Parts.{ReadsAll}
-use Rattle.fractal_sim.specs.Call.{input_of}
-use Rattle.fractal_sim.specs.Given.{Reads, ReadsImage, input_limit}
+use Rattle.program_call.specs.Call.{input_limit, input_of}
+use Rattle.fractal_sim.specs.Given.{Reads, ReadsImage}
 use Rattle.fractal_sim.proofs.Found.{found_given, size-within}
 use Rattle.fractal_sim.proofs.deciding.find.Goals as goal
 

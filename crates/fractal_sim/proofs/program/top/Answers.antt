@@ -1,4 +1,4 @@
-use Rattle.fractal_sim.specs.Call.{call_on, input_of}
+use Rattle.program_call.specs.Call.{call_on, input_of}
 use Rattle.fractal_sim.proofs.Answering.{holds, holds_lawful, told}
 use Rattle.fractal_sim.proofs.Completing.{complete}
 use Rattle.fractal_sim.proofs.Counting.{steps_told}

@@ -1,8 +1,9 @@
--- A call of the program, as its contract sees it.
+-- A call of a program, as its contract sees it.
 use denote.Ref.{Bor}
 use Rattle.std.specs.Prelude.{ℕ, List, map}
 use Rattle.place_policy.specs.Policy.{Policy}
 use Rattle.trace_tap.specs.TapValue.{TapValue}
+use Rattle.sim_io.specs.Causes.{Rose}
 use Rattle.sim_io.specs.Streams.{SinkState, SourceState}
 
 -- what a call was given: its words, its placers and its taps, and the source before and after it
@@ -33,3 +34,12 @@ input_of words placers taps source_before source_after = record {
 -- a call on this input
 abbrev pub call_on : Input → (sink_before sink_after : SinkState) → Call
 call_on input sink_before sink_after = record { input = input; sink_before = sink_before; sink_after = sink_after }
+
+-- the greatest number of bytes that are read
+abbrev pub input_limit : ℕ
+input_limit = 67108864
+
+-- neither the source nor the sink failed in the call
+pub record IsFaultless (call : Call) : Type 0 where
+  pub source : Rose call.input.source_before.faults call.input.source_after.faults → ⊥
+  pub sink : Rose call.sink_before.faults call.sink_after.faults → ⊥

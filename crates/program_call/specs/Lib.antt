@@ -1,0 +1,3 @@
+-- Contracts mean both.
+pub mod Call
+pub mod Outcomes
