@@ -1,0 +1,48 @@
+-- A course behind its opening.
+use Rattle.std.proofs.Common.{◌≡◌, inl, List, [], refl, sym, subst, append-nil, Ok, Err}
+use Rattle.sim_io.specs.Parts.{TakesFront}
+use Rattle.sim_io.specs.Streams.{SinkState}
+use Rattle.spec_state.specs.declared.settings.Settings.{Settings}
+use Rattle.event_def.specs.Book.{BookView}
+use Rattle.step_script.specs.declared.act.Act.{Act}
+use Rattle.step_script.specs.Playing.{PlayState}
+use Rattle.watch_play.specs.declared.stop.Stop.{Stop}
+use Rattle.watch_play.specs.declared.stop.Stop.TheVariants as stops
+use Rattle.watch_play.specs.Courses.{course_word}
+use Rattle.watch_play.specs.Stories.{begun}
+use Rattle.watch_play.specs.Telling.{HasStory, IsOpened, Plan, Tells, TellsOpening}
+use Rattle.watch_play.specs.Texts.{opening_lines}
+use Rattle.watch_text.specs.declared.head.CourseWord.{CourseWord}
+use Rattle.watch_text.specs.declared.head.CourseWord.TheVariants as courses
+use Rattle.fractal_watch.specs.Watched.{course_of}
+
+-- a word's course has that word
+pub same_word : (course : CourseWord) (settings : Settings) (script : List Act)
+    → course_word (course_of course settings script) ≡ course
+same_word courses.Steps settings script = refl
+same_word courses.Least settings script = refl
+same_word (courses.Lockstep rounds seed) settings script = refl
+
+module _ (N : Type 0) (plan : Plan) (opening : BookView) where
+  -- the story before the first act
+  nothing_yet : (book : BookView) → book ≡ opening → HasStory {N = N} plan opening [] book
+  nothing_yet book same = record { count = 0; last = begun opening; goes = (refl, refl); book_is = same }
+
+  -- the lines before the first act weren't all told
+  pub opening_stopped : (book : BookView) (before after : SinkState) (stop : Stop) → book ≡ opening
+      → TellsOpening plan opening before after (Err stop) → Tells N plan opening book before after (Err stop)
+  opening_stopped book before after stops.Memory same told =
+      record { moments = []; story = nothing_yet book same; took = inl (refl, told) }
+  opening_stopped book before after stops.Sink same told =
+      let lines = opening_lines plan.course plan.settings plan.image opening.view in
+      record {
+        moments = [];
+        story = nothing_yet book same;
+        took = subst (TakesFront before after) (sym (append-nil lines)) told.0;
+        rose = told.1;
+      }
+
+-- or they were
+pub opening_told : (plan : Plan) (opening : BookView) (play : PlayState) (before now : SinkState)
+    → play ≡ begun opening → TellsOpening plan opening before now (Ok tt) → IsOpened plan opening play before now
+opening_told plan opening play before now same told = record { play_is = same; took = told.0; later = told.1 }

@@ -1,0 +1,116 @@
+-- What is found in the bytes that were read is found.
+use Rattle.std.specs.Prelude.{IfOk}
+use Rattle.std.proofs.Common.{◌≡◌, ℕ, ◌+◌, ◌^◌, ◌<◌, ◌≤◌, ◌==◌, List, [], ◌∷◌, length, refl, ap, arith}
+use Rattle.std.proofs.Common.{Result, Ok, Err, Bool, true, false, nat_lt, if◌then◌else◌, Some, None}
+use Rattle.std.proofs.lemmas.Bool.Decides.{nat_tests}
+use Rattle.std.proofs.lemmas.Grind.{common_steps}
+use Rattle.std.specs.Io.KnownBytes.{Consumes}
+use Rattle.std.specs.declared.option.Option.{Option}
+use Rattle.sim_io.specs.Parts.{ReadsAll, ReadsSome}
+use Rattle.sim_io.specs.Streams.{SourceState}
+use Rattle.guest_image.specs.ImageValue.{ImageValue}
+use Rattle.guest_image.specs.Reading.{after_header, header_fault, image_of, value_in_bytes, whole_length}
+use Rattle.guest_image.specs.declared.fault.ImageFault.{ImageFault}
+use Rattle.guest_image.specs.declared.fault.ImageFault.TheVariants as faults
+use Rattle.step_script.specs.declared.act.Act.{Act}
+use Rattle.step_script.specs.Grammar.{act_in, acts_at, acts_of, after_act}
+use Rattle.text_lines.specs.Lines.{lines_of, onto}
+use Rattle.program_call.specs.Call.{Input, input_limit}
+use Rattle.fractal_watch.specs.declared.words.Asking.{Asking}
+use Rattle.fractal_watch.specs.Given.{WatchReadsAsAsked, WatchReadsInput}
+
+-- ---- reading
+
+-- bytes that were read to the end are some bytes
+pub read_some : (old new : SourceState) (limit : ℕ) (found : List ℕ) → ReadsAll old new limit found
+    → ReadsSome old new limit
+read_some old new limit found h = record { found = found; taken = h.taken; within = h.within }
+
+-- of a source that was left alone no byte was read
+pub read_none : (source : SourceState) (limit : ℕ) → ReadsSome source source limit
+read_none source limit = record { found = []; taken = go source.left; within = omega arith } where
+  go : (left : Option (List ℕ)) → Consumes left left []
+  go None = tt
+  go (Some bytes) = refl
+
+-- what was taken where the words ask for a course
+pub read_as_asked : (input : Input) (asking : Asking) (bytes : List ℕ) → WatchReadsInput input asking bytes
+    → WatchReadsAsAsked input
+read_as_asked input asking bytes h = record {
+  read = read_some input.source_before input.source_after input_limit bytes h.read;
+  untouched = λ none. absurd (cc (none, h.asked));
+}
+
+-- ---- sizes
+
+abbrev size_in : Result (ImageValue × ℕ) ImageFault → ℕ
+size_in (Ok x) = x.1
+size_in (Err fault) = 0
+
+-- an image is no longer than the bytes that it was read from
+pub size-within : (bytes : List ℕ) (image : ImageValue) (size : ℕ) → image_of bytes ≡ Ok (image, size)
+    → size ≤ length bytes
+unfolding image_of
+size-within bytes image size is = short (nat_lt (length bytes) 32) is where
+  whole : (b : Bool) → nat_lt (length bytes) (whole_length bytes) ≡ b
+      → if◌then◌else◌ {A = Result (ImageValue × ℕ) ImageFault} b
+      (Err (faults.Short (whole_length bytes) (length bytes))) (Ok (value_in_bytes bytes, whole_length bytes))
+      ≡ Ok (image, size) → size ≤ length bytes
+  whole true e h = cc
+  whole false e h =
+      let same : whole_length bytes ≡ size = ap size_in h in grind (arith, nat_tests, common_steps)
+
+  behind : (o : Result (Unit {0}) ImageFault) → after_header bytes o ≡ Ok (image, size) → size ≤ length bytes
+  behind (Err f) h = cc
+  behind (Ok u) h = whole (nat_lt (length bytes) (whole_length bytes)) refl h
+
+  short : (b : Bool)
+      → (if b then Err (faults.Short 32 (length bytes)) else after_header bytes (header_fault bytes)) ≡ Ok (image, size)
+      → size ≤ length bytes
+  short true h = cc
+  short false h = behind (header_fault bytes) h
+
+-- ---- how many acts a script has
+
+onto_few : (x : ℕ) (ls : List (List ℕ)) → length (onto x ls) ≤ length ls + 1
+onto_few x [] = omega arith
+onto_few x (l ∷ ls) = omega arith
+
+-- a text has no more lines than bytes
+lines_few : (text : List ℕ) → length (lines_of text) ≤ length text
+lines_few [] = omega arith
+lines_few (x ∷ xs) = go (x == 10) (lines_few xs) where
+  go : (b : Bool) → length (lines_of xs) ≤ length xs
+      → length (if◌then◌else◌ {A = List (List ℕ)} b ([] ∷ lines_of xs) (onto x (lines_of xs))) ≤ length (x ∷ xs)
+  go true few = omega (arith, few)
+  go false few = omega (arith, few, onto_few x (lines_of xs))
+
+abbrev count_in : Result (List Act) ℕ → ℕ
+count_in (Ok acts) = length acts
+count_in (Err line) = 0
+
+-- and a script no more acts than lines
+acts_few : (tiles cores k : ℕ) (ls : List (List ℕ)) → count_in (acts_at tiles cores k ls) ≤ length ls
+acts_few tiles cores k [] = omega arith
+acts_few tiles cores k (l ∷ ls) = go (act_in tiles cores l) _ (acts_few tiles cores (k + 1) ls) where
+  go : (a : Option Act) (r : Result (List Act) ℕ) → count_in r ≤ length ls
+      → count_in (after_act k a r) ≤ length (l ∷ ls)
+  go None r few = omega arith
+  go (Some act) (Err line) few = omega arith
+  go (Some act) (Ok acts) few = omega (arith, few)
+
+-- so a script has no more acts than bytes
+pub acts_are_few : (text : List ℕ) (tiles cores : ℕ) (acts : List Act) → acts_of text tiles cores ≡ Ok acts
+    → length acts ≤ length text
+acts_are_few text tiles cores acts is =
+    let few : count_in (acts_of text tiles cores) ≤ length (lines_of text) = acts_few tiles cores 1 (lines_of text) in
+    let same : count_in (acts_of text tiles cores) ≡ length acts = ap count_in is in
+    omega (arith, few, same, lines_few text)
+
+-- and fewer than are played, as no more bytes are read
+pub acts_below : {A E : Type 0} (read : Result A E) (items : A → List Act) (text : List ℕ) (tiles cores : ℕ)
+    → length text ≤ input_limit → IfOk read (λ a. acts_of text tiles cores ≡ Ok (items a))
+    → IfOk read (λ a. length (items a) < 2 ^ 32)
+acts_below (Ok a) items text tiles cores short is =
+    omega (arith, acts_are_few text tiles cores (items a) is, short)
+acts_below (Err fault) items text tiles cores short is = tt

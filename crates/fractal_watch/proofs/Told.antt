@@ -1,0 +1,215 @@
+-- A story that was told, of a book that was closed, is that of a run that was watched.
+use Rattle.std.proofs.Common.{◌≡◌, inl, inr, ℕ, List, [], length, refl, sym, ap, subst, arith, None}
+use Rattle.std.proofs.Common.{Err, map}
+use Rattle.std.specs.declared.option.Option.{Option}
+use Rattle.guest_image.specs.ImageValue.{ImageValue}
+use Rattle.place_policy.specs.Policy.{Policy}
+use Rattle.run_journal.specs.declared.end.End.{End}
+use Rattle.run_law.proofs.Proved.{lawful}
+use Rattle.serial_machine.specs.WholeRun.{IsRunOf}
+use Rattle.serial_machine.specs.declared.whole_run.SerialRun.{SerialRun}
+use Rattle.sim_io.specs.Parts.{SinkTakes, TakesFront}
+use Rattle.sim_io.specs.Streams.{SinkState}
+use Rattle.sim_io.proofs.Fronts.{SinkTakes-trans, TakesFront-then}
+use Rattle.spec_state.specs.declared.settings.Settings.{Settings}
+use Rattle.trace_tap.specs.TapValue.{TapValue}
+use Rattle.event_def.specs.Book.{BookView}
+use Rattle.event_def.specs.Opening.{IsOpening}
+use Rattle.machine_run.specs.Leaving.{LeavesRun}
+use Rattle.machine_run.proofs.Leaving.{run_left}
+use Rattle.step_script.specs.declared.act.Act.{Act}
+use Rattle.watch_play.specs.declared.stop.Stop.{Stop}
+use Rattle.watch_play.specs.declared.stop.Stop.TheVariants as stops
+use Rattle.watch_play.specs.Telling.{HasStory, IsAllTold, Tells}
+use Rattle.watch_text.specs.Moments.{Moment}
+use Rattle.watch_text.specs.Views.{last_line}
+use Rattle.program_call.specs.declared.outcome.Outcome.{Outcome}
+use Rattle.program_call.specs.Outcomes.{IsEmpty, closed_of}
+use Rattle.program_call.specs.Call.{Input}
+use Rattle.fractal_watch.specs.declared.words.Asking.{Asking}
+use Rattle.fractal_watch.specs.Answers.{OfEnd, OfStory}
+use Rattle.fractal_watch.specs.Closing.{EndCut, EndTold, EndUntold, StoryFinishes, IsClosedAs, stop_status}
+use Rattle.fractal_watch.specs.Given.{WatchReadsImage}
+use Rattle.fractal_watch.specs.Runs.{WatchHoldsLawfulRun, WatchHoldsRunOrNothing}
+use Rattle.fractal_watch.specs.Telling.{TellsBookOf, TellsRun, TellsRunOf}
+use Rattle.fractal_watch.proofs.Found.{read_as_asked}
+use Rattle.fractal_watch.specs.Watched.{HasActs, IsWatched, lines_of_watched, plan_of, text_of_watched}
+
+-- whatever run an outcome holds is lawful
+pub holds_lawful : (input : Input) (o : Outcome) → WatchHoldsLawfulRun input o
+holds_lawful input o = λ h. lawful h.image h.asking.request.settings.budget o.journal h.run.state h.run.is_run
+
+module _ (N : Type 0) (input : Input) (asking : Asking) (image : ImageValue) (behind : List ℕ)
+    (given : WatchReadsImage input asking image behind) (script : List Act)
+    (script_is : HasActs asking.course asking behind script) (opening : BookView)
+    (is_opening : IsOpening image asking.request.settings input.placers [] opening) (book : BookView)
+    (commits budget : ℕ) (same_commits : asking.request.settings.commits ≡ commits)
+    (same_budget : asking.request.settings.budget ≡ budget) where
+  -- the run that was closed is held
+  held : (status : ℕ) (end : Option End) (o : Outcome) → IsClosedAs image commits budget book status end o
+      → WatchHoldsRunOrNothing input o
+  held status end o c =
+      let run : IsRunOf image commits budget (closed_of o) =
+      subst (IsRunOf image commits budget) (sym c.holds.run_is) c.run in
+      inr record {
+        asking = asking;
+        image = image;
+        behind = behind;
+        given = given;
+        run = subst (λ most. IsRunOf image most asking.request.settings.budget (closed_of o)) (sym same_commits)
+            (subst (λ most. IsRunOf image commits most (closed_of o)) (sym same_budget) run);
+      }
+
+  -- and a story that led to it was watched
+  abbrev watched : (status : ℕ) (end : Option End) (o : Outcome) (moments : List (Moment N))
+      → HasStory (plan_of asking image script) opening moments book
+      → IsClosedAs image commits budget book status end o → IsWatched N input o
+  watched status end o moments story c = record {
+    asking = asking;
+    image = image;
+    behind = behind;
+    given = given;
+    script = script;
+    script_is = script_is;
+    opening = opening;
+    is_opening = is_opening;
+    book = book;
+    moments = moments;
+    story = story;
+    events = c.closed.steps;
+    leaves = subst (LeavesRun book c.closed.steps) (sym c.holds.run_is) (run_left book c.closed c.closes end);
+    steps_is = c.holds.steps_is;
+  }
+
+  -- the last line of what was closed is that of what is held
+  same_line : (status : ℕ) (told : Option End) (end : End) (o : Outcome)
+      (c : IsClosedAs image commits budget book status told o)
+      → last_line image end c.closed.steps (length c.closed.journal) c.closed.output c.closed.memory
+      ≡ last_line image end c.closed.steps (length o.journal) o.output o.memory
+  same_line status told end o c =
+      ap (λ (r : SerialRun). last_line image end c.closed.steps (length r.journal) r.output r.memory)
+      (sym c.holds.run_is)
+
+  -- the end that is told
+  same_end : (status : ℕ) (end : Option End) (o : Outcome) → IsClosedAs image commits budget book status end o
+      → o.end ≡ end
+  same_end status end o c = ap (λ (r : SerialRun). r.end) c.holds.run_is
+
+  -- a course that was told to its end, and the last line
+  pub finished_tells : (before between after : SinkState) (o : Outcome)
+      → IsAllTold N (plan_of asking image script) opening book before between
+      → StoryFinishes image commits budget book between after o → TellsRun N input before after o
+  finished_tells before between after o told (EndTold end c stands took) =
+      let w = watched _ _ o told.moments told.story c in
+      let line = last_line image end c.closed.steps (length o.journal) o.output o.memory in
+      let last : SinkTakes between after line = subst (SinkTakes between after) (same_line _ _ end o c) took in
+      record {
+        holds = held _ _ o c;
+        lawful = holds_lawful input o;
+        tells = inr (inr record {
+          watched = w;
+          through = told.through;
+          end = end;
+          stands = stands;
+          end_is = same_end _ _ o c;
+          status_is = c.holds.status_is;
+          took = SinkTakes-trans before between after (lines_of_watched w) line told.took last;
+        });
+      }
+  finished_tells before between after o told (EndUntold c same) =
+      let took = subst (λ s. SinkTakes before s (lines_of_watched (watched _ _ o told.moments told.story c))) (sym same)
+      told.took in
+      record {
+        holds = held _ _ o c;
+        lawful = holds_lawful input o;
+        tells = inl record {
+          status_is = c.holds.status_is;
+          want = inr record {
+            watched = watched _ _ o told.moments told.story c;
+            end_is = same_end _ _ o c;
+            took = inr (inl took);
+          };
+        };
+      }
+  finished_tells before between after o told (EndCut end c stands took rose) =
+      let w = watched _ _ o told.moments told.story c in
+      let line = last_line image end c.closed.steps (length o.journal) o.output o.memory in
+      let last : TakesFront between after line = subst (TakesFront between after) (same_line _ _ end o c) took in
+      record {
+        holds = held _ _ o c;
+        lawful = holds_lawful input o;
+        tells = inr (inl record {
+          status_is = c.holds.status_is;
+          end_is = same_end _ _ o c;
+          text = text_of_watched w end;
+          cut = OfEnd w end stands told.through;
+          took = TakesFront-then before between after (lines_of_watched w) line told.took last;
+          failed = omega (arith, told.later, rose);
+        });
+      }
+
+  -- a course that was told in part
+  pub stopped_tells : (before after : SinkState) (stop : Stop) (o : Outcome)
+      → Tells N (plan_of asking image script) opening book before after (Err stop)
+      → IsClosedAs image commits budget book (stop_status stop) None o → TellsRun N input before after o
+  stopped_tells before after stops.Memory o told c = record {
+    holds = held _ _ o c;
+    lawful = holds_lawful input o;
+    tells = inl record {
+      status_is = c.holds.status_is;
+      want = inr record {
+        watched = watched _ _ o told.moments told.story c;
+        end_is = same_end _ _ o c;
+        took = told.took;
+      };
+    };
+  }
+  stopped_tells before after stops.Sink o told c = record {
+    holds = held _ _ o c;
+    lawful = holds_lawful input o;
+    tells = inr (inl record {
+      status_is = c.holds.status_is;
+      end_is = same_end _ _ o c;
+      text = lines_of_watched (watched _ _ o told.moments told.story c);
+      cut = OfStory (watched _ _ o told.moments told.story c);
+      took = told.took;
+      failed = told.rose;
+    });
+  }
+
+-- ---- an image that is to be watched
+
+-- a book that has no taps
+pub opening_without_taps : {T : Type 0} (image : ImageValue) (settings : Settings) (placers : List Policy)
+    (notes : T → TapValue) (taps : List T) (book : BookView) → taps ≡ []
+    → IsOpening image settings placers (map notes taps) book → IsOpening image settings placers [] book
+opening_without_taps image settings placers notes taps book none opening =
+    subst (λ list. IsOpening image settings placers (map notes list) book) none opening
+
+-- a book was begun on it, and told
+pub book_tells : (N : Type 0) (image named : ImageValue) (asking : Asking) (script : List Act) (placers : List Policy)
+    (opening : BookView) (before after : SinkState) (o : Outcome) → image ≡ named
+    → IsOpening named asking.request.settings placers [] opening
+    → TellsBookOf N named asking script opening before after o
+    → TellsRunOf N image asking script placers before after o
+book_tells N image named asking script placers opening before after o same is_opening tells =
+    λ input behind same_placers given script_is.
+    tells input behind (subst (λ i. WatchReadsImage input asking i behind) same given) script_is
+    (subst (λ p. IsOpening named asking.request.settings p [] opening) (sym same_placers) is_opening)
+
+-- or memory ran out for one
+pub want_tells : (N : Type 0) (image : ImageValue) (asking : Asking) (script : List Act) (placers : List Policy)
+    (sink : SinkState) (o : Outcome) → o.status ≡ 5 → IsEmpty o
+    → TellsRunOf N image asking script placers sink sink o
+want_tells N image asking script placers sink o is empty = λ input behind same_placers given script_is. record {
+  holds = inl empty;
+  lawful = holds_lawful input o;
+  tells = inl record {
+    status_is = is;
+    want = inl record {
+      empty = empty;
+      read = read_as_asked input asking given.bytes given.read;
+      untouched = refl;
+    };
+  };
+}

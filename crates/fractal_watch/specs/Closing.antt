@@ -1,0 +1,58 @@
+-- A watched run is closed, and its last line is told.
+use Rattle.std.specs.Prelude.{◌≡◌, ℕ, List, length, None, Some, Result, Ok, Err}
+use Rattle.std.specs.declared.option.Option.{Option}
+use Rattle.guest_image.specs.ImageValue.{ImageValue}
+use Rattle.run_journal.specs.declared.closed.Closed.{Closed}
+use Rattle.run_journal.specs.declared.end.End.{End}
+use Rattle.sim_io.specs.Causes.{Rose}
+use Rattle.sim_io.specs.Parts.{SinkTakes, TakesFront}
+use Rattle.sim_io.specs.Streams.{SinkState}
+use Rattle.event_def.specs.Book.{BookView}
+use Rattle.event_def.specs.Closing.{Closes}
+use Rattle.serial_machine.specs.WholeRun.{IsRunOf}
+use Rattle.machine_run.specs.Least.{run_of_closed}
+use Rattle.machine_run.specs.Played.{StandsAt}
+use Rattle.watch_play.specs.declared.stop.Stop.{Stop}
+use Rattle.watch_play.specs.declared.stop.Stop.TheVariants as stops
+use Rattle.watch_text.specs.Views.{last_line}
+use Rattle.program_call.specs.declared.outcome.Outcome.{Outcome}
+use Rattle.program_call.specs.Outcomes.{closed_of}
+use Rattle.fractal_watch.specs.Texts.{watch_status}
+
+-- the status of a story that ended before its course did
+abbrev pub stop_status : Stop → ℕ
+stop_status stops.Memory = 5
+stop_status stops.Sink = 7
+
+-- the outcome holds this run, with a status and an end
+pub record HoldsClosed (closed : Closed) (status : ℕ) (end : Option End) (o : Outcome) : Type 0 where
+  pub status_is : o.status ≡ status
+  pub run_is : closed_of o ≡ run_of_closed closed end
+  pub steps_is : o.steps ≡ Some closed.steps
+
+-- a book was closed so, and the outcome holds what it left, a run of the serial machine with this limit and this budget
+pub record IsClosedAs (image : ImageValue) (commits budget : ℕ) (book : BookView) (status : ℕ) (end : Option End)
+    (o : Outcome) : Type 0 where
+  pub closed : Closed
+  pub closes : Closes book closed
+  pub run : IsRunOf image commits budget (run_of_closed closed end)
+  pub holds : HoldsClosed closed status end o
+
+-- the last line was told, or not, by what is answered
+abbrev pub TellsEnd : List ℕ → SinkState → SinkState → Result (Unit {0}) Stop → Type 0
+TellsEnd text before after (Ok done) = SinkTakes before after text
+TellsEnd text before after (Err stops.Memory) = after ≡ before
+TellsEnd text before after (Err stops.Sink) = TakesFront before after text × Rose before.faults after.faults
+
+-- a book whose story was told is closed, and its last line is told; or memory runs out for that, or the sink fails
+pub data StoryFinishes (image : ImageValue) (commits budget : ℕ) (book : BookView) (before after : SinkState)
+    (o : Outcome)
+    : Type 0 where
+  EndTold : (end : End) (c : IsClosedAs image commits budget book (watch_status end) (Some end) o)
+      → StandsAt book.view end → SinkTakes before after (last_line image end c.closed.steps (length c.closed.journal)
+      c.closed.output c.closed.memory) → StoryFinishes image commits budget book before after o
+  EndUntold : IsClosedAs image commits budget book 5 None o → after ≡ before
+      → StoryFinishes image commits budget book before after o
+  EndCut : (end : End) (c : IsClosedAs image commits budget book 7 None o) → StandsAt book.view end
+      → TakesFront before after (last_line image end c.closed.steps (length c.closed.journal) c.closed.output
+      c.closed.memory) → Rose before.faults after.faults → StoryFinishes image commits budget book before after o

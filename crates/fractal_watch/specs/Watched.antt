@@ -1,0 +1,67 @@
+-- A run that was watched: the story by which it was made.
+use Rattle.std.specs.Prelude.{◌≡◌, ℕ, List, [], ◌++◌, length, Some}
+use Rattle.guest_image.specs.ImageValue.{ImageValue}
+use Rattle.run_journal.specs.declared.end.End.{End}
+use Rattle.machine_run.specs.Leaving.{LeavesRun}
+use Rattle.event_def.specs.Book.{BookView}
+use Rattle.event_def.specs.Opening.{IsOpening}
+use Rattle.step_script.specs.declared.act.Act.{Act}
+use Rattle.watch_text.specs.declared.head.CourseWord.{CourseWord}
+use Rattle.watch_text.specs.declared.head.CourseWord.TheVariants as courses
+use Rattle.watch_text.specs.Moments.{Moment}
+use Rattle.watch_text.specs.Views.{last_line}
+use Rattle.watch_play.specs.Courses.{Course, OfLeast, OfRounds, OfScript}
+use Rattle.watch_play.specs.Telling.{HasStory, Plan, lines_by}
+use Rattle.spec_state.specs.declared.settings.Settings.{Settings}
+use Rattle.program_call.specs.declared.outcome.Outcome.{Outcome}
+use Rattle.program_call.specs.Outcomes.{closed_of}
+use Rattle.program_call.specs.Call.{Input}
+use Rattle.fractal_watch.specs.declared.words.Asking.{Asking}
+use Rattle.fractal_watch.specs.Given.{IsWatchScript, WatchReadsImage}
+
+-- the course of a word, with the acts of its script
+abbrev pub course_of : CourseWord → Settings → List Act → Course
+course_of courses.Steps settings script = OfScript script
+course_of courses.Least settings script = OfLeast
+course_of (courses.Lockstep rounds seed) settings script = OfRounds rounds seed settings
+
+-- what is to be told of an image
+abbrev pub plan_of : Asking → ImageValue → List Act → Plan
+plan_of asking image script = record {
+  course = course_of asking.course asking.request.settings script;
+  settings = asking.request.settings;
+  image = image;
+  each = asking.each;
+}
+
+-- the acts of the script behind the image; none where the course has no script
+abbrev pub HasActs : CourseWord → Asking → List ℕ → List Act → Type 0
+HasActs courses.Steps asking behind script = IsWatchScript asking behind script
+HasActs other asking behind script = script ≡ []
+
+-- the words ask for a course, and so many acts of it, from an opening of the image that was read, gave these moments
+-- and led to a book which leaves the run that the outcome holds, by as many events as it tells
+pub record IsWatched (N : Type 0) (input : Input) (o : Outcome) : Type 0 where
+  pub asking : Asking
+  pub image : ImageValue
+  pub behind : List ℕ
+  pub given : WatchReadsImage input asking image behind
+  pub script : List Act
+  pub script_is : HasActs asking.course asking behind script
+  pub opening : BookView
+  pub is_opening : IsOpening image asking.request.settings input.placers [] opening
+  pub book : BookView
+  pub moments : List (Moment N)
+  pub story : HasStory (plan_of asking image script) opening moments book
+  pub events : ℕ
+  pub leaves : LeavesRun book events (closed_of o)
+  pub steps_is : o.steps ≡ Some events
+
+-- the lines of its story
+abbrev pub lines_of_watched : {N : Type 0} {input : Input} {o : Outcome} → IsWatched N input o → List ℕ
+lines_of_watched w = lines_by (plan_of w.asking w.image w.script) w.opening w.moments
+
+-- and the last line, where the run stands so
+abbrev pub text_of_watched : {N : Type 0} {input : Input} {o : Outcome} → IsWatched N input o → End → List ℕ
+text_of_watched {N} {input} {o} w end =
+    lines_of_watched w ++ last_line w.image end w.events (length o.journal) o.output o.memory

@@ -1,0 +1,69 @@
+-- What the words ask for.
+use denote.Ref.{Bor}
+use Rattle.std.specs.Prelude.{ℕ, ◌^◌, ◌-◌, ◌≤◌, List, [], ◌∷◌, codes, map, IfSome, Some, None, if◌then◌else◌}
+use Rattle.std.specs.declared.option.Option.{Option}
+use Rattle.std.specs.Str.{bytes_eq}
+use Rattle.command_line.specs.Requests.{◌>>=◌, number_in, request_of_words}
+use Rattle.command_line.specs.Settings.{between}
+use Rattle.watch_text.specs.declared.head.CourseWord.{CourseWord}
+use Rattle.watch_text.specs.declared.head.CourseWord.TheVariants as courses
+use Rattle.fractal_watch.specs.declared.words.Asking.{Asking}
+
+-- behind each so many moments the view is told, or never; and the words behind that
+pub record WordsBehindViews : Type 0 where
+  pub each : Option ℕ
+  pub behind : List (List ℕ)
+
+-- `views K`, of which these are the words behind the first
+abbrev pub views_number : List (List ℕ) → Option WordsBehindViews
+views_number [] = None
+views_number (each ∷ behind) =
+    number_in (between 1 (2 ^ 32 - 1)) each >>= λ number. Some (record { each = Some number; behind = behind })
+
+-- `views K` in front of other words, where it stands there
+abbrev pub views_in : List (List ℕ) → Option WordsBehindViews
+views_in [] = None
+views_in (word ∷ words) =
+    if bytes_eq word (codes "views") then views_number words else Some (record { each = None; behind = word ∷ words })
+
+-- a course, and the words that ask the first program for its options
+pub record WordsOfCourse : Type 0 where
+  pub course : CourseWord
+  pub words : List (List ℕ)
+
+-- the words that the code has of it
+abbrev pub words_of : CourseWord → List ℕ → List (Bor (List ℕ)) → WordsOfCourse
+words_of course command behind = record { course = course; words = command ∷ map (λ w. w.now) behind }
+
+-- `lockstep ROUNDS SEED`, of which these are the words behind the first
+abbrev pub lockstep_in : List (List ℕ) → Option WordsOfCourse
+lockstep_in [] = None
+lockstep_in (rounds ∷ []) = None
+lockstep_in (rounds ∷ seed ∷ behind) =
+    number_in (between 1 1000000) rounds >>= λ count. number_in (between 0 (2 ^ 32 - 1)) seed >>= λ drawn.
+    Some (record { course = courses.Lockstep count drawn; words = codes "run" ∷ behind })
+
+-- `steps`, `least`, or `lockstep` with its two numbers
+abbrev pub course_in : List (List ℕ) → Option WordsOfCourse
+course_in [] = None
+course_in (word ∷ behind) =
+    if bytes_eq word (codes "steps") then Some (record { course = courses.Steps; words = codes "steps" ∷ behind })
+    else if bytes_eq word (codes "least") then Some (record { course = courses.Least; words = codes "run" ∷ behind })
+    else if bytes_eq word (codes "lockstep") then lockstep_in behind
+    else None
+
+-- what the words ask for; none where they are refused
+unfoldable pub asking_of_words : List (List ℕ) → Option Asking
+asking_of_words words =
+    views_in words >>= λ views. course_in views.behind >>= λ leading. request_of_words leading.words >>= λ request.
+    Some (record { course = leading.course; each = views.each; request = request })
+
+-- the number of rounds is in its range
+abbrev pub HasRounds : CourseWord → Type 0
+HasRounds (courses.Lockstep rounds seed) = (1 ≤ rounds) × (rounds ≤ 1000000)
+HasRounds other = Unit {0}
+
+-- so are the numbers of a course
+pub record IsInRanges (asking : Asking) : Type 0 where
+  pub each : IfSome asking.each (λ number. 1 ≤ number)
+  pub rounds : HasRounds asking.course

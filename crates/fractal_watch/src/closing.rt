@@ -1,0 +1,140 @@
+//! A watched run is closed, and its last line is told.
+
+ghost use Rattle.std.specs.Prelude.{◌≡◌, IfSome, None, Option, length};
+ghost use Rattle.guest_image.specs.ImageValue.{IsImage};
+ghost use Rattle.serial_machine.specs.WholeRun.{IsRunOf};
+ghost use Rattle.event_def.specs.Closing.{Closes};
+ghost use Rattle.conflict_book.specs.BookViews.{machine_view, view_of};
+ghost use Rattle.machine_run.specs.Least.{run_of_closed};
+ghost use Rattle.machine_run.specs.Played.{StandsAt};
+ghost use Rattle.watch_text.specs.Views.{last_line};
+ghost use Rattle.fractal_watch.specs.Closing.{StoryFinishes, HoldsClosed, IsClosedAs, TellsEnd, stop_status};
+ghost use Rattle.fractal_watch.specs.Texts.{watch_status};
+
+use conflict_book::Book;
+use guest_image::Image;
+use place_policy::Placer;
+use program_call::{DONE, LIMIT, NO_MEMORY, Outcome, SINK_FAULT, TRAP};
+use run_journal::{Closed, End};
+use rv_core::Naming;
+use sim_io::{Sink, write_all};
+use std::alloc::AllocError;
+use trace_tap::Tap;
+use watch_play::Stop;
+use watch_text::put_end;
+
+/// How the run of a book stands: its end, or unfinished where it isn't over.
+fn stand<N: Naming, P: Placer, T: Tap>(book: &Book<N, P, T>) -> End
+    ensures { StandsAt (machine_view book.now) result }
+{
+    match book.end() {
+        Some(end) => end,
+        None => End::Unfinished,
+    }
+}
+
+/// The status of a run whose course was played to its end.
+fn status_of(end: End) -> u8
+    ensures { result ≡ watch_status end }
+{
+    match end {
+        End::Normal => DONE,
+        End::Trap { .. } => TRAP,
+        End::Limit => LIMIT,
+        End::Unfinished => DONE,
+    }
+}
+
+/// The outcome that holds a run which was closed.
+fn hold(closed: Closed, status: u8, end: Option<End>) -> Outcome
+    ensures { HoldsClosed closed status end result }
+{
+    let Closed {
+        journal,
+        memory,
+        output,
+        steps,
+    } = closed;
+    Outcome {
+        status,
+        journal,
+        memory,
+        output,
+        end,
+        steps: Some(steps),
+    }
+}
+
+/// Closes a book: what is left is a run of the serial machine, which ends as the book stands.
+fn close_book<N: Naming, P: Placer, T: Tap>(book: Book<N, P, T>) -> Closed
+    requires fits { IsImage N.image }
+    ensures closes { Closes (view_of P.policy T.notes book) result }
+    ensures run { (end : Option End) → IfSome end (StandsAt (machine_view book))
+        → IsRunOf N.image N.commits N.budget (run_of_closed result end) }
+    ensures sized { length result.memory ≡ N.image.data_size }
+{
+    book.is_sound();
+    book.close()
+}
+
+/// Tells the last line of a run that was closed.
+fn tell_end<K: Sink>(
+    sink: &mut K,
+    line: &mut String,
+    image: &Image,
+    closed: &Closed,
+    end: End,
+) -> Result<(), Stop>
+    requires { length closed.now.memory ≡ image.now.data_size }
+    ensures { let text = last_line image.now end closed.now.steps (length closed.now.journal) closed.now.output
+        closed.now.memory in
+        TellsEnd text (K.state sink.old) (K.state sink.new) result }
+{
+    line.clear();
+    if put_end(line, image, closed, end).is_err() {
+        return Err(Stop::Memory);
+    }
+    match write_all(sink, line.as_bytes()) {
+        Ok(()) => Ok(()),
+        Err(_) => Err(Stop::Sink),
+    }
+}
+
+/// The status of a story that ended before its course did.
+fn stop_status(stop: Stop) -> u8
+    ensures { result ≡ stop_status stop }
+{
+    match stop {
+        Stop::Memory => NO_MEMORY,
+        Stop::Sink => SINK_FAULT,
+    }
+}
+
+/// Closes a book whose story was told up to its last line, and tells that.
+pub(crate) fn finish<N: Naming, P: Placer, T: Tap, K: Sink>(
+    sink: &mut K,
+    image: &Image,
+    book: Book<N, P, T>,
+    line: String,
+) -> Outcome
+    requires fits { IsImage N.image }
+    requires image { image.now ≡ N.image }
+    ensures { StoryFinishes N.image N.commits N.budget (view_of P.policy T.notes book) (K.state sink.old)
+        (K.state sink.new) result }
+{
+    let mut line = line;
+    let end = stand(&book);
+    let closed = close_book(book);
+    match tell_end(sink, &mut line, image, &closed, end) {
+        Ok(()) => hold(closed, status_of(end), Some(end)),
+        Err(stop) => hold(closed, stop_status(stop), None),
+    }
+}
+
+/// Closes a book whose story ended before its course did.
+pub(crate) fn break_off<N: Naming, P: Placer, T: Tap>(book: Book<N, P, T>, stop: Stop) -> Outcome
+    requires { IsImage N.image }
+    ensures { IsClosedAs N.image N.commits N.budget (view_of P.policy T.notes book) (stop_status stop) None result }
+{
+    hold(close_book(book), stop_status(stop), None)
+}

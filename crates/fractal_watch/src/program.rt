@@ -1,0 +1,48 @@
+//! The whole program but its entry.
+
+ghost use Rattle.std.specs.Prelude.{[], map};
+ghost use Rattle.program_call.specs.Call.{call_on, input_of};
+ghost use Rattle.fractal_watch.specs.Program.{WatchAnswers};
+
+use crate::faults::{tell_image_fault, tell_long, tell_script_fault, tell_usage};
+use crate::finding::{Finding, find};
+use crate::watching::watch_image;
+use place_policy::Placer;
+use program_call::{NO_MEMORY, Outcome, SOURCE_FAULT};
+use sim_io::{Sink, Source};
+use std::alloc::Global;
+use std::marker::Brand;
+
+/// Does what the words ask for, on the bytes of the source, and tells what comes of it to the sink.
+///
+/// The words are those behind the program's name: `views K` or not, a course, and the options of the first program. The
+/// head is told, the tasks of the image where they were placed, each act as it is made, and how the run stands at the
+/// end. Each line tells the event that was made, as the machine stood before and behind it.
+///
+/// The outcome holds nothing, or the run of the serial machine from the image that was read, which the events left. The
+/// status tells what was found. Where the sink failed it took a front of the text, and the run stopped there; where
+/// memory ran out it took whole lines, of all moments or of all but the last, and no end. Where the words are refused
+/// the source is left alone; else at most 67,108,864 of its bytes are taken, or one more where it has more than that.
+pub fn top<S: Source, K: Sink>(
+    alloc: Global,
+    words: &[&str],
+    source: &mut S,
+    sink: &mut K,
+    placers: Vec<Box<dyn Placer + Send>>,
+) -> Outcome
+    ensures answers { let serving = map ⟦<Box<dyn Placer + Send> as Placer>⟧.policy placers.items in
+        let input = input_of words.now serving [] (S.state source.old) (S.state source.new) in
+        WatchAnswers (call_on input (K.state sink.old) (K.state sink.new)) result }
+{
+    match find(alloc, words, source) {
+        Finding::Usage => tell_usage(alloc, sink),
+        Finding::Memory => Outcome::empty(alloc, NO_MEMORY),
+        Finding::Unread => Outcome::empty(alloc, SOURCE_FAULT),
+        Finding::Long => tell_long(alloc, sink),
+        Finding::NoImage(fault) => tell_image_fault(alloc, sink, fault),
+        Finding::NoScript(line) => tell_script_fault(alloc, sink, line),
+        Finding::Ready(asking, image, script) => {
+            watch_image::<Brand, _, K>(alloc, sink, &image, &asking, &script, placers)
+        }
+    }
+}

@@ -1,0 +1,118 @@
+//! An image is watched from the opening to the last line.
+
+ghost use Rattle.std.specs.Prelude.{◌≡◌, ◌≤◌, ◌<◌, ◌^◌, All, IfSome, length, map, []};
+ghost use Rattle.guest_image.specs.ImageValue.{IsImage};
+ghost use Rattle.spec_state.specs.Settings.{IsNamed};
+ghost use Rattle.conflict_book.specs.BookViews.{machine_view, view_of};
+ghost use Rattle.command_line.specs.Requests.{IsLimited};
+ghost use Rattle.step_script.specs.Ranges.{ActIsInRange};
+ghost use Rattle.watch_play.specs.Telling.{Plan, Tells};
+ghost use Rattle.fractal_watch.specs.Telling.{TellsBookOf, TellsRunOf};
+ghost use Rattle.fractal_watch.specs.Watched.{course_of};
+ghost use Rattle.fractal_watch.specs.Words.{HasRounds, IsInRanges};
+
+use crate::closing::{break_off, finish};
+use crate::words::Asking;
+use conflict_book::Book;
+use guest_image::Image;
+use place_policy::Placer;
+use program_call::{NO_MEMORY, Outcome};
+use rv_core::Naming;
+use sim_io::Sink;
+use std::alloc::Global;
+use step_script::Act;
+use trace_tap::{LastN, Tap};
+use watch_play::{Stop, Watch, play_least, play_rounds, play_script, tell_opening};
+use watch_text::CourseWord;
+
+/// Plays a course behind its opening, and tells both.
+fn tell_course<N: Naming, P: Placer, T: Tap, K: Sink>(
+    watch: &mut Watch<N, P, T>,
+    sink: &mut K,
+    image: &Image,
+    course: CourseWord,
+    script: &[Act],
+) -> Result<(), Stop>
+    requires image { image.now ≡ N.image }
+    requires few { length script.now < 2 ^ 32 }
+    requires each { IfSome watch.old.each (λ number. 1 ≤ number) }
+    requires count { watch.old.count ≡ 0 }
+    requires held { watch.old.held.items ≡ [] }
+    requires rounds { HasRounds course }
+    requires within { let settings = (machine_view watch.old.book).settings in
+        All (ActIsInRange settings.tiles settings.cores) script.now }
+    ensures { let opening = view_of P.policy T.notes watch.old.book in
+        (plan : Plan) → plan.image ≡ image.now → plan.settings ≡ opening.view.settings
+        → plan.each ≡ watch.old.each → plan.course ≡ course_of course plan.settings script.now
+        → Tells N plan opening (view_of P.policy T.notes watch.new.book) (K.state sink.old) (K.state sink.new) result }
+{
+    tell_opening(watch, sink, image, course)?;
+    match course {
+        CourseWord::Steps => play_script(watch, sink, image, script),
+        CourseWord::Least => play_least(watch, sink, image),
+        CourseWord::Lockstep { rounds, seed } => play_rounds(watch, sink, image, rounds, seed),
+    }
+}
+
+/// Tells the story of a book that was begun, and closes it. The run is kept, also where memory runs out or the sink
+/// fails on the way.
+fn tell_book<N: Naming, P: Placer, T: Tap, K: Sink>(
+    alloc: Global,
+    sink: &mut K,
+    image: &Image,
+    asking: &Asking,
+    script: &[Act],
+    book: Book<N, P, T>,
+) -> Outcome
+    requires fits { IsImage N.image }
+    requires named { IsNamed image.now asking.now.request.settings N.image N.budget N.commits }
+    requires few { length script.now < 2 ^ 32 }
+    requires ranges { IsInRanges asking.now }
+    requires settings { (machine_view book).settings ≡ asking.now.request.settings }
+    requires within { let settings = asking.now.request.settings in
+        All (ActIsInRange settings.tiles settings.cores) script.now }
+    ensures { TellsBookOf N N.image asking.now script.now (view_of P.policy T.notes book) (K.state sink.old)
+        (K.state sink.new) result }
+{
+    let mut watch = Watch::new(alloc, image, book, asking.each);
+    let told = tell_course(&mut watch, sink, image, asking.course, script);
+    let Watch {
+        book,
+        held: _,
+        leg: _,
+        table: _,
+        line,
+        each: _,
+        count: _,
+    } = watch;
+    match told {
+        Ok(()) => finish(sink, image, book, line),
+        Err(stop) => break_off(book, stop),
+    }
+}
+
+/// Begins a machine on an image, plays the course and tells it.
+pub(crate) fn watch_image<N: Naming, P: Placer, K: Sink>(
+    alloc: Global,
+    sink: &mut K,
+    image: &Image,
+    asking: &Asking,
+    script: &[Act],
+    placers: Vec<P>,
+) -> Outcome
+    requires fits { IsImage image.now }
+    requires few { length script.now < 2 ^ 32 }
+    requires limits { IsLimited asking.now.request }
+    requires ranges { IsInRanges asking.now }
+    requires named { IsNamed image.now asking.now.request.settings N.image N.budget N.commits }
+    requires within { let settings = asking.now.request.settings in
+        All (ActIsInRange settings.tiles settings.cores) script.now }
+    ensures { TellsRunOf N image.now asking.now script.now (map P.policy placers.items) (K.state sink.old)
+        (K.state sink.new) result }
+{
+    let taps: Vec<LastN> = Vec::new(alloc);
+    match Book::<N, P, LastN>::begin(alloc, image, asking.request.settings, placers, taps) {
+        Ok(book) => tell_book(alloc, sink, image, asking, script, book),
+        Err(_) => Outcome::empty(alloc, NO_MEMORY),
+    }
+}

@@ -1,0 +1,143 @@
+//! The words of the program.
+
+ghost use Rattle.std.specs.Prelude.{◌≡◌, ◌≤◌, ◌∷◌, IfOk, IfSome, Err, None, Some, map, option_map};
+ghost use Rattle.command_line.specs.Requests.{IsLimited};
+ghost use Rattle.fractal_watch.specs.Words.{IsInRanges, asking_of_words, course_in, lockstep_in, views_in};
+ghost use Rattle.fractal_watch.specs.Words.{HasRounds, words_of};
+
+use command_line::{Refusal, Request, number_between, read_words};
+use std::alloc::{AllocError, Global};
+use watch_text::CourseWord;
+
+/// What the words ask for.
+#[derive(Clone, Copy, Debug, PartialEq, Eq)]
+pub struct Asking {
+    /// Which course is played.
+    pub course: CourseWord,
+    /// Behind each so many moments, at least 1, the view is told; None where it never is.
+    pub each: Option<u32>,
+    /// The settings, among what the same options would ask of the first program.
+    pub request: Request,
+}
+
+/// `views K` in front of other words: K, where it stands there, and the words behind it.
+#[derive(Clone, Copy)]
+struct Views<'a> {
+    each: Option<u32>,
+    behind: &'a [&'a str],
+}
+
+/// A course, the command that has its options with the first program, and the words behind it.
+#[derive(Clone, Copy)]
+struct Leading<'a> {
+    course: CourseWord,
+    command: &'a str,
+    behind: &'a [&'a str],
+}
+
+fn views_of<'a>(words: &'a [&'a str]) -> Option<Views<'a>>
+    ensures value { option_map (λ v. record { each = v.each; behind = map (λ w. w.now) v.behind.now }) result
+        ≡ views_in (map (λ w. w.now) words.now) }
+    ensures each { IfSome result (λ v. IfSome v.each (λ number. 1 ≤ number)) }
+{
+    let Some((word, behind)) = words.split_first() else {
+        return None;
+    };
+    if word.as_bytes() != b"views".as_slice() {
+        return Some(Views {
+            each: None,
+            behind: words,
+        });
+    }
+    let (each, behind) = behind.split_first()?;
+    let each = number_between(1, u32::MAX, each)?;
+    Some(Views {
+        each: Some(each),
+        behind,
+    })
+}
+
+/// `lockstep ROUNDS SEED`, of which these are the words behind the first.
+fn lockstep_of<'a>(words: &'a [&'a str]) -> Option<Leading<'a>>
+    ensures value { option_map (λ l. words_of l.course l.command.now l.behind.now) result
+        ≡ lockstep_in (map (λ w. w.now) words.now) }
+    ensures rounds { IfSome result (λ l. HasRounds l.course) }
+{
+    let (rounds, behind) = words.split_first()?;
+    let (seed, behind) = behind.split_first()?;
+    let rounds = number_between(1, 1_000_000, rounds)?;
+    let seed = number_between(0, u32::MAX, seed)?;
+    Some(Leading {
+        course: CourseWord::Lockstep { rounds, seed },
+        command: "run",
+        behind,
+    })
+}
+
+fn leading_of<'a>(words: &'a [&'a str]) -> Option<Leading<'a>>
+    ensures value { option_map (λ l. words_of l.course l.command.now l.behind.now) result
+        ≡ course_in (map (λ w. w.now) words.now) }
+    ensures rounds { IfSome result (λ l. HasRounds l.course) }
+{
+    let (word, behind) = words.split_first()?;
+    let word = word.as_bytes();
+    if word == b"steps".as_slice() {
+        Some(Leading {
+            course: CourseWord::Steps,
+            command: "steps",
+            behind,
+        })
+    } else if word == b"least".as_slice() {
+        Some(Leading {
+            course: CourseWord::Least,
+            command: "run",
+            behind,
+        })
+    } else if word == b"lockstep".as_slice() {
+        lockstep_of(behind)
+    } else {
+        None
+    }
+}
+
+/// A word in front of others.
+fn in_front<'a>(
+    alloc: Global,
+    word: &'a str,
+    behind: &'a [&'a str],
+) -> Result<Vec<&'a str>, AllocError>
+    ensures { IfOk result (λ words. map (λ w. w.now) words.items ≡ word.now ∷ map (λ w. w.now) behind.now) }
+{
+    let mut words = Vec::new(alloc);
+    words.push(word)?;
+    words.extend_from_slice(behind)?;
+    Ok(words)
+}
+
+/// What the words, without the program's name, ask for. `Usage` where they are outside the grammar: `views K` or not,
+/// then `steps`, `least`, or `lockstep ROUNDS SEED`, and then the options of the first program.
+#[tactic(auto, unfolding(crate::specs::Words::asking_of_words))]
+pub(crate) fn read_asking(alloc: Global, words: &[&str]) -> Result<Asking, Refusal>
+    ensures value { IfOk result (λ asking. asking_of_words (map (λ w. w.now) words.now) ≡ Some asking) }
+    ensures usage { result ≡ Err Refusal.Usage → asking_of_words (map (λ w. w.now) words.now) ≡ None }
+    ensures limits { IfOk result (λ asking. IsLimited asking.request) }
+    ensures ranges { IfOk result IsInRanges }
+{
+    let Some(views) = views_of(words) else {
+        return Err(Refusal::Usage);
+    };
+    let Some(leading) = leading_of(views.behind) else {
+        return Err(Refusal::Usage);
+    };
+    let Ok(words) = in_front(alloc, leading.command, leading.behind) else {
+        return Err(Refusal::Memory);
+    };
+    match read_words(alloc, &words) {
+        Ok(request) => Ok(Asking {
+            course: leading.course,
+            each: views.each,
+            request,
+        }),
+        Err(refusal) => Err(refusal),
+    }
+}

@@ -1,0 +1,232 @@
+-- A play that is sound stays so, moment by moment: the view is sound, the book goes on, and the legs that are held are
+-- runs.
+use Rattle.std.proofs.Common.{◌≡◌, ◌≢◌, ◌⊎◌, ◌<◌, ◌≤◌, ℕ, Bool, true, false, cond, not, List, [], ◌∷◌, ◌++◌, Some}
+use Rattle.std.proofs.Common.{inl, inr, sym, subst, ◌∙◌, arith}
+use Rattle.std.specs.Prelude.{if◌then◌else◌}
+use Rattle.std.specs.List.{AllByRecursion}
+use Rattle.std.proofs.lemmas.Bool.{cases_eq}
+use Rattle.guest_image.specs.ImageValue.{ImageValue}
+use Rattle.rv_core.specs.LegValue.{IsLegOfImage, LegValue}
+use Rattle.rv_core.specs.Legs.{IsLeg, StopIsInData}
+use Rattle.rv_core.proofs.Proved.{PlainInstructions-counted, PlainInstructions-within, next_at-inside}
+use Rattle.spec_state.specs.declared.settings.Settings.{Settings}
+use Rattle.spec_law.specs.Sound.{Sound}
+use Rattle.event_def.specs.declared.event.Event.{Event}
+use Rattle.event_def.specs.declared.event.Event.TheVariants as event
+use Rattle.event_def.specs.declared.event.Reply.{Reply}
+use Rattle.event_def.specs.declared.event.Reply.TheVariants as reply
+use Rattle.event_def.specs.Book.{BookView}
+use Rattle.event_def.specs.Events.{IsGiven}
+use Rattle.event_def.specs.Happens.{Happens}
+use Rattle.event_law.proofs.Proved.{event_stays_sound, next_event_is_given, running_within}
+use Rattle.event_lemma.proofs.Proved.{makes_keeps_settings}
+use Rattle.step_script.specs.declared.act.Act.{Act}
+use Rattle.step_script.specs.declared.act.Act.TheVariants as acts
+use Rattle.step_script.specs.Playing.{HasLegAt, HeldLeg, PlayState, held_for, is_held_for, without_held_leg}
+use Rattle.step_script.specs.Ranges.{ActIsInRange}
+use Rattle.watch_text.specs.Asking.{Attempt, AsksAdvance, AsksFor, AsksGive, AsksStep, AsksTake, Hands, HandsEvent}
+use Rattle.watch_text.specs.Asking.{Says}
+use Rattle.watch_text.specs.Asking as asking
+use Rattle.watch_text.specs.Moments.{ComesOf}
+
+-- a leg from within the budget is a run
+leg_is_run : (image : ImageValue) (budget quantum : ℕ) (leg : LegValue)
+    → IsLeg image image.data_size budget quantum leg.from leg.to leg.steps leg.stop → leg.from.used ≤ budget
+    → IsLegOfImage image budget leg
+leg_is_run image budget quantum leg is low = record {
+  run = is.run;
+  next = λ other. elim (cases_eq leg.steps quantum) [
+    | inl all ↦ absurd (other (is.full all))
+    | inr fewer ↦ let bound = is.bound in is.next (omega (arith, bound, fewer))
+  ];
+  inside = by_case (cases_eq leg.steps quantum);
+  counted = PlainInstructions-counted image image.data_size budget leg.steps leg.from leg.to is.run;
+  within = PlainInstructions-within image image.data_size budget leg.steps leg.from leg.to is.run low;
+}
+  where
+    by_case : (leg.steps ≡ quantum) ⊎ (leg.steps ≢ quantum) → StopIsInData image.data_size leg.stop
+    by_case (inl all) = subst (StopIsInData image.data_size) (sym (is.full all)) tt
+    by_case (inr fewer) =
+        let bound = is.bound in
+        next_at-inside image image.data_size budget leg.to leg.stop (is.next (omega (arith, bound, fewer)))
+
+-- ---- legs that are held
+
+abbrev pub AreRuns : ImageValue → Settings → List HeldLeg → Type 0
+AreRuns image settings held = AllByRecursion (λ (h : HeldLeg). IsLegOfImage image settings.budget h.leg) held
+
+module _ (image : ImageValue) (settings : Settings) (tile core : ℕ) where
+  held_runs : (held : List HeldLeg) (leg : LegValue) → AreRuns image settings held → held_for tile core held ≡ Some leg
+      → IsLegOfImage image settings.budget leg
+  held_runs [] leg runs is = absurd (cc (is))
+  held_runs (h ∷ held) leg runs is = by_test (is_held_for tile core h) is (held_runs held leg runs.1)
+    where
+      by_test : (t : Bool) → (if t then Some h.leg else held_for tile core held) ≡ Some leg
+          → (held_for tile core held ≡ Some leg → IsLegOfImage image settings.budget leg)
+          → IsLegOfImage image settings.budget leg
+      by_test true found rest = let same : h.leg ≡ leg = cc in subst (IsLegOfImage image settings.budget) same runs.0
+      by_test false found rest = rest found
+
+  without_runs : (held : List HeldLeg) → AreRuns image settings held
+      → AreRuns image settings (without_held_leg tile core held)
+  without_runs [] runs = tt
+  without_runs (h ∷ held) runs = by_test (not (is_held_for tile core h)) (without_runs held runs.1)
+    where
+      by_test : (t : Bool) → AreRuns image settings (without_held_leg tile core held)
+          → AreRuns image settings
+          (cond t (h ∷ without_held_leg tile core held) (without_held_leg tile core held))
+      by_test true rest = (runs.0, rest)
+      by_test false rest = rest
+
+  ended_runs : (held : List HeldLeg) (h : HeldLeg) → AreRuns image settings held
+      → IsLegOfImage image settings.budget h.leg → AreRuns image settings (held ++ h ∷ [])
+  ended_runs [] h runs run = (run, tt)
+  ended_runs (g ∷ held) h runs run = (runs.0, ended_runs held h runs.1 run)
+
+-- ---- plays
+
+-- the play's view is sound, its book goes on, and the legs that it holds are runs
+pub record IsGood (image : ImageValue) (settings : Settings) (play : PlayState) : Type 0 where
+  pub sound : Sound image play.book.view
+  pub going : play.book.stopped ≡ false
+  pub settings_are : play.book.view.settings ≡ settings
+  pub runs : AreRuns image settings play.held
+
+-- likewise of a book alone
+record IsGoodBook (image : ImageValue) (settings : Settings) (book : BookView) : Type 0 where
+  sound : Sound image book.view
+  going : book.stopped ≡ false
+  settings_are : book.view.settings ≡ settings
+
+-- what is handed in may be handed in
+abbrev AsksGiven : {N : Type 0} → ImageValue → Settings → Attempt N → Type 0
+AsksGiven image settings (Hands e) = IsGiven image settings e
+AsksGiven image settings (Says word) = Unit {0}
+
+module _ (N : Type 0) (image : ImageValue) (settings : Settings) (old new : BookView) (aborted : ℕ)
+    (good : IsGoodBook image settings old) where
+  -- nothing has changed
+  book_stays : new ≡ old → IsGoodBook image settings new
+  book_stays same = subst (IsGoodBook image settings) (sym same) good
+
+  event_keeps : (e : Event N) → IsGiven image settings e → (answer : Reply) → Happens old e answer aborted new
+      → IsGoodBook image settings new
+  event_keeps e given reply.Ok happens =
+      let here = subst (λ s. IsGiven image s e) (sym good.settings_are) given in record {
+        sound = event_stays_sound N image old new e reply.Ok aborted here good.sound happens;
+        going = happens.stopped;
+        settings_are =
+            makes_keeps_settings N image old e aborted new.view new.placers here good.sound happens.granted
+            happens.makes
+            ∙ good.settings_are;
+      }
+  event_keeps e given reply.Memory happens = book_stays happens.1.same
+  event_keeps e given reply.Empty happens = book_stays happens.unchanged.same
+  event_keeps e given reply.Busy happens = book_stays happens.unchanged.same
+  event_keeps e given reply.Stall happens = book_stays happens.unchanged.same
+  event_keeps e given reply.Stale happens = book_stays happens.unchanged.same
+  event_keeps e given reply.Firm happens = book_stays happens.unchanged.same
+  event_keeps e given reply.Ended happens = book_stays happens.unchanged.same
+
+  asks_keeps : (asks : Attempt N) → AsksGiven image settings asks → (answer : Reply)
+      → ComesOf asks answer aborted old new → IsGoodBook image settings new
+  asks_keeps (Hands e) given answer came = event_keeps e given answer came.1
+  asks_keeps (Says word) given answer came = book_stays came.2
+
+module _ (N : Type 0) (image : ImageValue) (settings : Settings) (play : PlayState) (good : IsGood image settings play)
+  where
+    leg_runs : (tile core : ℕ) (leg : LegValue) → HasLegAt image play.book.view tile core leg
+        → IsLegOfImage image settings.budget leg
+    leg_runs tile core leg has =
+        let view = play.book.view in
+        let low =
+        subst (λ c. c.used ≤ view.settings.budget) (sym has.leg_from.from)
+        (running_within image view good.sound has.id core has.task has.runs.on.there has.runs.running) in
+        subst (λ s. IsLegOfImage image s.budget leg) good.settings_are
+        (leg_is_run image view.settings.budget view.settings.quantum leg has.leg_from.is_leg low)
+
+    -- an act comes to what may be handed in, and the legs that are held then are runs
+    record Comes_to (asks : Attempt N) (held : List HeldLeg) : Type 0 where
+      given : AsksGiven image settings asks
+      runs : AreRuns image settings held
+
+    hands_to : (e : Event N) (asks : Attempt N) (held : List HeldLeg) → IsGiven image settings e
+        → HandsEvent e play asks held → Comes_to asks held
+    hands_to e asks held given hands = record {
+      given = subst (AsksGiven image settings) (sym hands.asks_is) given;
+      runs = subst (AreRuns image settings) (sym hands.held_is) good.runs;
+    }
+
+    says_to : (word : Reply) (asks : Attempt N) (held list : List HeldLeg) → asks ≡ Says word → held ≡ list
+        → AreRuns image settings list → Comes_to asks held
+    says_to word asks held list asks_is held_is runs = record {
+      given = subst (AsksGiven image settings) (sym asks_is) tt;
+      runs = subst (AreRuns image settings) (sym held_is) runs;
+    }
+
+    step_to : (tile core : ℕ) (asks : Attempt N) (held : List HeldLeg) → (tile < settings.tiles) ×
+        (core < settings.cores)
+        → AsksStep image tile core play asks held → Comes_to asks held
+    step_to tile core asks held inside (asking.step_runs leg on has hands) =
+        hands_to (event.Step tile core leg) asks held (inside.0, inside.1, leg_runs tile core leg has) hands
+    step_to tile core asks held inside (asking.step_ended over says) =
+        says_to reply.Ended asks held play.held says.asks_is says.held_is good.runs
+    step_to tile core asks held inside (asking.step_stale on none says) =
+        says_to reply.Stale asks held play.held says.asks_is says.held_is good.runs
+
+    take_to : (tile core : ℕ) (asks : Attempt N) (held : List HeldLeg) → AsksTake image tile core play asks held
+        → Comes_to asks held
+    take_to tile core asks held (asking.take_holds leg has asks_is held_is) =
+        says_to reply.Ok asks held _ asks_is held_is
+        (ended_runs image settings tile core (without_held_leg tile core play.held)
+        (record { tile = tile; core = core; leg = leg }) (without_runs image settings tile core play.held good.runs)
+        (leg_runs tile core leg has))
+    take_to tile core asks held (asking.take_stale none asks_is held_is) =
+        says_to reply.Stale asks held _ asks_is held_is (without_runs image settings tile core play.held good.runs)
+
+    give_to : (tile core : ℕ) (asks : Attempt N) (held : List HeldLeg) → (tile < settings.tiles) ×
+        (core < settings.cores)
+        → AsksGive tile core play asks held → Comes_to asks held
+    give_to tile core asks held inside (asking.give_hands leg on found asks_is held_is) = record {
+      given =
+          subst (AsksGiven image settings) (sym asks_is)
+          (inside.0, inside.1, held_runs image settings tile core play.held leg good.runs found);
+      runs = subst (AreRuns image settings) (sym held_is) (without_runs image settings tile core play.held good.runs);
+    }
+    give_to tile core asks held inside (asking.give_ended over says) =
+        says_to reply.Ended asks held play.held says.asks_is says.held_is good.runs
+    give_to tile core asks held inside (asking.give_stale on none says) =
+        says_to reply.Stale asks held play.held says.asks_is says.held_is good.runs
+
+    advance_to : (asks : Attempt N) (held : List HeldLeg) → AsksAdvance image play asks held → Comes_to asks held
+    advance_to asks held (asking.advance_next e next hands) =
+        hands_to e asks held
+        (subst (λ s. IsGiven image s e) good.settings_are (next_event_is_given N image play.book.view e good.sound
+        next))
+        hands
+    advance_to asks held (asking.advance_ended over says) =
+        says_to reply.Ended asks held play.held says.asks_is says.held_is good.runs
+
+    act_to : (act : Act) (asks : Attempt N) (held : List HeldLeg) → ActIsInRange settings.tiles settings.cores act
+        → AsksFor image act play asks held → Comes_to asks held
+    act_to (acts.Dispatch tile) asks held inside asked = hands_to (event.Dispatch tile) asks held inside asked
+    act_to (acts.Step tile core) asks held inside asked = step_to tile core asks held inside asked
+    act_to (acts.Take tile core) asks held inside asked = take_to tile core asks held asked
+    act_to (acts.Give tile core) asks held inside asked = give_to tile core asks held inside asked
+    act_to (acts.Abort tile) asks held inside asked = hands_to (event.Abort tile) asks held inside asked
+    act_to acts.Commit asks held inside asked = hands_to event.Commit asks held tt asked
+    act_to (acts.Coalesce tile) asks held inside asked = hands_to (event.Coalesce tile) asks held inside asked
+    act_to (acts.Split tile) asks held inside asked = hands_to (event.Split tile) asks held inside asked
+    act_to acts.Advance asks held inside asked = advance_to asks held asked
+
+    -- an act within the settings leaves a good play
+    pub stays_good : (act : Act) (asks : Attempt N) (answer : Reply) (aborted : ℕ) (new : PlayState)
+        → ActIsInRange settings.tiles settings.cores act → AsksFor image act play asks new.held
+        → ComesOf asks answer aborted play.book new.book → IsGood image settings new
+    stays_good act asks answer aborted new inside asked came =
+        let to = act_to act asks new.held inside asked in
+        let book =
+        asks_keeps N image settings play.book new.book aborted
+        (record { sound = good.sound; going = good.going; settings_are = good.settings_are }) asks to.given answer
+        came in
+        record { sound = book.sound; going = book.going; settings_are = book.settings_are; runs = to.runs }

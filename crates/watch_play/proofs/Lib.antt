@@ -1,0 +1,10 @@
+pub mod Asked
+pub mod Chosen
+pub mod Does
+pub mod Goods
+pub mod InRounds
+pub mod Lined
+pub mod Plays
+pub mod Rounds
+pub mod Scripts
+pub mod Tellings

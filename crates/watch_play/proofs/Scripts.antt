@@ -1,0 +1,61 @@
+-- The courses of a script, and of the least task, act by act.
+use Rattle.std.proofs.Common.{◌≡◌, ◌<◌, ◌+◌, ℕ, List, length, Some, None, Result, refl, ap, subst, ◌∙◌}
+use Rattle.std.proofs.Common.{le_refl}
+use Rattle.std.specs.Prelude.{slice_index_or}
+use Rattle.std.specs.declared.option.Option.{Option}
+use Rattle.std.proofs.lemmas.Option.{slice_get-get_or, slice_get_past}
+use Rattle.guest_image.specs.ImageValue.{ImageValue}
+use Rattle.sim_io.specs.Streams.{SinkState}
+use Rattle.event_def.specs.End.{IsOver}
+use Rattle.step_script.specs.declared.act.Act.{Act}
+use Rattle.step_script.specs.declared.act.Act.TheVariants as acts
+use Rattle.step_script.specs.Playing.{PlayState}
+use Rattle.watch_play.specs.declared.stop.Stop.{Stop}
+use Rattle.watch_play.specs.Courses.{OfLeast, OfScript, course_act}
+use Rattle.watch_play.specs.Made.{TellsAct}
+use Rattle.watch_play.proofs.Tellings.{CourseGoes, CourseGoesOn, course_goes_on}
+
+-- the act of a place of a script
+script_act_is : (script : List Act) (n : ℕ) (d : Act) → n < length script
+    → course_act (OfScript script) n ≡ Some (slice_index_or script n d)
+unfolding course_act
+script_act_is script n d inside = slice_get-get_or script n d inside
+
+-- behind the last one there is none
+none_behind : (script : List Act) → course_act (OfScript script) (length script) ≡ None
+unfolding course_act
+none_behind script = slice_get_past script (length script) (le_refl (length script))
+
+pub script_is_through : (script : List Act) (n : ℕ) → n ≡ length script → course_act (OfScript script) n ≡ None
+script_is_through script n is = ap (course_act (OfScript script)) is ∙ none_behind script
+
+least_act_is : (n : ℕ) → course_act OfLeast n ≡ Some acts.Advance
+unfolding course_act
+least_act_is n = refl
+
+module _ (N : Type 0) (image : ImageValue) (each : Option ℕ) (first : PlayState) (began : SinkState) where
+  -- the next act of a script is told, by what is counted on the way
+  pub script_goes_on : (script : List Act) (i at count : ℕ) (every : Option ℕ) (d : Act) (old new : PlayState)
+      (now after : SinkState) (r : Result (Unit {0}) Stop) → i < length script → at ≡ i → count ≡ i → every ≡ each
+      → CourseGoes N image each (OfScript script) first began i i old now
+      → TellsAct N image every (at + 1) (count + 1) (slice_index_or script i d) old new now after r
+      → CourseGoesOn N image each (OfScript script) first began (i + 1) (i + 1) new after r
+  script_goes_on script i at count every d old new now after r inside at_is count_is each_is so_far tells =
+      let act = slice_index_or script i d in
+      course_goes_on N image each (OfScript script) first began i i old now so_far act
+      (script_act_is script i d inside) tt
+      new after r
+      (subst (λ e. TellsAct N image e (i + 1) (i + 1) act old new now after r) each_is
+      (subst (λ n. TellsAct N image every (i + 1) (n + 1) act old new now after r) count_is
+      (subst (λ n. TellsAct N image every (n + 1) (count + 1) act old new now after r) at_is tells)))
+
+  -- the next event for the least task is told
+  pub least_goes_on : (i count : ℕ) (every : Option ℕ) (old new : PlayState) (now after : SinkState)
+      (r : Result (Unit {0}) Stop) → count ≡ i → every ≡ each → (IsOver old.book.view → ⊥)
+      → CourseGoes N image each OfLeast first began i i old now
+      → TellsAct N image every (i + 1) (count + 1) acts.Advance old new now after r
+      → CourseGoesOn N image each OfLeast first began (i + 1) (i + 1) new after r
+  least_goes_on i count every old new now after r count_is each_is going so_far tells =
+      course_goes_on N image each OfLeast first began i i old now so_far acts.Advance (least_act_is i) going new after r
+      (subst (λ e. TellsAct N image e (i + 1) (i + 1) acts.Advance old new now after r) each_is
+      (subst (λ n. TellsAct N image every (i + 1) (n + 1) acts.Advance old new now after r) count_is tells))

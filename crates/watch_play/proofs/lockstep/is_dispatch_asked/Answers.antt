@@ -1,0 +1,16 @@
+use Rattle.watch_play.proofs.Chosen.{least_asked, ready_asked}
+use Rattle.watch_play.proofs.lockstep.is_dispatch_asked.Goals as goal
+
+pub returns-then-ready : goal.returns-then-ready
+returns-then-ready g c =
+    ready_asked c.state.result.now.view _ c.state.ensures.view c.args.tile c.in-Some.id.0 c.in-Some.ensures.some
+    c.ready.result
+    c.ready.ensures c.if-ready.true
+
+pub returns-else-ready : goal.returns-else-ready
+returns-else-ready g c =
+    least_asked c.state.result.now.view _ c.state.ensures.view c.args.tile c.in-Some.id.0 c.in-Some.ensures.some
+    c.ready.result
+    c.ready.ensures c.is_least.result c.state-else-ready.result.now.view c.state-else-ready.ensures.view
+    c.if-ready.false
+    c.is_least.ensures

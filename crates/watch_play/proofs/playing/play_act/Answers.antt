@@ -1,0 +1,64 @@
+use Rattle.std.proofs.Common.{rules, ◌≡◌, ◌≢◌, ◌+◌, length, ap, ◌∙◌}
+use Rattle.std.specs.String.{string_bytes}
+use Rattle.event_def.specs.declared.event.Reply.TheVariants as reply
+use Rattle.spec_state.specs.View.{View}
+use Rattle.conflict_book.specs.BookViews.{machine_view, view_of}
+use Rattle.step_script.specs.Playing.{PlayState}
+use Rattle.watch_text.specs.Asking.{asks_of}
+use Rattle.watch_text.specs.Moments.{task_of}
+use Rattle.watch_play.specs.Made.{play_of}
+use Rattle.watch_play.proofs.Lined.{line_is, made, moment_is}
+use Rattle.watch_play.proofs.playing.play_act.Goals as goal
+
+pub returns-in-Ok-tell_rest-clause-comes : goal.returns-in-Ok-tell_rest-clause-comes
+returns-in-Ok-tell_rest-clause-comes g c =
+    let place = c.args.watch.now.count + 1 in
+    let old = play_of g.P.Placer.policy g.T.Tap.notes c.args.watch.now in
+    let new : PlayState = record {
+      book = view_of g.P.Placer.policy g.T.Tap.notes c.make-applied.new.book;
+      held =
+          c.ask.new.held.items;
+    } in
+    let asks = asks_of {N = g.row.N.Denot} c.in-Ok.asked c.ask.new.leg in
+    let task = task_of c.about_of-about.result in
+    let request = c.about_of-about.result.request in
+    let answer = c.make-applied.result.reply in
+    let aborted = c.make-applied.result.aborted in
+    let there : c.make-applied.result.reply ≢ reply.Memory = search rules in
+    let output : length c.output-output.result.now ≡ length (machine_view c.args.watch.now.book).output =
+    ap length (c.output-output.ensures ∙ ap (λ (v : View). v.output) c.state-2.ensures.view) in (
+      made g.row.N.Denot g.N.Naming.image c.args.at place c.args.act old new asks task request answer aborted,
+      moment_is g.row.N.Denot g.N.Naming.image c.args.at place c.args.act old new asks task request answer aborted
+          c.state.result.now.view (play_of g.P.Placer.policy g.T.Tap.notes c.tell_rest.new.watch) c.state.ensures.view
+          c.tell_rest.ensures.play
+          c.in-Ok.ensures.asks c.about_of-about.ensures.task c.about_of-about.ensures.request there
+          c.make-applied.ensures.comes,
+      line_is g.row.N.Denot g.N.Naming.image c.args.at place c.args.act old new asks task request answer aborted
+          c.args.watch.now.each (string_bytes c.clear.new.self) (string_bytes c.put_front.new.line)
+          (string_bytes c.tell_rest.new.watch.line) c.args.watch.now.table.items (length c.output-output.result.now)
+          (search rules) (search rules)
+          c.requires.table output (c.in-Ok-tell_rest.ensures.line c.ask.new.leg),
+    )
+
+pub returns-in-Err-clause-comes : goal.returns-in-Err-clause-comes
+returns-in-Err-clause-comes g c =
+    let place = c.args.watch.now.count + 1 in
+    let old = play_of g.P.Placer.policy g.T.Tap.notes c.args.watch.now in
+    let new : PlayState = record {
+      book = view_of g.P.Placer.policy g.T.Tap.notes c.make-applied.new.book;
+      held =
+          c.ask.new.held.items;
+    } in
+    let asks = asks_of {N = g.row.N.Denot} c.in-Ok.asked c.ask.new.leg in
+    let task = task_of c.about_of-about.result in
+    let request = c.about_of-about.result.request in
+    let answer = c.make-applied.result.reply in
+    let aborted = c.make-applied.result.aborted in
+    let there : c.make-applied.result.reply ≢ reply.Memory = search rules in (
+      made g.row.N.Denot g.N.Naming.image c.args.at place c.args.act old new asks task request answer aborted,
+      moment_is g.row.N.Denot g.N.Naming.image c.args.at place c.args.act old new asks task request answer aborted
+          c.state.result.now.view (play_of g.P.Placer.policy g.T.Tap.notes c.tell_rest.new.watch) c.state.ensures.view
+          c.tell_rest.ensures.play
+          c.in-Ok.ensures.asks c.about_of-about.ensures.task c.about_of-about.ensures.request there
+          c.make-applied.ensures.comes,
+    )

@@ -1,0 +1,112 @@
+-- Courses: which acts there are, and which of them are asked for as the machine stands.
+use Rattle.std.specs.Prelude.{◌≡◌, ◌≢◌, ◌⊎◌, ◌+◌, ◌*◌, ◌/◌, ◌%◌, ◌^◌, ◌==◌, ℕ, zero, suc, List, [], ◌∷◌, ◌++◌, length}
+use Rattle.std.specs.Prelude.{map}
+use Rattle.std.specs.Prelude.{Some, None, nat_lt, replicate, slice_get, if◌then◌else◌}
+use Rattle.std.specs.declared.option.Option.{Option}
+use Rattle.std.specs.List.{flat_map, range_with_len, swap}
+use Rattle.spec_state.specs.declared.settings.Settings.{Settings}
+use Rattle.spec_state.specs.declared.task.Status.TheVariants.{Finished}
+use Rattle.spec_state.specs.declared.task.Task.{Task}
+use Rattle.spec_state.specs.Least.{IsLeastSpilled, IsLeastTask, IsTheLeast}
+use Rattle.spec_state.specs.Queries.{IsFreeCore, IsLeastIdle, IsRunning}
+use Rattle.spec_state.specs.Room.{QueueHasRoom}
+use Rattle.spec_state.specs.View.{View, block_at}
+use Rattle.event_def.specs.End.{IsOver}
+use Rattle.step_script.specs.declared.act.Act.{Act}
+use Rattle.step_script.specs.declared.act.Act.TheVariants as acts
+use Rattle.watch_text.specs.declared.head.CourseWord.{CourseWord}
+use Rattle.watch_text.specs.declared.head.CourseWord.TheVariants as courses
+
+-- the acts of a script; what brings the least task on; or so many rounds in lockstep, in an order that is drawn
+pub data Course : Type 0 where
+  OfScript : List Act → Course
+  OfLeast : Course
+  OfRounds : (rounds seed : ℕ) → Settings → Course
+
+abbrev pub course_word : Course → CourseWord
+course_word (OfScript script) = courses.Steps
+course_word OfLeast = courses.Least
+course_word (OfRounds rounds seed settings) = courses.Lockstep rounds seed
+
+-- ---- the order of a round
+
+-- what a tile does in a round: it dispatches, and each of its cores makes a step
+abbrev pub tile_acts : ℕ → ℕ → List Act
+tile_acts cores tile = acts.Dispatch tile ∷ map (acts.Step tile) (range_with_len 0 cores)
+
+-- a round: what each tile does, then a commit for each tile, then a split of each
+unfoldable pub round_acts : ℕ → ℕ → List Act
+round_acts tiles cores =
+    flat_map (tile_acts cores) (range_with_len 0 tiles) ++ replicate tiles acts.Commit
+    ++ map acts.Split (range_with_len 0 tiles)
+
+-- how many acts that are
+abbrev pub round_length : Settings → ℕ
+round_length settings = settings.tiles * (settings.cores + 3)
+
+-- the number that is drawn after another
+unfoldable pub next_draw : ℕ → ℕ
+next_draw drawn = (1664525 * drawn + 1013904223) % 2 ^ 32
+
+-- acts in an order, and the number that was drawn last
+pub record Order : Type 0 where
+  pub drawn : ℕ
+  pub acts : List Act
+
+-- the last of so many acts changes places with one that is drawn among them
+abbrev pub with_drawn : ℕ → Order → Order
+with_drawn last order = let drawn = next_draw order.drawn in record {
+  drawn = drawn;
+  acts = swap order.acts last (drawn * (last + 1) / 2 ^ 32);
+}
+
+-- so many acts are shuffled, from the last of them on
+abbrev pub shuffled : ℕ → Order → Order
+shuffled zero order = order
+shuffled (suc last) order = shuffled last (with_drawn last order)
+
+-- the order of the next round, which shuffles that of the round before; the seed 0 leaves the acts as they are
+unfoldable pub next_order : ℕ → Order → Order
+next_order seed order = if seed == 0 then order else shuffled (length order.acts) order
+
+-- the order after so many rounds
+abbrev pub order_after : ℕ → Settings → ℕ → Order
+order_after seed settings zero = record { drawn = seed; acts = round_acts settings.tiles settings.cores }
+order_after seed settings (suc rounds) = next_order seed (order_after seed settings rounds)
+
+-- the acts of a round, counted from 0
+abbrev pub acts_in_round : ℕ → Settings → ℕ → List Act
+acts_in_round seed settings round = (order_after seed settings (round + 1)).acts
+
+-- the act of a number, counted from 0, where there is one
+unfoldable pub course_act : Course → ℕ → Option Act
+course_act (OfScript script) number = slice_get script number
+course_act OfLeast number = Some acts.Advance
+course_act (OfRounds rounds seed settings) number =
+    let round = number / round_length settings in
+    if nat_lt round rounds then slice_get (acts_in_round seed settings round) (number % round_length settings) else None
+
+-- ---- which acts are asked for
+
+-- a tile dispatches its least idle task, where a core is free for it, or it is the least task; a running task makes a
+-- step; the least task commits, once it is finished; a tile brings a task back, where there is room for it, or it is
+-- the least task
+abbrev pub IsAskedInRound : View → Act → Type 0
+IsAskedInRound view (acts.Dispatch tile) =
+    (id : ℕ) × (task : Task) × IsLeastIdle view tile id task
+    × (((core : ℕ) × IsFreeCore view tile core) ⊎ IsTheLeast view id)
+IsAskedInRound view (acts.Step tile core) = (id : ℕ) × (task : Task) × IsRunning view tile core id task
+IsAskedInRound view acts.Commit = (id : ℕ) × (task : Task) × IsLeastTask view id task × (task.status ≡ Finished)
+IsAskedInRound view (acts.Split tile) =
+    (block_at view tile ≢ []) × (QueueHasRoom view tile ⊎ IsLeastSpilled view tile)
+IsAskedInRound view other = ⊥
+
+-- each act of a script is asked for; of the other courses none once the run is over
+abbrev pub IsAskedBy : Course → View → Act → Type 0
+IsAskedBy (OfScript script) view act = Unit {0}
+IsAskedBy OfLeast view act = IsOver view → ⊥
+IsAskedBy (OfRounds rounds seed settings) view act = (IsOver view → ⊥) × IsAskedInRound view act
+
+-- behind so many acts the course is through: no act is left, or none is asked for any more
+abbrev pub IsThrough : Course → ℕ → View → Type 0
+IsThrough course count view = (course_act course count ≡ None) ⊎ ((act : Act) → IsAskedBy course view act → ⊥)

@@ -1,0 +1,144 @@
+-- How far a story was told.
+use Rattle.std.specs.Prelude.{◌≡◌, ◌⊎◌, ◌+◌, ◌≤◌, ◌++◌, ◌∷◌, ℕ, List, [], Result, Ok, Err, Some, length, slice_get}
+use Rattle.std.specs.declared.option.Option.{Option}
+use Rattle.guest_image.specs.ImageValue.{ImageValue}
+use Rattle.sim_io.specs.Causes.{Rose}
+use Rattle.sim_io.specs.Parts.{SinkTakes, TakesFront}
+use Rattle.sim_io.specs.Streams.{SinkState}
+use Rattle.spec_state.specs.declared.settings.Settings.{Settings}
+use Rattle.event_def.specs.Book.{BookView}
+use Rattle.step_script.specs.declared.act.Act.{Act}
+use Rattle.step_script.specs.Playing.{PlayState}
+use Rattle.watch_text.specs.Moments.{Moment}
+use Rattle.watch_play.specs.declared.stop.Stop.{Stop}
+use Rattle.watch_play.specs.declared.stop.Stop.TheVariants as stops
+use Rattle.watch_play.specs.Courses.{Course, IsThrough, OfRounds, course_act}
+use Rattle.watch_play.specs.Stories.{StoryLeads, begun}
+use Rattle.watch_play.specs.Texts.{opening_lines, story_lines}
+
+-- what is told: a course on a machine of these settings, of this image, with a view behind each so many moments
+pub record Plan : Type 0 where
+  pub course : Course
+  pub settings : Settings
+  pub image : ImageValue
+  pub each : Option ℕ
+
+-- the lines of a story by this plan
+abbrev pub lines_by : {N : Type 0} → Plan → BookView → List (Moment N) → List ℕ
+lines_by plan opening moments =
+    story_lines plan.course plan.settings plan.image opening.view plan.each moments
+
+-- so many acts of the course led here, through these moments
+pub record HasStory {N : Type 0} (plan : Plan) (opening : BookView) (moments : List (Moment N)) (book : BookView)
+    : Type 0 where
+  pub count : ℕ
+  pub last : PlayState
+  pub goes : StoryLeads plan.image plan.course opening count moments last
+  pub book_is : book ≡ last.book
+
+-- the course was played to its end, and all of it was told
+pub record IsAllTold (N : Type 0) (plan : Plan) (opening book : BookView) (before after : SinkState) : Type 0 where
+  pub moments : List (Moment N)
+  pub story : HasStory plan opening moments book
+  pub through : IsThrough plan.course story.count book.view
+  pub took : SinkTakes before after (lines_by plan opening moments)
+  pub later : before.faults ≤ after.faults
+
+-- the sink has the lines of these moments, or of all but the last
+abbrev pub TookMost : {N : Type 0} → Plan → BookView → List (Moment N) → SinkState → SinkState → Type 0
+TookMost {N} plan opening moments before after =
+    SinkTakes before after (lines_by plan opening moments)
+    ⊎ ((front : List (Moment N)) × (m : Moment N) × (moments ≡ front ++ m ∷ [])
+    × SinkTakes before after (lines_by plan opening front))
+
+-- memory ran out, behind whole lines: nothing was told of a book at its opening, or all moments were but at most the
+-- last
+pub record IsToldInPart (N : Type 0) (plan : Plan) (opening book : BookView) (before after : SinkState) : Type 0 where
+  pub moments : List (Moment N)
+  pub story : HasStory plan opening moments book
+  pub took : ((moments ≡ []) × (after ≡ before)) ⊎ TookMost plan opening moments before after
+
+-- the sink failed: it has a front of the lines of these moments
+pub record IsCutOff (N : Type 0) (plan : Plan) (opening book : BookView) (before after : SinkState) : Type 0 where
+  pub moments : List (Moment N)
+  pub story : HasStory plan opening moments book
+  pub took : TakesFront before after (lines_by plan opening moments)
+  pub rose : Rose before.faults after.faults
+
+-- how far a story was told, by what is answered
+abbrev pub Tells : Type 0 → Plan → BookView → BookView → SinkState → SinkState → Result (Unit {0}) Stop → Type 0
+Tells N plan opening book before after (Ok done) = IsAllTold N plan opening book before after
+Tells N plan opening book before after (Err stops.Memory) = IsToldInPart N plan opening book before after
+Tells N plan opening book before after (Err stops.Sink) = IsCutOff N plan opening book before after
+
+-- ---- a story that goes on
+
+-- these are the acts of a course from this number on, counted from 0
+abbrev pub AreActsOf : Course → ℕ → List Act → Type 0
+AreActsOf course number acts =
+    (place : ℕ) (act : Act) → slice_get acts place ≡ Some act → course_act course (number + place) ≡ Some act
+
+-- so many acts of the course led here, through so many moments, all of which were told
+pub record IsSoFar {N : Type 0} (plan : Plan) (opening : BookView) (count told : ℕ) (moments : List (Moment N))
+    (play : PlayState) (before now : SinkState) : Type 0 where
+  pub goes : StoryLeads plan.image plan.course opening count moments play
+  pub told_are : length moments ≡ told
+  pub took : SinkTakes before now (lines_by plan opening moments)
+  pub later : before.faults ≤ now.faults
+
+-- some story led so far
+abbrev pub GoesSoFar : (N : Type 0) → Plan → BookView → (count told : ℕ) → PlayState → (before now : SinkState)
+    → Type 0
+GoesSoFar N plan opening count told play before now =
+    (moments : List (Moment N)) × IsSoFar plan opening count told moments play before now
+
+-- so many acts of the course led on from there, or the story ended on the way
+abbrev pub GoesOn : (N : Type 0) → Plan → BookView → (count told : ℕ) → (new : PlayState)
+    → (before after : SinkState) → Result (Unit {0}) Stop → Type 0
+GoesOn N plan opening count told new before after (Ok done) =
+    GoesSoFar N plan opening count told new before after
+GoesOn N plan opening count told new before after (Err stop) = Tells N plan opening new.book before after (Err stop)
+
+-- whatever story of a course in rounds led to the act of this number, it leads on, or the story ends there
+abbrev pub ActGoesOn : (N : Type 0) → ImageValue → Option ℕ → (number : ℕ) → Act → (told new_told : ℕ)
+    → (old new : PlayState) → (now after : SinkState) → Result (Unit {0}) Stop → Type 0
+ActGoesOn N image each number act told new_told old new now after result =
+    (rounds seed : ℕ) (settings : Settings) (plan : Plan) (opening : BookView) (start : SinkState)
+    → plan.image ≡ image → plan.each ≡ each → plan.course ≡ OfRounds rounds seed settings
+    → course_act plan.course number ≡ Some act → GoesSoFar N plan opening number told old start now
+    → GoesOn N plan opening (number + 1) new_told new start after result
+
+-- likewise the acts of a round, from this number on
+abbrev pub RoundGoesOn : (N : Type 0) → ImageValue → Option ℕ → (number : ℕ) → List Act → (told new_told : ℕ)
+    → (old new : PlayState) → (now after : SinkState) → Result (Unit {0}) Stop → Type 0
+RoundGoesOn N image each number acts told new_told old new now after result =
+    (rounds seed : ℕ) (settings : Settings) (plan : Plan) (opening : BookView) (start : SinkState)
+    → plan.image ≡ image → plan.each ≡ each → plan.course ≡ OfRounds rounds seed settings
+    → AreActsOf plan.course number acts → GoesSoFar N plan opening number told old start now
+    → GoesOn N plan opening (number + length acts) new_told new start after result
+
+-- ---- the opening
+
+-- the lines before the first act were told, or not, by what is answered
+abbrev pub TellsOpening : Plan → BookView → SinkState → SinkState → Result (Unit {0}) Stop → Type 0
+TellsOpening plan opening before after (Ok done) =
+    SinkTakes before after (opening_lines plan.course plan.settings plan.image opening.view)
+    × (before.faults ≤ after.faults)
+TellsOpening plan opening before after (Err stops.Memory) = after ≡ before
+TellsOpening plan opening before after (Err stops.Sink) =
+    TakesFront before after (opening_lines plan.course plan.settings plan.image opening.view)
+    × Rose before.faults after.faults
+
+-- a book at its opening, for which no leg is held, and the lines before its first act were told
+pub record IsOpened (plan : Plan) (opening : BookView) (play : PlayState) (before now : SinkState) : Type 0 where
+  pub play_is : play ≡ begun opening
+  pub took : SinkTakes before now (opening_lines plan.course plan.settings plan.image opening.view)
+  pub later : before.faults ≤ now.faults
+
+-- whatever this is the opening of, the course behind it is told so
+abbrev pub TellsCourse : Type 0 → ImageValue → Option ℕ → Course → PlayState → BookView → SinkState → SinkState
+    → Result (Unit {0}) Stop → Type 0
+TellsCourse N image each course old new now after result =
+    (plan : Plan) (opening : BookView) (before : SinkState)
+    → plan.image ≡ image → plan.each ≡ each → plan.course ≡ course
+    → IsOpened plan opening old before now → Tells N plan opening new before after result

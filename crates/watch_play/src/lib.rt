@@ -1,0 +1,24 @@
+//! Courses that are played on a book, and told act by act: those of a script, what brings the least task on, or rounds
+//! in lockstep.
+//!
+//! Each act is one line, with a whole view behind each so many where that is asked for, and is one piece for the sink,
+//! written before the next act is made. Between the acts stand the legs that are held, a table of the tasks, the line
+//! and the order of a round: the memory does not grow with the number of acts. It stands on the lines of `watch_text`,
+//! on scripts and on the book; `fractal_watch` calls it.
+#![tactic(auto)]
+
+mod asking;
+mod courses;
+mod laws;
+mod lockstep;
+mod opening;
+mod playing;
+mod stop;
+mod watch;
+
+pub use courses::{play_least, play_script};
+pub use laws::{moment_does, story_plays};
+pub use lockstep::play_rounds;
+pub use opening::tell_opening;
+pub use stop::Stop;
+pub use watch::Watch;

@@ -1,0 +1,335 @@
+//! The course in lockstep.
+
+ghost use Rattle.std.specs.Prelude.{◌≡◌, ◌↔◌, ◌<◌, ◌≤◌, ◌+◌, ◌^◌, ◌++◌, All, IfOk, IfSome, IsPermutation, IsTrue};
+ghost use Rattle.std.specs.Prelude.{OnOk, length, map, replicate};
+ghost use Rattle.std.specs.List.{flat_map, range_with_len};
+ghost use Rattle.spec_state.specs.Least.{IsLeastSpilled, IsTheLeast};
+ghost use Rattle.conflict_book.specs.BookViews.{machine_view, view_of};
+ghost use Rattle.step_script.specs.Ranges.{ActIsInRange};
+ghost use Rattle.event_def.specs.End.{IsOver};
+ghost use Rattle.watch_text.specs.Taking.{table_of};
+ghost use Rattle.watch_play.specs.Courses.{IsAskedInRound, OfRounds, next_draw, next_order, round_acts, shuffled};
+ghost use Rattle.watch_play.specs.Courses.{tile_acts};
+ghost use Rattle.watch_play.specs.Made.{play_of};
+ghost use Rattle.watch_play.specs.Telling.{ActGoesOn, RoundGoesOn, TellsCourse};
+
+use crate::playing::tell_act;
+use crate::stop::Stop;
+use crate::watch::Watch;
+use conflict_book::Book;
+use guest_image::Image;
+use place_policy::Placer;
+use rv_core::Naming;
+use sim_io::Sink;
+use spec_state::{Settings, State, TaskId, Where};
+use std::alloc::{AllocError, Global};
+use step_script::Act;
+use trace_tap::Tap;
+
+/// Adds what a tile does at the front of a round: it dispatches, and each of its cores makes a step.
+#[tactic(auto, using(crate::proofs::Rounds::tile_step))]
+fn push_tile(acts: &mut Vec<Act>, tile: u32, cores: u32) -> Result<(), AllocError>
+    ensures { OnOk result (acts.new.items ≡ acts.old.items ++ tile_acts cores tile) }
+{
+    acts.push(Act::Dispatch(tile))?;
+    for core in 0..cores {
+        acts.push(Act::Step(tile, core))?;
+    }
+    Ok(())
+}
+
+/// Adds what each tile does at the front of a round: it dispatches, and its cores make steps.
+#[tactic(auto, using(crate::proofs::Rounds::tiles_step))]
+fn push_tiles(acts: &mut Vec<Act>, settings: &Settings) -> Result<(), AllocError>
+    ensures { let tiles = range_with_len 0 settings.now.tiles in
+        OnOk result (acts.new.items ≡ acts.old.items ++ flat_map (tile_acts settings.now.cores) tiles) }
+{
+    for tile in 0..settings.tiles {
+        push_tile(acts, tile, settings.cores)?;
+    }
+    Ok(())
+}
+
+/// Adds a commit for each tile.
+#[tactic(auto, using(crate::proofs::Rounds::commits_step))]
+fn push_commits(acts: &mut Vec<Act>, tiles: u32) -> Result<(), AllocError>
+    ensures { OnOk result (acts.new.items ≡ acts.old.items ++ replicate tiles Act.Commit) }
+{
+    for _tile in 0..tiles {
+        acts.push(Act::Commit)?;
+    }
+    Ok(())
+}
+
+/// Adds a split of each tile.
+#[tactic(auto, using(crate::proofs::Rounds::splits_step))]
+fn push_splits(acts: &mut Vec<Act>, tiles: u32) -> Result<(), AllocError>
+    ensures { OnOk result (acts.new.items ≡ acts.old.items ++ map Act.Split (range_with_len 0 tiles)) }
+{
+    for tile in 0..tiles {
+        acts.push(Act::Split(tile))?;
+    }
+    Ok(())
+}
+
+/// The acts of a round: what each tile does, then a commit for each tile, then a split of each.
+#[tactic(auto, unfolding(crate::specs::Courses::round_acts))]
+fn round_acts(alloc: Global, settings: &Settings) -> Result<Vec<Act>, AllocError>
+    ensures { IfOk result (λ acts. acts.items ≡ round_acts settings.now.tiles settings.now.cores) }
+{
+    let mut acts = Vec::new(alloc);
+    push_tiles(&mut acts, settings)?;
+    push_commits(&mut acts, settings.tiles)?;
+    push_splits(&mut acts, settings.tiles)?;
+    Ok(acts)
+}
+
+/// The number that is drawn after another.
+#[tactic(auto, unfolding(crate::specs::Courses::next_draw))]
+fn next_draw(drawn: u32) -> u32
+    ensures { result ≡ next_draw drawn }
+{
+    drawn.wrapping_mul(1_664_525).wrapping_add(1_013_904_223)
+}
+
+/// Shuffles acts, from the last of them on: each changes places with one that is drawn among it and those before it.
+/// The number that is drawn last is told.
+fn shuffle(acts: &mut [Act], drawn: u32) -> u32
+    requires { length acts.old < 2 ^ 32 }
+    ensures order { let order = shuffled (length acts.old) (record { drawn = drawn; acts = acts.old }) in
+        (acts.new ≡ order.acts) × (result ≡ order.drawn) }
+    ensures permuted { IsPermutation acts.old acts.new }
+    ensures len { length acts.new ≡ length acts.old }
+{
+    let mut drawn = drawn;
+    for done in 0..acts.len() {
+        let last = acts.len() - 1 - done;
+        drawn = next_draw(drawn);
+        let place = (u64::from(drawn) * (last as u64 + 1)) >> 32;
+        acts.swap(last, place as usize);
+    }
+    drawn
+}
+
+/// The order of the next round: unless the seed is 0, that of the round before is shuffled. The number that is drawn
+/// last is told.
+#[tactic(auto, unfolding(crate::specs::Courses::next_order))]
+fn next_order(acts: &mut [Act], drawn: u32, seed: u32) -> u32
+    requires { length acts.old < 2 ^ 32 }
+    ensures order { let order = next_order seed (record { drawn = drawn; acts = acts.old }) in
+        (acts.new ≡ order.acts) × (result ≡ order.drawn) }
+    ensures permuted { IsPermutation acts.old acts.new }
+    ensures len { length acts.new ≡ length acts.old }
+{
+    if seed == 0 {
+        drawn
+    } else {
+        shuffle(acts, drawn)
+    }
+}
+
+/// Whether this task is the least one.
+fn is_least<N: Naming>(state: &State<N>, id: TaskId) -> bool
+    ensures { IsTrue result ↔ IsTheLeast state.now.view id.0 }
+{
+    match state.least() {
+        Some(Where::Idle(least)) => least == id,
+        Some(Where::Running(least)) => least == id,
+        Some(Where::Trapped(least)) => least == id,
+        Some(Where::Finished(least)) => least == id,
+        Some(Where::Spilled(_)) => false,
+        None => false,
+    }
+}
+
+fn is_dispatch_asked<N: Naming, P: Placer, T: Tap>(book: &Book<N, P, T>, tile: u32) -> bool
+    requires { tile < (machine_view book.now).settings.tiles }
+    ensures { IsTrue result ↔ IsAskedInRound (machine_view book.now) (Act.Dispatch tile) }
+{
+    match book.state().idle(tile) {
+        None => false,
+        Some(id) => book.ready(tile) || is_least(book.state(), id),
+    }
+}
+
+fn is_commit_asked<N: Naming>(state: &State<N>) -> bool
+    ensures { IsTrue result ↔ IsAskedInRound state.now.view Act.Commit }
+{
+    match state.least() {
+        Some(Where::Finished(_)) => true,
+        Some(Where::Idle(_)) => false,
+        Some(Where::Running(_)) => false,
+        Some(Where::Trapped(_)) => false,
+        Some(Where::Spilled(_)) => false,
+        None => false,
+    }
+}
+
+/// Whether the least task is spilled in this tile.
+fn is_least_spilled<N: Naming>(state: &State<N>, tile: u32) -> bool
+    ensures { IsTrue result ↔ IsLeastSpilled state.now.view tile }
+{
+    match state.least() {
+        Some(Where::Spilled(at)) => at == tile,
+        Some(Where::Idle(_)) => false,
+        Some(Where::Running(_)) => false,
+        Some(Where::Trapped(_)) => false,
+        Some(Where::Finished(_)) => false,
+        None => false,
+    }
+}
+
+fn is_split_asked<N: Naming>(state: &State<N>, tile: u32) -> bool
+    requires { tile < state.now.view.settings.tiles }
+    ensures { IsTrue result ↔ IsAskedInRound state.now.view (Act.Split tile) }
+{
+    state.block_len(tile) > 0 && (state.queue_has_room(tile) || is_least_spilled(state, tile))
+}
+
+/// Whether an act of a round is asked for, while the run goes on.
+fn is_asked_in_round<N: Naming, P: Placer, T: Tap>(book: &Book<N, P, T>, act: Act) -> bool
+    requires { let settings = (machine_view book.now).settings in
+        ActIsInRange settings.tiles settings.cores act }
+    ensures { IsTrue result ↔ IsAskedInRound (machine_view book.now) act }
+{
+    match act {
+        Act::Dispatch(tile) => is_dispatch_asked(book, tile),
+        Act::Step(tile, core) => book.core_at(tile, core).is_some(),
+        Act::Commit => is_commit_asked(book.state()),
+        Act::Split(tile) => is_split_asked(book.state(), tile),
+        Act::Take(_, _) => false,
+        Act::Give(_, _) => false,
+        Act::Abort(_) => false,
+        Act::Coalesce(_) => false,
+        Act::Advance => false,
+    }
+}
+
+/// Whether an act is asked for: no act is once the run is over.
+fn is_asked<N: Naming, P: Placer, T: Tap>(book: &Book<N, P, T>, act: Act) -> bool
+    requires { let settings = (machine_view book.now).settings in
+        ActIsInRange settings.tiles settings.cores act }
+    ensures { let view = machine_view book.now in
+        IsTrue result ↔ ((IsOver view → ⊥) × IsAskedInRound view act) }
+{
+    book.end().is_none() && is_asked_in_round(book, act)
+}
+
+/// Plays an act of a round, with so many acts before it, where it is asked for.
+fn play_asked<N: Naming, P: Placer, T: Tap, K: Sink>(
+    watch: &mut Watch<N, P, T>,
+    sink: &mut K,
+    image: &Image,
+    number: u64,
+    act: Act,
+) -> Result<(), Stop>
+    requires image { image.now ≡ N.image }
+    requires each { IfSome watch.old.each (λ number. 1 ≤ number) }
+    requires table { watch.old.table.items ≡ table_of (machine_view watch.old.book) }
+    requires count { watch.old.count ≤ number }
+    requires room { number < 2 ^ 63 }
+    requires within { let settings = (machine_view watch.old.book).settings in
+        ActIsInRange settings.tiles settings.cores act }
+    ensures goes_on { ActGoesOn N N.image watch.old.each number act watch.old.count watch.new.count
+        (play_of P.policy T.notes watch.old) (play_of P.policy T.notes watch.new) (K.state sink.old) (K.state sink.new)
+        result }
+    ensures settings { (machine_view watch.new.book).settings ≡ (machine_view watch.old.book).settings }
+    ensures each { watch.new.each ≡ watch.old.each }
+    ensures count { OnOk result (watch.new.count ≤ number + 1) }
+    ensures table { OnOk result (watch.new.table.items ≡ table_of (machine_view watch.new.book)) }
+{
+    if is_asked(&watch.book, act) {
+        tell_act(watch, sink, image, number + 1, act)
+    } else {
+        Ok(())
+    }
+}
+
+/// Plays the acts of a round that are asked for, where so many acts came before it.
+fn play_round<N: Naming, P: Placer, T: Tap, K: Sink>(
+    watch: &mut Watch<N, P, T>,
+    sink: &mut K,
+    image: &Image,
+    acts: &[Act],
+    before: u64,
+) -> Result<(), Stop>
+    requires image { image.now ≡ N.image }
+    requires each { IfSome watch.old.each (λ number. 1 ≤ number) }
+    requires table { watch.old.table.items ≡ table_of (machine_view watch.old.book) }
+    requires count { watch.old.count ≤ before }
+    requires room { before + length acts.now < 2 ^ 63 }
+    requires within { let settings = (machine_view watch.old.book).settings in
+        All (ActIsInRange settings.tiles settings.cores) acts.now }
+    ensures goes_on { RoundGoesOn N N.image watch.old.each before acts.now watch.old.count watch.new.count
+        (play_of P.policy T.notes watch.old) (play_of P.policy T.notes watch.new) (K.state sink.old) (K.state sink.new)
+        result }
+    ensures settings { (machine_view watch.new.book).settings ≡ (machine_view watch.old.book).settings }
+    ensures each { watch.new.each ≡ watch.old.each }
+    ensures count { OnOk result (watch.new.count ≤ before + length acts.now) }
+    ensures table { OnOk result (watch.new.table.items ≡ table_of (machine_view watch.new.book)) }
+{
+    for (place, act) in acts.iter().enumerate() {
+        play_asked(watch, sink, image, before + place as u64, *act)?;
+    }
+    Ok(())
+}
+
+/// Plays rounds in this order, and in those that follow from it.
+fn play_in_order<N: Naming, P: Placer, T: Tap, K: Sink>(
+    watch: &mut Watch<N, P, T>,
+    sink: &mut K,
+    image: &Image,
+    acts: &mut [Act],
+    rounds: u32,
+    seed: u32,
+) -> Result<(), Stop>
+    requires image { image.now ≡ N.image }
+    requires each { IfSome watch.old.each (λ number. 1 ≤ number) }
+    requires table { watch.old.table.items ≡ table_of (machine_view watch.old.book) }
+    requires count { watch.old.count ≡ 0 }
+    requires rounds { rounds ≤ 1000000 }
+    requires acts { let settings = (machine_view watch.old.book).settings in
+        acts.old ≡ round_acts settings.tiles settings.cores }
+    ensures { let old = play_of P.policy T.notes watch.old in
+        let course = OfRounds rounds seed (machine_view watch.old.book).settings in
+        TellsCourse N N.image watch.old.each course old (view_of P.policy T.notes watch.new.book)
+        (K.state sink.old) (K.state sink.new) result }
+{
+    watch.book.is_sound();
+    let mut drawn = seed;
+    let mut before = 0u64;
+    for _round in 0..rounds {
+        drawn = next_order(acts, drawn, seed);
+        play_round(watch, sink, image, acts, before)?;
+        if watch.book.end().is_some() {
+            return Ok(());
+        }
+        before += acts.len() as u64;
+    }
+    Ok(())
+}
+
+/// Plays so many rounds in lockstep, each of which shuffles the order of the round before, unless the seed is 0; or as
+/// many as there are up to the end of the run.
+pub fn play_rounds<N: Naming, P: Placer, T: Tap, K: Sink>(
+    watch: &mut Watch<N, P, T>,
+    sink: &mut K,
+    image: &Image,
+    rounds: u32,
+    seed: u32,
+) -> Result<(), Stop>
+    requires image { image.now ≡ N.image }
+    requires each { IfSome watch.old.each (λ number. 1 ≤ number) }
+    requires table { watch.old.table.items ≡ table_of (machine_view watch.old.book) }
+    requires count { watch.old.count ≡ 0 }
+    requires rounds { rounds ≤ 1000000 }
+    ensures { let old = play_of P.policy T.notes watch.old in
+        let course = OfRounds rounds seed (machine_view watch.old.book).settings in
+        TellsCourse N N.image watch.old.each course old (view_of P.policy T.notes watch.new.book)
+        (K.state sink.old) (K.state sink.new) result }
+{
+    match round_acts(watch.book.alloc(), watch.book.settings()) {
+        Ok(mut acts) => play_in_order(watch, sink, image, acts.as_mut_slice(), rounds, seed),
+        Err(_) => Err(Stop::Memory),
+    }
+}

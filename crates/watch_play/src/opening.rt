@@ -1,0 +1,64 @@
+//! What is told before the first act.
+
+ghost use Rattle.std.specs.Prelude.{◌≡◌, ◌++◌, OnOk};
+ghost use Rattle.std.specs.String.{string_bytes};
+ghost use Rattle.conflict_book.specs.BookViews.{machine_view, view_of};
+ghost use Rattle.watch_text.specs.Opening.{head_line, placed_lines};
+ghost use Rattle.watch_text.specs.Taking.{table_of};
+ghost use Rattle.watch_play.specs.Courses.{course_word};
+ghost use Rattle.watch_play.specs.Made.{play_of};
+ghost use Rattle.watch_play.specs.Telling.{Plan, TellsOpening};
+
+use crate::stop::Stop;
+use crate::watch::Watch;
+use guest_image::Image;
+use place_policy::Placer;
+use rv_core::Naming;
+use sim_io::{Sink, write_all};
+use std::alloc::AllocError;
+use trace_tap::Tap;
+use watch_text::{CourseWord, put_head, put_placed, remember};
+
+/// Puts the lines together.
+fn put_opening<N: Naming, P: Placer, T: Tap>(
+    watch: &mut Watch<N, P, T>,
+    image: &Image,
+    course: CourseWord,
+) -> Result<(), AllocError>
+    ensures line { OnOk result (string_bytes watch.new.line
+        ≡ head_line course (machine_view watch.old.book).settings image.now
+        ++ placed_lines (machine_view watch.old.book)) }
+    ensures play { play_of P.policy T.notes watch.new ≡ play_of P.policy T.notes watch.old }
+    ensures each { watch.new.each ≡ watch.old.each }
+    ensures count { watch.new.count ≡ watch.old.count }
+    ensures table { OnOk result (watch.new.table.items ≡ table_of (machine_view watch.new.book)) }
+{
+    watch.line.clear();
+    remember(watch.book.state(), &mut watch.table)?;
+    put_head(&mut watch.line, course, watch.book.settings(), image)?;
+    put_placed(&mut watch.line, watch.book.state())
+}
+
+/// Tells the head, and the tasks of the image where they were placed.
+pub fn tell_opening<N: Naming, P: Placer, T: Tap, K: Sink>(
+    watch: &mut Watch<N, P, T>,
+    sink: &mut K,
+    image: &Image,
+    course: CourseWord,
+) -> Result<(), Stop>
+    ensures tells { (plan : Plan) → plan.image ≡ image.now → course_word plan.course ≡ course
+        → plan.settings ≡ (machine_view watch.old.book).settings
+        → TellsOpening plan (view_of P.policy T.notes watch.old.book) (K.state sink.old) (K.state sink.new) result }
+    ensures play { play_of P.policy T.notes watch.new ≡ play_of P.policy T.notes watch.old }
+    ensures each { watch.new.each ≡ watch.old.each }
+    ensures count { watch.new.count ≡ watch.old.count }
+    ensures table { OnOk result (watch.new.table.items ≡ table_of (machine_view watch.new.book)) }
+{
+    if put_opening(watch, image, course).is_err() {
+        return Err(Stop::Memory);
+    }
+    match write_all(sink, watch.line.as_bytes()) {
+        Ok(()) => Ok(()),
+        Err(_) => Err(Stop::Sink),
+    }
+}

@@ -1,0 +1,195 @@
+//! One act, which is played and told.
+
+ghost use Rattle.std.specs.Prelude.{◌≡◌, ◌+◌, ◌<◌, ◌≤◌, ◌^◌, ◌++◌, IfSome, OnOk};
+ghost use Rattle.std.specs.String.{string_bytes};
+ghost use Rattle.rv_core.specs.LegValue.{LegValue};
+ghost use Rattle.conflict_book.specs.BookViews.{events_made, machine_view, view_of};
+ghost use Rattle.step_script.specs.Ranges.{ActIsInRange};
+ghost use Rattle.watch_text.specs.Asking.{AskedIsInRange, asks_of};
+ghost use Rattle.watch_text.specs.Lines.{rest_text};
+ghost use Rattle.watch_text.specs.Moments.{task_of};
+ghost use Rattle.watch_text.specs.Taking.{table_of};
+ghost use Rattle.watch_play.specs.Made.{AttemptComes, TellsAct, play_of};
+ghost use Rattle.watch_play.specs.Playing.{ComesToLine};
+ghost use Rattle.watch_play.specs.Texts.{is_due, view_text};
+
+use crate::asking::ask;
+use crate::stop::Stop;
+use crate::watch::Watch;
+use conflict_book::{Applied, Book, Reply};
+use guest_image::Image;
+use place_policy::Placer;
+use rv_core::{Leg, Naming};
+use sim_io::{Sink, write_all};
+use std::alloc::AllocError;
+use step_script::Act;
+use trace_tap::Tap;
+use watch_text::{About, Asked, about_of, put_front, put_rest, put_view, remember};
+
+/// What came of an act.
+#[derive(Clone, Copy, Debug, PartialEq, Eq)]
+pub(crate) enum PlayedAct {
+    /// It was made, or its word was said, and its line stands ready.
+    Told,
+    /// The same, but no memory was left for its line.
+    Untold,
+    /// Out of memory before anything was made.
+    Unmade,
+}
+
+/// Hands in what an act came to, or says its word.
+fn make<N: Naming, P: Placer, T: Tap>(
+    book: &mut Book<N, P, T>,
+    asked: &Asked,
+    leg: &Leg<N>,
+) -> Applied
+    requires { AskedIsInRange N (machine_view book.old).settings asked.now }
+    ensures comes { let old = view_of P.policy T.notes book.old in
+        let new = view_of P.policy T.notes book.new in
+        AttemptComes {N = N} (asks_of asked.now leg.now) result.reply result.aborted old new }
+    ensures settings { let old = view_of P.policy T.notes book.old in
+        (machine_view book.new).settings ≡ old.view.settings }
+{
+    match *asked {
+        Asked::Legless(event) => book.apply_legless(event),
+        Asked::Ready { tile, core } => book.apply_step(tile, core, leg),
+        Asked::Says(reply) => Applied { reply, aborted: 0 },
+    }
+}
+
+/// Whether the view is told behind the moment of this place.
+fn is_due(each: Option<u32>, place: u64) -> bool
+    requires { IfSome each (λ number. 1 ≤ number) }
+    ensures { result ≡ is_due each place }
+{
+    match each {
+        None => false,
+        Some(number) => place % u64::from(number) == 0,
+    }
+}
+
+/// The view, where it is told behind the moment of this place.
+fn put_view_behind<N: Naming, P: Placer, T: Tap>(
+    line: &mut String,
+    book: &Book<N, P, T>,
+    each: Option<u32>,
+    place: u64,
+) -> Result<(), AllocError>
+    requires { IfSome each (λ number. 1 ≤ number) }
+    ensures { OnOk result (string_bytes line.new ≡ string_bytes line.old
+        ++ view_text each place (machine_view book.now) (events_made book.now)) }
+{
+    if is_due(each, place) {
+        put_view(line, book.state(), book.steps())
+    } else {
+        Ok(())
+    }
+}
+
+/// The rest of the line of an act that was made, and the table of the tasks behind it.
+fn tell_rest<N: Naming, P: Placer, T: Tap>(
+    watch: &mut Watch<N, P, T>,
+    asked: &Asked,
+    about: &About,
+    output: usize,
+    applied: Applied,
+) -> Result<(), AllocError>
+    requires within { AskedIsInRange N (machine_view watch.old.book).settings asked.now }
+    requires each { IfSome watch.old.each (λ number. 1 ≤ number) }
+    ensures line { (leg : LegValue) → let view = machine_view watch.old.book in
+        OnOk result (string_bytes watch.new.line ≡ string_bytes watch.old.line
+        ++ rest_text watch.old.table.items output view (asks_of {N = N} asked.now leg) (task_of about.now)
+        about.now.request applied.reply applied.aborted (events_made watch.old.book)
+        ++ view_text watch.old.each watch.old.count view (events_made watch.old.book)) }
+    ensures table { OnOk result (watch.new.table.items ≡ table_of (machine_view watch.old.book)) }
+    ensures play { play_of P.policy T.notes watch.new ≡ play_of P.policy T.notes watch.old }
+    ensures each { watch.new.each ≡ watch.old.each }
+    ensures count { watch.new.count ≡ watch.old.count }
+{
+    let state = watch.book.state();
+    let events = watch.book.steps();
+    let table = watch.table.as_slice();
+    put_rest(
+        &mut watch.line,
+        state,
+        table,
+        output,
+        asked,
+        about,
+        applied,
+        events,
+    )?;
+    put_view_behind(&mut watch.line, &watch.book, watch.each, watch.count)?;
+    remember(state, &mut watch.table)
+}
+
+/// Plays an act of this number, from 1, and puts its line together.
+fn play_act<N: Naming, P: Placer, T: Tap>(
+    watch: &mut Watch<N, P, T>,
+    image: &Image,
+    at: u64,
+    act: Act,
+) -> PlayedAct
+    requires image { image.now ≡ N.image }
+    requires within { let settings = (machine_view watch.old.book).settings in
+        ActIsInRange settings.tiles settings.cores act }
+    requires each { IfSome watch.old.each (λ number. 1 ≤ number) }
+    requires table { watch.old.table.items ≡ table_of (machine_view watch.old.book) }
+    requires count { watch.old.count + 1 < 2 ^ 64 }
+    ensures comes { ComesToLine N N.image watch.old.each at (watch.old.count + 1) act
+        (play_of P.policy T.notes watch.old) result (string_bytes watch.new.line) (play_of P.policy T.notes watch.new) }
+    ensures settings { (machine_view watch.new.book).settings ≡ (machine_view watch.old.book).settings }
+    ensures each { watch.new.each ≡ watch.old.each }
+    ensures count { result ≡ PlayedAct.Told → watch.new.count ≡ watch.old.count + 1 }
+    ensures table { result ≡ PlayedAct.Told → watch.new.table.items ≡ table_of (machine_view watch.new.book) }
+{
+    let Ok(asked) = ask(&mut watch.leg, image, &watch.book, &mut watch.held, act) else {
+        return PlayedAct::Unmade;
+    };
+    let about = about_of(watch.book.state(), &asked, &watch.leg);
+    let output = watch.book.state().output().len();
+    watch.line.clear();
+    if put_front(&mut watch.line, at, act, &asked, &about, &watch.leg).is_err() {
+        return PlayedAct::Unmade;
+    }
+    let applied = make(&mut watch.book, &asked, &watch.leg);
+    if applied.reply == Reply::Memory {
+        return PlayedAct::Unmade;
+    }
+    watch.count += 1;
+    match tell_rest(watch, &asked, &about, output, applied) {
+        Ok(()) => PlayedAct::Told,
+        Err(_) => PlayedAct::Untold,
+    }
+}
+
+/// Plays an act of this number, and tells it.
+pub(crate) fn tell_act<N: Naming, P: Placer, T: Tap, K: Sink>(
+    watch: &mut Watch<N, P, T>,
+    sink: &mut K,
+    image: &Image,
+    at: u64,
+    act: Act,
+) -> Result<(), Stop>
+    requires image { image.now ≡ N.image }
+    requires within { let settings = (machine_view watch.old.book).settings in
+        ActIsInRange settings.tiles settings.cores act }
+    requires each { IfSome watch.old.each (λ number. 1 ≤ number) }
+    requires table { watch.old.table.items ≡ table_of (machine_view watch.old.book) }
+    requires count { watch.old.count + 1 < 2 ^ 64 }
+    ensures tells { TellsAct N N.image watch.old.each at (watch.old.count + 1) act (play_of P.policy T.notes watch.old)
+        (play_of P.policy T.notes watch.new) (K.state sink.old) (K.state sink.new) result }
+    ensures settings { (machine_view watch.new.book).settings ≡ (machine_view watch.old.book).settings }
+    ensures each { watch.new.each ≡ watch.old.each }
+    ensures count { OnOk result (watch.new.count ≡ watch.old.count + 1) }
+    ensures table { OnOk result (watch.new.table.items ≡ table_of (machine_view watch.new.book)) }
+{
+    match play_act(watch, image, at, act) {
+        PlayedAct::Told => match write_all(sink, watch.line.as_bytes()) {
+            Ok(()) => Ok(()),
+            Err(_) => Err(Stop::Sink),
+        },
+        PlayedAct::Untold => Err(Stop::Memory),
+        PlayedAct::Unmade => Err(Stop::Memory),
+    }
+}

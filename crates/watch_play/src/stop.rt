@@ -1,0 +1,10 @@
+//! Why a story ends before its course does.
+
+/// Why a story ends before its course does.
+#[derive(Clone, Copy, Debug, PartialEq, Eq)]
+pub enum Stop {
+    /// Out of memory. Whole lines were told, at most one moment too few.
+    Memory,
+    /// The sink failed.
+    Sink,
+}

@@ -1,0 +1,53 @@
+//! A run that is watched.
+
+ghost use Rattle.std.specs.Prelude.{◌≡◌, []};
+
+use conflict_book::Book;
+use guest_image::Image;
+use place_policy::Placer;
+use rv_core::{Leg, Naming};
+use std::alloc::Global;
+use step_script::{Held, first_leg};
+use trace_tap::Tap;
+use watch_text::Before;
+
+/// A run that is watched: its book, the legs that are held, and what its lines are made with.
+#[derive(Drop)]
+pub struct Watch<N: Naming, P: Placer, T: Tap> {
+    /// The book.
+    pub book: Book<N, P, T>,
+    /// The legs that are held.
+    pub held: Vec<Held<N>>,
+    /// The leg that stands ready.
+    pub leg: Leg<N>,
+    /// What is remembered of the tasks, by their ids.
+    pub table: Vec<Option<Before>>,
+    /// The line that is put together.
+    pub line: String,
+    /// Behind each so many moments, at least 1, the view is told; None where it never is.
+    pub each: Option<u32>,
+    /// How many moments there were.
+    pub count: u64,
+}
+
+impl<N: Naming, P: Placer, T: Tap> Watch<N, P, T> {
+    /// A book that is to be watched, for which no leg is held. It takes no memory.
+    pub fn new(alloc: Global, image: &Image, book: Book<N, P, T>, each: Option<u32>) -> Self
+        requires image { image.now ≡ N.image }
+        ensures book { result.book ≡ book }
+        ensures held { result.held.items ≡ [] }
+        ensures each { result.each ≡ each }
+        ensures count { result.count ≡ 0 }
+    {
+        let leg = first_leg(image, &book);
+        Watch {
+            book,
+            held: Vec::new(alloc),
+            leg,
+            table: Vec::new(alloc),
+            line: String::new(alloc),
+            each,
+            count: 0,
+        }
+    }
+}

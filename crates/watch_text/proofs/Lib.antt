@@ -1,0 +1,4 @@
+mod Ranged
+mod Placing
+mod Joined
+mod Handed

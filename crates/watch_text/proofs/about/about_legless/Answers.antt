@@ -1,0 +1,27 @@
+use Rattle.std.proofs.Common.{ℕ, refl, subst, sym}
+use Rattle.std.specs.Prelude.{IfSome, IsNone, None, Some, option_map}
+use Rattle.std.specs.declared.option.Option.{Option}
+use Rattle.spec_state.specs.declared.task.TaskId.{TaskId}
+use Rattle.spec_state.specs.Least.{IsTheLeast}
+use Rattle.spec_state.specs.View.{View}
+use Rattle.conflict_book.specs.declared.legless.Legless.{Legless}
+use Rattle.conflict_book.specs.Legless.{event_of}
+use Rattle.event_def.specs.declared.event.Event.TheVariants as event
+use Rattle.watch_text.specs.Asking.{Hands}
+use Rattle.watch_text.specs.Moments.{IsAbout}
+use Rattle.watch_text.proofs.about.about_legless.Goals as goal
+
+about_commit : (N : Type 0) (view : View) (found : Option TaskId) → IfSome found (λ id. IsTheLeast view id.0)
+    → (IsNone found → (id : ℕ) → IsTheLeast view id → ⊥)
+    → IsAbout {N = N} view (Hands event.Commit) (option_map (λ (id : TaskId). id.0) found)
+about_commit N view None some none = none refl
+about_commit N view (Some id) some none = some
+
+pub returns-in-Commit-clause-task : goal.returns-in-Commit-clause-task
+returns-in-Commit-clause-task g c leg =
+    let view = c.args.state.now.view in
+    subst
+    (λ (e : Legless). IsAbout {N = g.row.N.Denot} view (Hands (event_of e))
+    (option_map (λ (id : TaskId). id.0) c.least_task.result))
+    (sym c.in-Commit.is)
+    (about_commit g.row.N.Denot view c.least_task.result c.least_task.ensures.some c.least_task.ensures.none)

@@ -1,0 +1,33 @@
+use Rattle.std.proofs.Common.{◌≡◌, ◌∙◌, ℕ, ap, sym}
+use Rattle.std.specs.Prelude.{IfSome, IsNone, None, Some, is_some, option_map}
+use Rattle.std.specs.declared.option.Option.{Option}
+use Rattle.spec_state.specs.declared.task.TaskId.{TaskId}
+use Rattle.spec_state.specs.declared.task.Where.{Where}
+use Rattle.spec_state.specs.Least.{IsLeast, IsTheLeast}
+use Rattle.spec_state.specs.View.{View}
+use Rattle.event_lemma.specs.Whereabouts.{queued_in}
+use Rattle.event_lemma.proofs.Proved.{least_where, none_is_least}
+use Rattle.watch_text.proofs.about.least_task.Goals as goal
+
+module _ (view : View) (w : Where) (is : IsLeast view w) where
+  read : (found : Option TaskId) → option_map (λ (id : TaskId). id.0) found ≡ queued_in w
+      → IfSome found (λ id. IsTheLeast view id.0)
+  read None same = tt
+  read (Some id) same = (least_where view w id.0 is).1 (sym same)
+
+  not_read : (found : Option TaskId) → option_map (λ (id : TaskId). id.0) found ≡ queued_in w → IsNone found
+      → (id : ℕ) → IsTheLeast view id → ⊥
+  not_read None same none id least = absurd (cc (same ∙ (least_where view w id is).0 least))
+  not_read (Some other) same none id least = absurd (cc (none))
+
+pub returns-in-None-clause-none : goal.returns-in-None-clause-none
+returns-in-None-clause-none g c none id least =
+    none_is_least c.args.state.now.view id (c.least.ensures.none.0 (ap is_some c.in-None.is)) least
+
+pub returns-in-Some-clause-some : goal.returns-in-Some-clause-some
+returns-in-Some-clause-some g c =
+    read c.args.state.now.view c.in-Some.least c.in-Some.ensures.some c.queued_in.result c.queued_in.ensures
+
+pub returns-in-Some-clause-none : goal.returns-in-Some-clause-none
+returns-in-Some-clause-none g c =
+    not_read c.args.state.now.view c.in-Some.least c.in-Some.ensures.some c.queued_in.result c.queued_in.ensures

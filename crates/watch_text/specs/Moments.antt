@@ -1,0 +1,73 @@
+-- A moment: an act that was told, with the book before and after it.
+use Rattle.std.specs.Prelude.{◌≡◌, ◌≢◌, ℕ, Some, None, slice_get, option_map}
+use Rattle.std.specs.declared.option.Option.{Option}
+use Rattle.guest_image.specs.ImageValue.{ImageValue}
+use Rattle.task_request.specs.declared.request.Request.{Request}
+use Rattle.spec_state.specs.declared.task.Task.{Task}
+use Rattle.spec_state.specs.View.{View, cores_at}
+use Rattle.spec_state.specs.Changes.{TakesLeg, request_of}
+use Rattle.spec_state.specs.Least.{IsTheLeast}
+use Rattle.spec_state.specs.Queries.{IsDispatched, IsIdle, IsLatestDispatched, IsLeastIdle}
+use Rattle.event_def.specs.declared.event.Event.TheVariants as event
+use Rattle.event_def.specs.declared.event.Reply.{Reply}
+use Rattle.event_def.specs.declared.event.Reply.TheVariants as reply
+use Rattle.event_def.specs.Book.{BookView}
+use Rattle.event_def.specs.Causes.{IsStale}
+use Rattle.event_def.specs.Happens.{Happens}
+use Rattle.step_script.specs.declared.act.Act.{Act}
+use Rattle.step_script.specs.Playing.{PlayState}
+use Rattle.watch_text.specs.declared.about.About.{About}
+use Rattle.watch_text.specs.Asking.{Attempt, Hands, Says, AsksFor}
+
+-- the number of the act, and which of the told ones it is, both from 1; the act, what it came to, the task that this
+-- is about and what that asks for; the reply, how many tasks were taken back, and the book before and after
+pub record Moment (N : Type 0) : Type 0 where
+  pub at : ℕ
+  pub place : ℕ
+  pub act : Act
+  pub asks : Attempt N
+  pub task : Option ℕ
+  pub request : Option Request
+  pub reply : Reply
+  pub aborted : ℕ
+  pub old : BookView
+  pub new : BookView
+
+-- the id that the code has of the task
+abbrev pub task_of : About → Option ℕ
+task_of about = option_map (λ id. id.0) about.task
+
+-- the task that an event is about: the one that is dispatched, holds the core, is taken back or commits; none where
+-- there is no such task, and where tasks move between a queue and a block
+abbrev pub IsAbout : {N : Type 0} → View → Attempt N → Option ℕ → Type 0
+IsAbout view (Says answer) task = task ≡ None
+IsAbout view (Hands (event.Dispatch tile)) None = (id : ℕ) (task : Task) → IsIdle view tile id task → ⊥
+IsAbout view (Hands (event.Dispatch tile)) (Some id) = (task : Task) × IsLeastIdle view tile id task
+IsAbout view (Hands (event.Step tile core leg)) task = slice_get (cores_at view tile) core ≡ Some task
+IsAbout view (Hands (event.Abort tile)) None = (id : ℕ) (task : Task) → IsDispatched view tile id task → ⊥
+IsAbout view (Hands (event.Abort tile)) (Some id) = (task : Task) × IsLatestDispatched view tile id task
+IsAbout view (Hands event.Commit) None = (id : ℕ) → IsTheLeast view id → ⊥
+IsAbout view (Hands event.Commit) (Some id) = IsTheLeast view id
+IsAbout view (Hands (event.Coalesce tile)) task = task ≡ None
+IsAbout view (Hands (event.Split tile)) task = task ≡ None
+
+-- what the task on the core asks for at the end of the leg, where it takes the leg
+abbrev pub IsAskedFor : {N : Type 0} → View → Attempt N → Option Request → Type 0
+IsAskedFor view (Hands (event.Step tile core leg)) None = IsStale view tile core leg
+IsAskedFor view (Hands (event.Step tile core leg)) (Some request) =
+    (id : ℕ) × (task : Task) × TakesLeg view tile core leg id task × (request_of view task leg ≡ request)
+IsAskedFor view other request = request ≡ None
+
+-- what comes of it: the event has this reply, which isn't that memory ran out; or the word is said
+abbrev pub ComesOf : {N : Type 0} → Attempt N → Reply → ℕ → BookView → BookView → Type 0
+ComesOf (Hands event) answer aborted old new = (answer ≢ reply.Memory) × Happens old event answer aborted new
+ComesOf (Says word) answer aborted old new = (answer ≡ word) × (aborted ≡ 0) × (new ≡ old)
+
+-- the moment is one of these plays: its act comes to what it says, with all that it says of that
+pub record IsMoment {N : Type 0} (image : ImageValue) (m : Moment N) (before after : PlayState) : Type 0 where
+  pub old_is : m.old ≡ before.book
+  pub new_is : m.new ≡ after.book
+  pub asked : AsksFor image m.act before m.asks after.held
+  pub about : IsAbout m.old.view m.asks m.task
+  pub asked_for : IsAskedFor m.old.view m.asks m.request
+  pub came : ComesOf m.asks m.reply m.aborted m.old m.new

@@ -1,0 +1,86 @@
+-- Which tasks an event took back, discarded and spilled, told from what stood before it and what stands behind it.
+use Rattle.std.specs.Prelude.{◌==◌, ◌&&◌, ◌||◌, ◌*◌, not, ℕ, Bool, false, List, map, filter, length}
+use Rattle.std.specs.Prelude.{Some, None, is_none, is_some, option_map, slice_index_or}
+use Rattle.std.specs.declared.option.Option.{Option}
+use Rattle.std.specs.List.{range_with_len}
+use Rattle.spec_state.specs.declared.task.Creator.{Creator}
+use Rattle.spec_state.specs.declared.task.Creator.TheVariants.{Committed, Live}
+use Rattle.spec_state.specs.declared.task.Task.{Task}
+use Rattle.spec_state.specs.View.{View, task_at}
+use Rattle.spec_state.specs.Tasks.{is_dispatched}
+use Rattle.watch_text.specs.declared.before.Before.{Before}
+
+-- how many ids are told: as many as there are places in the task queues
+abbrev pub id_count : View → ℕ
+id_count view = view.settings.tiles * view.settings.task_queue
+
+-- what is remembered of a task
+abbrev pub before_of : Task → Before
+before_of task = record { dispatched = is_dispatched task; used = task.core.used; creator = task.creator }
+
+abbrev pub remembered : View → ℕ → Option Before
+remembered view id = option_map before_of (task_at view id)
+
+-- what is remembered of all tasks, by their ids
+abbrev pub table_of : View → List (Option Before)
+table_of view = map (remembered view) (range_with_len 0 (id_count view))
+
+-- the table has this at an id
+abbrev pub was_at : List (Option Before) → ℕ → Option Before
+was_at table id = slice_index_or table id None
+
+-- it is this id
+abbrev pub is_id : Option ℕ → ℕ → Bool
+is_id None id = false
+is_id (Some other) id = other == id
+
+-- the task waits for a core
+abbrev pub waits : Option Task → Bool
+waits None = false
+waits (Some task) = not (is_dispatched task)
+
+-- the task of this id is no longer there; the one that came may have its id
+abbrev pub has_left : View → (arrived : Option ℕ) → ℕ → Bool
+has_left new arrived id = is_none (task_at new id) || is_id arrived id
+
+abbrev pub undone_by : Option Before → Bool → Bool
+undone_by None gone = false
+undone_by (Some was) gone = was.dispatched && gone
+
+-- it was dispatched, and has left or waits again
+abbrev pub was_undone : List (Option Before) → View → (arrived : Option ℕ) → ℕ → Bool
+was_undone table new arrived id = undone_by (was_at table id) (has_left new arrived id || waits (task_at new id))
+
+-- so was its creator
+abbrev pub creator_undone : List (Option Before) → View → (arrived : Option ℕ) → Creator → Bool
+creator_undone table new arrived (Committed turn index) = false
+creator_undone table new arrived (Live task index) = was_undone table new arrived task.0
+
+abbrev pub some_creator_undone : List (Option Before) → View → (arrived : Option ℕ) → Option Before → Bool
+some_creator_undone table new arrived None = false
+some_creator_undone table new arrived (Some was) = creator_undone table new arrived was.creator
+
+-- it has left with its creator
+abbrev pub was_discarded : List (Option Before) → View → (arrived : Option ℕ) → ℕ → Bool
+was_discarded table new arrived id = has_left new arrived id && some_creator_undone table new arrived (was_at table id)
+
+-- it was taken back, where this one committed
+abbrev pub is_back : List (Option Before) → View → (arrived done : Option ℕ) → ℕ → Bool
+is_back table new arrived done id =
+    not (is_id done id) && (was_undone table new arrived id || was_discarded table new arrived id)
+
+-- it has left, and neither was discarded nor committed
+abbrev pub was_spilled : List (Option Before) → View → (arrived done : Option ℕ) → ℕ → Bool
+was_spilled table new arrived done id =
+    not (is_id done id) && (is_some (was_at table id) && (has_left new arrived id
+    && not (was_discarded table new arrived id)))
+
+-- the ids of these, the lowest first
+abbrev pub ids_back : List (Option Before) → View → (arrived done : Option ℕ) → List ℕ
+ids_back table new arrived done = filter (is_back table new arrived done) (range_with_len 0 (length table))
+
+abbrev pub ids_gone : List (Option Before) → View → (arrived : Option ℕ) → List ℕ
+ids_gone table new arrived = filter (was_discarded table new arrived) (range_with_len 0 (length table))
+
+abbrev pub ids_spilled : List (Option Before) → View → (arrived done : Option ℕ) → List ℕ
+ids_spilled table new arrived done = filter (was_spilled table new arrived done) (range_with_len 0 (length table))

@@ -1,0 +1,361 @@
+//! What an event changed.
+
+ghost use Rattle.std.specs.Prelude.{◌≡◌, ◌<◌, ◌++◌, ℕ, OnOk, codes, decimal, length, option_map};
+ghost use Rattle.std.specs.String.{string_bytes};
+ghost use Rattle.rv_core.specs.LegValue.{LegValue};
+ghost use Rattle.spec_state.specs.Fronts.{name_given};
+ghost use Rattle.spec_state.specs.View.{queue_at};
+ghost use Rattle.watch_text.specs.Asking.{AskedIsInRange, asks_of};
+ghost use Rattle.watch_text.specs.Changes.{aborted_text, arrived_in, back_text, child_at, child_in, done_in, has_child};
+ghost use Rattle.watch_text.specs.Changes.{last_child, last_item, named_text, spilled_text, taken_text, used_by};
+ghost use Rattle.watch_text.specs.Changes.{work_of};
+ghost use Rattle.watch_text.specs.Fields.{items_field, more_items};
+ghost use Rattle.watch_text.specs.Moments.{task_of};
+ghost use Rattle.watch_text.specs.Taking.{ids_back, ids_gone, ids_spilled};
+
+use crate::about::About;
+use crate::asking::Asked;
+use crate::before::{Before, id_count};
+use crate::fields::{put_list, put_number};
+use crate::taking::{ids_back, ids_gone, ids_spilled, was_at};
+use conflict_book::Legless;
+use rv_core::Naming;
+use spec_state::{Creator, State, TaskId};
+use std::alloc::AllocError;
+use std::fmt::Write;
+use task_request::Request;
+
+fn work_of(was: Before) -> u32
+    ensures { result ≡ work_of was }
+{
+    if was.dispatched { was.used } else { 0 }
+}
+
+/// How many instructions a task had executed.
+fn used_by(was: Option<Before>) -> u32
+    ensures { result ≡ used_by was }
+{
+    match was {
+        None => 0,
+        Some(was) => work_of(was),
+    }
+}
+
+/// A task that was taken back, with how many instructions it had executed.
+fn put_back(line: &mut String, table: &[Option<Before>], id: usize) -> Result<(), AllocError>
+    ensures { OnOk result (string_bytes line.new ≡ string_bytes line.old ++ back_text table.now id) }
+{
+    let used = used_by(was_at(table, id));
+    write!(line, "[{id},{used}]")
+}
+
+fn put_more_back(
+    line: &mut String,
+    table: &[Option<Before>],
+    ids: &[usize],
+) -> Result<(), AllocError>
+    ensures { OnOk result (string_bytes line.new ≡ string_bytes line.old ++ more_items (back_text table.now) ids.now) }
+{
+    for id in ids {
+        write!(line, ",")?;
+        put_back(line, table, *id)?;
+    }
+    Ok(())
+}
+
+/// The tasks that were taken back, where there are any.
+fn put_all_back(
+    line: &mut String,
+    table: &[Option<Before>],
+    ids: &[usize],
+) -> Result<(), AllocError>
+    ensures { OnOk result (string_bytes line.new ≡ string_bytes line.old
+        ++ items_field (codes "back") (back_text table.now) ids.now) }
+{
+    let Some((first, rest)) = ids.split_first() else {
+        return Ok(());
+    };
+    write!(line, ",\"back\":[")?;
+    put_back(line, table, *first)?;
+    put_more_back(line, table, rest)?;
+    write!(line, "]")
+}
+
+/// The first number of the name that a firm task has from its creator, where so many tasks have committed.
+pub(crate) fn name_creator(creator: Creator, commits: u32) -> u64
+    ensures { result ≡ (name_given creator commits).creator }
+{
+    match creator {
+        Creator::Committed { turn, .. } => u64::from(turn),
+        Creator::Live { .. } => u64::from(commits) + 1,
+    }
+}
+
+/// And the second one, its place among the children.
+pub(crate) fn name_index(creator: Creator) -> u32
+    ensures { (commits : ℕ) → result ≡ (name_given creator commits).index }
+{
+    match creator {
+        Creator::Committed { index, .. } => index,
+        Creator::Live { index, .. } => index,
+    }
+}
+
+/// The name that a spilled task has, where so many tasks have committed.
+fn put_named(line: &mut String, commits: u32, was: Option<Before>) -> Result<(), AllocError>
+    ensures { OnOk result (string_bytes line.new ≡ string_bytes line.old ++ named_text commits was) }
+{
+    match was {
+        None => Ok(()),
+        Some(was) => {
+            let creator = name_creator(was.creator, commits);
+            let index = name_index(was.creator);
+            write!(line, ",{creator},{index}")
+        }
+    }
+}
+
+#[tactic(auto, unfolding(crate::specs::Changes::spilled_text))]
+fn put_spilled(
+    line: &mut String,
+    table: &[Option<Before>],
+    commits: u32,
+    id: usize,
+) -> Result<(), AllocError>
+    ensures { OnOk result (string_bytes line.new ≡ string_bytes line.old ++ spilled_text table.now commits id) }
+{
+    write!(line, "[{id}")?;
+    put_named(line, commits, was_at(table, id))?;
+    write!(line, "]")
+}
+
+fn put_more_spilled(
+    line: &mut String,
+    table: &[Option<Before>],
+    commits: u32,
+    ids: &[usize],
+) -> Result<(), AllocError>
+    ensures { OnOk result (string_bytes line.new ≡ string_bytes line.old
+        ++ more_items (spilled_text table.now commits) ids.now) }
+{
+    for id in ids {
+        write!(line, ",")?;
+        put_spilled(line, table, commits, *id)?;
+    }
+    Ok(())
+}
+
+/// The tasks that were spilled, where there are any.
+fn put_all_spilled(
+    line: &mut String,
+    table: &[Option<Before>],
+    commits: u32,
+    ids: &[usize],
+) -> Result<(), AllocError>
+    ensures { OnOk result (string_bytes line.new ≡ string_bytes line.old
+        ++ items_field (codes "spilled") (spilled_text table.now commits) ids.now) }
+{
+    let Some((first, rest)) = ids.split_first() else {
+        return Ok(());
+    };
+    write!(line, ",\"spilled\":[")?;
+    put_spilled(line, table, commits, *first)?;
+    put_more_spilled(line, table, commits, rest)?;
+    write!(line, "]")
+}
+
+fn put_aborted(line: &mut String, aborted: u32) -> Result<(), AllocError>
+    ensures { OnOk result (string_bytes line.new ≡ string_bytes line.old ++ aborted_text aborted) }
+{
+    if aborted == 0 {
+        return Ok(());
+    }
+    put_number(line, "aborted", u64::from(aborted))
+}
+
+/// What an event did to other tasks: how many were taken back, which, which of these are gone, and which were spilled.
+#[tactic(auto, unfolding(crate::specs::Changes::taken_text))]
+fn put_taken<N: Naming>(
+    line: &mut String,
+    state: &State<N>,
+    table: &[Option<Before>],
+    arrived: Option<usize>,
+    done: Option<usize>,
+    aborted: u32,
+) -> Result<(), AllocError>
+    ensures { OnOk result (string_bytes line.new ≡ string_bytes line.old
+        ++ taken_text table.now state.now.view arrived done aborted) }
+{
+    put_aborted(line, aborted)?;
+    put_backs(line, state, table, arrived, done)?;
+    put_gone(line, state, table, arrived)?;
+    put_spills(line, state, table, arrived, done)
+}
+
+fn put_backs<N: Naming>(
+    line: &mut String,
+    state: &State<N>,
+    table: &[Option<Before>],
+    arrived: Option<usize>,
+    done: Option<usize>,
+) -> Result<(), AllocError>
+    ensures { OnOk result (string_bytes line.new ≡ string_bytes line.old
+        ++ items_field (codes "back") (back_text table.now) (ids_back table.now state.now.view arrived done)) }
+{
+    let ids = ids_back(state, table, arrived, done)?;
+    put_all_back(line, table, &ids)
+}
+
+fn put_gone<N: Naming>(
+    line: &mut String,
+    state: &State<N>,
+    table: &[Option<Before>],
+    arrived: Option<usize>,
+) -> Result<(), AllocError>
+    ensures { OnOk result (string_bytes line.new ≡ string_bytes line.old
+        ++ items_field (codes "gone") decimal (ids_gone table.now state.now.view arrived)) }
+{
+    let ids = ids_gone(state, table, arrived)?;
+    put_list(line, "gone", &ids)
+}
+
+fn put_spills<N: Naming>(
+    line: &mut String,
+    state: &State<N>,
+    table: &[Option<Before>],
+    arrived: Option<usize>,
+    done: Option<usize>,
+) -> Result<(), AllocError>
+    ensures { OnOk result (string_bytes line.new ≡ string_bytes line.old
+        ++ items_field (codes "spilled") (spilled_text table.now (length state.now.view.history))
+        (ids_spilled table.now state.now.view arrived done)) }
+{
+    let ids = ids_spilled(state, table, arrived, done)?;
+    put_all_spilled(line, table, state.commit_count(), &ids)
+}
+
+/// Whether the task of an id was made by this one, as its child of this place.
+fn has_child<N: Naming>(state: &State<N>, parent: usize, index: usize, id: usize) -> bool
+    ensures { result ≡ has_child state.now.view parent index id }
+{
+    match state.find(TaskId(id)) {
+        None => false,
+        Some(task) => match task.creator {
+            Creator::Committed { .. } => false,
+            Creator::Live { task, index: place } => task.0 == parent && place as usize == index,
+        },
+    }
+}
+
+/// The id of a task's child of this place.
+#[tactic(auto, using(crate::proofs::Ranged::find_none))]
+fn child_at<N: Naming>(state: &State<N>, parent: usize, index: usize) -> Option<usize>
+    ensures { result ≡ child_at state.now.view parent index }
+{
+    for id in 0..id_count(state) {
+        if has_child(state, parent, index, id) {
+            return Some(id);
+        }
+    }
+    None
+}
+
+/// The child that a task made last.
+pub(crate) fn last_child<N: Naming>(state: &State<N>, parent: usize) -> Option<usize>
+    ensures { result ≡ last_child state.now.view parent }
+{
+    match state.find(TaskId(parent)) {
+        None => None,
+        Some(task) => child_at(
+            state,
+            parent,
+            task.spawns.as_slice().len().saturating_sub(1),
+        ),
+    }
+}
+
+pub(crate) fn last_queued<N: Naming>(state: &State<N>, tile: u32) -> Option<usize>
+    requires { tile < state.now.view.settings.tiles }
+    ensures { result ≡ last_item (queue_at state.now.view tile) }
+{
+    state.queued_in(tile).last().copied()
+}
+
+/// The child that came with a request.
+fn child_in<N: Naming>(
+    state: &State<N>,
+    task: Option<TaskId>,
+    request: Option<Request>,
+) -> Option<usize>
+    ensures { result ≡ child_in state.now.view (option_map (λ id. id.0) task) request }
+{
+    match request {
+        None => None,
+        Some(Request::Enqueue(_)) => match task {
+            None => None,
+            Some(parent) => last_child(state, parent.0),
+        },
+        Some(Request::Continue) => None,
+        Some(Request::Load { .. }) => None,
+        Some(Request::Store { .. }) => None,
+        Some(Request::MakeSub(_)) => None,
+        Some(Request::Emit(_)) => None,
+        Some(Request::End) => None,
+        Some(Request::Trap { .. }) => None,
+    }
+}
+
+/// The task that came: the child of an enqueue, or the one that a split brought back.
+fn arrived_in<N: Naming>(state: &State<N>, asked: &Asked, about: &About) -> Option<usize>
+    requires { AskedIsInRange N state.now.view.settings asked.now }
+    ensures { (leg : LegValue) → result
+        ≡ arrived_in state.now.view (asks_of {N = N} asked.now leg) (task_of about.now) about.now.request }
+{
+    match *asked {
+        Asked::Legless(Legless::Dispatch { .. }) => None,
+        Asked::Legless(Legless::Abort { .. }) => None,
+        Asked::Legless(Legless::Commit) => None,
+        Asked::Legless(Legless::Coalesce { .. }) => None,
+        Asked::Legless(Legless::Split { tile }) => last_queued(state, tile),
+        Asked::Ready { .. } => child_in(state, about.task, about.request),
+        Asked::Says(_) => None,
+    }
+}
+
+/// The task that committed.
+fn done_in<N: Naming>(asked: &Asked, about: &About) -> Option<usize>
+    ensures { (leg : LegValue) → result ≡ done_in (asks_of {N = N} asked.now leg) (task_of about.now) }
+{
+    match *asked {
+        Asked::Legless(Legless::Dispatch { .. }) => None,
+        Asked::Legless(Legless::Abort { .. }) => None,
+        Asked::Legless(Legless::Commit) => match about.task {
+            None => None,
+            Some(id) => Some(id.0),
+        },
+        Asked::Legless(Legless::Coalesce { .. }) => None,
+        Asked::Legless(Legless::Split { .. }) => None,
+        Asked::Ready { .. } => None,
+        Asked::Says(_) => None,
+    }
+}
+
+/// What an event did to other tasks.
+pub(crate) fn put_taken_by<N: Naming>(
+    line: &mut String,
+    state: &State<N>,
+    table: &[Option<Before>],
+    asked: &Asked,
+    about: &About,
+    aborted: u32,
+) -> Result<(), AllocError>
+    requires { AskedIsInRange N state.now.view.settings asked.now }
+    ensures { (leg : LegValue) → let asks = asks_of {N = N} asked.now leg in
+        OnOk result (string_bytes line.new ≡ string_bytes line.old ++ taken_text table.now state.now.view
+        (arrived_in state.now.view asks (task_of about.now) about.now.request) (done_in asks (task_of about.now))
+        aborted) }
+{
+    let arrived = arrived_in(state, asked, about);
+    let done = done_in::<N>(asked, about);
+    put_taken(line, state, table, arrived, done, aborted)
+}

@@ -1,0 +1,132 @@
+//! The head: what is told, of which course, on which machine, and of which image.
+
+ghost use Rattle.std.specs.Prelude.{◌≡◌, ◌++◌, OnOk};
+ghost use Rattle.std.specs.String.{string_bytes};
+ghost use Rattle.watch_text.specs.Fields.{window_field};
+ghost use Rattle.watch_text.specs.Opening.{bounds_text, contents_text, course_text, head_line, image_text, limits_text};
+ghost use Rattle.watch_text.specs.Opening.{settings_text, sizes_text};
+
+use crate::fields::{put_number, put_word};
+use crate::words::kind_word;
+use guest_image::Image;
+use spec_state::Settings;
+use std::alloc::AllocError;
+use std::fmt::Write;
+
+/// Which acts are made.
+#[derive(Clone, Copy, Debug, PartialEq, Eq)]
+pub enum CourseWord {
+    /// Those of a script.
+    Steps,
+    /// What brings the least task on, up to the end of the run.
+    Least,
+    /// In each round every tile dispatches, every running core makes a step, tasks commit and come back.
+    Lockstep {
+        /// How many rounds: 1 to 1,000,000.
+        rounds: u32,
+        /// What the order of a round is drawn from; 0 leaves it as it is.
+        seed: u32,
+    },
+}
+
+fn put_course(line: &mut String, course: CourseWord) -> Result<(), AllocError>
+    ensures { OnOk result (string_bytes line.new ≡ string_bytes line.old ++ course_text course) }
+{
+    match course {
+        CourseWord::Steps => put_word(line, "course", "steps"),
+        CourseWord::Least => put_word(line, "course", "least"),
+        CourseWord::Lockstep { rounds, seed } => {
+            put_word(line, "course", "lockstep")?;
+            put_number(line, "rounds", u64::from(rounds))?;
+            put_number(line, "seed", u64::from(seed))
+        }
+    }
+}
+
+/// How large a tile is, and how many there are.
+#[tactic(auto, unfolding(crate::specs::Opening::sizes_text))]
+fn put_sizes(line: &mut String, settings: &Settings) -> Result<(), AllocError>
+    ensures { OnOk result (string_bytes line.new ≡ string_bytes line.old ++ sizes_text settings.now) }
+{
+    let (tiles, cores) = (settings.tiles, settings.cores);
+    let (tasks, commits) = (settings.task_queue, settings.commit_queue);
+    write!(
+        line,
+        ",\"tiles\":{tiles},\"cores\":{cores},\"task_queue\":{tasks},\"commit_queue\":{commits}"
+    )
+}
+
+/// How far it runs, and by which numbers.
+#[tactic(auto, unfolding(crate::specs::Opening::limits_text))]
+fn put_limits(line: &mut String, settings: &Settings) -> Result<(), AllocError>
+    ensures { OnOk result (string_bytes line.new ≡ string_bytes line.old ++ limits_text settings.now) }
+{
+    let (bytes, quantum, phase) = (settings.line, settings.quantum, settings.phase);
+    let (commits, budget) = (settings.commits, settings.budget);
+    write!(
+        line,
+        ",\"line\":{bytes},\"quantum\":{quantum},\"commits\":{commits},\"budget\":{budget},\"phase\":{phase}"
+    )
+}
+
+#[tactic(auto, unfolding(crate::specs::Opening::settings_text))]
+fn put_settings(line: &mut String, settings: &Settings) -> Result<(), AllocError>
+    ensures { OnOk result (string_bytes line.new ≡ string_bytes line.old ++ settings_text settings.now) }
+{
+    put_sizes(line, settings)?;
+    put_limits(line, settings)
+}
+
+/// The kind of the root domain, and how many words of text and bytes of data there are.
+#[tactic(auto, unfolding(crate::specs::Opening::contents_text))]
+fn put_contents(line: &mut String, image: &Image) -> Result<(), AllocError>
+    ensures { OnOk result (string_bytes line.new ≡ string_bytes line.old ++ contents_text image.now) }
+{
+    put_word(line, "root", kind_word(image.kind()))?;
+    put_number(line, "text", image.text().len() as u64)?;
+    put_number(line, "data", u64::from(image.data_size()))
+}
+
+/// Where a window begins, and how many words it has.
+#[tactic(auto, unfolding(crate::specs::Fields::window_field))]
+fn put_window(line: &mut String, offset: u32, words: u32) -> Result<(), AllocError>
+    ensures { OnOk result (string_bytes line.new ≡ string_bytes line.old ++ window_field offset words) }
+{
+    write!(line, ",\"window\":[{offset},{words}]")
+}
+
+/// The window, and how many tasks there are.
+#[tactic(auto, unfolding(crate::specs::Opening::bounds_text))]
+fn put_bounds(line: &mut String, image: &Image) -> Result<(), AllocError>
+    ensures { OnOk result (string_bytes line.new ≡ string_bytes line.old ++ bounds_text image.now) }
+{
+    let (offset, words) = image.window();
+    put_window(line, offset, words)?;
+    put_number(line, "tasks", image.tasks().len() as u64)
+}
+
+#[tactic(auto, unfolding(crate::specs::Opening::image_text))]
+fn put_image(line: &mut String, image: &Image) -> Result<(), AllocError>
+    ensures { OnOk result (string_bytes line.new ≡ string_bytes line.old ++ image_text image.now) }
+{
+    put_contents(line, image)?;
+    put_bounds(line, image)
+}
+
+/// The head: the course, the settings but for the number of workers, of which there are none, and the image.
+#[tactic(auto, unfolding(crate::specs::Opening::head_line))]
+pub fn put_head(
+    line: &mut String,
+    course: CourseWord,
+    settings: &Settings,
+    image: &Image,
+) -> Result<(), AllocError>
+    ensures { OnOk result (string_bytes line.new ≡ string_bytes line.old
+        ++ head_line course settings.now image.now) }
+{
+    write!(line, "{{\"watch\":1")?;
+    put_course(line, course)?;
+    put_settings(line, settings)?;
+    put_image(line, image)?;
+    write!(line, "}}\n")
+}

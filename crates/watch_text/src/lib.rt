@@ -1,0 +1,34 @@
+//! Lines of JSON that tell what acts do to a machine: what each asks for, the reply, and what changed, which tasks were
+//! taken back, discarded and spilled among it; and the lines around them, of the opening, of a whole view and of the
+//! end.
+//!
+//! A line is put together in one text, from readers of the state alone: what an event took back is found by holding
+//! the state behind it against a table of the tasks before it. That costs a look at each place of the task queues for
+//! an event, and a look at the tasks that moved. It stands on scripts and on the readers of the machine; `watch_play`
+//! calls it, and `fractal_watch` for the last line.
+#![tactic(auto)]
+
+mod about;
+mod asking;
+mod before;
+mod change;
+mod end;
+mod fields;
+mod front;
+mod head;
+mod own;
+mod placed;
+mod rest;
+mod taking;
+mod view;
+mod words;
+
+pub use about::{About, about_of};
+pub use asking::Asked;
+pub use before::{Before, remember};
+pub use end::put_end;
+pub use front::put_front;
+pub use head::{CourseWord, put_head};
+pub use placed::put_placed;
+pub use rest::put_rest;
+pub use view::put_view;
