@@ -1,4 +1,4 @@
-//! The laws of what a machine's uncommitted tasks mean to the serial machine, before any speculative state exists.
+//! The laws of what a machine's uncommitted tasks mean to the serial machine, with no speculative state in them.
 //!
 //! Each law is a definition over functions from ids, and the contract of a function that does nothing and costs
 //! nothing; whoever holds a machine's tables states them of what it reads of its own tasks. It stands on the serial
