@@ -3,6 +3,7 @@ import dataclasses
 from xml.sax.saxutils import escape
 
 from tools import density
+from tools.command import counted
 from tools.schedules import DONE, NUMBERS
 
 # Up to so many acts have words at their marks; those of a longer schedule are small, and tell them when pointed at. Of
@@ -47,7 +48,7 @@ class Mark:
     entry: object
 
     def title(self):
-        taken = f", {tasks_told(self.said.taken_back)} taken back" if self.said.taken_back else ""
+        taken = f", {counted(self.said.taken_back, 'task')} taken back" if self.said.taken_back else ""
         name = f", commit {self.entry.turn}: {self.entry.name}" if self.entry else ""
         return f"{self.number}: {self.act}: {self.said.reply}{taken}{name}"
 
@@ -66,10 +67,6 @@ class Mark:
 
 def painted(fill, stroke):
     return f'fill="{fill}" stroke="{stroke}" stroke-width="1.6"'
-
-
-def tasks_told(count):
-    return "1 task" if count == 1 else f"{count:,} tasks"
 
 
 def drawn(played):
@@ -163,8 +160,7 @@ def footer(played, style):
     """The whole in numbers, and what the marks mean."""
     taken = sum(said.taken_back for said in played.said)
     commits = len(played.report.entries)
-    acts = "1 act" if len(played.acts) == 1 else f"{len(played.acts):,} acts"
-    told = [acts, "1 commit" if commits == 1 else f"{commits:,} commits", f"{tasks_told(taken)} taken back",
+    told = [counted(len(played.acts), "act"), counted(commits, "commit"), f"{counted(taken, 'task')} taken back",
             f"end {played.report.end}"]
     yield text(12, 14, "; ".join(told), "#333333", 12, "start", True)
     blue = painted(DONE_COLOUR, DONE_COLOUR)

@@ -5,7 +5,7 @@ import functools
 import re
 
 from tools.command import Refused, printable
-from tools.image import DATA, TEXT
+from tools.image import DATA, STACK, TEXT
 from tools.source import Instruction
 
 # How many bytes of data are shown at most.
@@ -29,6 +29,21 @@ class Listing:
         distance = address - self.places[place]
         return self.labels[self.places[place]] + (f"+{distance}" if distance else "")
 
+    def labelled(self, address):
+        """An address by its label, or in hexadecimal where it has none."""
+        return self.label(address) or f"{address:08x}"
+
+    def task_words(self, entry, arguments):
+        """A task's label and its arguments, without the zeros after the last that isn't."""
+        arguments = list(arguments)
+        while arguments and arguments[-1] == 0:
+            arguments.pop()
+        return " ".join([self.labelled(entry), *map(self.argument_word, arguments)])
+
+    def argument_word(self, argument):
+        """An argument as a number, or as a label where it is the address of data that has one."""
+        return DATA <= argument < STACK and self.label(argument) or str(argument)
+
     @functools.cached_property
     def places(self):
         return sorted(self.labels)
@@ -40,6 +55,9 @@ class Listing:
             return None
         text = self.source_lines.get((found.source, found.line), "")
         return f"{found.source}:{found.line}" + (f": {text}" if text else "")
+
+
+NO_LISTING = Listing({}, {}, {}, {})
 
 
 def listing_of(sources, assembled):

@@ -19,15 +19,18 @@ CAUSES = {
     12: ("a second subdomain", "call 4 twice in a task"),
     13: ("a child for a superdomain that isn't there", "call 3 in the root domain"),
     14: ("the domains are too deep", "a subdomain at the depth {depth}, the last"),
-    15: ("a {child}th child", "a loop of enqueues: let each child enqueue some of them"),
+    15: ("a {child} child", "a loop of enqueues: let each child enqueue some of them"),
     16: ("a 257th byte", "too much output for one task"),
     17: ("the budget of instructions is used up", "a loop without an end, or a task that should be split"),
 }
 ENDS = {
     "normal": "The run ended normally: no task is left.",
     "limit": "The run ended at its limit: as many tasks took their turn as --commits allows, and one more is left.",
-    "open": "The report ends early: a task is left, and nobody ran it.",
+    "open": "The end is open: a task is left, and nobody ran it.",
 }
+# The words of causes that an image's version decides, where that isn't known.
+EITHER = {"readable": "text, data and any stack", "writable": "data and any stack", "stack": "more than a stack, if any",
+          "depth": "8 or 16", "child": "65th, or in version 2 a 257th,"}
 # What a reply says, where it isn't what was asked for.
 REPLIES = {
     "empty": "there is nothing to do it with",
@@ -78,11 +81,15 @@ def tasks_told(count):
 
 
 def cause_told(cause, limits):
-    """A cause in words, and what usually leads to it."""
+    """A cause in words, and what usually leads to it; without limits, those of either version."""
     if cause not in CAUSES:
         return "an unknown cause", "a newer program"
-    words = {"readable": "text, data and stack" if limits.stack else "text and data",
-             "writable": "data and stack" if limits.stack else "the data",
-             "stack": f"more than {limits.stack:,} bytes of stack" if limits.stack else "a stack that isn't there",
-             "depth": limits.depth, "child": limits.children + 1}
-    return tuple(text.format(**words) for text in CAUSES[cause])
+    return tuple(text.format(**(words_of(limits) if limits else EITHER)) for text in CAUSES[cause])
+
+
+def words_of(limits):
+    """The words of causes that an image's version decides."""
+    return {"readable": "text, data and stack" if limits.stack else "text and data",
+            "writable": "data and stack" if limits.stack else "the data",
+            "stack": f"more than {limits.stack:,} bytes of stack" if limits.stack else "a stack that isn't there",
+            "depth": limits.depth, "child": f"{limits.children + 1}th"}

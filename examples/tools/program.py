@@ -7,6 +7,8 @@ from tools.examples import HERE
 
 LAUNCHER = HERE.parent / "fractal"
 PROGRAM = HERE.parent / "crates" / "fractal_sim" / "out" / "fractal_sim"
+# The second program, which ./fractal watch runs.
+SECOND_PROGRAM = HERE.parent / "crates" / "fractal_watch" / "out" / "fractal_watch"
 # The status that belongs to the end of a report.
 STATUSES = {"normal": 0, "trap": 3, "limit": 4, "open": 0}
 
@@ -32,18 +34,23 @@ class Option:
 
 
 class Table:
-    """What the launcher's table tells: the program's commands, options and statuses, the kinds of generated images, and
-    the launcher's own words."""
+    """What the launcher's table tells: the program's commands, options and statuses, the kinds of generated images, the
+    second program's courses and the numbers among its words, and the launcher's own words."""
 
     def __init__(self):
         self.commands, self.command_rows, self.options, self.statuses = {}, {}, {}, {}
         self.kinds, self.own, self.own_words, self.version = {}, {}, {}, ""
+        self.course_rows, self.numbers = {}, {}
         for line in table_lines():
             kind, name, *rest = line.split("|")
             if kind == "command":
                 self.commands[name], self.command_rows[name] = rest[0], rest
             elif kind == "option":
                 self.options[name] = Option(name, values_in(rest[0]), int(rest[1]), rest[2])
+            elif kind == "course":
+                self.course_rows[name] = rest
+            elif kind == "number":
+                self.numbers[name] = values_in(rest[0])
             elif kind == "kind":
                 self.kinds[name] = values_in(rest[0]), rest[1]
             elif kind == "status":

@@ -5,6 +5,7 @@ import itertools
 import re
 import subprocess
 import sys
+import tempfile
 import threading
 import time
 
@@ -13,6 +14,7 @@ from tools.command import Refused, number_in
 # What a shell tells of a program that it can't start.
 NOT_STARTED = 126
 MOST_RUNS = 100_000
+MOST_AT_ONCE = 1 << 16
 MOST_VALUE = 2 ** 32 - 1
 # The end of a report: the output, the words of the window, and the last line.
 REPORT = re.compile(rb"\noutput (-|(?:[0-9a-f]{2})+)\n((?:window [0-9a-f]{8} [0-9a-f]{8}\n)*)end [^\n]+\n\Z")
@@ -76,20 +78,54 @@ class Calls:
             for process in self.running:
                 process.kill()
 
-    def call(self, words, data):
-        """The status of a call of the program, and what it wrote."""
+    def start(self, words, stdin):
+        """A call of the program that runs, or None where it can't be started."""
         with self.lock:
             if self.is_stopped:
-                return NOT_STARTED, b""
+                return None
             try:
-                process = subprocess.Popen([self.program, *words], stdin=subprocess.PIPE, stdout=subprocess.PIPE)
+                process = subprocess.Popen([self.program, *words], stdin=stdin, stdout=subprocess.PIPE)
             except OSError:
-                return NOT_STARTED, b""
+                return None
             self.running.add(process)
-        written, _ = process.communicate(data)
+            return process
+
+    def status_of(self, process):
+        """The status of a call, once it has ended."""
+        process.wait()
         with self.lock:
             self.running.discard(process)
-        return process.returncode if process.returncode >= 0 else 128 - process.returncode, written
+        return process.returncode if process.returncode >= 0 else 128 - process.returncode
+
+    def call(self, words, data):
+        """The status of a call of the program, and what it wrote."""
+        process = self.start(words, subprocess.PIPE)
+        if process is None:
+            return NOT_STARTED, b""
+        written, _ = process.communicate(data)
+        return self.status_of(process), written
+
+    def read(self, words, data, reader):
+        """The status of a call of the program, and what `reader` makes of what it writes, as it comes; or what it
+        refuses that for."""
+        with tempfile.TemporaryFile() as given:
+            given.write(data)
+            given.seek(0)
+            process = self.start(words, given)
+            if process is None:
+                return NOT_STARTED, None
+            with process.stdout:
+                try:
+                    made = reader(process.stdout)
+                except Refused as refused:
+                    made = refused
+                    # The status is to be the program's own.
+                    while process.stdout.read(MOST_AT_ONCE):
+                        pass
+                except BaseException:
+                    process.kill()
+                    raise
+            return self.status_of(process), made
 
 
 class Runner(Calls):

@@ -358,6 +358,7 @@ def ties_come_in_any_order(place):
 def scratch_of_all_conflicts(place):
     """tasks that fill one array of all are taken back, those that fill locals are not; their results are the same"""
     place.needs_program()
+    place.needs_second_program()
     study = (place.clone / "docs" / "machine" / "STUDY.md").read_text()
     text = study[study.index('#include "task.h"'):].partition("```")[0]
     shared = text.replace("    volatile uint32_t scratch", "    static volatile uint32_t scratch")

@@ -15,13 +15,15 @@ READERS = (
     ("explain", "PIPE", "report"), ("explain", "image", "PIPE"), ("explain", "image", "PIPE", "--json"),
     ("draw", "PIPE", "said"), ("tally", "PIPE", "said", "--plot", "plot.svg"), ("play", "PIPE", "--image", "image"),
     ("exercise", "journal", "PIPE"), ("study", "PIPE"), ("sweep", "PIPE"), ("sweep", "--rows", "PIPE"),
-    ("resume", "PIPE", "pieces", "--every", "2"),
+    ("resume", "PIPE", "pieces", "--every", "2"), ("figures", "PIPE", "--plot", "plot.svg"),
+    ("console", "PIPE"), ("console", "image", "--script", "PIPE"),
 )
 # Tools that wait for the program.
 CALLERS = (
     ("check",), ("check", "hello"), ("play", "schedule", "--picture", "picture.svg"), ("exercise", "stall", "answer"),
     ("sweep", "image", "--budget", "1,2", "--csv", "x.csv", "--plot", "seconds,budget,x.svg"), ("workers", "hello"),
     ("study", "image", "--csv", "x.csv"), ("memory", "load"), ("resume", "image", "pieces", "--every", "2"),
+    ("console", "image"),
 )
 # Tools that wait for nobody.
 WRITERS = (("lockstep", "16", "4", "20000"), ("generate", "walk", "7", "20000"), ("shell", "man"))
@@ -38,7 +40,8 @@ def words_of(place, words):
 
 def readers_are_interrupted(place):
     """a tool that is interrupted while it reads says so, and writes nothing"""
-    place.stub(place.program, "exit 3\n")
+    for program in (place.program, place.second_program):
+        place.stub(program, "exit 3\n")
     before = written_tree(place.root)
     for words in READERS:
         pipe = place.root / "a pipe"
@@ -71,7 +74,8 @@ def readers_are_interrupted(place):
 def callers_are_interrupted(place):
     """a tool that is interrupted while the program runs says so, ends it, and leaves nothing"""
     mark = place.root / "mark"
-    place.stub(place.program, ENDLESS.format(mark))
+    for program in (place.program, place.second_program):
+        place.stub(program, ENDLESS.format(mark))
     before = written_tree(place.root)
     for words in CALLERS:
         answer = place.interrupted(*words_of(place, words), ready=mark.exists)

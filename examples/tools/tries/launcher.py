@@ -165,13 +165,14 @@ def unwritable_clones_are_told(place):
 
 def progress_is_one_line(place):
     """a build shows crates done of all on one line that is written again, its time and disk, and leaves nothing"""
-    program = place.program
-    make = f"mkdir -p '{program.parent}' && printf '#!/bin/sh\\n' >'{program}' && chmod +x '{program}'"
+    make = "mkdir -p out && printf '#!/bin/sh\\n' >out/\"${PWD##*/}\" && chmod +x out/*"
     place.stub_tool("rt", STUB_BUILD % make)
     answer = place.on_terminal("fractal", "build", stdin=b"")
     expect(answer.status == 0 and answer.output == b"", "a build", answer)
-    answer.tells("minutes", "GB", "crates proved, 0 min", "guest_image: 0 of 52 functions", "built: ")
-    expect(answer.errors.count("\n") == 2, "a first line, one that is rewritten, and a last", answer)
+    answer.tells("minutes", "GB", "crates proved, 0 min", "guest_image: 0 of 52 functions")
+    are_there = place.program.exists() and place.second_program.exists()
+    expect(answer.errors.count("built: ") == 2 and are_there, "both programs", answer)
+    expect(answer.errors.count("\n") == 3, "a first line, one that is rewritten, and one for each program", answer)
     place.is_clean()
 
 

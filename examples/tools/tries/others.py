@@ -133,7 +133,7 @@ def other_runs_are_refused(place):
 def played_scripts_are_explained(place):
     """what `steps` wrote is explained with its replies in words, and of a long script with how often each came"""
     for name, parts in (("conflict", ("     6  ok, 2 taken back", "17 acts", "2 tasks were taken back", "child")),
-                        ("stall", ("     5  stall: a queue is full", "The report ends early"))):
+                        ("stall", ("     5  stall: a queue is full", "The end is open"))):
         folder = place.clone / "examples" / "schedules" / name
         answer = place.call("examples/explain", str(folder / "image.bin"), str(folder / "said"))
         expect((answer.status, answer.errors) == (0, ""), "an explanation", answer)

@@ -2,18 +2,18 @@
 import shutil
 import subprocess
 
-from tools.program import PROGRAM, Table
+from tools.program import PROGRAM, SECOND_PROGRAM, Table
 from tools.tries.launcher import HELLO, image_of
 from tools.tries.place import Answer, expect, need_built, one_sentence_each
 
 EXERCISES = ("journal", "abort", "stall", "false_conflict", "order")
-# An rt that builds by copying.
-STUB_BUILD = "cat >/dev/null; mkdir -p out; cp '{}' out/fractal_sim\n"
+# An rt that builds a program, by the folder that it is called in, by copying.
+STUB_BUILD = """cat >/dev/null; mkdir -p out; cp '{}'/"${{PWD##*/}}"/out/"${{PWD##*/}}" out/\n"""
 
 
 def build(place):
-    need_built()
-    place.stub_tool("rt", STUB_BUILD.format(PROGRAM))
+    need_built(PROGRAM, SECOND_PROGRAM)
+    place.stub_tool("rt", STUB_BUILD.format(PROGRAM.parents[2]))
     expect(place.call("fractal", "build").status == 0, "a build")
 
 
@@ -42,9 +42,11 @@ def packages_run_elsewhere(place):
     expect(place.call("fractal", "--version").output == version, "the version and the commit")
     expect(place.call("fractal", "run", stdin=image_of(place, "hello")) == Answer(0, HELLO, ""), "a report")
     expect(place.call("fractal", "test").status == 0, "all examples")
-    sum_told = (place.clone / "PACKAGE").read_text().splitlines()[1]
-    done = subprocess.run(["sha256sum", "-c"], input=sum_told, text=True, cwd=place.clone, capture_output=True)
-    expect(done.returncode == 0, "the program's checksum", done)
+    sums = (place.clone / "PACKAGE").read_text().partition("\n")[2]
+    done = subprocess.run(["sha256sum", "-c"], input=sums, text=True, cwd=place.clone, capture_output=True)
+    expect(done.returncode == 0 and done.stdout.count(": OK") == 2, "the checksums of both programs", done)
+    answer = place.call("fractal", "watch", "least", stdin=image_of(place, "hello"))
+    expect(answer.output.startswith(b'{"watch":1,') and answer.errors == "", "the second program's lines", answer)
     for word in ("build", "package"):
         expect(place.call("fractal", word).status == 69, f"that {word} wants a clone")
 
@@ -75,9 +77,11 @@ def packages_are_installed(place):
 
 
 def packages_are_of_one_commit(place):
-    """only a program that was built from exactly this commit is taken; else it says so, and leaves nothing"""
-    place.call("fractal", "package").sentence("isn't built", status=70)
+    """only programs that were built from exactly this commit are taken; else it says so, and leaves nothing"""
+    place.call("fractal", "package").sentence("fractal_sim isn't built", status=70)
     place.needs_program()
+    place.call("fractal", "package").sentence("fractal_watch isn't built", status=70)
+    place.needs_second_program()
     place.call("fractal", "package").sentence("nothing tells which commit", status=70)
     build(place)
     (place.clone / "README.md").write_text("")
@@ -90,10 +94,11 @@ def packages_are_of_one_commit(place):
     subprocess.run([*git, "commit", "-q", "--allow-empty", "-m", "more"], check=True)
     place.call("fractal", "package").sentence("was built from the commit", status=70)
     place.call("fractal", "build")
-    with open(place.program, "ab") as file:
-        file.write(b"more")
-    place.call("fractal", "package").sentence("isn't the one that was built", status=70)
-    place.call("fractal", "build")
+    for program in (place.program, place.second_program):
+        with open(program, "ab") as file:
+            file.write(b"more")
+        place.call("fractal", "package").sentence(f"{program.name} isn't the one that was built", status=70)
+        place.call("fractal", "build")
     one_sentence_each([
         (place.call("fractal", "package", "--fast"), ["`--fast`"]),
         (place.call("fractal", "package", "one", "two"), ["one FOLDER"]),
@@ -116,7 +121,7 @@ def shells_are_helped(place):
         answer = place.call("examples/shell", kind)
         expect((answer.status, answer.errors) == (0, ""), f"a text for {kind}", answer)
         texts[kind] = answer.output.decode().replace("\\-", "-")
-        for name in (*table.commands, *table.own, *(f"--{option}" for option in table.options)):
+        for name in (*table.commands, *table.own, *table.course_rows, *(f"--{option}" for option in table.options)):
             expect(name in texts[kind], f"`{name}` for {kind}")
         (place.root / kind).write_bytes(answer.output)
     expect("package [FOLDER]" in texts["man"] and "load KIND SEED SIZE" in texts["man"], "the words behind a command")
@@ -128,7 +133,9 @@ def shells_are_helped(place):
     script = '. ./bash; COMP_WORDS=({}); COMP_CWORD={}; _fractal; echo "${{COMPREPLY[*]}}"'
     for words, place_of, wanted in (("fractal lo", 1, "load"), ("fractal run --li", 2, "--line"),
                                     ("fractal run --line ''", 3, "4 8 16 32 64"), ("fractal run --line = 6", 4, "64"),
-                                    ("fractal load ''", 2, "walk nest"), ("fractal load walk 7 --ti", 4, "--tiles")):
+                                    ("fractal load ''", 2, "walk nest"), ("fractal load walk 7 --ti", 4, "--tiles"),
+                                    ("fractal watch l", 2, "least lockstep"), ("fractal watch views 3 s", 4, "steps"),
+                                    ("fractal watch least --ti", 3, "--tiles")):
         answer = place.call("/usr/bin/env", "bash", "-c", script.format(words, place_of))
         expect(answer.output.decode().split() == wanted.split(), f"completions of {words}", answer)
     if shutil.which("groff"):

@@ -14,7 +14,7 @@ import termios
 import time
 
 from tools.examples import HERE
-from tools.program import PROGRAM
+from tools.program import PROGRAM, SECOND_PROGRAM
 
 NOBODY = 65534
 # A call that lasts longer has failed, also on a machine that is at much other work.
@@ -26,8 +26,8 @@ class Failed(Exception):
     """A try went otherwise than its sentence says."""
 
 
-class NotBuilt(Exception):
-    """A try wants the built program, and the own clone has none."""
+class LeftOut(Exception):
+    """A try wants what isn't there. Its text says what."""
 
 
 @dataclasses.dataclass
@@ -56,9 +56,15 @@ def expect(is_so, what, seen=None):
         raise Failed(f"expected {what}" + (f"; seen {seen}" if seen is not None else ""))
 
 
-def need_built():
-    if not PROGRAM.exists():
-        raise NotBuilt
+def need_built(*programs):
+    if not all(program.exists() for program in programs):
+        raise LeftOut("it wants the built program: ./fractal build")
+
+
+def put_built(program, path):
+    need_built(program)
+    path.parent.mkdir(parents=True, exist_ok=True)
+    shutil.copy(program, path)
 
 
 def one_sentence_each(answers):
@@ -81,7 +87,8 @@ class Place:
         self.temporary = self.root / "temporary"
         self.temporary.mkdir()
         self.temporary.chmod(0o777)
-        self.program = self.clone / "crates" / "fractal_sim" / "out" / "fractal_sim"
+        self.program = self.clone / PROGRAM.relative_to(HERE.parent)
+        self.second_program = self.clone / SECOND_PROGRAM.relative_to(HERE.parent)
         self.environment = {**os.environ, "TMPDIR": str(self.temporary)}
         self.is_unwritable = False
         subprocess.run(["git", "clone", "-q", HERE.parent, self.clone], check=True, stdin=subprocess.DEVNULL)
@@ -93,9 +100,11 @@ class Place:
 
     def needs_program(self):
         """Puts the built program of the own clone into the fresh one."""
-        need_built()
-        self.program.parent.mkdir(parents=True, exist_ok=True)
-        shutil.copy(PROGRAM, self.program)
+        put_built(PROGRAM, self.program)
+
+    def needs_second_program(self):
+        """The same with the second program."""
+        put_built(SECOND_PROGRAM, self.second_program)
 
     def stub(self, path, text):
         """Writes a script in a program's place."""
@@ -175,10 +184,11 @@ class Place:
         said = subprocess.run(words, capture_output=True, check=True).stdout
         expect(said == b"", "a clean clone", said)
 
-    def on_terminal(self, *words, stdin=None, keys=b"", ready=None):
+    def on_terminal(self, *words, stdin=None, keys=b"", ready=None, then=()):
         """Calls a script with a terminal as standard error, and as standard input too unless bytes are given for it.
 
-        Once `ready`, of what stood on the terminal so far, holds, the keys are typed.
+        Once `ready`, of what stood on the terminal so far, holds, the keys are typed; then others, each pair of a
+        condition and keys in turn.
         """
         master, terminal = pty.openpty()
         own_input, given = terminal, None
@@ -192,20 +202,19 @@ class Place:
             os.close(own_input)
             os.write(given, stdin)
             os.close(given)
-        shown, output = follow_terminal(process, master, keys, ready)
+        shown, output = follow_terminal(process, master, [(ready, keys), *then])
         os.close(master)
         return Answer(process.wait(MOST_SECONDS), output, shown.decode("utf-8", "replace"))
 
 
-def follow_terminal(process, master, keys, ready):
+def follow_terminal(process, master, typed):
     """All that is shown on a terminal, and all that goes to standard output."""
     shown, output, end = b"", b"", time.monotonic() + MOST_SECONDS
     sources = [master, process.stdout.fileno()]
     while sources:
         expect(time.monotonic() < end, "an end of the call", shown)
-        if keys and (ready is None or ready(shown)):
-            os.write(master, keys)
-            keys = b""
+        if typed and (typed[0][0] is None or typed[0][0](shown)):
+            os.write(master, typed.pop(0)[1])
         for source in select.select(sources, [], [], 0.1)[0]:
             data = read_some(source)
             if not data:

@@ -158,8 +158,8 @@ def images_are_generated(place):
 
 
 def studies_are_made(place):
-    """a study has a line for each choice of options, whose schedules end, and the same with several at once"""
-    place.needs_program()
+    """a study has a line for each choice of options, whose runs end, and the same with several at once"""
+    place.needs_second_program()
     image = written(place, "image", place.call("examples/generate", "walk", "7", "150").output)
     words = ["examples/study", image, "--tiles", "1,2", "--line", "4,64"]
     answer, again = place.call(*words), place.call(*words, "--jobs", "3")
@@ -169,21 +169,46 @@ def studies_are_made(place):
     expect([re.findall(r"\d+", line)[:2] for line in lines[2:]] == [["1", "4"], ["1", "64"], ["2", "4"], ["2", "64"]],
            "each choice", lines)
     expect("| Rounds | Acts | Commits a round |" in lines[0], "rounds beside acts", lines)
+    other = written(place, "other", place.call("examples/generate", "nest", "0", "3").output)
+    answer = place.call("examples/study", image, other, "--columns", "commits,fewer,end")
+    rows = [line.split(" | ") for line in answer.output.decode().splitlines()[2:]]
+    wanted = [["300", "1.0", "normal |"], ["9", "1.0", "normal |"]]
+    expect([row[1:] for row in rows] == wanted, "a line an image", answer)
     one_sentence_each([
-        (place.call("examples/study"), ["one IMAGE"]),
+        (place.call("examples/study"), ["an IMAGE"]),
         (place.call("examples/study", "nowhere"), ["nowhere", "no such file"]),
         (place.call("examples/study", image, "--towers", "1"), ["--towers"]),
         (place.call("examples/study", image, "--line", "5"), ["--line", "`5`"]),
         (place.call("examples/study", image, "--program", "nowhere"), ["nowhere", "isn't built"]),
-        (place.call("examples/study", str(place.clone / "README.md")), ["fault image 2 0"]),
+        (place.call("examples/study", str(place.clone / "README.md")), ["README.md:1:", "fault: image 2 0"]),
         (place.call("examples/study", image, "--rounds", "0"), ["--rounds"]),
+        (place.call("examples/study", image, "--columns", "end,time"), ["--columns", "`time`"]),
         (place.call("examples/study", image, "--csv", "nowhere/x"), ["nowhere/x", "no such folder"]),
     ])
 
 
-def endless_choices_are_rows(place):
-    """a choice without an end is a row that says so, with its numbers, and so is one that fails; CSV has plain numbers"""
+def studies_have_the_acts_of_schedules(place):
+    """a study of a course in lockstep counts what the first program says to the script of the same acts"""
     place.needs_program()
+    place.needs_second_program()
+    image = written(place, "image", place.call("examples/generate", "nest", "0", "30").output)
+    words = ["--tiles", "3", "--task-queue", "8", "--line", "8"]
+    answer = place.call("examples/study", image, *words, "--csv", "study.csv")
+    row, = csv.DictReader((place.root / "study.csv").read_text().splitlines())
+    script = place.call("examples/lockstep", "3", "2", row["rounds"]).output
+    said = place.call("fractal", "steps", *words, stdin=(place.root / "image").read_bytes() + script)
+    words = ["examples/tally", written(place, "script", script), "-", "--csv", "tally.csv"]
+    answer = place.call(*words, stdin=said.output)
+    expect(answer.status == 0, "a sum", answer)
+    other, = csv.DictReader((place.root / "tally.csv").read_text().splitlines())
+    for name, same in (("acts", "acts"), ("rounds", "rounds"), ("commits", "commits"), ("taken", "taken back"),
+                       ("steps", "step stall"), ("dispatches", "dispatches a commit")):
+        expect(row[name] == other.get(same, "0"), f"the same {same}", (row, other))
+
+
+def endless_choices_are_rows(place):
+    """a choice without an end is a row that says so, with its numbers, and so is one that fails; CSV has numbers"""
+    place.needs_second_program()
     image = written(place, "image", place.call("examples/generate", "walk", "7", "500").output)
     words = ["examples/study", image, "--rounds", "250", "--csv", "study.csv"]
     answer = place.call(*words, "--tiles", "1,16")
@@ -191,16 +216,70 @@ def endless_choices_are_rows(place):
     expect(answer.status == 0 and lines[2].endswith("| none in 250 rounds |") and lines[3].endswith("| normal |"),
            "a row without an end, and one with", answer)
     rows = list(csv.DictReader((place.root / "study.csv").read_text().splitlines()))
-    expect([row["--tiles"] for row in rows] == ["1", "16"] and rows[0]["acts"] == "1250", "plain numbers", rows)
-    expect(abs(int(rows[1]["commits"]) / int(rows[1]["rounds"]) - float(rows[1]["commits a round"])) < 0.01, "a ratio", rows)
+    expect([row["--tiles"] for row in rows] == ["1", "16"] and rows[0]["rounds"] == "250", "plain numbers", rows)
+    expect(abs(int(rows[1]["commits"]) / int(rows[1]["rounds"]) - float(rows[1]["round"])) < 0.01, "a ratio", rows)
     answer = place.call(*words, "--tiles", "1")
     answer.sentence("no run came to an end")
     expect(b"none in 250 rounds" in answer.output, "the row", answer)
-    program = str(place.program)
-    stub = place.stub(place.root / "stub", f"case $* in *tiles=2*) cat >/dev/null; exit 5 ;; esac; exec '{program}' \"$@\"\n")
+    program = str(place.second_program)
+    text = f"case $* in *tiles=2*) cat >/dev/null; exit 5 ;; esac; exec '{program}' \"$@\"\n"
+    stub = place.stub(place.root / "stub", text)
     answer = place.call("examples/study", image, "--tiles", "16,2,8", "--program", str(stub))
     ends = [line.split(" | ")[-1] for line in answer.output.decode().splitlines()[2:]]
     expect((answer.status, ends) == (0, ["normal |", "none: status 5 |", "normal |"]), "all rows", answer)
+
+
+PAGE = """# A page
+
+```
+examples/generate walk 7 20 > walk.bin
+examples/study walk.bin --tiles 2,1 --columns commits,end
+```
+
+All of it:
+
+| --tiles | Commits | End |
+| --- | --- | --- |
+| 2 | 41 | normal |
+
+```
+./fractal help
+```
+"""
+
+
+def pages_are_made_again(place):
+    """the tables of a page are held against what its commands tell, and replaced where that is asked for"""
+    place.needs_second_program()
+    path = written(place, "page.md", PAGE.encode())
+    place.call("examples/study", "--page", path).sentence("1 of 1 tables differ")
+    expect((place.root / "page.md").read_text() == PAGE, "the page as it was")
+    answer = place.call("examples/study", "--page", path, "--write")
+    expect((answer.status, answer.output) == (0, f"{path}:10: differs\n".encode()), "a table that is replaced", answer)
+    wanted = PAGE.replace("| 2 | 41 | normal |", "| 2 | 40 | normal |\n| 1 | 40 | normal |")
+    expect((place.root / "page.md").read_text() == wanted, "both rows", (place.root / "page.md").read_text())
+    expect(place.call("examples/study", "--page", path).output == f"{path}:10: as it was\n".encode(), "the same again")
+    bad = {"walk.bin --tiles 2,1": "walk.bin --tiles 0", "> walk.bin": "> other.bin",
+           "examples/study walk": "examples/tools/x", "All of it:\n\n|": "## More\n\n|"}
+    for old, new in bad.items():
+        path = written(place, "bad.md", PAGE.replace(old, new).encode())
+        place.call("examples/study", "--page", path).sentence("study: ")
+    one_sentence_each([
+        (place.call("examples/study", "--page", "nowhere"), ["nowhere", "no such file"]),
+        (place.call("examples/study", "--page", path, path), ["--page PAGE"]),
+    ])
+    place.is_clean()
+
+
+def study_is_as_it_was(place):
+    """the tables of the study's shortest runs, those of the queues and of one placer or another, come out again"""
+    place.needs_second_program()
+    study = (place.clone / "docs" / "machine" / "STUDY.md").read_text()
+    text = "```\nexamples/generate walk 7 250 > small.bin\n```\n\n"
+    text += study[study.index("## Queues"):study.index("## Scratch")]
+    answer = place.call("examples/study", "--page", written(place, "page.md", text.encode()))
+    told = [line.rpartition(": ")[2] for line in answer.output.decode().splitlines()]
+    expect((answer.status, told) == (0, ["as it was"] * 2), "both tables", answer)
 
 
 def threads_are_checked(place):
@@ -314,7 +393,8 @@ def programs_are_held_against_each_other(place):
 def interrupted_plays_leave_nothing(place):
     """a study, runs with threads or scarce memory, and a bench that are interrupted say so, and end their programs"""
     mark = place.root / "started"
-    place.stub(place.program, f"touch '{mark}'; exec sleep 100\n")
+    for program in (place.program, place.second_program):
+        place.stub(program, f"touch '{mark}'; exec sleep 100\n")
     image = files_of(place, "hello")[0]
     for words in (["examples/study", image, "--jobs", "2", "--line", "4,8"], ["examples/workers", "hello"],
                   ["examples/memory", "steps"], ["bench/run", "--workers"],
@@ -326,7 +406,8 @@ def interrupted_plays_leave_nothing(place):
 
 TRIES = (
     schedules_are_drawn, long_schedules_are_drawn, schedules_are_summed_up, other_outputs_are_refused,
-    lockstep_is_written, images_are_generated, studies_are_made, endless_choices_are_rows, threads_are_checked,
+    lockstep_is_written, images_are_generated, studies_are_made, studies_have_the_acts_of_schedules,
+    endless_choices_are_rows, pages_are_made_again, study_is_as_it_was, threads_are_checked,
     swept_threads_are_checked, scarce_memory_is_answered, refused_allocations_are_answered, benches_are_told,
     programs_are_held_against_each_other,
     interrupted_plays_leave_nothing,

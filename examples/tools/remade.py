@@ -1,0 +1,93 @@
+"""A page whose tables are made again by the commands that stand before them.
+
+A block of code whose lines all call scripts of examples/ is called, line by line, in a folder of its own; `> FILE` at
+the end of a line writes a file there. What the lines tell otherwise is the table, which stands in the page behind them.
+"""
+import pathlib
+import shlex
+import subprocess
+import tempfile
+
+from tools.command import Refused, need_words, read_text, say, write_whole
+from tools.examples import HERE
+
+FENCE, SCRIPTS, INTO = "```", "examples/", ">"
+
+
+class Page:
+    """The lines of a page."""
+
+    def __init__(self, path):
+        self.path, self.lines = path, read_text(path).split("\n")
+
+    def blocks(self):
+        """The places of the first and behind the last line of each block of commands."""
+        fences = [place for place, line in enumerate(self.lines) if line.startswith(FENCE)]
+        for first, end in zip(fences[::2], fences[1::2]):
+            inside = self.lines[first + 1:end]
+            if inside and all(line.startswith(SCRIPTS) for line in inside):
+                yield first + 1, end
+
+    def table_behind(self, place):
+        """The places of the first and behind the last line of the next table, up to a headline or a block."""
+        for first in range(place + 1, len(self.lines)):
+            if self.lines[first].startswith(("#", FENCE)):
+                break
+            if self.lines[first].startswith("|"):
+                end = next((place for place in range(first, len(self.lines)) if not self.lines[place].startswith("|")),
+                           len(self.lines))
+                return first, end
+        return None
+
+
+def called(line, folder):
+    """What a line tells, unless it writes that to a file."""
+    words = shlex.split(line)
+    name = None
+    if len(words) > 2 and words[-2] == INTO:
+        *words, _, name = words
+    command = HERE.parent / words[0]
+    if command.parent != HERE or not command.is_file():
+        raise Refused(f"`{line}` calls no script of {SCRIPTS}")
+    done = subprocess.run([command, *words[1:]], cwd=folder, capture_output=True, stdin=subprocess.DEVNULL)
+    if done.returncode != 0:
+        said = done.stderr.decode("utf-8", "replace").strip() or f"it ended with status {done.returncode}."
+        raise Refused(f"`{line}`: {said}")
+    if name is None:
+        return done.stdout.decode().splitlines()
+    write_whole({folder / name: done.stdout})
+    return []
+
+
+def made(page, folder):
+    """Each table of a page with what its commands tell, from the last one to the first."""
+    tables = []
+    for first, end in page.blocks():
+        told = [text for line in page.lines[first:end] for text in called(line, folder)]
+        rows = [line for line in told if line.startswith("|")]
+        place = page.table_behind(end) if rows else None
+        if rows and place is None:
+            raise Refused(f"{page.path}:{end + 1}: no table stands behind these commands.")
+        if rows:
+            print(f"{page.path}:{place[0] + 1}: {'as it was' if page.lines[slice(*place)] == rows else 'differs'}",
+                  flush=True)
+            tables.append((place, rows))
+    return tables[::-1]
+
+
+def main(path, words):
+    """Makes the tables of a page again. The status is 1 where one differs and isn't replaced."""
+    is_written = "--write" in words
+    need_words([word for word in words if word != "--write"], 0, "study", "nothing more beside --page PAGE and --write")
+    page = Page(path)
+    with tempfile.TemporaryDirectory() as folder:
+        tables = made(page, pathlib.Path(folder))
+    different = [(place, rows) for place, rows in tables if page.lines[slice(*place)] != rows]
+    if is_written and different:
+        for place, rows in different:
+            page.lines[slice(*place)] = rows
+        write_whole({path: "\n".join(page.lines).encode()})
+    if different and not is_written:
+        say("study", f"{len(different)} of {len(tables)} tables differ; --write replaces them.")
+        return 1
+    return 0

@@ -1,0 +1,44 @@
+"""Schedules that the second program tells: with the replies, the journal's length and the end of the first one."""
+import json
+import subprocess
+
+from tools.examples import HERE, SCHEDULES
+from tools.program import SECOND_PROGRAM, STATUSES, end_of
+from tools.report import read_report
+
+# What `steps` says of an event that `advance` made, where a line has the reply to that event.
+MADE = ("moved", "committed")
+
+
+def replies_said(said):
+    """The reply to each act, and how many tasks it took back, of what `steps` wrote before its report."""
+    pairs = [line.split() for line in said.partition("fractal 1\n")[0].splitlines()]
+    return [("ok" if reply in MADE else reply, int(count)) for reply, count in pairs]
+
+
+def replies_told(lines):
+    """The same of the second program's lines."""
+    return [(line["reply"], line.get("aborted", 0)) for line in lines if "reply" in line]
+
+
+def retold_fault(name):
+    """What is wrong with what the second program tells of a schedule; None where it agrees with the first one."""
+    folder = HERE / name
+    said = (folder / "said").read_text(encoding="ascii")
+    given = (folder / "image.bin").read_bytes() + (folder / "script").read_bytes()
+    words = (folder / "words").read_text(encoding="ascii").split()
+    made = subprocess.run([SECOND_PROGRAM, *words], input=given, stdout=subprocess.PIPE, check=False)
+    lines = [json.loads(line) for line in made.stdout.splitlines()]
+    if replies_told(lines) != replies_said(said):
+        return "the second program tells other replies than steps says"
+    report = "fractal 1\n" + said.partition("fractal 1\n")[2]
+    end, entries = end_of(report.encode()), read_report(report, f"{name}: its report").entries
+    if (lines[-1].get("end"), lines[-1].get("journal")) != (end, len(entries)):
+        return "the second program tells another end than steps says"
+    status = STATUSES.get(end, 0)
+    return None if made.returncode == status else f"the second program has the status {made.returncode}, not {status}"
+
+
+def retold_schedules():
+    """Each schedule with what is wrong with its lines; none where the second program isn't built."""
+    return [(f"{name}, told act by act", retold_fault(name)) for name in SCHEDULES] if SECOND_PROGRAM.exists() else []
