@@ -1,7 +1,7 @@
 pub mod Asked
 pub mod Chosen
 pub mod Does
-pub mod Goods
+pub mod SoundPlays
 pub mod InRounds
 pub mod Lined
 pub mod Plays

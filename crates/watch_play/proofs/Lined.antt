@@ -7,6 +7,7 @@ use Rattle.spec_state.specs.View.{View}
 use Rattle.event_def.specs.declared.event.Reply.{Reply}
 use Rattle.event_def.specs.declared.event.Reply.TheVariants as reply
 use Rattle.event_def.specs.Book.{BookView}
+use Rattle.event_law.proofs.Replies.{refusals_change_nothing}
 use Rattle.step_script.specs.declared.act.Act.{Act}
 use Rattle.step_script.specs.Playing.{PlayState}
 use Rattle.watch_text.specs.Asking.{Attempt, AsksFor, Hands, Says}
@@ -24,6 +25,16 @@ comes_of : {N : Type 0} (asks : Attempt N) (answer : Reply) (aborted : ℕ) (old
     → AttemptComes asks answer aborted old new → ComesOf asks answer aborted old new
 comes_of (Hands e) answer aborted old new there came = (there, came)
 comes_of (Says word) answer aborted old new there came = came
+
+-- an act that is refused leaves the book, and so the table of its tasks
+pub table_stays : {N : Type 0} (asks : Attempt N) (answer : Reply) (aborted : ℕ) (old new : BookView)
+    (table : List (Option Before)) → table ≡ table_of old.view → AttemptComes asks answer aborted old new
+    → answer ≢ reply.Ok → table ≡ table_of new.view
+table_stays {N} (Hands e) answer aborted old new table is came refused =
+    is ∙ ap (λ (book : BookView). table_of book.view)
+    (sym (refusals_change_nothing N old new e answer aborted came refused).1)
+table_stays (Says word) answer aborted old new table is came refused =
+    is ∙ ap (λ (book : BookView). table_of book.view) (sym came.2)
 
 module _ (N : Type 0) (image : ImageValue) (at place : ℕ) (act : Act) (old new : PlayState) (asks : Attempt N)
     (task : Option ℕ) (request : Option Request) (answer : Reply) (aborted : ℕ) where

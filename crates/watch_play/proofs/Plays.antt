@@ -16,7 +16,7 @@ use Rattle.watch_play.specs.Courses.{OfScript, course_act}
 use Rattle.watch_play.specs.Replies.{StoryPlays, said_by}
 use Rattle.watch_play.specs.Stories.{ActComes, StoryLeads, Makes, Passes, begun}
 use Rattle.watch_play.proofs.Does.{came_between, moment_does}
-use Rattle.watch_play.proofs.Goods.{IsGood, stays_good}
+use Rattle.watch_play.proofs.SoundPlays.{IsSoundPlay, stays_good}
 
 -- ---- lists
 
@@ -46,7 +46,7 @@ does_more N image (a ∷ script) act old mid new (s ∷ saids) said (between, on
 record PlaysWell {N : Type 0} (image : ImageValue) (script : List Act) (opening : BookView) (count : ℕ)
     (moments : List (Moment N)) (last : PlayState) : Type 0 where
   does : DoesAll N image (take count script) (begun opening) (map said_by moments) last
-  good : IsGood image opening.view.settings last
+  good : IsSoundPlay image opening.view.settings last
 
 -- the act of this number of a script
 script_act : (script : List Act) (n : ℕ) (act : Act) → course_act (OfScript script) n ≡ Some act

@@ -4,14 +4,15 @@ ghost use Rattle.watch_play.specs.Replies.{MomentDoes, StoryPlays};
 
 use rv_core::Naming;
 
-/// A moment does its act, as a script that is played does; what is said of it are its reply and how many tasks it took
-/// back.
+/// A moment of a sound book that wasn't stopped does its act, as a script that is played does; what is said of it are
+/// its reply and how many tasks it took back. On an unsound view the event for the least task might be refused, and a
+/// stopped book advances to no end.
 pub fn moment_does<N: Naming>()
     ensures { MomentDoes N }
 {}
 
-/// A story of a whole script plays it: its replies are those of whatever plays the script from that opening, since a
-/// script that is played twice says one thing.
+/// A story of a whole script, from a sound opening on, plays it: its replies are those of whatever plays the script
+/// from there, since a script that is played twice says one thing.
 pub fn story_plays<N: Naming>()
     ensures { StoryPlays N }
 {}

@@ -1,8 +1,9 @@
 //! One act, which is played and told.
 
-ghost use Rattle.std.specs.Prelude.{◌≡◌, ◌+◌, ◌<◌, ◌≤◌, ◌^◌, ◌++◌, IfSome, OnOk};
+ghost use Rattle.std.specs.Prelude.{◌≡◌, ◌≢◌, ◌+◌, ◌<◌, ◌≤◌, ◌^◌, ◌++◌, IfSome, OnOk};
 ghost use Rattle.std.specs.String.{string_bytes};
 ghost use Rattle.rv_core.specs.LegValue.{LegValue};
+ghost use Rattle.event_def.specs.declared.event.Reply.TheVariants as reply;
 ghost use Rattle.conflict_book.specs.BookViews.{events_made, machine_view, view_of};
 ghost use Rattle.step_script.specs.Ranges.{ActIsInRange};
 ghost use Rattle.watch_text.specs.Asking.{AskedIsInRange, asks_of};
@@ -86,7 +87,8 @@ fn put_view_behind<N: Naming, P: Placer, T: Tap>(
     }
 }
 
-/// The rest of the line of an act that was made, and the table of the tasks behind it.
+/// The rest of the line of an act, and the table of the tasks behind it. A refusal leaves both state and table, so
+/// nothing is looked at anew.
 fn tell_rest<N: Naming, P: Placer, T: Tap>(
     watch: &mut Watch<N, P, T>,
     asked: &Asked,
@@ -96,6 +98,7 @@ fn tell_rest<N: Naming, P: Placer, T: Tap>(
 ) -> Result<(), AllocError>
     requires within { AskedIsInRange N (machine_view watch.old.book).settings asked.now }
     requires each { IfSome watch.old.each (λ number. 1 ≤ number) }
+    requires stands { applied.reply ≢ reply.Ok → watch.old.table.items ≡ table_of (machine_view watch.old.book) }
     ensures line { (leg : LegValue) → let view = machine_view watch.old.book in
         OnOk result (string_bytes watch.new.line ≡ string_bytes watch.old.line
         ++ rest_text watch.old.table.items output view (asks_of {N = N} asked.now leg) (task_of about.now)
@@ -120,7 +123,10 @@ fn tell_rest<N: Naming, P: Placer, T: Tap>(
         events,
     )?;
     put_view_behind(&mut watch.line, &watch.book, watch.each, watch.count)?;
-    remember(state, &mut watch.table)
+    match applied.reply {
+        Reply::Ok => remember(state, &mut watch.table),
+        _ => Ok(()),
+    }
 }
 
 /// Plays an act of this number, from 1, and puts its line together.

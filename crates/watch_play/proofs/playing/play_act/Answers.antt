@@ -7,7 +7,7 @@ use Rattle.step_script.specs.Playing.{PlayState}
 use Rattle.watch_text.specs.Asking.{asks_of}
 use Rattle.watch_text.specs.Moments.{task_of}
 use Rattle.watch_play.specs.Made.{play_of}
-use Rattle.watch_play.proofs.Lined.{line_is, made, moment_is}
+use Rattle.watch_play.proofs.Lined.{line_is, made, moment_is, table_stays}
 use Rattle.watch_play.proofs.playing.play_act.Goals as goal
 
 pub returns-in-Ok-tell_rest-clause-comes : goal.returns-in-Ok-tell_rest-clause-comes
@@ -62,3 +62,7 @@ returns-in-Err-clause-comes g c =
           c.in-Ok.ensures.asks c.about_of-about.ensures.task c.about_of-about.ensures.request there
           c.make-applied.ensures.comes,
     )
+
+pub tell_rest-requires-clause-stands : goal.tell_rest-requires-clause-stands
+tell_rest-requires-clause-stands g c = table_stays (asks_of {N = g.row.N.Denot} c.in-Ok.asked c.ask.new.leg)
+    c.make-applied.result.reply c.make-applied.result.aborted _ _ _ c.requires.table c.make-applied.ensures.comes

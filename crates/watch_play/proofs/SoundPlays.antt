@@ -86,14 +86,14 @@ module _ (image : ImageValue) (settings : Settings) (tile core : ℕ) where
 -- ---- plays
 
 -- the play's view is sound, its book goes on, and the legs that it holds are runs
-pub record IsGood (image : ImageValue) (settings : Settings) (play : PlayState) : Type 0 where
+pub record IsSoundPlay (image : ImageValue) (settings : Settings) (play : PlayState) : Type 0 where
   pub sound : Sound image play.book.view
   pub going : play.book.stopped ≡ false
   pub settings_are : play.book.view.settings ≡ settings
   pub runs : AreRuns image settings play.held
 
 -- likewise of a book alone
-record IsGoodBook (image : ImageValue) (settings : Settings) (book : BookView) : Type 0 where
+record IsSoundBook (image : ImageValue) (settings : Settings) (book : BookView) : Type 0 where
   sound : Sound image book.view
   going : book.stopped ≡ false
   settings_are : book.view.settings ≡ settings
@@ -104,13 +104,13 @@ AsksGiven image settings (Hands e) = IsGiven image settings e
 AsksGiven image settings (Says word) = Unit {0}
 
 module _ (N : Type 0) (image : ImageValue) (settings : Settings) (old new : BookView) (aborted : ℕ)
-    (good : IsGoodBook image settings old) where
+    (good : IsSoundBook image settings old) where
   -- nothing has changed
-  book_stays : new ≡ old → IsGoodBook image settings new
-  book_stays same = subst (IsGoodBook image settings) (sym same) good
+  book_stays : new ≡ old → IsSoundBook image settings new
+  book_stays same = subst (IsSoundBook image settings) (sym same) good
 
   event_keeps : (e : Event N) → IsGiven image settings e → (answer : Reply) → Happens old e answer aborted new
-      → IsGoodBook image settings new
+      → IsSoundBook image settings new
   event_keeps e given reply.Ok happens =
       let here = subst (λ s. IsGiven image s e) (sym good.settings_are) given in record {
         sound = event_stays_sound N image old new e reply.Ok aborted here good.sound happens;
@@ -129,11 +129,12 @@ module _ (N : Type 0) (image : ImageValue) (settings : Settings) (old new : Book
   event_keeps e given reply.Ended happens = book_stays happens.unchanged.same
 
   asks_keeps : (asks : Attempt N) → AsksGiven image settings asks → (answer : Reply)
-      → ComesOf asks answer aborted old new → IsGoodBook image settings new
+      → ComesOf asks answer aborted old new → IsSoundBook image settings new
   asks_keeps (Hands e) given answer came = event_keeps e given answer came.1
   asks_keeps (Says word) given answer came = book_stays came.2
 
-module _ (N : Type 0) (image : ImageValue) (settings : Settings) (play : PlayState) (good : IsGood image settings play)
+module _ (N : Type 0) (image : ImageValue) (settings : Settings) (play : PlayState)
+    (good : IsSoundPlay image settings play)
   where
     leg_runs : (tile core : ℕ) (leg : LegValue) → HasLegAt image play.book.view tile core leg
         → IsLegOfImage image settings.budget leg
@@ -222,7 +223,7 @@ module _ (N : Type 0) (image : ImageValue) (settings : Settings) (play : PlaySta
     -- an act within the settings leaves a good play
     pub stays_good : (act : Act) (asks : Attempt N) (answer : Reply) (aborted : ℕ) (new : PlayState)
         → ActIsInRange settings.tiles settings.cores act → AsksFor image act play asks new.held
-        → ComesOf asks answer aborted play.book new.book → IsGood image settings new
+        → ComesOf asks answer aborted play.book new.book → IsSoundPlay image settings new
     stays_good act asks answer aborted new inside asked came =
         let to = act_to act asks new.held inside asked in
         let book =
