@@ -5,7 +5,7 @@ HERE = pathlib.Path(__file__).resolve().parent.parent
 EXAMPLES = ("hello", "fork_join", "pipeline", "reduction", "nested", "trap", "recursion", "shortest_paths") + tuple(
     f"c/{name}" for name in ("shortest_paths", "breadth_first", "tree_of_sums", "quicksort", "bank"))
 SCHEDULES = tuple(f"schedules/{name}" for name in (
-    "conflict", "stale_leg", "kept_trap", "commit_queue", "commit_wait", "stall", "four_cores", "two_lines",
+    "conflict", "by_hand", "stale_leg", "kept_trap", "commit_queue", "commit_wait", "stall", "four_cores", "two_lines",
     "two_lines_apart", "one_word"))
 
 

@@ -1,4 +1,6 @@
-"""Schedules that the second program tells: with the replies, the journal's length and the end of the first one."""
+"""Schedules that the second program tells: with the replies, the journal's length and the end of the first one, and
+line by line as was worked out by hand where a schedule's folder has such lines."""
+import itertools
 import json
 import subprocess
 
@@ -21,13 +23,28 @@ def replies_told(lines):
     return [(line["reply"], line.get("aborted", 0)) for line in lines if "reply" in line]
 
 
+def worked_fault(folder, told):
+    """The first line that isn't the one worked out by hand; None where all are, or where a folder has none of these."""
+    path = folder / "worked"
+    worked = path.read_bytes() if path.exists() else told
+    pairs = itertools.zip_longest(told.splitlines(True), worked.splitlines(True), fillvalue=b"")
+    for number, (line, wanted) in enumerate(pairs, 1):
+        if line != wanted:
+            shown = line.decode("ascii", "backslashreplace").strip() or "nothing"
+            return f"line {number} isn't the one worked out by hand: the second program tells {shown}"
+    return None
+
+
 def retold_fault(name):
-    """What is wrong with what the second program tells of a schedule; None where it agrees with the first one."""
+    """What is wrong with what the second program tells of a schedule; None where it agrees with the first one, and with
+    what was worked out by hand."""
     folder = HERE / name
     said = (folder / "said").read_text(encoding="ascii")
     given = (folder / "image.bin").read_bytes() + (folder / "script").read_bytes()
     words = (folder / "words").read_text(encoding="ascii").split()
     made = subprocess.run([SECOND_PROGRAM, *words], input=given, stdout=subprocess.PIPE, check=False)
+    if fault := worked_fault(folder, made.stdout):
+        return fault
     lines = [json.loads(line) for line in made.stdout.splitlines()]
     if replies_told(lines) != replies_said(said):
         return "the second program tells other replies than steps says"

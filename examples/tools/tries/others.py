@@ -264,6 +264,21 @@ def other_reports_fail(place):
     place.call("examples/check", "mine").sentence("none of the project's examples")
 
 
+def worked_lines_are_held(place):
+    """the first line that the second program tells otherwise than was worked out by hand is named by its number"""
+    worked = (place.clone / "examples" / "schedules" / "by_hand" / "worked").read_bytes()
+    place.stub(place.program, "cat >/dev/null\n")
+    place.stub(place.second_program, f"cat >/dev/null; cat '{place.root}/told'\n")
+    named = "  schedules/by_hand, told act by act: line {} isn't the one worked out by hand: the second program "
+    for text, wanted in ((worked, None), (worked.replace(b"[0,9]", b"[0,8]"), named.format(9) + 'tells {"at":6,'),
+                         (worked[:worked.rindex(b"{")], named.format(21) + "tells nothing")):
+        (place.root / "told").write_bytes(text)
+        answer = place.call("examples/check", "answers")
+        told = [line for line in answer.output.decode().splitlines() if "by_hand, told" in line]
+        expect(answer.status == 1 and len(told) == (wanted is not None), f"{wanted or 'no fault of by_hand'}", answer)
+        expect(wanted is None or told[0].startswith(wanted), wanted, told)
+
+
 def lying_programs_fail(place):
     """a program that writes the right report with another status fails the check"""
     (place.root / "report").write_bytes(TRAP)
@@ -476,7 +491,7 @@ TRIES = (
     reports_are_explained, traps_are_explained, each_instruction_has_its_line, pictures_are_drawn,
     faults_are_explained, other_runs_are_refused, played_scripts_are_explained, explanations_are_for_programs,
     explain_refuses_bad_files, closed_pipes_are_borne, accepted_examples_are_named, one_unproved_run_plays_all,
-    other_reports_fail,
+    other_reports_fail, worked_lines_are_held,
     lying_programs_fail, each_fails_the_gate, wide_lines_only_fall, grids_are_swept, broken_programs_are_rows,
     files_are_written_through, shards_are_joined,
     loads_are_swept, progress_is_shown, sweep_refuses_bad_words, interrupted_sweeps_leave_nothing,
