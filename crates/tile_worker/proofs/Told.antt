@@ -7,7 +7,7 @@ use Rattle.std.proofs.lemmas.List.{length-append, length-take, take-append-le, t
 use Rattle.std.proofs.lemmas.List.Elements.{All-cons, All-nil, All-push, All-weaker}
 use Rattle.std.proofs.lemmas.Option.{slice_get_within, get_or_from_slice_get}
 use Rattle.guest_image.specs.ImageValue.{ImageValue}
-use Rattle.progress_cell.specs.Readings.{IsAtMost, IsAtPlace, last_of, opening_reading}
+use Rattle.progress_cell.specs.Readings.{IsAtMost, IsAtPlace, last_of}
 use Rattle.progress_cell.specs.declared.reading.Reading.{Reading}
 use Rattle.run_journal.specs.declared.journal.Entry.{Entry}
 use Rattle.serial_machine.specs.Run as run
@@ -95,12 +95,6 @@ goes_on before told more front =
 -- nothing committed and nothing emitted
 pub opening_is_reading : OpeningIsReading
 opening_is_reading image budget journal = record { within = omega arith; after = run.opening image; is_run = refl; output = refl }
-
--- so a new writer has told readings of every journal
-pub opening_told : (image : ImageValue) (budget : ℕ) (journal : List Entry) (told : List Reading) → told ≡ opening_reading ∷ [] → AreReadings image budget journal told
-opening_told image budget journal told is =
-    let P : Reading → Type 0 = λ reading. ∥ IsReading image budget journal reading ∥₁ in
-    subst (AreReadings image budget journal) (sym is) (All-cons P opening_reading [] ∣ opening_is_reading image budget journal ∣₁ (All-nil P))
 
 -- a list of readings that stand in another one
 all_stand : (P : Reading → Type 0) (told : List Reading) (places : List ℕ) (seen : List Reading) → All P told → AllZip (IsAtPlace told) places seen → All P seen

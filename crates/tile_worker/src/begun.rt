@@ -6,10 +6,10 @@ ghost use Rattle.spec_state.specs.Settings.{IsValid};
 ghost use Rattle.conflict_book.specs.BookViews.{view_of};
 ghost use Rattle.tile_worker.specs.Founds.{IsDoneAt};
 
+use crate::carried::Carried;
 use crate::errand::Errand;
 use crate::hold::Found;
 use crate::locks::BookLock;
-use crate::round::Round;
 use crate::tally::{Part, Tallied};
 use crate::waiting::{Bell, take};
 use guest_image::Image;
@@ -44,18 +44,12 @@ pub(crate) struct Continued<N: Naming, L: Begun, P: Placer, T: Tap> {
 
 impl<N: Naming, L: Begun, P: Placer, T: Tap> Continued<N, L, P, T> {
     /// One hold of a worker.
-    fn hold(
-        &mut self,
-        image: &Image,
-        part: &mut Part<L>,
-        round: &mut Round,
-        errand: &mut Errand<N>,
-    ) -> Found
+    fn hold(&mut self, image: &Image, carried: &mut Carried<Part<L>, Errand<N>>) -> Found
         requires image { image.now ≡ N.image }
-        ensures amount { part.old.amount ≤ part.new.amount }
+        ensures amount { carried.old.part.amount ≤ carried.new.part.amount }
         ensures done { IsDoneAt (view_of P.policy T.notes self.new.tallied.book) result }
     {
-        self.tallied.hold(image, part, round, errand)
+        self.tallied.hold(image, carried)
     }
 }
 
@@ -76,15 +70,13 @@ impl<N: Naming, L: Begun, P: Placer, T: Tap> BookLock<N, Part<L>, Errand<N>>
         &self,
         rt: &R,
         image: &Image,
-        part: &mut Part<L>,
-        round: &mut Round,
-        errand: &mut Errand<N>,
+        carried: &mut Carried<Part<L>, Errand<N>>,
         bell: &Bell,
     ) -> Found
         requires image { image.now ≡ N.image }
-        ensures amount { part.old.amount ≤ part.new.amount }
+        ensures amount { carried.old.part.amount ≤ carried.new.part.amount }
         ensures left { result ≡ Found.Done → Unit {0} }
     {
-        take(rt, self, bell, round).hold(image, part, round, errand)
+        take(rt, self, bell, &mut carried.round).hold(image, carried)
     }
 }

@@ -1,4 +1,4 @@
-//! What a worker carries from one hold of the lock to the next.
+//! The leg that a worker computes between two holds of the lock.
 
 ghost use Rattle.std.specs.Prelude.{◌≡◌, ◌≤◌};
 ghost use Rattle.spec_state.specs.Settings.{IsValid};

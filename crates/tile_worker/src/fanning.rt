@@ -3,15 +3,14 @@
 ghost use Rattle.std.specs.Prelude.{◌≡◌, ◌≤◌, ◌<◌, ◌+◌, ◌-◌, length, sum};
 ghost use Rattle.std.specs.Thread.{IsSync};
 
+use crate::crew::Crew;
 use crate::errand::Errand;
 use crate::gate::Gate;
 use crate::locks::BookLock;
 use crate::shares::Shares;
 use crate::tally::Part;
-use crate::waiting::Bell;
 use crate::working::drive;
-use guest_image::Image;
-use rv_core::{Decoded, Naming};
+use rv_core::Naming;
 use std::sync::Wait;
 use std::sync::ledger::{Ledger, Share};
 use std::thread::{Threads, join};
@@ -67,29 +66,15 @@ pub(crate) fn fan<
     K: BookLock<N, Part<L>, Errand<N>> + Sync,
     G: Gate + Sync,
     R: Threads + Wait + Sync,
->(
-    rt: &R,
-    image: &Image,
-    decoded: &Option<Decoded<N>>,
-    lock: &K,
-    bell: &Bell,
-    share: Share<L>,
-    first: u32,
-    count: u32,
-    workers: u32,
-    gate: &G,
-) -> Gathered<L>
-    requires image { image.now ≡ N.image }
-    requires count { (0 < count) × (first + count ≤ workers) × (workers ≤ 16) }
+>(rt: &R, crew: &Crew<'_, N, G>, lock: &K, share: Share<L>, first: u32, count: u32) -> Gathered<L>
+    requires count { (0 < count) × (first + count ≤ crew.now.workers) }
     requires parts { share.parts ≡ count }
     requires amount { share.amount ≡ 0 }
     ensures { length result.shares ≡ count }
 {
     if count == 1 {
         let part = Part::new(share);
-        return Gathered::one(drive::<N, L, K, G, R>(
-            rt, image, decoded, lock, bell, part, first, workers, gate,
-        ));
+        return Gathered::one(drive::<N, L, K, G, R>(rt, crew, lock, part, first));
     }
     let half = count / 2;
     let mut mine = share;
@@ -97,32 +82,15 @@ pub(crate) fn fan<
     let (left, right) = join(
         rt,
         move || -> Gathered<L>
-            requires { IsSync R.row × IsSync G.row × IsSync K.row × (image.now ≡ N.image)
-                × (theirs.parts ≡ half) × (theirs.amount ≡ 0) × (0 < half) × (first + half ≤ workers) × (workers ≤ 16) }
+            requires { IsSync R.row × IsSync G.row × IsSync K.row × (theirs.parts ≡ half) × (theirs.amount ≡ 0)
+                × (0 < half) × (first + half ≤ crew.now.workers) }
             ensures { length result.shares ≡ half }
-        {
-            fan::<N, L, K, G, R>(
-                rt, image, decoded, lock, bell, theirs, first, half, workers, gate,
-            )
-        },
+        { fan::<N, L, K, G, R>(rt, crew, lock, theirs, first, half) },
         move || -> Gathered<L>
-            requires { IsSync R.row × IsSync G.row × IsSync K.row × (image.now ≡ N.image) × (mine.parts ≡ count - half)
-                × (mine.amount ≡ 0) × (0 < count - half) × (half ≤ count) × (first + count ≤ workers) × (workers ≤ 16) }
+            requires { IsSync R.row × IsSync G.row × IsSync K.row × (mine.parts ≡ count - half) × (mine.amount ≡ 0)
+                × (0 < count - half) × (half ≤ count) × (first + count ≤ crew.now.workers) }
             ensures { length result.shares ≡ count - half }
-        {
-            fan::<N, L, K, G, R>(
-                rt,
-                image,
-                decoded,
-                lock,
-                bell,
-                mine,
-                first + half,
-                count - half,
-                workers,
-                gate,
-            )
-        },
+        { fan::<N, L, K, G, R>(rt, crew, lock, mine, first + half, count - half) },
     );
     left.both(right)
 }

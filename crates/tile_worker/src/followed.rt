@@ -12,10 +12,10 @@ ghost use Rattle.tile_worker.specs.Holds.{HoldsOnce};
 ghost use Rattle.tile_worker.specs.Readings.{AreReadings};
 
 use crate::begun::Begun;
+use crate::carried::Carried;
 use crate::errand::Errand;
 use crate::hold::Found;
 use crate::locks::BookLock;
-use crate::round::Round;
 use crate::tally::{Part, Tallied};
 use crate::waiting::{Bell, take};
 use conflict_book::Book;
@@ -94,19 +94,17 @@ impl<N: Naming, L: Followable, P: Placer, T: Tap> Followed<N, L, P, T> {
         rt: &R,
         board: &Board,
         image: &Image,
-        part: &mut Part<L>,
-        round: &mut Round,
-        errand: &mut Errand<N>,
+        carried: &mut Carried<Part<L>, Errand<N>>,
     ) -> Found
         requires board { board.now ≡ L.board }
         requires image { image.now ≡ N.image }
-        ensures amount { part.old.amount ≤ part.new.amount }
+        ensures amount { carried.old.part.amount ≤ carried.new.part.amount }
         ensures once { let old = view_of P.policy T.notes self.old.tallied.book in
             HoldsOnce N old (view_of P.policy T.notes self.new.tallied.book) }
         ensures done { IsDoneAt (view_of P.policy T.notes self.new.tallied.book) result }
     {
         let Followed { tallied, writer } = self;
-        let found = tallied.hold(image, part, round, errand);
+        let found = tallied.hold(image, carried);
         if !is_told(&tallied.book, writer) {
             tell(rt, board, writer, &tallied.book);
         }
@@ -139,16 +137,14 @@ impl<'a, N: Naming, L: Followable, P: Placer, T: Tap> BookLock<N, Part<L>, Erran
         &self,
         rt: &R,
         image: &Image,
-        part: &mut Part<L>,
-        round: &mut Round,
-        errand: &mut Errand<N>,
+        carried: &mut Carried<Part<L>, Errand<N>>,
         bell: &Bell,
     ) -> Found
         requires image { image.now ≡ N.image }
-        ensures amount { part.old.amount ≤ part.new.amount }
+        ensures amount { carried.old.part.amount ≤ carried.new.part.amount }
         ensures left { result ≡ Found.Done → Unit {0} }
     {
-        let mut held = take(rt, self.lock, bell, round);
-        held.hold(rt, self.board, image, part, round, errand)
+        let mut held = take(rt, self.lock, bell, &mut carried.round);
+        held.hold(rt, self.board, image, carried)
     }
 }

@@ -132,7 +132,7 @@ fn may_have_free_core<N: Naming, P: Placer, T: Tap>(book: &Book<N, P, T>, tile: 
     false
 }
 
-/// Dispatches in the first of the worker's own tiles that is ready.
+/// Dispatches in the first of the worker's own tiles that isn't let be and takes a dispatch.
 fn dispatch_own<N: Naming, P: Placer, T: Tap>(book: &mut Book<N, P, T>, round: &mut Round) -> Tried
     ensures { let old = view_of P.policy T.notes book.old in
         CountsSo N old result (view_of P.policy T.notes book.new) }

@@ -16,6 +16,8 @@
 #![tactic(auto)]
 
 mod begun;
+mod carried;
+mod crew;
 mod errand;
 mod fanning;
 mod followed;

@@ -3,9 +3,9 @@
 ghost use Rattle.std.specs.Prelude.{◌≡◌, ◌≤◌, ℕ};
 ghost use Rattle.spec_state.specs.Settings.{IsValid};
 
+use crate::carried::Carried;
 use crate::errand::Errand;
 use crate::hold::Found;
-use crate::round::Round;
 use crate::tally::{Part, Tallied};
 use crate::waiting::{Bell, take};
 use guest_image::Image;
@@ -16,8 +16,8 @@ use std::sync::ledger::Ledger;
 use std::sync::{Mutex, Wait};
 use trace_tap::Tap;
 
-/// A lock in which a book stands: what a worker does with it. `W` is the worker's part of the events, and `H` what it
-/// carries from hold to hold: parameters of their own, since methods of a trait can't name a type over `N` or a ledger.
+/// A lock in which a book stands: what a worker does with it. `W` is the worker's part of the events, and `H` its
+/// errand: parameters of their own, since methods of a trait can't name a type over `N` or a ledger.
 pub(crate) trait BookLock<N: Naming, W, H> {
     ghost amount: { W → ℕ };
 
@@ -33,14 +33,12 @@ pub(crate) trait BookLock<N: Naming, W, H> {
         &self,
         rt: &R,
         image: &Image,
-        part: &mut W,
-        round: &mut Round,
-        errand: &mut H,
+        carried: &mut Carried<W, H>,
         bell: &Bell,
     ) -> Found
         requires image { image.now ≡ N.image }
-        ensures amount { amount part.old ≤ amount part.new }
-        ensures left { result ≡ Found.Done → has_left part.new };
+        ensures amount { amount carried.old.part ≤ amount carried.new.part }
+        ensures left { result ≡ Found.Done → has_left carried.new.part };
 }
 
 impl<N: Naming, L: Ledger, P: Placer, T: Tap> BookLock<N, Part<L>, Errand<N>>
@@ -60,15 +58,13 @@ impl<N: Naming, L: Ledger, P: Placer, T: Tap> BookLock<N, Part<L>, Errand<N>>
         &self,
         rt: &R,
         image: &Image,
-        part: &mut Part<L>,
-        round: &mut Round,
-        errand: &mut Errand<N>,
+        carried: &mut Carried<Part<L>, Errand<N>>,
         bell: &Bell,
     ) -> Found
         requires image { image.now ≡ N.image }
-        ensures amount { part.old.amount ≤ part.new.amount }
+        ensures amount { carried.old.part.amount ≤ carried.new.part.amount }
         ensures left { result ≡ Found.Done → Unit {0} }
     {
-        take(rt, self, bell, round).hold(image, part, round, errand)
+        take(rt, self, bell, &mut carried.round).hold(image, carried)
     }
 }

@@ -6,19 +6,19 @@ ghost use Rattle.tile_worker.specs.Grows.{Grows};
 ghost use Rattle.tile_worker.specs.Halts.{HaltsAt};
 
 use crate::begun::{Begun, Continued};
+use crate::crew::Crew;
 use crate::fanning::{Gathered, fan};
 use crate::gate::Gate;
 use crate::shares::Shares;
 use crate::tally::Tallied;
-use crate::waiting::Bell;
 use conflict_book::{Book, Halt};
 use guest_image::Image;
 use place_policy::Placer;
-use rv_core::{Decoded, Naming};
+use rv_core::Naming;
 use std::marker::Brand;
 use std::sync::ledger::{Blank, Ledger, Share};
 use std::sync::{Mutex, Wait, ledger};
-use std::thread::{Threads, available_parallelism};
+use std::thread::Threads;
 use trace_tap::Tap;
 
 /// A book that workers ran, how many events each of them made, and why they stopped.
@@ -80,14 +80,6 @@ pub(crate) fn settle<N: Naming, L: Ledger, P: Placer, T: Tap>(
     Worked { book, shares }
 }
 
-/// Whether there are more workers than processors, as far as the system tells.
-pub(crate) fn is_crowded<R: Threads>(rt: &R, workers: u32) -> bool {
-    match available_parallelism(rt) {
-        Ok(processors) => processors.get() < workers as usize,
-        Err(_) => false,
-    }
-}
-
 /// Runs the workers on a book, with a ledger that has a part for each of them and one for the events before.
 fn work_all<
     N: Naming + Send + Sync,
@@ -96,36 +88,22 @@ fn work_all<
     T: Tap + Send,
     G: Gate + Sync,
     R: Threads + Wait + Sync,
->(
-    rt: &R,
-    blank: Blank,
-    image: &Image,
-    book: Book<N, P, T>,
-    workers: u32,
-    gate: &G,
-) -> Worked<N, P, T>
+>(rt: &R, blank: Blank, crew: &Crew<'_, N, G>, book: Book<N, P, T>) -> Worked<N, P, T>
     requires name { blank.name ≡ L.name }
     requires parts { blank.parts ≡ L.parts }
-    requires one_more { blank.parts ≡ workers + 1 }
-    requires image { image.now ≡ N.image }
-    requires workers { (1 ≤ workers) × (workers ≤ 16) }
+    requires one_more { blank.parts ≡ crew.now.workers + 1 }
     requires steps { events_made book ≤ 2 ^ 63 }
     requires history { (machine_view book).history ≡ L.history }
     requires output { (machine_view book).output ≡ L.output }
-    ensures workers { length result.shares ≡ workers }
+    ensures workers { length result.shares ≡ crew.now.workers }
     ensures shares { let before = events_made book in
         sum result.shares + before ≡ events_made result.book }
     ensures grows { Grows (machine_view book) (machine_view result.book) }
 {
-    let (total, mine, theirs) = open_ledger(blank, workers, book.steps());
-    // Where memory doesn't reach for a second decoded text, the workers run on the text itself.
-    let decoded = Decoded::new(book.alloc(), image).ok();
+    let (total, mine, theirs) = open_ledger(blank, crew.workers, book.steps());
     let tallied = Tallied::new(book, total);
     let lock = Mutex::new(Continued { tallied });
-    let bell = Bell::new(is_crowded(rt, workers));
-    let gathered = fan::<N, L, _, G, R>(
-        rt, image, &decoded, &lock, &bell, theirs, 0, workers, workers, gate,
-    );
+    let gathered = fan::<N, L, _, G, R>(rt, crew, &lock, theirs, 0, crew.workers);
     let Continued { tallied } = lock.into_inner();
     settle(tallied, mine, gathered)
 }
@@ -186,7 +164,6 @@ pub(crate) fn run_rest<N: Naming, P: Placer, T: Tap>(
 }
 
 /// Runs a book by 1 to 16 workers up to the end of the run, or as far as memory goes.
-#[tactic(auto, using(crate::proofs::Growing::grows_trans))]
 pub fn run_tiles<
     N: Naming + Send + Sync,
     P: Placer + Send,
@@ -204,6 +181,7 @@ pub fn run_tiles<
     ensures grows { Grows (machine_view book) (machine_view result.book) }
 {
     let blank = Blank::new(u64::from(workers) + 1);
-    let worked = work_all::<N, Brand, P, T, G, R>(rt, blank, image, book, workers, gate);
+    let crew = Crew::new(rt, book.alloc(), image, workers, gate);
+    let worked = work_all::<N, Brand, P, T, G, R>(rt, blank, &crew, book);
     run_rest(image, worked)
 }

@@ -7,9 +7,9 @@ ghost use Rattle.conflict_book.specs.BookViews.{events_made, view_of};
 ghost use Rattle.tile_worker.specs.Founds.{IsDoneAt};
 ghost use Rattle.tile_worker.specs.Holds.{HoldsOnce};
 
+use crate::carried::Carried;
 use crate::errand::Errand;
 use crate::hold::{Found, serve};
-use crate::round::Round;
 use conflict_book::Book;
 use guest_image::Image;
 use place_policy::Placer;
@@ -86,17 +86,11 @@ impl<N: Naming, L: Ledger, P: Placer, T: Tap> Tallied<N, L, P, T> {
     /// One hold of a worker: makes at most one event of the book, and counts it to the worker's part. The book is
     /// stopped only where memory may run out.
     #[tactic(auto, using(crate::proofs::Holding::rests, crate::proofs::Holding::holds_later, crate::proofs::Begins::entries_held, crate::proofs::Begins::bytes_held))]
-    pub(crate) fn hold(
-        &mut self,
-        image: &Image,
-        part: &mut Part<L>,
-        round: &mut Round,
-        errand: &mut Errand<N>,
-    ) -> Found
+    pub(crate) fn hold(&mut self, image: &Image, carried: &mut Carried<Part<L>, Errand<N>>) -> Found
         requires image { image.now ≡ N.image }
-        ensures amount { part.old.amount ≤ part.new.amount }
+        ensures amount { carried.old.part.amount ≤ carried.new.part.amount }
         ensures booked { let old = view_of P.policy T.notes self.old.book in
-            part.new.amount + old.steps ≡ part.old.amount + events_made self.new.book }
+            carried.new.part.amount + old.steps ≡ carried.old.part.amount + events_made self.new.book }
         ensures once { let old = view_of P.policy T.notes self.old.book in
             HoldsOnce N old (view_of P.policy T.notes self.new.book) }
         ensures done { IsDoneAt (view_of P.policy T.notes self.new.book) result }
@@ -110,6 +104,11 @@ impl<N: Naming, L: Ledger, P: Placer, T: Tap> Tallied<N, L, P, T> {
             → take (length before) new.view.output ≡ before }
     {
         let Tallied { book, total } = self;
+        let Carried {
+            part,
+            round,
+            errand,
+        } = carried;
         let Part { amount, share } = part;
         total.audit(share);
         let before = book.steps();

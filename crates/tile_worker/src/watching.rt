@@ -8,17 +8,17 @@ ghost use Rattle.tile_worker.specs.Grows.{Grows};
 ghost use Rattle.tile_worker.specs.Halts.{HaltsAt};
 ghost use Rattle.tile_worker.specs.Readings.{AreReadings};
 
+use crate::crew::Crew;
 use crate::fanning::fan;
 use crate::followed::{Followable, Followed, FollowedLock, tell};
 use crate::gate::Gate;
-use crate::running::{Drained, Worked, is_crowded, open_ledger, run_rest, settle};
+use crate::running::{Drained, Worked, open_ledger, run_rest, settle};
 use crate::tally::Tallied;
-use crate::waiting::Bell;
 use conflict_book::Book;
 use guest_image::Image;
 use place_policy::Placer;
 use progress_cell::{Board, Writer};
-use rv_core::{Decoded, Naming};
+use rv_core::Naming;
 use std::marker::Brand;
 use std::sync::ledger::Blank;
 use std::sync::{Mutex, Wait};
@@ -46,18 +46,14 @@ fn watch_all<
 >(
     rt: &R,
     blank: Blank,
-    image: &Image,
+    crew: &Crew<'_, N, G>,
     book: Book<N, P, T>,
-    workers: u32,
-    gate: &G,
     board: &Board,
     writer: Writer,
 ) -> (Worked<N, P, T>, Writer)
     requires name { blank.name ≡ L.name }
     requires parts { blank.parts ≡ L.parts }
-    requires one_more { blank.parts ≡ workers + 1 }
-    requires image { image.now ≡ N.image }
-    requires workers { (1 ≤ workers) × (workers ≤ 16) }
+    requires one_more { blank.parts ≡ crew.now.workers + 1 }
     requires steps { events_made book ≤ 2 ^ 63 }
     requires history { (machine_view book).history ≡ L.history }
     requires output { (machine_view book).output ≡ L.output }
@@ -66,7 +62,7 @@ fn watch_all<
     requires belongs { writer.board ≡ board.now }
     requires readings { AreReadings N.image N.budget (machine_view book).history writer.told }
     requires last { last_of writer.told ≡ counts_of (machine_view book) }
-    ensures workers { length result.0.shares ≡ workers }
+    ensures workers { length result.0.shares ≡ crew.now.workers }
     ensures shares { let before = events_made book in
         sum result.0.shares + before ≡ events_made result.0.book }
     ensures grows { Grows (machine_view book) (machine_view result.0.book) }
@@ -76,24 +72,11 @@ fn watch_all<
         AreReadings N.image N.budget view.history result.1.told }
     ensures last { last_of result.1.told ≡ counts_of (machine_view result.0.book) }
 {
-    let (total, mine, theirs) = open_ledger(blank, workers, book.steps());
-    // Where memory doesn't reach for a second decoded text, the workers run on the text itself.
-    let decoded = Decoded::new(book.alloc(), image).ok();
+    let (total, mine, theirs) = open_ledger(blank, crew.workers, book.steps());
     let tallied = Tallied::new(book, total);
     let lock = Mutex::new(Followed { tallied, writer });
-    let bell = Bell::new(is_crowded(rt, workers));
-    let gathered = fan::<N, L, _, G, R>(
-        rt,
-        image,
-        &decoded,
-        &FollowedLock { lock: &lock, board },
-        &bell,
-        theirs,
-        0,
-        workers,
-        workers,
-        gate,
-    );
+    let shared = FollowedLock { lock: &lock, board };
+    let gathered = fan::<N, L, _, G, R>(rt, crew, &shared, theirs, 0, crew.workers);
     let Followed { tallied, writer } = lock.into_inner();
     (settle(tallied, mine, gathered), writer)
 }
@@ -138,8 +121,9 @@ pub fn run_watched<
     ensures last { last_of result.writer.told ≡ counts_of (machine_view result.drained.book) }
 {
     let blank = Blank::new(u64::from(workers) + 1);
+    let crew = Crew::new(rt, book.alloc(), image, workers, gate);
     let (worked, mut writer) = watch_all::<N, Brand, P, T, G, R>(
-        rt, blank, image, book, workers, gate, board, writer,
+        rt, blank, &crew, book, board, writer,
     );
     let drained = run_rest(image, worked);
     tell(rt, board, &mut writer, &drained.book);

@@ -2,6 +2,8 @@
 
 ghost use Rattle.std.specs.Prelude.{◌≡◌, ◌<◌, ◌≤◌};
 
+use crate::carried::Carried;
+use crate::crew::Crew;
 use crate::errand::Errand;
 use crate::gate::Gate;
 use crate::hold::Found;
@@ -11,7 +13,7 @@ use crate::tally::{Part, Tallied};
 use crate::waiting::Bell;
 use guest_image::Image;
 use place_policy::Placer;
-use rv_core::{Decoded, Naming};
+use rv_core::Naming;
 use std::sync::ledger::Ledger;
 use std::sync::{Mutex, Wait};
 use trace_tap::Tap;
@@ -24,40 +26,32 @@ pub(crate) fn drive<
     K: BookLock<N, Part<L>, Errand<N>>,
     G: Gate + Sync,
     R: Wait,
->(
-    rt: &R,
-    image: &Image,
-    decoded: &Option<Decoded<N>>,
-    lock: &K,
-    bell: &Bell,
-    part: Part<L>,
-    worker: u32,
-    workers: u32,
-    gate: &G,
-) -> Part<L>
-    requires image { image.now ≡ N.image }
-    requires workers { (worker < workers) × (workers ≤ 16) }
+>(rt: &R, crew: &Crew<'_, N, G>, lock: &K, part: Part<L>, worker: u32) -> Part<L>
+    requires { worker < crew.now.workers }
     ensures amount { K.amount part ≤ K.amount result }
     ensures left { K.has_left result }
 {
-    let mut part = part;
     let settings = lock.settings(rt);
-    let mut round = Round::new(worker, workers);
-    let mut errand = Errand::new(image, settings.budget);
+    let mut carried = Carried {
+        part,
+        round: Round::new(worker, crew.workers),
+        errand: Errand::new(crew.image, settings.budget),
+    };
     let mut legs = 0u64;
     for _ in rt.forever() {
         // The lock is free again once the hold returns, so that the leg is computed outside it.
-        match lock.hold(rt, image, &mut part, &mut round, &mut errand, bell) {
+        match lock.hold(rt, crew.image, &mut carried, &crew.bell) {
             Found::Done => {
-                bell.ring();
-                return part;
+                crew.bell.ring();
+                return carried.part;
             }
-            Found::Nothing => round.let_others(rt, bell),
+            Found::Nothing => carried.round.let_others(rt, &crew.bell),
             Found::Core => {
-                errand.compute(image, decoded, &settings);
+                let Carried { round, errand, .. } = &mut carried;
+                errand.compute(crew.image, &crew.decoded, &settings);
                 round.note_leg(errand.leg.steps());
                 legs = legs.saturating_add(1);
-                gate.pass(worker, legs);
+                crew.gate.pass(worker, legs);
             }
         }
     }
@@ -88,9 +82,12 @@ pub fn work<N: Naming, L: Ledger, P: Placer, T: Tap, G: Gate + Sync, R: Wait>(
     requires workers { (worker < workers) × (workers ≤ 16) }
     ensures { part.amount ≤ result.amount }
 {
-    let decoded = None;
-    let bell = Bell::new(false);
-    drive::<N, L, _, G, R>(
-        rt, image, &decoded, lock, &bell, part, worker, workers, gate,
-    )
+    let crew = Crew {
+        image,
+        decoded: None,
+        bell: Bell::new(false),
+        gate,
+        workers,
+    };
+    drive::<N, L, _, G, R>(rt, &crew, lock, part, worker)
 }

@@ -1,4 +1,3 @@
-use Rattle.conflict_book.specs.BookViews.{view_of}
 use Rattle.tile_worker.proofs.running.run_tiles.Given as goal
 
 abbrev pub ghosts-work_all-L-Begun : goal.ghosts-work_all-L-Begun
