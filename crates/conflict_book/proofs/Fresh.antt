@@ -1,5 +1,5 @@
 -- Room for one more task where nothing has run yet.
-use Rattle.std.proofs.Common.{ℕ, ◌≡◌, ◌≢◌, ◌<◌, ◌≤◌, ◌⊎◌, inl, inr, Some, None, List, [], ◌∷◌, false, refl, sym, ap, subst, ◌∙◌, arith}
+use Rattle.std.proofs.Common.{ℕ, ◌≡◌, ◌≢◌, ◌<◌, ◌≤◌, ◌⊎◌, inl, inr, Some, List, [], ◌∷◌, false, refl, sym, ap, subst, ◌∙◌, arith}
 use Rattle.std.specs.Prelude.{length, slice_index_or, is_some, option_map, Contains}
 use Rattle.std.proofs.lemmas.Bool.{cases_eq}
 use Rattle.spec_state.specs.declared.task.Creator.TheVariants.{Committed}
@@ -71,9 +71,3 @@ fresh_added id index task old new fresh adds idle made k x there = by_case (case
         let is : task ≡ x = cc in
         subst (λ (t : Task). (t.status ≡ Idle) × ((index : ℕ) × (t.creator ≡ Committed 0 index))) is (idle, (index, made))
     by_case (inr other) = fresh k x (sym (adds.changes.others k other) ∙ there)
-
--- where there is no task all are fresh
-pub fresh_none : (view : View) → ((id : ℕ) → task_at view id ≡ None) → AreFresh view
-fresh_none view none id task there =
-    let no_way : None ≡ Some task = sym (none id) ∙ there in
-    absurd (cc (no_way))

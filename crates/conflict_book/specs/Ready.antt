@@ -1,4 +1,4 @@
--- A tile that a dispatch may serve at once, and the core of a running task.
+-- A tile with an idle task and a core that holds none, and the kept core of a running task.
 use Rattle.std.specs.Prelude.{◌≡◌, ℕ}
 use Rattle.rv_core.specs.declared.state.Core.{Core}
 use Rattle.spec_state.specs.declared.task.Task.{Task}
@@ -10,6 +10,6 @@ abbrev pub IsReady : View → ℕ → Type 0
 IsReady view tile =
     ((id : ℕ) × (task : Task) × IsIdle view tile id task) × ((core : ℕ) × IsFreeCore view tile core)
 
--- the task that runs on that core of the tile has come to this core
+-- a task runs on that core of the tile, and this is its kept core
 abbrev pub HasRunning : View → ℕ → ℕ → Core → Type 0
 HasRunning view tile at core = (id : ℕ) × (task : Task) × IsRunning view tile at id task × (core ≡ task.core)

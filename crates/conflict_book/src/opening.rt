@@ -50,7 +50,7 @@ fn kinds_of(kind: Kind) -> u16
     }
 }
 
-/// The descriptor of the image task of this place, which is its hint too.
+/// The descriptor of the initial task of this place, which is its hint too.
 fn image_desc(kind: Kind, index: u32, task: &ImageTask) -> Desc
     ensures value { root_descriptor result ≡ image_descriptor kind index task.now }
     ensures name { result.name ≡ record { creator = 0; index = index } }
@@ -107,7 +107,7 @@ fn make_queue_room<N: Naming>(state: &mut State<N>, tile: u32) -> Result<(), All
     Ok(())
 }
 
-/// Places the image task of this place.
+/// Places the initial task of this place.
 fn place<N: Naming, P: Placer>(
     state: &mut State<N>,
     placers: &mut [P],

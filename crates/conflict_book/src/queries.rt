@@ -1,4 +1,4 @@
-//! What a book tells of itself. No call takes memory.
+//! What a book tells of itself, and how it is stopped. No call takes memory.
 
 ghost use Rattle.std.specs.Prelude.{◌≡◌, ◌↔◌, ◌<◌, ◌≤◌, ℕ, true, Some, IsNone, IfSome, IsTrue, length};
 ghost use Rattle.std.specs.Prelude.{map, option_map, option_and_then, slice_get};
@@ -7,6 +7,7 @@ ghost use Rattle.spec_law.specs.Sound.{Sound};
 ghost use Rattle.spec_state.specs.Settings.{IsValid};
 ghost use Rattle.spec_state.specs.View.{loads};
 ghost use Rattle.spec_state.specs.Queries.{IsFreeCore, IsIdle, IsRunning};
+ghost use Rattle.event_def.specs.Book.{picked_tile};
 ghost use Rattle.event_def.specs.End.{HasEnd, IsOver};
 ghost use Rattle.conflict_book.specs.Counts.{counts_of};
 ghost use Rattle.conflict_book.specs.BookViews.{events_made, machine_view, view_of};
@@ -14,7 +15,7 @@ ghost use Rattle.conflict_book.specs.Ready.{HasRunning, IsReady};
 
 use crate::book::Book;
 use event_room::end_of;
-use place_policy::Placer;
+use place_policy::{Placer, serving_pick};
 use progress_cell::Reading;
 use rv_core::{Core, Decoded, Naming, NotedCore};
 use serial_machine::{End, Entry};
@@ -140,6 +141,16 @@ impl<N: Naming, P: Placer, T: Tap> Book<N, P, T> {
         ensures { result ≡ loads (machine_view self.now) }
     {
         self.sound.state().loads()
+    }
+
+    /// The tile in which an enqueue of this hint would place the child, as the serving placer picks it now. Nobody is
+    /// told of the question.
+    pub fn tile_for(&self, hint: u32) -> u32
+        ensures tile { result ≡ picked_tile (view_of P.policy T.notes self.now) hint }
+        ensures inside { result < (machine_view self.now).settings.tiles }
+    {
+        self.sound.is_sound();
+        serving_pick(self.placers.as_slice(), hint, self.loads().as_slice())
     }
 
     /// The core to which the running task on a core of a tile has come, within the task budget; None exactly where

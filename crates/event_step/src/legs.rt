@@ -29,7 +29,7 @@ fn takes<N: Naming>(task: &Task, core: u32, leg: &Leg<N>) -> bool
 }
 
 /// The task that takes a leg on a core of a tile; None exactly where none does.
-fn taker<N: Naming>(state: &State<N>, tile: u32, core: u32, leg: &Leg<N>) -> Option<TaskId>
+pub fn taker<N: Naming>(state: &State<N>, tile: u32, core: u32, leg: &Leg<N>) -> Option<TaskId>
     requires tile { tile < state.now.view.settings.tiles }
     requires core { core < state.now.view.settings.cores }
     ensures some { let view = state.now.view in

@@ -14,4 +14,4 @@ mod enqueues;
 mod legs;
 mod recording;
 
-pub use legs::{make_step, step};
+pub use legs::{make_step, step, taker};
