@@ -1,5 +1,5 @@
 -- Lists of the marked nodes, as the marks grow.
-use Rattle.std.proofs.Common.{◌≡◌, ℕ, zero, suc, ◌+◌, ◌<◌, ◌≤◌, Bool, true, false, List, [], ◌∷◌, length, get_or, set, take, count_by, refl, sym, subst, ap, ◌∙◌, inl, inr, arith, length-take}
+use Rattle.std.proofs.Common.{◌≡◌, ℕ, zero, suc, ◌+◌, ◌<◌, ◌≤◌, Bool, true, false, List, [], ◌∷◌, length, get_or, set, take, count_by, refl, sym, subst, ◌∙◌, inl, inr, arith, length-take}
 use Rattle.std.specs.Prelude.{◌↔◌, Contains}
 use Rattle.std.proofs.lemmas.Bool.{cases_eq}
 use Rattle.std.proofs.lemmas.List.{get_or_read, get_or-set_other, get_or-set_same, get_or-take, length-set}
@@ -20,14 +20,6 @@ pub record ListsTo (upto : ℕ) (marks : List Bool) (members : List ℕ) (found 
   pub marked : (k : ℕ) → k < found → Marked marks (get_or members k 0)
   pub all : (node : ℕ) → node < upto → Marked marks node → (k : ℕ) × (k < found) × (get_or members k 0 ≡ node)
   pub size : found ≡ count_by (λ mark. mark) (take upto marks)
-
-pub ListsTo-none : (marks : List Bool) (members : List ℕ) → ListsTo 0 marks members 0
-ListsTo-none marks members =
-    record {
-      marked = λ k below. absurd (omega (arith, below));
-      all = λ node below. absurd (omega (arith, below));
-      size = refl;
-    }
 
 pub ListsTo-room : (upto : ℕ) (marks : List Bool) (members : List ℕ) (found : ℕ) → ListsTo upto marks members found → found ≤ upto
 ListsTo-room upto marks members found lists = omega (arith, lists.size, count_by-le-length (λ (mark : Bool). mark) (take upto marks), length-take upto marks)
@@ -60,18 +52,6 @@ ListsTo-more upto marks members found within room here lists =
             (old.0, omega (arith, old.1), get_or-set_other members found old.0 upto 0 (λ same. absurd (omega (arith, old.1, same))) ∙ old.2)
       ];
       size = omega (arith, lists.size, count_by_more_yes (λ (mark : Bool). mark) marks upto false within here);
-    }
-
-take_whole : (marks : List Bool) → take (length marks) marks ≡ marks
-take_whole [] = refl
-take_whole (mark ∷ marks) = ap (λ rest. mark ∷ rest) (take_whole marks)
-
-pub ListsTo-end : (marks : List Bool) (members : List ℕ) (found : ℕ) → ListsTo (length marks) marks members found → IsListOf marks members found
-ListsTo-end marks members found lists =
-    record {
-      marked = lists.marked;
-      all = λ node marked. lists.all node (marked_within marks node marked) marked;
-      size = lists.size ∙ ap (count_by (λ (mark : Bool). mark)) (take_whole marks);
     }
 
 -- there is room for an unmarked node

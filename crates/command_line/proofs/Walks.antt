@@ -1,20 +1,19 @@
 -- What `clap` makes of words is what the grammar makes of them.
-use Rattle.std.proofs.Common.{◌≡◌, ◌⊎◌, inl, inr, ℕ, List, [], ◌∷◌, ◌++◌, Some, None, true, false, Bool, not, ◌&&◌, ◌||◌, ◌==◌, refl, ap, sym, ◌∙◌, subst, map, fold, find, codes, if◌then◌else◌, min, ◌+◌}
+use Rattle.std.proofs.Common.{◌≡◌, ◌⊎◌, inl, inr, ℕ, List, [], ◌∷◌, ◌++◌, Some, None, true, false, Bool, not, ◌&&◌, ◌||◌, refl, ap, sym, ◌∙◌, subst, map, fold, find, if◌then◌else◌, min, ◌+◌}
 use Rattle.std.proofs.lemmas.List.{map-append}
 use Rattle.std.proofs.lemmas.List.Folds.{list_any-append}
 use Rattle.std.proofs.lemmas.Slice.Eq.{bytes_eq-Decides}
 use Rattle.std.specs.declared.option.Option.{Option}
-use Rattle.std.specs.Prelude.{option_map, is_some}
+use Rattle.std.specs.Prelude.{is_some}
 use Rattle.std.specs.List.{list_any}
 use Rattle.std.specs.Str.{bytes_eq}
-use Rattle.clap.specs.Faults.{check_fault, default_fault, defaults_fault, entered_fault, fault_of, level_fault, settle_fault, turn_fault, walk_fault}
+use Rattle.clap.specs.Faults.{default_fault, defaults_fault, entered_fault, fault_of, level_fault, settle_fault, turn_fault, walk_fault}
 use Rattle.clap.specs.Kinds.{Kinds, or_else}
 use Rattle.clap.specs.Lexer.{long_of, usize_max}
-use Rattle.clap.specs.Simple.{App, Shape, built, entered, matches_of}
-use Rattle.clap.specs.Walk.{Held, Row, Rule, Text, Walk, arg_by_id, arg_by_index, arg_by_long, at_row, first_of, has_long, has_row, is_pending, more_values, nothing_held, reacted, reading_by, settled, used, walk, walked, with_default, without}
-use Rattle.clap.specs.declared.error.kind.ErrorKind.TheVariants.{ArgumentConflict, InvalidValue}
+use Rattle.clap.specs.Simple.{Shape, built, entered, matches_of}
+use Rattle.clap.specs.Walk.{Held, Row, Rule, Text, Walk, arg_by_id, arg_by_index, arg_by_long, at_row, first_of, has_long, has_row, more_values, nothing_held, reacted, reading_by, settled, used, walk, walked, with_default, without}
+use Rattle.clap.specs.declared.error.kind.ErrorKind.TheVariants.{InvalidValue}
 use Rattle.clap.specs.declared.parser.matches.ValueSource.TheVariants.{CommandLine}
-use Rattle.clap.proofs.OnLiterals.{clap_on_literals}
 use Rattle.command_line.specs.App.{command_app, plain_app}
 use Rattle.command_line.specs.Settings.{Setting, all_settings}
 use Rattle.command_line.specs.Reading.{ArgumentWord, Whole, Named, Plain, Stray, Given, word_of, is_stray, is_given, is_new, is_option, text_in, with_text, after_plain, after_word, after_name, read_on, given_in, further_names, kind, seed, size}
@@ -126,9 +125,6 @@ no_place = refl
 
 abbrev use_row : Given → Row
 use_row g = record { id = g.name; values = g.text ∷ []; count = None; source = Some CommandLine; reading = reading_by (opt g.name) }
-
-rows-of : List Given → List Row
-rows-of given = map use_row given
 
 has-rows : (given : List Given) (n : Text) → has_row n (map use_row given) ≡ is_given given n
 has-rows [] n = refl

@@ -1,5 +1,5 @@
 //! The words of a command line: a command, options in any order, and further words. It stands on the machine's
-//! settings and is called once, by the program. The words are split by `clap`, whose help and version are switched
+//! settings; both programs call it. The words are split by `clap`, whose help and version are switched
 //! off; which texts are numbers, and in which ranges, is tested here. Reading takes memory for what `clap` keeps of
 //! the words.
 #![tactic(auto)]

@@ -11,9 +11,6 @@ use Rattle.commit_arbiter.specs.Slots.{blank_candidate, candidate_at}
 use Rattle.commit_arbiter.specs.Heap.{in_rising_order}
 use Rattle.commit_arbiter.proofs.Ordered.{in_rising_order-permutes}
 
-weight : Candidate → ℕ
-weight e = one_closed e.key.tb
-
 permuted_closed : (xs ys : List Candidate) → IsPermutation xs ys → closed_in ys ≡ closed_in xs
 permuted_closed xs ys = sum_by-IsPermutation (λ (e : Candidate). one_closed e.key.tb) xs ys
 

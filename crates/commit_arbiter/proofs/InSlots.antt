@@ -1,8 +1,8 @@
 -- Entries in the slots of a table: what an edit of the slots' order leaves.
-use Rattle.std.proofs.Common.{◌≡◌, ◌≢◌, ℕ, ◌-◌, ◌<◌, ◌≤◌, false, nat_eq, List, [], ◌∷◌, ◌++◌, length, get_or, set, take, drop, map, refl, sym, ap, subst, ◌∙◌, arith}
+use Rattle.std.proofs.Common.{◌≡◌, ◌≢◌, ℕ, ◌-◌, ◌<◌, ◌≤◌, false, nat_eq, List, [], ◌∷◌, ◌++◌, length, get_or, set, take, refl, sym, ap, subst, ◌∙◌, arith}
 use Rattle.std.specs.List.{All, IsDistinct, AllByRecursion, insert}
 use Rattle.std.specs.List.Sorted.{IsPermutation}
-use Rattle.std.proofs.lemmas.List.{append_assoc, map-append, take-map, drop-map, get_or-set_same, get_or-set_other, length-set, length-map, length-append}
+use Rattle.std.proofs.lemmas.List.{append_assoc, map-append, get_or-set_same, get_or-set_other, length-set, length-map, length-append}
 use Rattle.std.proofs.lemmas.List.Edits.{length-insert, insert-append_left, insert_end}
 use Rattle.std.proofs.Math.Seq.{take-append_seam}
 use Rattle.std.proofs.lemmas.List.Elements.{All-head}
@@ -12,12 +12,7 @@ use Rattle.std.proofs.lemmas.Cmp.{nat_eq_equiv}
 use Rattle.std.proofs.lemmas.Bool.Decides.{nat_tests}
 use Rattle.commit_arbiter.specs.declared.candidate.Candidate.{Candidate}
 use Rattle.commit_arbiter.specs.Slots.{blank_candidate, in_slots, IsSlotted}
-
-map-insert : {X Y : Type 0} (f : X → Y) (xs : List X) (i : ℕ) (x : X) → map f (insert xs i x) ≡ insert (map f xs) i (f x)
-map-insert f xs i x =
-    map-append f (take i xs) (x ∷ drop i xs)
-    ∙ ap (λ ys. ys ++ f x ∷ map f (drop i xs)) (sym (take-map f i xs))
-    ∙ ap (λ ys. take i (map f xs) ++ f x ∷ ys) (sym (drop-map f i xs))
+use Rattle.fractal_vt.proofs.Proved.{map-insert, All-front}
 
 -- a write to a slot that is not among them changes no candidate
 pub in_slots-set : (table : List Candidate) (slot : ℕ) (e : Candidate) (slots : List ℕ) → AllByRecursion (λ other. nat_eq slot other ≡ false) slots → in_slots (set table slot e) slots ≡ in_slots table slots
@@ -28,10 +23,6 @@ in_slots-set table slot e (s ∷ slots) other =
   where
     differ : (s : ℕ) → s ≡ slot → nat_eq slot s ≡ false → ⊥
     differ s same not = grind (arith, nat_tests)
-
-All-front : (P : ℕ → Type 0) (xs ys : List ℕ) → AllByRecursion P (xs ++ ys) → AllByRecursion P xs
-All-front P [] ys all = tt
-All-front P (x ∷ xs) ys all = (all.0, All-front P xs ys all.1)
 
 -- the last free slot comes into the order
 slots_pushed : (order free : List ℕ) (slot place : ℕ) → place ≤ length order → IsPermutation (slot ∷ (order ++ free)) (insert order place slot ++ free)

@@ -5,7 +5,6 @@ use Rattle.std.specs.List.{All, AllPairs, AllByRecursion, IsDistinct, insert}
 use Rattle.std.specs.List.Sorted.{IsPermutation}
 use Rattle.std.specs.FinMap.{nat_cmp-IsAntisymmetric}
 use Rattle.std.specs.Ordering.{nat_cmp, ordering_then, is_lt}
-use Rattle.std.specs.declared.cmp.Ordering.{Ordering}
 use Rattle.std.specs.declared.cmp.Ordering.TheVariants.{Less, Equal, Greater}
 use Rattle.std.proofs.lemmas.Bool.Decides.{nat_tests}
 use Rattle.std.proofs.lemmas.Cmp.{nat_eq_equiv}
@@ -18,6 +17,7 @@ use Rattle.fractal_vt.specs.Sorted.{after_insert}
 use Rattle.fractal_vt.proofs.Proved.{AllPairs-head, equal_keys_tie, front-after_insert, in_order-after_insert, in_turn, in_turn-permutation, after_insert-permutes}
 use Rattle.fractal_vt.specs.Sorted.{IsInOrder}
 use Rattle.fractal_vt.specs.Least.{IsFirstLeast}
+use Rattle.fractal_vt.proofs.Proved.{both_equal}
 use Rattle.std.specs.Option.{IsSome}
 use Rattle.std.proofs.lemmas.List.Kept.{AllPairs-cons}
 use Rattle.commit_arbiter.specs.declared.candidate.Candidate.{Candidate}
@@ -27,11 +27,6 @@ use Rattle.commit_arbiter.specs.Heap.{IsHeapBy, IsHeapUp, IsHeapIndex, in_rising
 use Rattle.commit_arbiter.proofs.Places.{entry_cmp_total, without_none, no_id}
 use Rattle.commit_arbiter.proofs.Heaps.{grown, root_least}
 use Rattle.commit_arbiter.proofs.Swaps.{not_above_trans, itself}
-
-both_equal : (o p : Ordering) → ordering_then o p ≡ Equal → (o ≡ Equal) × (p ≡ Equal)
-both_equal Less p e = absurd (cc)
-both_equal Equal p e = (refl, e)
-both_equal Greater p e = absurd (cc)
 
 pub candidate_cmp-same : (a b : Candidate) → candidate_cmp a b ≡ Equal → a ≡ b
 candidate_cmp-same a b e =

@@ -1,5 +1,5 @@
 -- Two candidates of a row of slots change places.
-use Rattle.std.proofs.Common.{◌≡◌, ◌≢◌, ℕ, zero, suc, ◌+◌, ◌<◌, ◌≤◌, Bool, true, false, nat_eq, Some, slice_get, ◌*◌, ◌-◌, take, drop, ◌⊎◌, inl, inr, List, [], ◌∷◌, ◌++◌, length, get_or, map, refl, sym, ap, subst, ◌∙◌, arith}
+use Rattle.std.proofs.Common.{◌≡◌, ◌≢◌, ℕ, zero, suc, ◌+◌, ◌<◌, ◌≤◌, true, false, nat_eq, Some, slice_get, ◌*◌, ◌-◌, take, drop, ◌⊎◌, inl, inr, List, [], ◌∷◌, ◌++◌, length, get_or, map, refl, sym, ap, subst, ◌∙◌, arith}
 use Rattle.std.specs.List.{swap, remove}
 use Rattle.std.specs.List.Sorted.{IsPermutation}
 use Rattle.std.specs.Ordering.{is_lt, ordering_reverse}
@@ -65,9 +65,6 @@ slotted_swapped table old new free order_room free_room more_room a b is one two
     }
 
 -- candidates by their order
-
-gt : Ordering → Bool
-gt o = is_lt (ordering_reverse o)
 
 pub not_above_trans : (x y z : Candidate) → not_above x y → not_above y z → not_above x z
 not_above_trans x y z one two = by_case (candidate_cmp x y) (candidate_cmp y z) refl refl one two

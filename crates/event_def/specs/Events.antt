@@ -1,5 +1,6 @@
--- What each event does where it is answered Ok: what it forces, and then its one change.
-use Rattle.std.specs.Prelude.{◌≡◌, ◌⊎◌, ◌/◌, ℕ, ◌<◌, Bool, true, false, List, length, Some}
+-- What each event does where it is answered Ok: what it forces, a renumbering where a dispatch finds no number left,
+-- and then its one change; and which events may be handed to a book.
+use Rattle.std.specs.Prelude.{◌≡◌, ◌⊎◌, ◌/◌, ℕ, ◌<◌, Bool, true, false, List, length}
 use Rattle.place_policy.specs.Policy.{Policy}
 use Rattle.place_policy.specs.Serving.{first_placed}
 use Rattle.guest_image.specs.ImageValue.{ImageValue}
@@ -59,7 +60,8 @@ abbrev pub TakesConflicts : Task → ℕ → Bool → View → ℕ → View → 
 TakesConflicts task offset write old aborted new =
     Aborts (Conflicts old task (offset / old.settings.line) write) old aborted new
 
--- what the task of this id does at the end of the leg that it took, on this core of this tile
+-- what the task of this id does at the end of the leg that it took, on this core of this tile: the step event by its
+-- request
 module _ (tile core : ℕ) (leg : LegValue) (id : ℕ) (task : Task) where
   -- a load: what conflicts with it is taken back, and then it is made
   pub record LoadEvent (width : LoadWidth) (rd offset : ℕ) (old : View) (aborted : ℕ) (new : View) : Type 0 where
@@ -73,7 +75,8 @@ module _ (tile core : ℕ) (leg : LegValue) (id : ℕ) (task : Task) where
     pub forced : TakesConflicts task offset true old aborted mid
     pub change : change.StoresTo id task leg offset width value mid new
 
-  -- an enqueue: the tile that the serving placer picks makes room, the child stands there, and that placer is told
+  -- an enqueue: the tile that the serving placer picks, which is there, makes room, the child stands in it, and that
+  -- placer is told
   pub record EnqueueEvent (spawn : Spawn) (book : BookView) (aborted : ℕ) (new : View)
       (placers : List Policy) : Type 0 where
     pub inside : picked_tile book spawn.hint < book.view.settings.tiles
@@ -141,8 +144,8 @@ Makes book (event.Coalesce tile) aborted new placers = Coalesces tile book.view 
     × IsQuiet aborted book.placers placers
 Makes book (event.Split tile) aborted new placers = SplitEvent tile book.view aborted new × (placers ≡ book.placers)
 
--- an event that may be handed to a book of these settings: its tile and its core are there, and its leg is a run of
--- plain instructions of the image, which the type of a leg keeps
+-- an event that may be handed to a book of these settings: its tile and its core are there, and its leg is one of the
+-- image within the budget, which the type of a leg keeps
 abbrev pub IsGiven : {N : Type 0} → ImageValue → Settings → Event N → Type 0
 IsGiven image settings (event.Dispatch tile) = tile < settings.tiles
 IsGiven image settings (event.Step tile core leg) =

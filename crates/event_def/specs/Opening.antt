@@ -22,7 +22,7 @@ abbrev pub root_kinds : Kind → ℕ
 root_kinds Unordered = 0
 root_kinds Ordered = 1
 
--- the descriptor of an image task, whose hint is its place
+-- the descriptor of an initial task, whose hint is its place
 abbrev pub image_descriptor : Kind → ℕ → ImageTask → Descriptor
 image_descriptor kind index task = record {
   entry = task.entry;
@@ -33,8 +33,8 @@ image_descriptor kind index task = record {
   kinds = root_kinds kind;
 }
 
--- an image task is placed as a child is: the serving placer picks its tile, which coalesces first where its task
--- queue is full; the task stands there as the last one, and that placer is told
+-- an initial task is placed: the serving placer picks its tile, as for a child; the tile coalesces first where its
+-- task queue is full; the task, idle and made by the image, stands there as the last one, and that placer is told
 pub record PlacesImageTask (kind : Kind) (index : ℕ) (task : ImageTask) (old new : BookView) : Type 0 where
   pub inside : picked_tile old index < old.view.settings.tiles
   pub mid : View

@@ -20,14 +20,14 @@ use Rattle.undo_log.specs.declared.access.Access.{Access}
 use Rattle.task_law.specs.Logged.{Asks, LoggedRun, none, plain, call, load, store}
 use Rattle.spec_state.specs.declared.task.Status.TheVariants.{Running}
 use Rattle.spec_state.specs.declared.task.Task.{Task}
-use Rattle.spec_state.specs.View.{View, task_at, cores_at, version_of}
+use Rattle.spec_state.specs.View.{View, task_at, cores_at}
 use Rattle.spec_state.specs.Tasks.{start_context}
 use Rattle.spec_state.specs.Least.{IsLeastTask, IsLeastSpilled}
 use Rattle.spec_state.specs.Stored.{HasCore}
-use Rattle.spec_law.specs.Sound.{Sound, StandsAs, done_so_far}
+use Rattle.spec_law.specs.Sound.{Sound, StandsAs}
 use Rattle.event_def.specs.declared.event.Event.{Event}
 use Rattle.event_def.specs.declared.event.Event.TheVariants as event
-use Rattle.event_def.specs.Advancing.{IsLeastEvent, IsLeastLeg, IsNextEvent}
+use Rattle.event_def.specs.Advancing.{IsLeastEvent, IsLeastLeg}
 use Rattle.event_def.specs.Events.{IsGiven}
 use Rattle.event_law.specs.Laws.{NextEventIsGiven}
 use Rattle.event_law.proofs.Falls.Legs.{counted, stands}
@@ -65,7 +65,7 @@ module _ (image : ImageValue) (budget size : ℕ) (ctx : Ctx) where
       omega (arith, below)
 
 -- a leg from within the budget is a run
-leg_is_run : (image : ImageValue) (budget quantum : ℕ) (leg : LegValue)
+pub leg_is_run : (image : ImageValue) (budget quantum : ℕ) (leg : LegValue)
     → IsLeg image image.data_size budget quantum leg.from leg.to leg.steps leg.stop → leg.from.used ≤ budget
     → IsLegOfImage image budget leg
 leg_is_run image budget quantum leg is low = record {

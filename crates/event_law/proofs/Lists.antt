@@ -5,7 +5,6 @@ use Rattle.std.specs.List.{All, AllByRecursion, enumerate_from}
 use Rattle.std.proofs.lemmas.Bool.{cases_lt}
 use Rattle.std.proofs.lemmas.List.{get_or_past}
 use Rattle.std.proofs.lemmas.List.Elements.{All-nil, All-head, All-tail, All-append}
-use Rattle.std.proofs.lemmas.Option.{slice_get_within, get_or_from_slice_get}
 
 -- what holds of each element and of the default holds at each place
 pub at_each_place : {X : Type 0} (P : X → Type 0) (xs : List X) (k : ℕ) (d : X) → All P xs → P d → P (slice_index_or xs k d)
@@ -14,10 +13,6 @@ at_each_place P xs k d all of_default = by_case (cases_lt k (length xs))
     by_case : (k < length xs) ⊎ (length xs ≤ k) → P (slice_index_or xs k d)
     by_case (inl below) = all k d below
     by_case (inr past) = subst P (sym (get_or_past xs k d past)) of_default
-
--- what holds of each element holds of what stands at a place
-pub at_place : {X : Type 0} (P : X → Type 0) (xs : List X) (k : ℕ) (x : X) → All P xs → slice_get xs k ≡ Some x → P x
-at_place P xs k x all at = subst P (get_or_from_slice_get xs k x x at) (all k x (slice_get_within xs k x at))
 
 -- what holds of each element of each list holds of each of all of them
 pub all_of_lists : {X : Type 0} (P : X → Type 0) (lists : List (List X)) → All (λ xs. All P xs) lists → All P (flat_map (λ xs. xs) lists)

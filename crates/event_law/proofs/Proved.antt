@@ -5,14 +5,13 @@ pub use Rattle.event_law.proofs.Falls.Heir.{abort_leaves_heir}
 pub use Rattle.event_law.proofs.Falls.Rest.{not_both}
 pub use Rattle.event_law.proofs.Falls.Spilled.{room_leaves_spilled}
 pub use Rattle.event_law.proofs.Few.{least_events_are_few}
-pub use Rattle.event_law.proofs.Given.{next_event_is_given, running_within}
+pub use Rattle.event_law.proofs.Given.{leg_is_run, next_event_is_given, running_within}
 pub use Rattle.event_law.proofs.Granted.{is_idle, least_event_is_granted}
 pub use Rattle.event_law.proofs.Histories.{close_is_serial, histories_join}
-pub use Rattle.event_law.proofs.Keeps.Calls.{filter_fewer}
+pub use Rattle.event_law.proofs.Keeps.Calls.{filter_fewer, running_is_busy}
 pub use Rattle.event_law.proofs.Keeps.Events.{event_stays_sound, makes_leads, spilled_asks, spilled_no_heir}
 pub use Rattle.event_law.proofs.Keeps.Forced.{heir_is, idle_is_open, least_is_heir, running_is_dispatched, spared_stays}
 pub use Rattle.event_law.proofs.Keeps.Room.{asker_is_there, room_follows, room_is_free}
-pub use Rattle.event_law.proofs.Keeps.Steps.{unmarked}
 pub use Rattle.event_law.proofs.Lists.{at_each_place}
 pub use Rattle.event_law.proofs.Openings.Opened.{opening_is_sound}
 pub use Rattle.event_law.proofs.Openings.Queued.{kept_at, kept_fewer}
@@ -23,3 +22,4 @@ pub use Rattle.event_law.proofs.Rests.Rest.{rest_is_bounded}
 pub use Rattle.event_law.proofs.Rests.RestThere.{goes_on, rest_is_there}
 pub use Rattle.event_law.proofs.Serials.Ends.{end_is_serial}
 pub use Rattle.event_law.proofs.Serials.Free.{all_committed}
+pub use Rattle.event_law.proofs.Rests.RestOne.{some_rest}

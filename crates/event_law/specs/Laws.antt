@@ -44,7 +44,7 @@ ReplyIsOne N =
 abbrev pub EndIsOne : Type 0
 EndIsOne = (view : View) (end other : End) → HasEnd view end → HasEnd view other → end ≡ other
 
--- what is left before the next commit or the end is at most the budget and 4
+-- what is left up to and with the next commit, or up to the end, is at most the budget and 4
 abbrev pub RestIsBounded : Type 0
 RestIsBounded = (view : View) (left : ℕ) → HasRest view left → left ≤ view.settings.budget + 4
 

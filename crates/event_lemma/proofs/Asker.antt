@@ -3,6 +3,7 @@ use Rattle.std.proofs.Common.{ℕ, ◌≡◌, ◌≢◌, ◌<◌, ◌/◌, Bool,
 use Rattle.std.specs.Prelude.{filter, slice_index_or}
 use Rattle.std.specs.declared.cmp.Ordering.TheVariants.{Less}
 use Rattle.std.proofs.lemmas.Cmp.{tied_itself}
+use Rattle.std.proofs.lemmas.Bool.{false_from_ne_true}
 use Rattle.fractal_vt.specs.Keys.{key_cmp}
 use Rattle.fractal_vt.proofs.Proved.{key_cmp_total}
 use Rattle.guest_image.specs.ImageValue.{ImageValue}
@@ -16,7 +17,7 @@ use Rattle.spec_law.specs.Sound.{Sound}
 use Rattle.spec_law.proofs.Proved.{abort_of_conflicts_is_sound, abort_of_later_is_sound, cascade_is_later, conflicts_spare_asker, list_mapped}
 use Rattle.event_def.specs.Events.{FreesCommit, TakesConflicts}
 use Rattle.event_def.specs.Events as events
-use Rattle.event_law.proofs.Proved.{at_each_place, filter_fewer, FitsQueue, none_fit, spared_stays, unmarked}
+use Rattle.event_law.proofs.Proved.{at_each_place, filter_fewer, FitsQueue, none_fit, spared_stays}
 use Rattle.event_lemma.specs.Forcing.{TakesStill}
 use Rattle.event_lemma.proofs.Forced.{abort_like, commit_like, takes_still}
 
@@ -35,7 +36,7 @@ module _ (image : ImageValue) (old : View) (sound : Sound image old) (tile core 
       takes_still image old mid tile core id leg task sound takes
       (abort_of_conflicts_is_sound image id line task write old aborted mid sound there forced).0 (abort_like firsts old mid aborted forced)
       (spared_stays firsts old mid aborted id forced
-      (unmarked (is_marked forced.marks id) (conflicts_spare_asker image old id line task write forced.marks sound there forced.cascade)) ∙ there)
+      (false_from_ne_true (is_marked forced.marks id) (conflicts_spare_asker image old id line task write forced.marks sound there forced.cascade)) ∙ there)
 
   -- no task is below itself
   not_below_itself : key_cmp task.key task.key ≡ Less → ⊥
@@ -53,7 +54,7 @@ module _ (image : ImageValue) (old : View) (sound : Sound image old) (tile core 
   later_spares : (v : ℕ) (x : Task) (aborted : ℕ) (mid : View) → IsLater old task v x
       → (aborts : Aborts (OnlyNode v) old aborted mid) → is_marked aborts.marks id ≡ false
   later_spares v x aborted mid later aborts =
-      unmarked (is_marked aborts.marks id)
+      false_from_ne_true (is_marked aborts.marks id)
       (λ marked.
       let apart : id ≢ v = λ same.
       (let both : Some task ≡ Some x = sym there ∙ (ap (task_at old) same ∙ later.there) in

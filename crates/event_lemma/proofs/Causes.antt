@@ -14,7 +14,7 @@ use Rattle.spec_state.specs.declared.task.Status.TheVariants.{Finished}
 use Rattle.spec_state.specs.declared.task.Task.{Task}
 use Rattle.spec_state.specs.View.{View, task_at, block_at, finished_at}
 use Rattle.spec_state.specs.Least.{IsLeastTask, IsLeastSpilled, IsTheLeast}
-use Rattle.spec_state.specs.Queries.{IsDispatched, IsFinished, IsFreeCore, IsIdle, IsLater, IsLatestDispatched, IsLeastIdle}
+use Rattle.spec_state.specs.Queries.{IsDispatched, IsFinished, IsIdle, IsLater, IsLatestDispatched, IsLeastIdle}
 use Rattle.spec_state.specs.Room.{Enqueuer, QueueHasRoom, IsMovable, Stalls}
 use Rattle.spec_state.specs.Changes.{TakesLeg, request_of}
 use Rattle.spec_law.specs.Sound.{Sound}
@@ -27,10 +27,6 @@ use Rattle.event_def.specs.Book.{BookView, picked_tile}
 use Rattle.event_def.specs.Causes.{Cause, IsBusy, IsGranted, IsRefused, IsStale, LatestIsLeast, StallsAtEnd, StallsAtEnqueue, StallsAtSplit, refusal_rank}
 use Rattle.event_def.specs.End.{IsOver}
 use Rattle.event_lemma.proofs.Leasts.{least_idle_is_one}
-
--- a tile with a free core isn't busy
-pub free_is_not_busy : (view : View) (tile core : ℕ) → IsFreeCore view tile core → IsBusy view tile → ⊥
-free_is_not_busy view tile core free busy = busy.held core free
 
 -- nor is one whose least idle task is the least task
 pub least_is_not_busy : (view : View) (tile id : ℕ) (task : Task) → IsLeastIdle view tile id task → IsTheLeast view id

@@ -5,12 +5,12 @@ use Rattle.std.specs.FinMap.{nat_cmp-IsAntisymmetric}
 use Rattle.std.specs.Ordering.{nat_cmp, ordering_then}
 use Rattle.std.specs.declared.cmp.Ordering.{Ordering}
 use Rattle.std.specs.declared.cmp.Ordering.TheVariants.{Less, Equal, Greater}
-use Rattle.std.proofs.lemmas.Bool.{cases_eq}
+use Rattle.std.proofs.lemmas.Bool.{cases_eq, false_from_ne_true}
 use Rattle.std.proofs.lemmas.Bool.Decides.{nat_tests}
 use Rattle.std.proofs.lemmas.Option.{slice_get-map}
 use Rattle.fractal_vt.specs.Keys.{key_cmp, levels}
 use Rattle.fractal_vt.specs.declared.key.Key.{Key}
-use Rattle.fractal_vt.proofs.Proved.{equal_keys_tie, key_cmp_total}
+use Rattle.fractal_vt.proofs.Proved.{equal_keys_tie, key_cmp_total, less_of}
 use Rattle.guest_image.specs.ImageValue.{ImageValue}
 use Rattle.order_law.proofs.Proved.{below_reopened}
 use Rattle.spill_store.specs.SpilledTasks.{Spilled, open_key}
@@ -24,15 +24,16 @@ use Rattle.spec_state.specs.Least.{Spot, Queued, Spilled_at, HasKey, IsLeastTask
 use Rattle.spec_state.specs.Aborts.{Aborts, OnlyNode, freed_core, is_marked}
 use Rattle.spec_state.specs.Queries.{IsFreeCore, IsLatestOnCore}
 use Rattle.spec_law.specs.Sound.{Sound}
-use Rattle.spec_law.proofs.Proved.{abort_of_one_is_sound, abort_takes, cascade_is_later, distinct_at, get_contains, least_is_one, least_key, list_mapped, marked_is_back, not_below_least, one_place, queued_at, upto_queued}
+use Rattle.spec_law.proofs.Proved.{abort_of_one_is_sound, abort_takes, cascade_is_later, distinct_at, get_contains, least_is_one, least_key, list_mapped, marked_is_back, not_below_least, queued_at, upto_queued}
 use Rattle.event_def.specs.Events.{FreesCore}
 use Rattle.event_def.specs.Events as events
-use Rattle.event_law.proofs.Proved.{heir_is, idle_is_open, one_least, spared_stays, unmarked}
+use Rattle.event_law.proofs.Proved.{heir_is, idle_is_open, one_least, spared_stays}
 use Rattle.event_lemma.specs.Laws.{IdleStays}
 use Rattle.event_lemma.specs.Forcing.{LeavesCore, LeavesIdle}
 use Rattle.event_lemma.proofs.Forced.{abort_like, like_itself}
 use Rattle.event_lemma.proofs.Holders.{holder_is_dispatched}
-use Rattle.event_lemma.proofs.Leasts.{least_is_least_idle, less_of}
+use Rattle.event_lemma.proofs.Leasts.{least_is_least_idle}
+use Rattle.tile_queues.proofs.Proved.{one_place}
 
 module _ (tasks : ℕ → Option RoomTask) where
   -- the place of what stands at this one, once the ids of tasks that have gone are left out
@@ -142,7 +143,7 @@ module _ (image : ImageValue) (old : View) (sound : Sound image old) (id : ℕ) 
     -- so it stays
     spared : is_marked aborts.marks id ≡ false
     spared =
-        unmarked (is_marked aborts.marks id)
+        false_from_ne_true (is_marked aborts.marks id)
         (λ marked. not_below_least old sound.sizes id id task task least least.queued_at.there (below_marked id task marked least.queued_at.there))
 
     there_still : task_at mid id ≡ Some task

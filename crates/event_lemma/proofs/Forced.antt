@@ -16,7 +16,7 @@ use Rattle.spec_state.specs.Changes.{TakesLeg}
 use Rattle.spec_state.specs.Room.{Asker, Coalesces, MakesRoom, queue_has_room, coalesces, aborts_victim, aborts_creator}
 use Rattle.spec_state.specs.Stored.{HasCore}
 use Rattle.spec_law.specs.Sound.{Sound}
-use Rattle.event_def.specs.Events.{FreesCommit, FreesCore}
+use Rattle.event_def.specs.Events.{FreesCommit}
 use Rattle.event_def.specs.Events as events
 use Rattle.event_lemma.specs.Forcing.{IsLike, TakesStill}
 
@@ -70,11 +70,6 @@ pub commit_like : (tile : ℕ) (task : Task) (old : View) {aborted : ℕ} {mid :
     → FreesCommit tile task old aborted mid → IsLike old mid
 commit_like tile task old (events.has_free free) = like_itself old
 commit_like tile task old (events.aborts_latest aborted v x new full latest later aborts) = abort_like (OnlyNode v) old new aborted aborts
-
--- a core
-pub core_like : (tile : ℕ) (old : View) {aborted : ℕ} {mid : View} → FreesCore tile old aborted mid → IsLike old mid
-core_like tile old (events.has_free core free) = like_itself old
-core_like tile old (events.aborts_latest aborted v task new held latest aborts) = abort_like (OnlyNode v) old new aborted aborts
 
 -- a task that stays as it was takes the leg still, and asks for the same
 pub takes_still : (image : ImageValue) (old mid : View) (tile core id : ℕ) (leg : LegValue) (task : Task)

@@ -1,11 +1,11 @@
 -- The least idle task of a tile.
 use Rattle.std.proofs.Common.{ℕ, ◌≡◌, ◌≢◌, inl, inr, Some, refl, sym, ap, subst, ◌∙◌}
 use Rattle.std.specs.Prelude.{slice_get}
-use Rattle.std.specs.Ordering.{ordering_reverse, ordering_then}
-use Rattle.std.specs.declared.cmp.Ordering.{Ordering}
-use Rattle.std.specs.declared.cmp.Ordering.TheVariants.{Less, Equal, Greater}
+use Rattle.std.specs.Ordering.{ordering_reverse}
+use Rattle.std.specs.declared.cmp.Ordering.TheVariants.{Less, Greater}
 use Rattle.std.proofs.lemmas.Bool.{cases_eq}
 use Rattle.fractal_vt.specs.Keys.{key_cmp}
+use Rattle.fractal_vt.proofs.Proved.{less_of, then_equal}
 use Rattle.guest_image.specs.ImageValue.{ImageValue}
 use Rattle.spec_state.specs.declared.task.Status.TheVariants.{Idle}
 use Rattle.spec_state.specs.declared.task.Task.{Task}
@@ -13,20 +13,9 @@ use Rattle.spec_state.specs.View.{View, queue_at}
 use Rattle.spec_state.specs.Least.{Queued, IsQueuedAt, IsLeastTask, ranked_cmp, spot_cmp}
 use Rattle.spec_state.specs.Queries.{IsLeastIdle}
 use Rattle.spec_law.specs.Sound.{Sound, SoundSizes}
-use Rattle.spec_law.proofs.Proved.{contains_get, distinct_at, least_key, one_place, ranked_turned, same_spot}
+use Rattle.spec_law.proofs.Proved.{contains_get, distinct_at, least_key, ranked_turned, same_spot}
 use Rattle.event_law.proofs.Proved.{is_idle}
-
--- an order that isn't greater is less where ties are out
-pub less_of : (o : Ordering) → o ≢ Greater → o ≢ Equal → o ≡ Less
-less_of Less a b = refl
-less_of Equal a b = absurd (b refl)
-less_of Greater a b = absurd (a refl)
-
--- two answers after one another tie only where the second does
-then_tie : (o p : Ordering) → ordering_then o p ≡ Equal → p ≡ Equal
-then_tie Less p e = absurd (cc (e))
-then_tie Equal p e = e
-then_tie Greater p e = absurd (cc (e))
+use Rattle.tile_queues.proofs.Proved.{one_place}
 
 module _ (view : View) (sizes : SoundSizes view) (tile id : ℕ) (task : Task) (least : IsLeastTask view id task) (there : task.tile ≡ tile) where
   -- the least task stands at one place of its tile
@@ -44,7 +33,7 @@ module _ (view : View) (sizes : SoundSizes view) (tile id : ℕ) (task : Task) (
       less_of (ranked_cmp task.key (Queued tile least.place) y.key (Queued tile q)) upto
       (λ tie.
       let spots : Queued tile least.place ≡ Queued tile q =
-      same_spot (Queued tile least.place) (Queued tile q) (then_tie (key_cmp task.key y.key) (spot_cmp (Queued tile least.place) (Queued tile q)) tie) in
+      same_spot (Queued tile least.place) (Queued tile q) (then_equal (key_cmp task.key y.key) (spot_cmp (Queued tile least.place) (Queued tile q)) tie) in
       let places : least.place ≡ q = cc in
       let both : Some k ≡ Some id = sym at.queued ∙ (ap (slice_get (queue_at view tile)) (sym places) ∙ least_at.queued) in
       let same : k ≡ id = cc in

@@ -2,7 +2,7 @@
 -- goes on.
 use Rattle.std.proofs.Common.{ℕ, ◌≡◌, ◌≢◌, ◌<◌, ◌⊎◌, inl, inr, Some, sym, ap, subst, ◌∙◌, arith}
 use Rattle.std.proofs.lemmas.Bool.{cases_eq}
-use Rattle.std.specs.Prelude.{◌↔◌, length, slice_get}
+use Rattle.std.specs.Prelude.{◌↔◌, length}
 use Rattle.guest_image.specs.ImageValue.{ImageValue}
 use Rattle.run_journal.specs.declared.end.End.TheVariants as ends
 use Rattle.task_desc.specs.declared.desc.Name.{Name}
@@ -14,9 +14,10 @@ use Rattle.spec_state.specs.declared.task.Task.{Task}
 use Rattle.spec_state.specs.declared.task.TaskId.{TaskId}
 use Rattle.spec_state.specs.declared.task.Where.{Where}
 use Rattle.spec_state.specs.declared.task.Where.TheVariants as where_
-use Rattle.spec_state.specs.View.{View, task_at, queue_at}
+use Rattle.spec_state.specs.View.{View, task_at}
 use Rattle.spec_state.specs.Tasks.{trap_cause}
 use Rattle.spec_state.specs.Least.{Spot, Queued, Spilled_at, HasName, IsAllCommitted, IsFirm, IsLeast, IsLeastSpot, IsLeastTask, IsLeastSpilled, IsTheLeast}
+use Rattle.spec_state.proofs.Heirs.{one_least as one_least_id}
 use Rattle.event_def.specs.End.{HasEnd, IsOver}
 use Rattle.spec_law.specs.Sound.{Sound}
 use Rattle.spec_law.proofs.Proved.{least_is_one}
@@ -35,15 +36,6 @@ spot_in view (where_.Spilled tile) is = (Spilled_at tile is.place, is.least)
 -- where there is a least task, not all are committed
 pub least_is_uncommitted : (view : View) (w : Where) → IsLeast view w → IsAllCommitted view → ⊥
 least_is_uncommitted view w is all = let at = spot_in view w is in all at.0 at.1.key at.1.has
-
--- two least queued tasks have one id
-pub one_least_id : (view : View) (a b : ℕ) (x y : Task) → IsLeastTask view a x → IsLeastTask view b y → a ≡ b
-one_least_id view a b x y one two =
-    let spots : Queued x.tile one.place ≡ Queued y.tile two.place = least_is_one view (Queued x.tile one.place) (Queued y.tile two.place) one.least two.least in
-    let tiles : x.tile ≡ y.tile = cc in
-    let places : one.place ≡ two.place = cc in
-    let both : Some a ≡ Some b = sym one.queued_at.queued ∙ ((λ i. slice_get (queue_at view (tiles i)) (places i)) ∙ two.queued_at.queued) in
-    cc
 
 -- two tiles with the least spilled task are one
 pub one_least_tile : (view : View) (tile other : ℕ) → IsLeastSpilled view tile → IsLeastSpilled view other

@@ -7,8 +7,6 @@ use Rattle.fractal_vt.specs.declared.key.Key.{Key}
 use Rattle.fractal_vt.specs.Keys.{key_cmp}
 use Rattle.guest_image.specs.ImageValue.{ImageValue}
 use Rattle.rv_core.specs.LegValue.{LegValue}
-use Rattle.spec_state.specs.declared.task.Status.{Status}
-use Rattle.spec_state.specs.declared.task.Status.TheVariants.{Idle, Running}
 use Rattle.spec_state.specs.declared.task.Task.{Task}
 use Rattle.spec_state.specs.View.{View, task_at, block_at}
 use Rattle.spec_state.specs.Tasks.{is_dispatched, idle_again}
@@ -22,19 +20,16 @@ use Rattle.spec_law.specs.RoomLaws.{AsksAsLeast, MayBeTaken}
 use Rattle.spec_law.specs.Sound.{Sound}
 use Rattle.spec_law.proofs.Proved.{abort_of_one_is_sound, cascade_spares_heir, heirs_are_one, not_below_least, victim_is_later}
 use Rattle.event_law.proofs.Proved.{abort_leaves_heir, asker_is_there, least_is_heir, not_both, room_follows, room_is_free, room_leaves_spilled, running_is_dispatched, spilled_asks, spilled_no_heir}
-use Rattle.event_lemma.specs.Forcing.{IsLike, RunsIfTask, TakesStill}
+use Rattle.event_law.proofs.Proved.{running_is_busy}
+use Rattle.event_lemma.specs.Forcing.{RunsIfTask, TakesStill}
 use Rattle.event_lemma.specs.Laws.{VictimMoves, RoomIsLeft, AskerStays, conflicts, frees_place, room}
 use Rattle.event_lemma.proofs.Asker.{commit_leaves_asker, conflicts_leave_asker}
-use Rattle.event_lemma.proofs.Forced.{abort_like, room_like, takes_still}
+use Rattle.event_lemma.proofs.Forced.{room_like, takes_still}
 
 -- a task that takes a leg runs, so it may ask
 pub taker_asks : (view : View) (tile core id : ℕ) (leg : LegValue) (task : Task) → TakesLeg view tile core leg id task
     → RunsIfTask view (Enqueuer id)
 taker_asks view tile core id leg task takes = (task, core, takes.runs.on.there, takes.runs.running)
-
--- a running task isn't idle
-running_is_busy : (core : ℕ) (status : Status) → status ≡ Running core → status ≢ Idle
-running_is_busy core status runs idle = (let no_way : Running core ≡ Idle = sym runs ∙ idle in absurd (cc (no_way)))
 
 module _ (image : ImageValue) (view : View) (sound : Sound image view) (tile : ℕ) where
   -- a task that runs and is the least one is dispatched
@@ -108,12 +103,6 @@ pub room_leaves_block : (image : ImageValue) (tile : ℕ) (old : View) (aborted 
 room_leaves_block image tile old aborted mid sound some (inl free) makes = subst (λ view. block_at view tile ≢ []) (sym (free_is_same tile Splitter old free makes)) some
 room_leaves_block image tile old aborted mid sound some (inr least) makes = least_in_block mid tile (room_leaves_spilled image old sound tile least makes)
 
--- the least one where it was
-pub room_leaves_least_spilled : (image : ImageValue) (tile : ℕ) (old : View) (aborted : ℕ) (mid : View)
-    → Sound image old → IsLeastSpilled old tile
-    → MakesRoom tile Splitter old aborted mid → IsLeastSpilled mid tile
-room_leaves_least_spilled image tile old aborted mid sound least makes = room_leaves_spilled image old sound tile least makes
-
 -- a task that is above who asks as the least one is not the least
 above_asker : (image : ImageValue) (old : View) (tile first : ℕ) (a asker : Asker) (low : Key) → Sound image old
     → AsksAsLeast old tile a low
@@ -149,14 +138,6 @@ pub taken_is_live : (image : ImageValue) (tile : ℕ) (asker : Asker) (old : Vie
 taken_is_live image tile asker old v first x sound runs none least victim taken =
     let may = may_take image tile asker old v x sound runs none least victim first taken in
     (may.task, may.there, may.dispatched, taken_is_other image tile asker old v x sound runs none least victim first taken)
-
--- and not who asks
-pub taken_is_not_asker : (image : ImageValue) (tile : ℕ) (asker : Asker) (old : View) (v first : ℕ) (x : Task)
-    → Sound image old → RunsIfTask old asker
-    → NoneMoves old tile → IsLeastAsker old tile asker → IsVictim old tile asker v x → IsTakenFor old v x first
-    → asker ≢ Enqueuer first
-taken_is_not_asker image tile asker old v first x sound runs none least victim taken =
-    (may_take image tile asker old v x sound runs none least victim first taken).other
 
 module _ (image : ImageValue) (tile : ℕ) (asker : Asker) (old : View) (v : ℕ) (x : Task) (sound : Sound image old) (victim : IsVictim old tile asker v x) (other : sound.heir ≢ Some v) (aborted : ℕ) (mid : View) (aborts : Aborts (OnlyNode v) old aborted mid) where
   -- the victim is marked
@@ -207,13 +188,3 @@ pub victim_moves : VictimMoves
 victim_moves image tile asker old v x sound runs least victim firm aborted mid aborts =
     let other : sound.heir ≢ Some v = λ heir. victim.other (asker_is_heir image old sound tile asker runs least ∙ ap asker_of heir) in
     moves_again image tile asker old v x sound victim other aborted mid aborts firm
-
--- and the view is sound and like the one before
-pub taken_leaves : (image : ImageValue) (tile : ℕ) (asker : Asker) (old : View) (v first : ℕ) (x : Task)
-    → Sound image old → RunsIfTask old asker
-    → NoneMoves old tile → IsLeastAsker old tile asker → IsVictim old tile asker v x → IsTakenFor old v x first
-    → (aborted : ℕ) (mid : View) → Aborts (OnlyNode first) old aborted mid → Sound image mid × IsLike old mid
-taken_leaves image tile asker old v first x sound runs none least victim taken aborted mid aborts =
-    let may = may_take image tile asker old v x sound runs none least victim first taken in
-    let other : sound.heir ≢ Some first = λ heir. may.other (asker_is_heir image old sound tile asker runs least ∙ ap asker_of heir) in
-    ((abort_of_one_is_sound image first may.task old aborted mid sound may.there other aborts).0, abort_like (OnlyNode first) old mid aborted aborts)

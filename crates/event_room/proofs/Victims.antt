@@ -1,5 +1,5 @@
 -- How a full queue gets a free place where nothing in it moves.
-use Rattle.std.proofs.Common.{ℕ, ◌≡◌, inl, inr, Bool, true, false, List, Some, sym, ap, subst, ◌∙◌, arith}
+use Rattle.std.proofs.Common.{ℕ, ◌≡◌, inl, inr, Bool, false, List, Some, sym, ap, subst, ◌∙◌, arith}
 use Rattle.std.specs.Prelude.{◌↔◌, IfSome, IsSome, IsTrue, is_some}
 use Rattle.guest_image.specs.ImageValue.{ImageValue}
 use Rattle.memory_law.specs.Tasks.{IsByKey}
@@ -26,16 +26,6 @@ pub none_if_not : (view : View) (tile : ℕ) (some : Bool)
     → IsTrue some ↔ ((id : ℕ) × (task : Task) × IsIdleFirm view tile id task) → some ≡ false
     → NoneMoves view tile
 none_if_not view tile some is none id moves = absurd (cc (sym (is.1 (id, moves.0, moves.1)) ∙ none))
-
--- whether a task is firm, where that is read
-pub is_firm : (view : View) (id : ℕ) (task : Task) (firm : Bool) → task_at view id ≡ Some task
-    → IfSome (task_at view id) (λ t. IsTrue firm ↔ IsFirm view t) → firm ≡ true → IsFirm view task
-is_firm view id task firm there read is = (subst (λ o. IfSome o (λ t. IsTrue firm ↔ IsFirm view t)) there read).0 is
-
-pub is_loose : (view : View) (id : ℕ) (task : Task) (firm : Bool) → task_at view id ≡ Some task
-    → IfSome (task_at view id) (λ t. IsTrue firm ↔ IsFirm view t) → firm ≡ false → IsFirm view task → ⊥
-is_loose view id task firm there read is holds =
-    absurd (cc (sym ((subst (λ o. IfSome o (λ t. IsTrue firm ↔ IsFirm view t)) there read).1 holds) ∙ is))
 
 -- in a sound view an abort is one
 pub aborted_one : (image : ImageValue) (old new : View) (id aborted : ℕ) → Sound image old

@@ -1,10 +1,11 @@
 -- What was found and is told is an answer.
 use Rattle.std.proofs.Common.{◌≡◌, ◌≢◌, ◌⊎◌, inl, inr, refl, sym, ap, ◌∙◌, subst, ℕ, List, length, arith, ◌==◌, Bool, true, false, Some, None}
 use Rattle.std.specs.declared.option.Option.{Option}
-use Rattle.std.specs.Prelude.{IfSome, IsSomeAnd, option_map, unwrap_or}
+use Rattle.std.specs.Prelude.{IfSome, IsSomeAnd, option_map}
 use Rattle.std.specs.declared.marker.Brand.{Brand}
 use Rattle.std.proofs.lemmas.Bool.Decides.{nat_tests}
 use Rattle.std.proofs.lemmas.Grind.{common_steps}
+use Rattle.std.proofs.lemmas.Option.{same_Some}
 use Rattle.sim_io.specs.Parts.{TakesFront}
 use Rattle.sim_io.specs.Streams.{SinkState}
 use Rattle.guest_image.specs.ImageValue.{ImageValue}
@@ -27,6 +28,7 @@ use Rattle.program_call.specs.declared.outcome.Outcome.{Outcome}
 use Rattle.program_call.specs.Call.{Call, Input, input_limit}
 use Rattle.fractal_sim.specs.Given.{HasImage, IsRead, IsGenerated, ReadsAsAsked, ReadsImage}
 use Rattle.program_call.specs.Outcomes.{IsEmpty, closed_of}
+use Rattle.program_call.proofs.Reading.{read_some}
 use Rattle.fractal_sim.specs.Runs.{HoldsRunOfInput, HoldsRunOrNothing, HoldsLawfulRun, IsReported, RunsRead, RunsToEnd, StopsAtLimit, LoadsToEnd}
 use Rattle.fractal_sim.specs.Runs.{PlaysToEnd, TracesToEnd}
 use Rattle.fractal_sim.specs.declared.finding.Saving.{Saving}
@@ -41,10 +43,7 @@ use Rattle.fractal_sim.specs.Answers.{IsAnswer, HoldsRunSoFar, TellsOutcome}
 use Rattle.fractal_sim.specs.Deciding.{run_with_end, lists_of_traced, Saves}
 use Rattle.fractal_sim.specs.Finding.{saving_status, saving_text, IsStopped}
 use Rattle.fractal_sim.specs.Finding.{IsFound, IsRan, IsLoaded, IsPlayed, IsTraced, HoldsRun, OutcomeKeeps, status_by, status_of, text_of, TakesText, TellsFinding}
-use Rattle.fractal_sim.proofs.Found.{asked_for, left_alone, read_some}
-
-pub same_some : {A : Type 0} (a b : A) → Some a ≡ Some b → a ≡ b
-same_some a b h = ap (λ o. unwrap_or o a) h
+use Rattle.fractal_sim.proofs.Found.{asked_for, left_alone}
 
 -- ---- runs that are held
 
@@ -172,24 +171,24 @@ traced_to_end input t o end is found kept =
 
 -- what was found, with its status and its text, is an answer
 answers : (input : Input) (f : Finding) (o : Outcome) (text : List ℕ) → IsFound input f → OutcomeKeeps f o → text_of f ≡ Some text → IsAnswer input o (status_of f) text
-answers input finding.Usage o text found kept is = subst (IsAnswer input o 1) (same_some _ text is) (table.Usage found kept)
+answers input finding.Usage o text found kept is = subst (IsAnswer input o 1) (same_Some _ text is) (table.Usage found kept)
 answers input finding.Memory o text found kept is = let z : ⊥ = cc in absurd z
 answers input finding.Unread o text found kept is = let z : ⊥ = cc in absurd z
-answers input finding.Long o text found kept is = subst (IsAnswer input o 10) (same_some _ text is) (table.Long found kept)
-answers input (finding.NoImage fault) o text found kept is = subst (IsAnswer input o 2) (same_some _ text is) (table.NoImage fault found kept)
-answers input (finding.Refused line) o text found kept is = subst (IsAnswer input o 8) (same_some _ text is) (table.Refused line found kept)
-answers input (finding.NoScript line) o text found kept is = subst (IsAnswer input o 9) (same_some _ text is) (table.NoScript line found kept)
+answers input finding.Long o text found kept is = subst (IsAnswer input o 10) (same_Some _ text is) (table.Long found kept)
+answers input (finding.NoImage fault) o text found kept is = subst (IsAnswer input o 2) (same_Some _ text is) (table.NoImage fault found kept)
+answers input (finding.Refused line) o text found kept is = subst (IsAnswer input o 8) (same_Some _ text is) (table.Refused line found kept)
+answers input (finding.NoScript line) o text found kept is = subst (IsAnswer input o 9) (same_Some _ text is) (table.NoScript line found kept)
 answers input (finding.Accepted closed) o text found kept is =
-    let line : accepted_line (length o.journal) ≡ text = ap (λ c. accepted_line (length c.journal)) kept.run_is ∙ same_some _ text is in
+    let line : accepted_line (length o.journal) ≡ text = ap (λ c. accepted_line (length c.journal)) kept.run_is ∙ same_Some _ text is in
     subst (IsAnswer input o 0) line (table.Accepted (subst (IsAcceptedReport input) (sym kept.run_is) found))
 answers input (finding.Ran image ran steps) o text found kept is = go ran.end refl is where
   go : (e : Option End) → ran.end ≡ e → option_map (run_text image (run_with_end ran)) e ≡ Some text → IsAnswer input o (status_by end_status e) text
   go None at t = let z : ⊥ = cc in absurd z
   go (Some end) at t =
-      let told : run_text image (closed_of o) end ≡ text = ap (λ c. run_text image c end) kept.run_is ∙ same_some _ text t in
+      let told : run_text image (closed_of o) end ≡ text = ap (λ c. run_text image c end) kept.run_is ∙ same_Some _ text t in
       let made : RunsToEnd input image end (closed_of o) = subst (RunsToEnd input image end) (sym kept.run_is) (ran_to_end input image ran steps end at found) in
       subst (IsAnswer input o (end_status end)) told (table.Ended image end made)
-answers input (finding.Stopped ran steps made) o text found kept is = go made refl (same_some _ text is) found.stopped.saves where
+answers input (finding.Stopped ran steps made) o text found kept is = go made refl (same_Some _ text is) found.stopped.saves where
   pendings : List Pending
   pendings = found.stopped.pendings
 
@@ -208,7 +207,7 @@ answers input (finding.Loaded load image ran steps) o text found kept is = go ra
   go : (e : Option End) → ran.end ≡ e → option_map (load_text load.load load.seed load.size image (run_with_end ran)) e ≡ Some text → IsAnswer input o (status_by end_status e) text
   go None at t = let z : ⊥ = cc in absurd z
   go (Some end) at t =
-      let told : load_text load.load load.seed load.size image (closed_of o) end ≡ text = ap (λ c. load_text load.load load.seed load.size image c end) kept.run_is ∙ same_some _ text t in
+      let told : load_text load.load load.seed load.size image (closed_of o) end ≡ text = ap (λ c. load_text load.load load.seed load.size image c end) kept.run_is ∙ same_Some _ text t in
       let made : LoadsToEnd input load.load load.seed load.size image end (closed_of o) =
       subst (LoadsToEnd input load.load load.seed load.size image end) (sym kept.run_is) (loaded_to_end input load image ran steps end at found) in
       subst (IsAnswer input o (end_status end)) told (table.Loaded load.load load.seed load.size image end made)
@@ -216,13 +215,13 @@ answers input (finding.Played image p) o text found kept is = go p.ran.end refl 
   go : (e : Option End) → p.ran.end ≡ e → option_map (played_text p.said.items image (run_with_end p.ran)) e ≡ Some text → IsAnswer input o (status_by played_status e) text
   go None at t = let z : ⊥ = cc in absurd z
   go (Some end) at t =
-      let told : played_text p.said.items image (closed_of o) end ≡ text = ap (λ c. played_text p.said.items image c end) kept.run_is ∙ same_some _ text t in
+      let told : played_text p.said.items image (closed_of o) end ≡ text = ap (λ c. played_text p.said.items image c end) kept.run_is ∙ same_Some _ text t in
       subst (IsAnswer input o (played_status end)) told (table.Played image p.said.items end (played_to_end input image p o end at found kept))
 answers input (finding.Traced t) o text found kept is = go t.ran.end refl is where
   go : (e : Option End) → t.ran.end ≡ e → option_map (λ end. trace_text (lists_of_traced t)) e ≡ Some text → IsAnswer input o (status_by (λ end. 0) e) text
   go None at told = let z : ⊥ = cc in absurd z
   go (Some end) at told =
-      subst (IsAnswer input o 0) (same_some _ text told) (table.Traced found.image (lists_of_traced t) end (traced_to_end input t o end at found kept))
+      subst (IsAnswer input o 0) (same_Some _ text told) (table.Traced found.image (lists_of_traced t) end (traced_to_end input t o end at found kept))
 
 -- ---- what is told
 

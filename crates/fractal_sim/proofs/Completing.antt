@@ -1,10 +1,7 @@
 -- Where nothing failed, the status is the one that is due.
-use Rattle.std.proofs.Common.{◌≡◌, ◌⊎◌, inl, inr, refl, sym, ap, ◌∙◌, subst, ℕ, ◌<◌, ◌≤◌, List, ◌++◌, length, append-nil, length-append, arith, drop, Some, None}
+use Rattle.std.proofs.Common.{◌≡◌, ◌⊎◌, inl, inr, refl, sym, ap, ◌∙◌, subst, ℕ, ◌≤◌, List, length, arith, drop, Some, None}
 use Rattle.std.specs.declared.option.Option.{Option}
-use Rattle.std.specs.Io.KnownBytes.{Consumes, IsAtEnd}
 use Rattle.sim_io.specs.Causes.{Rose}
-use Rattle.sim_io.specs.Parts.{ReadsAll, ReadsPast}
-use Rattle.sim_io.specs.Streams.{SourceState}
 use Rattle.guest_image.specs.ImageValue.{ImageValue}
 use Rattle.guest_image.specs.Reading.{image_of}
 use Rattle.run_journal.specs.declared.end.End.{End}
@@ -14,6 +11,7 @@ use Rattle.fractal_sim.specs.declared.finding.Finding.{Finding}
 use Rattle.fractal_sim.specs.declared.finding.Finding.TheVariants as finding
 use Rattle.program_call.specs.declared.outcome.Outcome.{Outcome}
 use Rattle.program_call.specs.Call.{Call, Input, input_limit}
+use Rattle.program_call.proofs.Reading.{all_read, past_all}
 use Rattle.fractal_sim.specs.Given.{Reads, ReadsInput, ReadsImage}
 use Rattle.fractal_sim.specs.Texts.{end_status, played_status}
 use Rattle.fractal_sim.specs.Complete as due
@@ -23,18 +21,6 @@ use Rattle.fractal_sim.specs.declared.finding.Saving.TheVariants as saving
 use Rattle.fractal_sim.specs.Finding.{IsFound, saving_status, status_by, status_of, TellsFinding}
 use Rattle.fractal_sim.specs.Runs.{IsReported}
 use Rattle.std.specs.Prelude.{IfSome}
-
-all_read : (bytes found : List ℕ) (old new : SourceState) (limit : ℕ) → old.left ≡ Some bytes → ReadsAll old new limit found → found ≡ bytes
-all_read bytes found old new limit is h = go new.left old.left is h.taken h.ended where
-  go : (after before : Option (List ℕ)) → before ≡ Some bytes → Consumes before after found → IsAtEnd after → found ≡ bytes
-  go (Some ys) before at taken ended = let k : bytes ≡ found ++ ys = subst (λ l. Consumes l (Some ys) found) at taken in sym (k ∙ ap (λ z. found ++ z) ended ∙ append-nil found)
-  go None before at taken ended = absurd (subst (λ l. Consumes l None found) at taken)
-
-pub past_all : (bytes : List ℕ) (old new : SourceState) (limit : ℕ) → old.left ≡ Some bytes → ReadsPast old new limit → limit < length bytes
-past_all bytes old new limit is h = go new.left (subst (λ l. Consumes l new.left h.found) is h.taken) where
-  go : (after : Option (List ℕ)) → Consumes (Some bytes) after h.found → limit < length bytes
-  go (Some ys) taken = let k : length bytes ≡ length (h.found ++ ys) = ap length taken in omega (arith, length-append h.found ys, h.past)
-  go None taken = absurd taken
 
 -- the bytes of a source that is read are known
 told_bytes : (input : Input) (bytes : List ℕ) (request : Request) → IsKnown input bytes → request_of_words input.words ≡ Some request → Reads request.command

@@ -5,6 +5,7 @@ use Rattle.std.specs.Prelude.{IfSome, if◌then◌else◌}
 use Rattle.std.specs.declared.marker.Brand.{Brand}
 use Rattle.std.proofs.lemmas.Bool.Decides.{nat_tests}
 use Rattle.std.proofs.lemmas.Grind.{common_steps}
+use Rattle.std.proofs.lemmas.Option.{same_Some}
 use Rattle.guest_image.specs.ImageValue.{ImageValue}
 use Rattle.run_journal.specs.declared.end.End.{End}
 use Rattle.serial_machine.specs.declared.whole_run.SerialRun.{SerialRun}
@@ -25,12 +26,11 @@ use Rattle.command_line.specs.declared.request.Command.{Command}
 use Rattle.command_line.specs.declared.request.Command.TheVariants as commands
 use Rattle.fractal_sim.specs.Deciding.{run_with_end, lists_of_traced, event_count, IsRunSo}
 use Rattle.fractal_sim.specs.Finding.{IsFound, HoldsRun, OutcomeKeeps}
-use Rattle.fractal_sim.proofs.Answering.{same_some}
 
 -- one list of words asks for one thing
 same_request : (words : List (List ℕ)) (a b : Request) → request_of_words words ≡ Some a
     → request_of_words words ≡ Some b → a ≡ b
-same_request words a b ha hb = same_some a b (sym ha ∙ hb)
+same_request words a b ha hb = same_Some a b (sym ha ∙ hb)
 
 -- whether a count is told is the same for one request
 counts_same : (words : List (List ℕ)) (a b : Request) → request_of_words words ≡ Some a → request_of_words words ≡ Some b → Counts b.settings.workers b.command

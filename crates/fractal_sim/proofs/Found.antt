@@ -4,29 +4,27 @@ use Rattle.std.proofs.lemmas.Bool.Decides.{nat_tests}
 use Rattle.std.proofs.lemmas.Grind.{common_steps}
 use Rattle.std.specs.Io.KnownBytes.{Consumes}
 use Rattle.std.specs.declared.option.Option.{Option}
-use Rattle.sim_io.specs.Parts.{ReadsAll, ReadsSome}
+use Rattle.sim_io.specs.Parts.{ReadsSome}
 use Rattle.sim_io.specs.Streams.{SourceState}
 use Rattle.guest_image.specs.ImageValue.{ImageValue}
 use Rattle.guest_image.specs.Reading.{image_of, after_header, header_fault, whole_length, value_in_bytes}
 use Rattle.guest_image.specs.declared.fault.ImageFault.{ImageFault}
 use Rattle.guest_image.specs.declared.fault.ImageFault.TheVariants as faults
-use Rattle.load_gen.specs.declared.making.Load.{Load}
 use Rattle.serial_machine.specs.Run.{IsRun}
 use Rattle.serial_machine.specs.WholeRun.{IsRunOf}
 use Rattle.serial_machine.specs.declared.whole_run.SerialRun.{SerialRun}
 use Rattle.report_text.specs.declared.report.Report.{Report}
 use Rattle.report_text.specs.Check.{IsReportOf}
-use Rattle.command_line.specs.declared.request.Command.{Command}
 use Rattle.command_line.specs.declared.request.Command.TheVariants as commands
 use Rattle.command_line.specs.declared.request.Request.{Request}
 use Rattle.command_line.specs.Requests.{request_of_words}
 use Rattle.fractal_sim.specs.declared.finding.Finding.{Finding}
 use Rattle.fractal_sim.specs.declared.finding.Finding.TheVariants as finding
-use Rattle.fractal_sim.specs.declared.finding.Loading.{Loading}
 use Rattle.program_call.specs.Call.{Input, input_limit}
+use Rattle.program_call.proofs.Reading.{read_some}
 use Rattle.fractal_sim.specs.Given.{Reads, ReadsAsAsked, ReadsImage}
-use Rattle.fractal_sim.specs.Finding.{IsFound, IsLoaded, IsPlayed, IsRan}
-use Rattle.fractal_sim.specs.Deciding.{IsFoundBehind, IsLoadedSo, IsRunSo, IsSavedSo, IsClosedReport}
+use Rattle.fractal_sim.specs.Finding.{IsFound, IsPlayed, IsRan}
+use Rattle.fractal_sim.specs.Deciding.{IsFoundBehind, IsRunSo, IsSavedSo, IsClosedReport}
 use Rattle.fractal_sim.specs.Runs.{IsReported, RunsRead}
 use Rattle.machine_run.specs.declared.left.Ran.{Ran}
 use Rattle.place_policy.specs.Policy.{Policy}
@@ -37,25 +35,12 @@ use Rattle.std.specs.Prelude.{◌≢◌, IfSome}
 
 -- ---- reading
 
--- bytes that were read to the end are some bytes
-pub read_some : (old new : SourceState) (limit : ℕ) (found : List ℕ) → ReadsAll old new limit found → ReadsSome old new limit
-read_some old new limit found h = record { found = found; taken = h.taken; within = h.within }
-
 -- of a source that was left alone no byte was read
 pub read_none : (old new : SourceState) (limit : ℕ) → new ≡ old → ReadsSome old new limit
 read_none old new limit same = subst (λ after. ReadsSome old after limit) (sym same) (record { found = []; taken = go old.left; within = omega arith }) where
   go : (left : Option (List ℕ)) → Consumes left left []
   go None = tt
   go (Some bytes) = refl
-
--- what isn't `load` reads the source
-pub reads_else : (command : Command) → ((load : Load) (seed size : ℕ) → command ≡ commands.Load load seed size → ⊥) → Reads command
-reads_else commands.Run other = tt
-reads_else commands.Save other = tt
-reads_else commands.Steps other = tt
-reads_else commands.Trace other = tt
-reads_else commands.Check other = tt
-reads_else (commands.Load load seed size) other = other load seed size refl
 
 -- ---- reports
 
@@ -146,30 +131,6 @@ pub ran_behind : (request : Request) (image : ImageValue) (rest : List ℕ) (pla
     → IsFoundBehind request image rest placers taps (finding.Ran image ran steps)
 ran_behind request image rest placers taps ran steps is made =
     (subst RunsRead (sym is) tt, refl, made, subst (λ c. IfSome ran.end (IsReported c)) (sym is) (if_not ran.end made.over))
-
--- what is found where a generated image is asked for is found, as the source is left alone
-pub found_loaded : (input : Input) (request : Request) (load : Loading) (f : Finding) → request_of_words input.words ≡ Some request
-    → request.command ≡ commands.Load load.load load.seed load.size → input.source_after ≡ input.source_before
-    → IsLoadedSo load request.settings input.placers input.taps f → IsFound input f
-found_loaded input request load finding.Usage asked command untouched h = absurd h
-found_loaded input request load finding.Memory asked command untouched h = left_alone input untouched
-found_loaded input request load finding.Unread asked command untouched h = absurd h
-found_loaded input request load finding.Long asked command untouched h = absurd h
-found_loaded input request load (finding.NoImage fault) asked command untouched h = absurd h
-found_loaded input request load (finding.Refused line) asked command untouched h = absurd h
-found_loaded input request load (finding.NoScript line) asked command untouched h = absurd h
-found_loaded input request load (finding.Accepted closed) asked command untouched h = absurd h
-found_loaded input request load (finding.Ran image ran steps) asked command untouched h = absurd h
-found_loaded input request load (finding.Stopped ran steps made) asked command untouched h = absurd h
-found_loaded input request load (finding.Loaded load' image ran steps) asked command untouched h =
-    let same : IsLoaded input load image ran steps = record {
-      request = request;
-      given = record { asked = asked; command = command; image_is = h.1; untouched = untouched };
-      made = h.2;
-    } in
-    subst (λ l. IsLoaded input l image ran steps) (sym h.0) same
-found_loaded input request load (finding.Played image played) asked command untouched h = absurd h
-found_loaded input request load (finding.Traced traced) asked command untouched h = absurd h
 
 -- ---- sizes
 

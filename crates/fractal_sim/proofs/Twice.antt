@@ -2,6 +2,7 @@
 use Rattle.std.proofs.Common.{◌≡◌, ◌⊎◌, inl, inr, refl, sym, ap, ◌∙◌, subst, ℕ, ◌<◌, ◌≤◌, List, length, drop, codes}
 use Rattle.std.proofs.Common.{arith, Some, None, Result, Ok, Err}
 use Rattle.std.specs.declared.marker.Brand.{Brand}
+use Rattle.std.proofs.lemmas.Option.{same_Some}
 use Rattle.sim_io.specs.Parts.{SinkTakes}
 use Rattle.guest_image.specs.ImageValue.{ImageValue, IsImage}
 use Rattle.guest_image.specs.Reading.{image_of}
@@ -26,11 +27,11 @@ use Rattle.fractal_sim.specs.Answers.{IsAnswer, TellsAnswer, TellsOutcome}
 use Rattle.program_call.specs.Call.{Call, Input, input_limit}
 use Rattle.fractal_sim.specs.Checks.{IsNoScriptAt}
 use Rattle.program_call.specs.Outcomes.{IsEmpty, closed_of}
+use Rattle.program_call.proofs.Reading.{past_all}
 use Rattle.fractal_sim.specs.Runs.{IsReported, IsScript, PlaysScript}
 use Rattle.fractal_sim.specs.Texts.{image_fault_line, script_fault_line, played_status, played_text}
 use Rattle.fractal_sim.specs.Twice.{EndsWell, ScriptCallsAreOne}
-use Rattle.fractal_sim.proofs.Answering.{same_some}
-use Rattle.fractal_sim.proofs.Completing.{asks_all, begins, past_all}
+use Rattle.fractal_sim.proofs.Completing.{asks_all, begins}
 
 -- ---- what the bytes are
 
@@ -177,7 +178,7 @@ module _ (input : Input) (bytes : List ℕ) (request : Request) (o : Outcome)
     (has : input.source_before.left ≡ Some bytes) (asked : request_of_words input.words ≡ Some request)
     (plays : PlaysScript request.command) where
   same : (r : Request) → request_of_words input.words ≡ Some r → r ≡ request
-  same r asks = same_some r request (sym asks ∙ asked)
+  same r asks = same_Some r request (sym asks ∙ asked)
 
   -- no other command is asked for
   asks_so : (r : Request) (command : Command) → request_of_words input.words ≡ Some r → r.command ≡ command

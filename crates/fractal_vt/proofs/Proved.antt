@@ -9,3 +9,6 @@ pub use Rattle.fractal_vt.proofs.Sorted.{ties_behind}
 pub use Rattle.fractal_vt.proofs.Stack.{deeper_is_less, not_both, prefix_is_less, same_child_on_path, same_depth, same_front}
 pub use Rattle.fractal_vt.proofs.Stack.{stays_on_path, sub_child_on_path, super_child_on_path}
 pub use Rattle.fractal_vt.proofs.Total.{level_cmp_total, levels_cmp_total}
+pub use Rattle.fractal_vt.proofs.Orderings.{both_equal, greater_not, less_from, less_of, not_greater, then_equal}
+pub use Rattle.fractal_vt.proofs.Orderings.{greater_number, less_number, then_greater, then_less}
+pub use Rattle.fractal_vt.proofs.Lists.{All-front, all_get, get_end, get_front, map-insert}

@@ -1,4 +1,5 @@
--- Keys renumbered by a table compare as before, and domains begin each other as before.
+-- Keys renumbered by a table compare as before, and domains begin each other, and keys, as
+-- before; numbers of a table stay apart.
 use Rattle.std.proofs.Common.{◌≡◌, ◌↔◌, ℕ, zero, suc, ◌+◌, ◌<◌, ◌≤◌, Bool, true, false, cond, List, [], ◌∷◌, ◌++◌, length, get_or, map, Option, Some, None, refl, sym, ap, subst, ◌∙◌, arith}
 use Rattle.std.proofs.Common.{◌⊎◌, inl, inr, Result, Ok, Err}
 use Rattle.std.specs.Prelude.{nat_lt, AllPairs, if◌then◌else◌}

@@ -13,6 +13,7 @@ use Rattle.std.specs.declared.cmp.Ordering.TheVariants.{Less, Equal, Greater}
 use Rattle.std.specs.Cmp.{IsTotalOrder}
 use Rattle.std.proofs.lemmas.Cmp.{alike_right, tied_itself}
 use Rattle.fractal_vt.specs.Sorted.{IsInOrder, after_insert, place_for}
+use Rattle.fractal_vt.proofs.Orderings.{less_from}
 
 pub AllPairs-head : {X : Type 0} (S : X → X → Type 0) (x : X) (xs : List X) → AllPairs S (x ∷ xs) → All (S x) xs
 AllPairs-head S x xs all k d inside = all 0 (suc k) d (omega arith) (omega arith)
@@ -27,11 +28,6 @@ less_then {X} {R} total x y z less upto = by_case (R y z) refl upto
     by_case Less e not = total.trans x y z less e
     by_case Equal e not = sym (alike_right total y z x e) ∙ less
     by_case Greater e not = absurd (not refl)
-
-less_from : (o : Ordering) → is_lt o ≡ true → o ≡ Less
-less_from Less e = refl
-less_from Equal e = absurd (cc)
-less_from Greater e = absurd (cc)
 
 less_upto : (o : Ordering) → o ≡ Less → o ≢ Greater
 less_upto o less greater = let no_way : Less ≡ Greater = sym less ∙ greater in cc
@@ -77,16 +73,6 @@ All-after_insert P R x (y ∷ ys) here all =
     by_case : (b : Bool) → All P (after_insert R x ys) → All P (if b then x ∷ y ∷ ys else y ∷ after_insert R x ys)
     by_case true more = All-cons P x (y ∷ ys) here all
     by_case false more = All-cons P y (after_insert R x ys) (All-head P y ys all) more
-
--- pairs that a symmetric relation joins
-pub AllPairs-after_insert : {X : Type 0} (S : X → X → Type 0) (flips : (a b : X) → S a b → S b a) (R : X → X → Ordering) (x : X) (xs : List X) → All (S x) xs → AllPairs S xs → AllPairs S (after_insert R x xs)
-AllPairs-after_insert S flips R x [] all pairs = AllPairs-cons S x [] all pairs
-AllPairs-after_insert S flips R x (y ∷ ys) all pairs = by_case (is_lt (R x y)) (AllPairs-after_insert S flips R x ys (All-tail (S x) y ys all) (AllPairs-tail S y ys pairs))
-  where
-    by_case : (b : Bool) → AllPairs S (after_insert R x ys)
-        → AllPairs S (if b then x ∷ y ∷ ys else y ∷ after_insert R x ys)
-    by_case true more = AllPairs-cons S x (y ∷ ys) all pairs
-    by_case false more = AllPairs-cons S y (after_insert R x ys) (All-after_insert (S y) R x ys (flips x y (All-head (S x) y ys all)) (AllPairs-head S y ys pairs)) more
 
 module _ {X : Type 0} (R : X → X → Ordering) (total : IsTotalOrder R) where
   abbrev Upto : X → X → Type 0

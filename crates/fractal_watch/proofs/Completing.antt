@@ -1,15 +1,12 @@
 -- Where nothing failed, the status is the one that is due.
-use Rattle.std.proofs.Common.{◌≡◌, inl, inr, sym, ap, ◌∙◌, subst, ℕ, ◌<◌, ◌≤◌, List, ◌++◌, length, append-nil}
-use Rattle.std.proofs.Common.{length-append, arith, drop, Some, None}
-use Rattle.std.specs.declared.option.Option.{Option}
-use Rattle.std.specs.Io.KnownBytes.{Consumes, IsAtEnd}
-use Rattle.sim_io.specs.Parts.{ReadsAll, ReadsPast}
-use Rattle.sim_io.specs.Streams.{SourceState}
+use Rattle.std.proofs.Common.{◌≡◌, inl, inr, sym, ap, ◌∙◌, subst, ℕ, ◌≤◌, List, length}
+use Rattle.std.proofs.Common.{arith, drop, Some}
 use Rattle.guest_image.specs.ImageValue.{ImageValue}
 use Rattle.guest_image.specs.Reading.{image_of}
 use Rattle.step_script.specs.declared.act.Act.{Act}
 use Rattle.run_journal.specs.declared.end.End.{End}
 use Rattle.program_call.specs.Call.{Input, input_limit}
+use Rattle.program_call.proofs.Reading.{all_read, past_all}
 use Rattle.fractal_watch.specs.declared.words.Asking.{Asking}
 use Rattle.fractal_watch.specs.Answers as table
 use Rattle.fractal_watch.specs.Answers.{IsFault}
@@ -19,27 +16,6 @@ use Rattle.fractal_watch.specs.Given.{WatchReadsImage, WatchReadsInput}
 use Rattle.fractal_watch.specs.Texts.{watch_status}
 use Rattle.fractal_watch.specs.Watched.{HasActs}
 use Rattle.fractal_watch.specs.Words.{asking_of_words}
-
--- what was read to the end is all that there is
-all_read : (bytes found : List ℕ) (old new : SourceState) (limit : ℕ) → old.left ≡ Some bytes
-    → ReadsAll old new limit found → found ≡ bytes
-all_read bytes found old new limit is h = go new.left old.left is h.taken h.ended where
-  go : (after before : Option (List ℕ)) → before ≡ Some bytes → Consumes before after found → IsAtEnd after
-      → found ≡ bytes
-  go (Some ys) before at taken ended =
-      let k : bytes ≡ found ++ ys = subst (λ l. Consumes l (Some ys) found) at taken in
-      sym (k ∙ ap (λ z. found ++ z) ended ∙ append-nil found)
-  go None before at taken ended = absurd (subst (λ l. Consumes l None found) at taken)
-
--- and where more than the limit was taken there is more
-past_all : (bytes : List ℕ) (old new : SourceState) (limit : ℕ) → old.left ≡ Some bytes → ReadsPast old new limit
-    → limit < length bytes
-past_all bytes old new limit is h = go new.left (subst (λ l. Consumes l new.left h.found) is h.taken) where
-  go : (after : Option (List ℕ)) → Consumes (Some bytes) after h.found → limit < length bytes
-  go (Some ys) taken =
-      let k : length bytes ≡ length (h.found ++ ys) = ap length taken in
-      omega (arith, length-append h.found ys, h.past)
-  go None taken = absurd taken
 
 -- the bytes of a source that is read are known
 told_bytes : (input : Input) (bytes : List ℕ) (asking : Asking) → IsWatchKnown input bytes

@@ -1,16 +1,15 @@
 -- A course behind its opening.
-use Rattle.std.proofs.Common.{◌≡◌, inl, List, [], refl, sym, subst, append-nil, Ok, Err}
+use Rattle.std.proofs.Common.{◌≡◌, inl, List, [], refl, sym, subst, append-nil, Err}
 use Rattle.sim_io.specs.Parts.{TakesFront}
 use Rattle.sim_io.specs.Streams.{SinkState}
 use Rattle.spec_state.specs.declared.settings.Settings.{Settings}
 use Rattle.event_def.specs.Book.{BookView}
 use Rattle.step_script.specs.declared.act.Act.{Act}
-use Rattle.step_script.specs.Playing.{PlayState}
 use Rattle.watch_play.specs.declared.stop.Stop.{Stop}
 use Rattle.watch_play.specs.declared.stop.Stop.TheVariants as stops
 use Rattle.watch_play.specs.Courses.{course_word}
 use Rattle.watch_play.specs.Stories.{begun}
-use Rattle.watch_play.specs.Telling.{HasStory, IsOpened, Plan, Tells, TellsOpening}
+use Rattle.watch_play.specs.Telling.{HasStory, Plan, Tells, TellsOpening}
 use Rattle.watch_play.specs.Texts.{opening_lines}
 use Rattle.watch_text.specs.declared.head.CourseWord.{CourseWord}
 use Rattle.watch_text.specs.declared.head.CourseWord.TheVariants as courses
@@ -41,8 +40,3 @@ module _ (N : Type 0) (plan : Plan) (opening : BookView) where
         took = subst (TakesFront before after) (sym (append-nil lines)) told.0;
         rose = told.1;
       }
-
--- or they were
-pub opening_told : (plan : Plan) (opening : BookView) (play : PlayState) (before now : SinkState)
-    → play ≡ begun opening → TellsOpening plan opening before now (Ok tt) → IsOpened plan opening play before now
-opening_told plan opening play before now same told = record { play_is = same; took = told.0; later = told.1 }

@@ -4,10 +4,7 @@ use Rattle.std.proofs.Common.{◌≡◌, ℕ, ◌+◌, ◌^◌, ◌<◌, ◌≤�
 use Rattle.std.proofs.Common.{Result, Ok, Err, Bool, true, false, nat_lt, if◌then◌else◌, Some, None}
 use Rattle.std.proofs.lemmas.Bool.Decides.{nat_tests}
 use Rattle.std.proofs.lemmas.Grind.{common_steps}
-use Rattle.std.specs.Io.KnownBytes.{Consumes}
 use Rattle.std.specs.declared.option.Option.{Option}
-use Rattle.sim_io.specs.Parts.{ReadsAll, ReadsSome}
-use Rattle.sim_io.specs.Streams.{SourceState}
 use Rattle.guest_image.specs.ImageValue.{ImageValue}
 use Rattle.guest_image.specs.Reading.{after_header, header_fault, image_of, value_in_bytes, whole_length}
 use Rattle.guest_image.specs.declared.fault.ImageFault.{ImageFault}
@@ -16,22 +13,11 @@ use Rattle.step_script.specs.declared.act.Act.{Act}
 use Rattle.step_script.specs.Grammar.{act_in, acts_at, acts_of, after_act}
 use Rattle.text_lines.specs.Lines.{lines_of, onto}
 use Rattle.program_call.specs.Call.{Input, input_limit}
+use Rattle.program_call.proofs.Reading.{read_some}
 use Rattle.fractal_watch.specs.declared.words.Asking.{Asking}
 use Rattle.fractal_watch.specs.Given.{WatchReadsAsAsked, WatchReadsInput}
 
 -- ---- reading
-
--- bytes that were read to the end are some bytes
-pub read_some : (old new : SourceState) (limit : ℕ) (found : List ℕ) → ReadsAll old new limit found
-    → ReadsSome old new limit
-read_some old new limit found h = record { found = found; taken = h.taken; within = h.within }
-
--- of a source that was left alone no byte was read
-pub read_none : (source : SourceState) (limit : ℕ) → ReadsSome source source limit
-read_none source limit = record { found = []; taken = go source.left; within = omega arith } where
-  go : (left : Option (List ℕ)) → Consumes left left []
-  go None = tt
-  go (Some bytes) = refl
 
 -- what was taken where the words ask for a course
 pub read_as_asked : (input : Input) (asking : Asking) (bytes : List ℕ) → WatchReadsInput input asking bytes

@@ -1,8 +1,8 @@
 -- Two words that stand for one instruction of the programs are one word.
-use Rattle.std.proofs.Common.{◌≡◌, ℕ, ◌+◌, ◌*◌, ◌^◌, ◌<◌, ◌==◌, ◌&&◌, ℤ, pos, Bool, true, false, Option, Some, None, List, [], ◌∷◌, map, slice_get, zero, suc, refl, ap, sym, ◌∙◌, if◌then◌else◌, arith, rules}
+use Rattle.std.proofs.Common.{◌≡◌, ℕ, ◌+◌, ◌*◌, ◌^◌, ◌<◌, ◌==◌, ◌&&◌, ℤ, pos, true, false, Option, Some, None, List, [], ◌∷◌, map, slice_get, zero, suc, refl, ap, sym, ◌∙◌, if◌then◌else◌, arith, rules}
 use Rattle.std.specs.List.{range_with_len, AllByRecursion}
 use Rattle.std.specs.Option.{option_map}
-use Rattle.std.proofs.lemmas.Bool.{eqb-true}
+use Rattle.std.proofs.lemmas.Bool.{eqb-true, and_parts}
 use Rattle.std.proofs.lemmas.Option.{slice_get-map}
 use Rattle.rv_table.specs.Fields.{opcode, rd, funct3, rs1, rs2, funct7, shamt, bits, signed, i_immediate, s_immediate, b_immediate, u_immediate}
 use Rattle.rv_table.specs.Table.{Row, table, fits, first_fit, instr_of_word, i_type, r_type, s_type, b_type, u_type, shift, one_word}
@@ -142,15 +142,8 @@ signed_12 x y xlt ylt e = grind arith
 signed_13 : (x y : ℕ) → x < 8192 → y < 8192 → signed 13 x ≡ signed 13 y → x ≡ y
 signed_13 x y xlt ylt e = grind arith
 
-false_is_true : false ≡ true → ⊥
-false_is_true e = cc
-
-and_both : (a b : Bool) → (a && b) ≡ true → (a ≡ true) × (b ≡ true)
-and_both true b e = (refl, e)
-and_both false b e = absurd (false_is_true e)
-
 fit_3 : (f3 op w : ℕ) → ((funct3 w == f3) && (opcode w == op)) ≡ true → (funct3 w ≡ f3) × (opcode w ≡ op)
-fit_3 f3 op w e = let b = and_both (funct3 w == f3) (opcode w == op) e in (eqb-true _ _ b.0, eqb-true _ _ b.1)
+fit_3 f3 op w e = let b = and_parts (funct3 w == f3) (opcode w == op) e in (eqb-true _ _ b.0, eqb-true _ _ b.1)
 
 -- an I-type word
 i_word : (w v : ℕ) → w < 2 ^ 32 → v < 2 ^ 32 → opcode w ≡ opcode v → funct3 w ≡ funct3 v → rd w ≡ rd v → rs1 w ≡ rs1 v → i_immediate w ≡ i_immediate v → w ≡ v
@@ -201,8 +194,8 @@ u_word w v wlt vlt op d imm = omega (arith, wlt, vlt, op, d, imm)
 
 fit_7 : (f7 f3 op w : ℕ) → ((funct7 w == f7) && (funct3 w == f3) && (opcode w == op)) ≡ true → (funct7 w ≡ f7) × (funct3 w ≡ f3) × (opcode w ≡ op)
 fit_7 f7 f3 op w e =
-    let b = and_both ((funct7 w == f7) && (funct3 w == f3)) (opcode w == op) e in
-    let c = and_both (funct7 w == f7) (funct3 w == f3) b.0 in
+    let b = and_parts ((funct7 w == f7) && (funct3 w == f3)) (opcode w == op) e in
+    let c = and_parts (funct7 w == f7) (funct3 w == f3) b.0 in
     (eqb-true _ _ c.0, eqb-true _ _ c.1, eqb-true _ _ b.1)
 
 lui_word : (w v d imm : ℕ) → w < 2 ^ 32 → v < 2 ^ 32 → instr_of_word w ≡ Some (Lui d imm) → instr_of_word v ≡ Some (Lui d imm) → w ≡ v

@@ -1,5 +1,5 @@
 -- Lists of taps that are read number by number.
-use Rattle.std.proofs.Common.{ℕ, zero, suc, ◌+◌, ◌≡◌, ◌<◌, ◌∙◌, List, [], ◌∷◌, ◌++◌, length, map, take, sym, ap, refl, Option, Some, None, option_map, option_and_then, slice_get, arith}
+use Rattle.std.proofs.Common.{ℕ, ◌+◌, ◌≡◌, ◌<◌, ◌∙◌, List, [], ◌∷◌, ◌++◌, length, map, take, sym, ap, refl, Option, Some, None, option_map, option_and_then, slice_get, arith}
 use Rattle.std.proofs.lemmas.List.{map-append, take_all, take_more}
 use Rattle.std.proofs.lemmas.Option.{slice_get-map, slice_get-get_or, slice_get_within, get_or_from_slice_get}
 use Rattle.trace_tap.specs.TapValue.{TapValue}
@@ -7,12 +7,6 @@ use Rattle.trace_tap.specs.TapValue.{TapValue}
 -- a list up to one place more
 next_taken : {X : Type 0} (xs : List X) (i : ℕ) (x : X) → slice_get xs i ≡ Some x → take (i + 1) xs ≡ take i xs ++ x ∷ []
 next_taken xs i x at = take_more xs i x (slice_get_within xs i x at) ∙ ap (λ e. take i xs ++ e ∷ []) (get_or_from_slice_get xs i x x at)
-
--- a list up to its end
-all_taken : {X : Type 0} (xs : List X) (i : ℕ) → None ≡ slice_get xs i → take i xs ≡ xs
-all_taken [] i none = take_all i [] (omega arith)
-all_taken (x ∷ xs) zero none = absurd (cc (none))
-all_taken (x ∷ xs) (suc i) none = ap (λ l. x ∷ l) (all_taken xs i none)
 
 -- the lists of these taps
 abbrev lists_of : List TapValue → List (List ℕ)
@@ -74,8 +68,3 @@ pub next_told : {X : Type 0} (see : X → List ℕ) (lists : List (List ℕ)) (t
     → Some (see list) ≡ slice_get lists tap → after ≡ before ++ list ∷ [] → map see after ≡ take (tap + 1) lists
 next_told see lists tap before after list is at more =
     ap (map see) more ∙ map-append see before (list ∷ []) ∙ ap (λ l. l ++ see list ∷ []) is ∙ sym (next_taken lists tap (see list) (sym at))
-
--- and so were all
-pub all_told : {X : Type 0} (see : X → List ℕ) (lists : List (List ℕ)) (tap : ℕ) (told : List X) → map see told ≡ take tap lists → None ≡ slice_get lists tap
-    → map see told ≡ lists
-all_told see lists tap told is none = is ∙ all_taken lists tap none

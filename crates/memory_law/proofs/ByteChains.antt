@@ -6,8 +6,8 @@ use Rattle.undo_log.specs.declared.access.Access.{Access}
 use Rattle.undo_log.specs.Number.{number_at, after_write, AreBytes}
 use Rattle.memory_law.specs.Accesses.{written_if, after_access, after_accesses, FindsOldValue, Replays, AllLieIn}
 use Rattle.memory_law.specs.ByteChain.{digit, covers, new_digit, byte_events, IsByteChain}
-use Rattle.undo_log.proofs.Proved.{get_or-written_before, get_or-written_behind}
-use Rattle.memory_law.proofs.Bytes.{low_digit, number_at-below}
+use Rattle.undo_log.proofs.Proved.{get_or-written_before, get_or-written_behind, low_digit}
+use Rattle.memory_law.proofs.Bytes.{number_at-below}
 use Rattle.memory_law.proofs.Replays.{length-after_access, AreBytes-after_access}
 
 -- a byte of a written word is its digit

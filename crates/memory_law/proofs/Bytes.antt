@@ -1,12 +1,7 @@
 -- Laws of numbers kept in bytes, beyond those of the log's crate.
-use Rattle.std.proofs.Common.{◌≡◌, ℕ, zero, suc, ◌+◌, ◌*◌, ◌/◌, ◌%◌, ◌^◌, ◌<◌, List, arith}
-use Rattle.std.proofs.Math.Nat.{div-add-mod, pow-suc}
+use Rattle.std.proofs.Common.{ℕ, zero, suc, ◌+◌, ◌^◌, ◌<◌, List, arith}
+use Rattle.std.proofs.Math.Nat.{pow-suc}
 use Rattle.undo_log.specs.Number.{number_at, AreBytes}
-
-pub low_digit : (digit rest : ℕ) → digit < 256 → ((digit + 256 * rest) % 256 ≡ digit) × ((digit + 256 * rest) / 256 ≡ rest)
-low_digit digit rest small =
-    let split = div-add-mod (digit + 256 * rest) 256 in
-    (omega (arith, split), omega (arith, split))
 
 -- a number in so many bytes is below that power of 256
 pub number_at-below : (bytes : List ℕ) (offset width : ℕ) → AreBytes bytes → number_at bytes offset width < 256 ^ width

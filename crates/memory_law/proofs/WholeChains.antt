@@ -5,7 +5,7 @@ use Rattle.memory_law.specs.ByteChain.{byte_events, IsByteChain}
 use Rattle.memory_law.specs.Accesses.{after_accesses}
 use Rattle.memory_law.specs.Tasks.{Logged, logs, undone_set}
 use Rattle.memory_law.specs.Chain.{IsChained, IsReplay}
-use Rattle.memory_law.specs.Laws.{ChainIsReplay, LoadKeepsChain, StoreKeepsChain, AbortKeepsChain, DispatchKeepsChain, CommitKeepsChain, AllLogsUndoneIsSerial, KeyOrderIsOne, UndispatchedIsChained, IdleTasksKeepChain, LatestFirst, LinesShareNoByte, NoConflictIsLeft}
+use Rattle.memory_law.specs.Laws.{ChainIsReplay, LoadKeepsChain, StoreKeepsChain, AbortKeepsChain, DispatchKeepsChain, CommitKeepsChain, AllLogsUndoneIsSerial, UndispatchedIsChained, IdleTasksKeepChain, LatestFirst, LinesShareNoByte, NoConflictIsLeft}
 use Rattle.memory_law.proofs.Joins.{length-after_accesses}
 use Rattle.memory_law.proofs.ByteChains.{room-of_replay, bytes-of_replay, replay-of_bytes}
 use Rattle.memory_law.proofs.Orders.{one_order}
@@ -65,9 +65,6 @@ all_undone_is_serial line tasks ids serial memory by_key chained =
     let replay = to_replay line tasks serial memory chained in
     let same : replay.ids ≡ ids = one_order tasks replay.ids ids replay.by_key by_key in
     subst (λ order. undone_set (λ id. true) tasks order memory ≡ serial) same (all_back line tasks serial memory replay)
-
-pub order_is_one : KeyOrderIsOne
-order_is_one tasks ids others one two = one_order tasks ids others one two
 
 pub undispatched_is_chained : UndispatchedIsChained
 undispatched_is_chained line tasks serial bytes idle = to_chain line tasks serial serial (none_chained line tasks serial bytes idle)

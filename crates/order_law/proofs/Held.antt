@@ -3,10 +3,9 @@ use Rattle.std.proofs.Common.{◌≡◌, ◌⊎◌, ℕ, zero, suc, ◌+◌, ◌
 use Rattle.std.proofs.lemmas.Bool.{cases_eq}
 use Rattle.std.proofs.lemmas.Cmp.{tied_itself}
 use Rattle.std.specs.Ordering.{is_lt}
-use Rattle.std.specs.declared.cmp.Ordering.{Ordering}
-use Rattle.std.specs.declared.cmp.Ordering.TheVariants.{Less, Equal, Greater}
+use Rattle.std.specs.declared.cmp.Ordering.TheVariants.{Less}
 use Rattle.fractal_vt.specs.Levels.{Open, level_cmp, levels_cmp}
-use Rattle.fractal_vt.proofs.Proved.{levels_cmp_total}
+use Rattle.fractal_vt.proofs.Proved.{levels_cmp_total, less_from}
 use Rattle.order_law.specs.Tasks.{Keyed, levels_of, HasNumber, Kin}
 use Rattle.order_law.specs.Ordered.{IsNumberOf, HasCreator, IsOrdered}
 use Rattle.order_law.specs.Laws.{DomainNumbersAreHeld}
@@ -57,15 +56,10 @@ abbrev is_below : Keyed → Option Keyed → Bool
 is_below task None = false
 is_below task (Some x) = is_lt (levels_cmp (levels_of x) (levels_of task))
 
-lt_of : (o : Ordering) → is_lt o ≡ true → o ≡ Less
-lt_of Less is = refl
-lt_of Equal is = absurd (cc (is))
-lt_of Greater is = absurd (cc (is))
-
 below_more : (low task : Keyed) → levels_cmp (levels_of low) (levels_of task) ≡ Less → (o : Option Keyed) → is_below low o ≡ true → is_below task o ≡ true
 below_more low task less None is = is
 below_more low task less (Some x) is =
-    ap is_lt (levels_cmp_total.trans (levels_of x) (levels_of low) (levels_of task) (lt_of (levels_cmp (levels_of x) (levels_of low)) is) less)
+    ap is_lt (levels_cmp_total.trans (levels_of x) (levels_of low) (levels_of task) (less_from (levels_cmp (levels_of x) (levels_of low)) is) less)
 
 -- the last level of a domain aside, its numbers are those of the domain
 number_in_front : (xs : List Open) (l : Open) (n : ℕ) → IsNumberOf n xs → IsNumberOf n (xs ++ l ∷ [])

@@ -1,10 +1,9 @@
 -- The least task stands in the innermost domain that has a task of a committed creator, at the least timestamp of its depth.
-use Rattle.std.proofs.Common.{◌≡◌, ℕ, ◌<◌, List, [], ◌∷◌, length, Option, Some, None, refl, sym, ap, ◌∙◌, inl, inr, arith}
+use Rattle.std.proofs.Common.{◌≡◌, ℕ, List, [], ◌∷◌, length, Option, Some, None, refl, sym, ap, ◌∙◌, inl, inr, arith}
 use Rattle.std.proofs.lemmas.Bool.{cases_lt}
-use Rattle.std.proofs.lemmas.Bool.Decides.{nat_tests}
-use Rattle.std.specs.Ordering.{nat_cmp, ordering_then, ordering_reverse}
+use Rattle.std.specs.Ordering.{ordering_then, ordering_reverse}
 use Rattle.std.specs.declared.cmp.Ordering.TheVariants.{Less, Greater}
-use Rattle.fractal_vt.proofs.Proved.{deeper_is_less, level_cmp_total, levels_cmp_total, same_depth}
+use Rattle.fractal_vt.proofs.Proved.{deeper_is_less, level_cmp_total, levels_cmp_total, same_depth, greater_number}
 use Rattle.fractal_vt.specs.Levels.{Open, tie_cmp, level_cmp, levels_cmp}
 use Rattle.fractal_vt.specs.Paths.{OnPath}
 use Rattle.order_law.specs.Tasks.{Keyed, levels_of}
@@ -15,9 +14,6 @@ use Rattle.order_law.specs.Innermost.{IsInnermost}
 -- what is less is not greater
 turned : (a b : List Open) → levels_cmp b a ≡ Less → levels_cmp a b ≡ Greater
 turned a b less = levels_cmp_total.antisymm a b ∙ ap ordering_reverse less
-
-late_is_greater : (a b : ℕ) → b < a → nat_cmp a b ≡ Greater
-late_is_greater a b less = grind (arith, nat_tests)
 
 module _ (tasks : ℕ → Option Keyed) (path : List Open) (next id : ℕ) (task : Keyed) (ordered : IsOrdered tasks path next) (least : IsLeastInKeys tasks id task) where
   committed : task.creator ≡ None
@@ -42,7 +38,7 @@ module _ (tasks : ℕ → Option Keyed) (path : List Open) (next id : ℕ) (task
         earliest = λ k x at free same. elim (cases_lt x.last.ts task.last.ts) [
           | inl earlier ↦ absurd (least.least k x at (
               same_depth level_cmp level_cmp_total path task.domain x.domain task.last x.last (ordered.on_path id task least.there committed) (ordered.on_path k x at free) (sym same)
-              ∙ ap (λ o. ordering_then o (tie_cmp task.last.tb x.last.tb)) (late_is_greater task.last.ts x.last.ts earlier)))
+              ∙ ap (λ o. ordering_then o (tie_cmp task.last.tb x.last.tb)) (greater_number task.last.ts x.last.ts earlier)))
           | inr upto ↦ upto
         ];
       }

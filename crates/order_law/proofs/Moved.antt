@@ -1,6 +1,7 @@
 -- A spill and its return keep the order: tasks that are no creators only change their ids.
 use Rattle.std.proofs.Common.{◌≡◌, ◌⊎◌, ℕ, ◌+◌, ◌-◌, ◌<◌, Bool, true, false, List, Option, Some, ap, ◌∙◌, inl, inr, arith, slice_get, if◌then◌else◌, nat_lt}
 use Rattle.std.proofs.lemmas.Bool.Decides.{nat_tests}
+use Rattle.std.proofs.lemmas.Bool.{lt-ltb}
 use Rattle.fractal_vt.specs.Levels.{Open}
 use Rattle.order_law.specs.Tasks.{Keyed, HasNumber}
 use Rattle.order_law.specs.Ordered.{IsOrdered}
@@ -27,10 +28,8 @@ rename_keeps_order old new path next renames ordered =
       on_path = λ k x at parent. (let f = renames.from k x at in ordered.on_path f.0 x f.1 parent);
     }
 
-low_test : (k bound : ℕ) → k < bound → nat_lt k bound ≡ true
-low_test k bound low = grind (arith, nat_tests)
-
-high_test : (bound j : ℕ) → nat_lt (bound + j) bound ≡ false
+-- an id from the bound on fails the test for it
+pub high_test : (bound j : ℕ) → nat_lt (bound + j) bound ≡ false
 high_test bound j = grind (arith, nat_tests)
 
 -- what is there is a task or an entry
@@ -43,7 +42,7 @@ module _ (bound : ℕ) (tasks : ℕ → Option Keyed) (entries : List Keyed) whe
       by_test false e = inr (k - bound, e)
 
   task_there : (k : ℕ) (x : Keyed) → k < bound → tasks k ≡ Some x → beside bound tasks entries k ≡ Some x
-  task_there k x low at = ap (λ b. if b then tasks k else slice_get entries (k - bound)) (low_test k bound low) ∙ at
+  task_there k x low at = ap (λ b. if b then tasks k else slice_get entries (k - bound)) (lt-ltb k bound low) ∙ at
 
   entry_there : (x : Keyed) → IsAmongSpilled x entries → (j : ℕ) × (beside bound tasks entries j ≡ Some x)
   entry_there x is =

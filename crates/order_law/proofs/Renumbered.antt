@@ -36,10 +36,6 @@ pub map_append : {X : Type 0} (g : X → X) (xs ys : List X) → map g (xs ++ ys
 map_append g [] ys = refl
 map_append g (x ∷ xs) ys = ap (λ zs. g x ∷ zs) (map_append g xs ys)
 
-each_more : {X : Type 0} (Ok : X → Type 0) (xs : List X) (y : X) → AllByRecursion Ok xs → Ok y → AllByRecursion Ok (xs ++ y ∷ [])
-each_more Ok [] y each ok = (ok, tt)
-each_more Ok (x ∷ xs) y each ok = (each.0, each_more Ok xs y each.1 ok)
-
 each_front : {X : Type 0} (Ok : X → Type 0) (xs : List X) (y : X) → AllByRecursion Ok (xs ++ y ∷ []) → AllByRecursion Ok xs × Ok y
 each_front Ok [] y each = (tt, each.0)
 each_front Ok (x ∷ xs) y each = let rest = each_front Ok xs y each.1 in ((each.0, rest.0), rest.1)

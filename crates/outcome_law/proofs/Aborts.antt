@@ -5,7 +5,7 @@ use Rattle.abort_cascade.specs.Cascade.{Reached, start, step, IsLeastClosed, Onl
 use Rattle.line_table.specs.Note.{Meet}
 use Rattle.fractal_vt.specs.Keys.{levels}
 use Rattle.memory_law.specs.Tasks.{Logged, In, Ascends, IsByKey, Earlier, log_of, undone_set}
-use Rattle.memory_law.proofs.WholeChains.{order_is_one}
+use Rattle.memory_law.proofs.Orders.{one_order}
 use Rattle.task_law.specs.Room.{RoomTask, queue_after}
 use Rattle.undo_log.specs.Undo.{undone}
 use Rattle.spec_state.specs.declared.task.Creator.{Creator}
@@ -167,7 +167,7 @@ module _ (r : Renaming) (a b : View) (alike : AreAlike r a b) where
   -- what is left where the stores of some tasks are taken back is one memory
   pub undone_alike : (sa sb : ℕ → Bool) → ((k : ℕ) → sb (r.to k) ≡ sa k) → (m m' : List ℕ) → IsUndone a sa m → IsUndone b sb m' → m' ≡ m
   undone_alike sa sb such m m' one two =
-      let ids : two.ids ≡ map r.to one.ids = order_is_one (logged_tasks b) two.ids (map r.to one.ids) two.by_key (by_key_too r (logged_tasks a) (logged_tasks b) logged_too one.ids one.by_key) in
+      let ids : two.ids ≡ map r.to one.ids = one_order (logged_tasks b) two.ids (map r.to one.ids) two.by_key (by_key_too r (logged_tasks a) (logged_tasks b) logged_too one.ids one.by_key) in
       let memory : b.memory ≡ a.memory = ap (λ v. v.memory) alike.frame in
       two.memory_is ∙ ((λ i. undone_set sb (logged_tasks b) (ids i) (memory i)) ∙ (undone_too r (logged_tasks a) (logged_tasks b) logged_too sa sb such one.ids a.memory ∙ sym one.memory_is))
 

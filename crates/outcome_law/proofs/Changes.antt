@@ -1,6 +1,6 @@
 -- The one change of an event leaves views that are alike.
-use Rattle.std.proofs.Common.{◌≡◌, ◌≢◌, ◌≤◌, ◌<◌, ◌+◌, ◌++◌, ℕ, Bool, true, false, List, [], ◌∷◌, map, set, length, Option, Some, None, option_map, refl, sym, ap, subst, ◌∙◌, inl, inr, ◌⊎◌, arith, cond}
-use Rattle.std.specs.Prelude.{slice_get, slice_index_or, slice_set, Contains}
+use Rattle.std.proofs.Common.{◌≡◌, ◌+◌, ◌++◌, ℕ, List, [], ◌∷◌, map, Option, Some, None, option_map, sym, ap, subst, ◌∙◌, inl, inr, arith}
+use Rattle.std.specs.Prelude.{slice_index_or, slice_set}
 use Rattle.std.proofs.lemmas.Bool.{cases_eq}
 use Rattle.std.proofs.lemmas.List.{map-set, map-append}
 use Rattle.memory_law.specs.Notes.{notes_of}
@@ -9,14 +9,15 @@ use Rattle.rv_core.specs.LegValue.{LegValue}
 use Rattle.undo_log.specs.Undo.{MemoryCall, access_of, after_call}
 use Rattle.spec_state.specs.declared.task.Status.TheVariants as status
 use Rattle.spec_state.specs.declared.task.Task.{Task}
-use Rattle.spec_state.specs.View.{View, task_at, queue_at, finished_at, cores_at, ChangesTask}
-use Rattle.spec_state.specs.Changes.{Dispatches, Keeps, Accesses, Finishes, Commits, creator_after, after_commit, with_core, task_past_leg}
+use Rattle.spec_state.specs.View.{View, task_at, cores_at, ChangesTask}
+use Rattle.spec_state.specs.Changes.{Dispatches, Keeps, Accesses, Finishes, with_core, task_past_leg}
 use Rattle.spec_state.specs.Tasks.{start_core}
-use Rattle.spec_state.specs.Filters.{Lines, HasNotes}
-use Rattle.outcome_law.specs.Alike.{Renaming, inverse_of, renamed_creator, IsAlikeTask, IsAlikeAt, AreAlike}
-use Rattle.outcome_law.proofs.Alike.{Partner, partner, none_there, alike_turned}
-use Rattle.outcome_law.proofs.Leasts.{index_mapped, queue_too, finished_too, cores_too, firm_too, precedes_too}
-use Rattle.outcome_law.proofs.Queries.{Too, least_idle_too, lowest_free_too}
+use Rattle.spec_state.specs.Filters.{HasNotes}
+use Rattle.spec_state.proofs.Proved.{map_at}
+use Rattle.outcome_law.specs.Alike.{Renaming, IsAlikeTask, IsAlikeAt, AreAlike}
+use Rattle.outcome_law.proofs.Alike.{partner}
+use Rattle.outcome_law.proofs.Leasts.{cores_too}
+use Rattle.outcome_law.proofs.Queries.{least_idle_too, lowest_free_too}
 use Rattle.outcome_law.proofs.Picks.{least_idle_one, lowest_free_one, task_one}
 use Rattle.outcome_law.proofs.Aborts.{one_to}
 
@@ -116,7 +117,7 @@ module _ (r : Renaming) (a b : View) (alike : AreAlike r a b) where
   pub ended_alike : (lists lists' : List (List ℕ)) → lists' ≡ map (map r.to) lists → (tile id : ℕ)
       → slice_set lists' tile (slice_index_or lists' tile [] ++ r.to id ∷ []) ≡ map (map r.to) (slice_set lists tile (slice_index_or lists tile [] ++ id ∷ []))
   ended_alike lists lists' same tile id =
-      let own : slice_index_or lists' tile [] ≡ map r.to (slice_index_or lists tile []) = ap (λ (qs : List (List ℕ)). slice_index_or qs tile []) same ∙ index_mapped (map r.to) lists tile [] in
+      let own : slice_index_or lists' tile [] ≡ map r.to (slice_index_or lists tile []) = ap (λ (qs : List (List ℕ)). slice_index_or qs tile []) same ∙ map_at (map r.to) lists tile [] in
       (λ i. slice_set (same i) tile (own i ++ r.to id ∷ []))
       ∙ (ap (slice_set (map (map r.to) lists) tile) (sym (map-append r.to (slice_index_or lists tile []) (id ∷ [])))
       ∙ sym (map-set (map r.to) lists tile (slice_index_or lists tile [] ++ id ∷ [])))

@@ -1,40 +1,17 @@
 -- The tasks that a coalescing moves are one list.
-use Rattle.std.proofs.Common.{◌≡◌, ◌≢◌, ◌≤◌, ◌<◌, ◌+◌, zero, suc, ℕ, Bool, true, false, List, [], ◌∷◌, map, length, Option, Some, None, option_map, refl, sym, ap, subst, ◌∙◌, inl, inr, ◌⊎◌, arith}
-use Rattle.std.specs.Prelude.{slice_get, slice_index_or, Contains, AllPairs}
+use Rattle.std.proofs.Common.{◌≡◌, ◌≢◌, ◌≤◌, ◌<◌, suc, ℕ, List, [], ◌∷◌, length, refl, sym, ap, subst, ◌∙◌, inl, inr, ◌⊎◌, arith}
+use Rattle.std.specs.Prelude.{AllPairs}
 use Rattle.std.proofs.lemmas.Bool.{cases_eq, cases_lt}
-use Rattle.std.proofs.lemmas.List.{length-map}
 use Rattle.std.proofs.lemmas.List.Elements.{All-contains}
-use Rattle.fractal_vt.proofs.Proved.{AllPairs-head, AllPairs-tail, AllPairs-map}
+use Rattle.fractal_vt.proofs.Proved.{AllPairs-head, AllPairs-tail}
 use Rattle.memory_law.specs.Tasks.{In}
-use Rattle.spec_law.proofs.Tasks.Places.{contains_get, get_contains}
-use Rattle.spec_state.specs.declared.task.Task.{Task}
+use Rattle.spec_law.proofs.Proved.{contains_in, in_contains, not_both_ways}
 use Rattle.spec_state.specs.declared.reserving.TheConstants.{MAX_MOVED}
-use Rattle.spec_state.specs.View.{View, task_at, queue_at}
+use Rattle.spec_state.specs.View.{View}
 use Rattle.spec_state.specs.Least.{Precedes}
 use Rattle.spec_state.specs.Room.{IsMovable, AreChosen}
-use Rattle.outcome_law.specs.Alike.{Renaming, inverse_of, renamed_creator, IsAlikeTask, IsAlikeAt, AreAlike}
-use Rattle.outcome_law.proofs.Alike.{Partner, partner, none_there, alike_turned}
-use Rattle.outcome_law.proofs.Leasts.{precedes_too}
-use Rattle.outcome_law.proofs.Queries.{Too, idle_firm_too}
-use Rattle.outcome_law.proofs.Picks.{not_both_ways}
 
 -- ---- the two words for an element
-
-pub get_in : {X : Type 0} (xs : List X) (p : ℕ) (x : X) → slice_get xs p ≡ Some x → In x xs
-get_in [] p x at = absurd (cc (at))
-get_in (y ∷ xs) zero x at = let same : y ≡ x = cc in inl (sym same)
-get_in (y ∷ xs) (suc p) x at = inr (get_in xs p x at)
-
-pub in_get : {X : Type 0} (xs : List X) (x : X) → In x xs → (p : ℕ) × (slice_get xs p ≡ Some x)
-in_get [] x at = absurd at
-in_get (y ∷ xs) x (inl here) = (zero, ap Some (sym here))
-in_get (y ∷ xs) x (inr later) = let rest = in_get xs x later in (suc rest.0, rest.1)
-
-pub has_in : {X : Type 0} (xs : List X) (x : X) → Contains xs x → In x xs
-has_in xs x has = let at = contains_get xs x has in get_in xs at.0 x at.1
-
-pub in_has : {X : Type 0} (xs : List X) (x : X) → In x xs → Contains xs x
-in_has xs x is = let at = in_get xs x is in get_contains xs at.0 x at.1
 
 pub in_or_not : (x : ℕ) (xs : List ℕ) → In x xs ⊎ (In x xs → ⊥)
 in_or_not x [] = inr (λ at. at)
@@ -100,7 +77,7 @@ module _ (M : ℕ → Type 0) (P : ℕ → ℕ → Type 0) (asym : (x y : ℕ) �
   pub rises : (xs : List ℕ) → AllPairs P xs → Rises xs
   unfolding Rises
   rises [] pairs = tt
-  rises (x ∷ xs) pairs = ((λ y at. All-contains (P x) xs y (AllPairs-head P x xs pairs) (in_has xs y at)), rises xs (AllPairs-tail P x xs pairs))
+  rises (x ∷ xs) pairs = ((λ y at. All-contains (P x) xs y (AllPairs-head P x xs pairs) (in_contains xs y at)), rises xs (AllPairs-tail P x xs pairs))
 
   apart : (xs : List ℕ) → ((x : ℕ) → In x xs → M x) → Rises xs → AreApart xs
   unfolding Rises AreApart
@@ -177,10 +154,10 @@ module _ (view : View) (tile : ℕ) where
 
   are_last : (ids : List ℕ) → AreChosen view tile ids → AreLast (IsMovable view tile) (Precedes view tile) movable_apart MAX_MOVED ids
   are_last ids c = record {
-    movable = λ x at. c.movable x (in_has ids x at);
+    movable = λ x at. c.movable x (in_contains ids x at);
     few = c.few;
-    all = λ less x movable. has_in ids x (c.all less x movable);
-    latest = λ stays x movable none at. c.latest stays x movable (λ has. none (has_in ids stays has)) (in_has ids x at);
+    all = λ less x movable. contains_in ids x (c.all less x movable);
+    latest = λ stays x movable none at. c.latest stays x movable (λ has. none (contains_in ids stays has)) (in_contains ids x at);
     rising = rises (IsMovable view tile) (Precedes view tile) movable_apart ids c.rising;
   }
 

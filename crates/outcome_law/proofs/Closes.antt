@@ -1,23 +1,17 @@
--- Histories of the same events, and what is left where they are closed, are one.
-use Rattle.std.proofs.Common.{◌≡◌, ◌≢◌, ◌<◌, zero, suc, ℕ, Bool, true, false, List, [], ◌∷◌, map, refl, sym, ap, subst, ◌∙◌, inl, inr, ◌⊎◌, arith}
-use Rattle.std.specs.Prelude.{All}
+-- The same events on sound books that are alike, and as many events for the least tasks, leave books that are alike,
+-- the former with the same answers; and closed, such books leave the same.
+use Rattle.std.proofs.Common.{◌≡◌, zero, suc, ℕ, true, [], ◌∷◌, refl, sym, ap, subst, ◌∙◌, arith}
 use Rattle.std.specs.List.{AllByRecursion}
 use Rattle.guest_image.specs.ImageValue.{ImageValue}
-use Rattle.run_journal.specs.declared.closed.Closed.{Closed}
-use Rattle.spec_state.specs.View.{View}
 use Rattle.spec_law.specs.Sound.{Sound}
-use Rattle.event_def.specs.declared.event.Applied.{Applied}
-use Rattle.event_def.specs.declared.event.Event.{Event}
 use Rattle.event_def.specs.declared.event.Reply.TheVariants as reply
 use Rattle.event_def.specs.Advancing.{AdvancesBy}
 use Rattle.event_def.specs.Book.{BookView}
-use Rattle.event_def.specs.Closing.{Closes}
 use Rattle.event_def.specs.Events.{IsGiven}
-use Rattle.event_def.specs.Happens.{Happens, HappenAll}
+use Rattle.event_def.specs.Happens.{Happens}
 use Rattle.event_law.proofs.Keeps.Events.{event_stays_sound, happens_keeps}
 use Rattle.event_law.proofs.Given.{next_event_is_given}
-use Rattle.outcome_law.specs.Alike.{Renaming, AreAlike, AreAlikeBooks}
-use Rattle.outcome_law.specs.Laws.{AreSameBooks, IsSameOutcome, HasMemory, HistoryIsOne, LeastRunIsOne, CloseIsOne}
+use Rattle.outcome_law.specs.Laws.{AreSameBooks, HistoryIsOne, LeastRunIsOne, CloseIsOne}
 use Rattle.outcome_law.proofs.Aborts.{undone_alike}
 use Rattle.outcome_law.proofs.Nexts.{next_one}
 use Rattle.outcome_law.proofs.Outcomes.{outcome_is_one}
@@ -45,13 +39,13 @@ history_is_one N image old other new other_new [] [] (y ∷ ys) sound sound' sam
 history_is_one N image old other new other_new (e ∷ es) [] ys sound sound' same given has has' one two = absurd one
 history_is_one N image old other new other_new (e ∷ es) (x ∷ xs) [] sound sound' same given has has' one two = absurd two
 
--- runs of the least tasks
-least_runs : (N : Type 0) (image : ImageValue) (n : ℕ) (old other new other_new : BookView) → Sound image old.view → Sound image other.view → AreSameBooks old other
+-- as many events for the least tasks leave sound books that are alike, as the next event needs
+least_runs_keep : (N : Type 0) (image : ImageValue) (n : ℕ) (old other new other_new : BookView) → Sound image old.view → Sound image other.view → AreSameBooks old other
     → AdvancesBy N image n old new → AdvancesBy N image n other other_new → AreSameBooks new other_new × Sound image new.view × Sound image other_new.view
-least_runs N image zero old other new other_new sound sound' same one two =
+least_runs_keep N image zero old other new other_new sound sound' same one two =
     subst (λ (x : BookView). AreSameBooks x other_new × Sound image x.view × Sound image other_new.view) one (subst (λ (y : BookView). AreSameBooks old y × Sound image old.view × Sound image y.view) two (same, sound, sound'))
-least_runs N image (suc n) old other new other_new sound sound' same one two =
-    let before = least_runs N image n old other one.0 two.0 sound sound' same one.2 two.2 in
+least_runs_keep N image (suc n) old other new other_new sound sound' same one two =
+    let before = least_runs_keep N image n old other one.0 two.0 sound sound' same one.2 two.2 in
     let e = one.3.event in
     let events : two.3.event ≡ e = next_one image before.0.0 one.0.view two.0.view before.0.1.view e two.3.event one.3.next.least two.3.next.least in
     let happens' = subst (λ f. Happens two.0 f reply.Ok two.1 other_new) events two.3.happens in
@@ -62,4 +56,4 @@ least_runs N image (suc n) old other new other_new sound sound' same one two =
     )
 
 pub least_run_is_one : (N : Type 0) → LeastRunIsOne N
-least_run_is_one N image n old other new other_new sound sound' same one two = (least_runs N image n old other new other_new sound sound' same one two).0
+least_run_is_one N image n old other new other_new sound sound' same one two = (least_runs_keep N image n old other new other_new sound sound' same one two).0

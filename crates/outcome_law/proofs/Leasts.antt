@@ -1,7 +1,7 @@
 -- Views that are alike have the same least task, the same heir, and the same ends.
-use Rattle.std.proofs.Common.{◌≡◌, ◌≤◌, ◌+◌, zero, suc, ℕ, List, [], ◌∷◌, map, length, Option, Some, None, option_map, true, refl, sym, ap, subst, ◌∙◌, inl, inr, ◌⊎◌}
+use Rattle.std.proofs.Common.{◌≡◌, ◌≤◌, ◌+◌, ℕ, List, [], map, length, Option, Some, option_map, sym, ap, subst, ◌∙◌, inl, inr}
 use Rattle.std.specs.Prelude.{slice_get, slice_index_or}
-use Rattle.std.specs.declared.cmp.Ordering.TheVariants.{Less, Greater}
+use Rattle.std.specs.declared.cmp.Ordering.TheVariants.{Less}
 use Rattle.std.proofs.lemmas.Option.{slice_get-map}
 use Rattle.fractal_vt.specs.declared.key.Key.{Key}
 use Rattle.run_journal.specs.declared.end.End.{End}
@@ -10,19 +10,14 @@ use Rattle.task_desc.specs.declared.desc.Name.{Name}
 use Rattle.spec_state.specs.declared.task.Creator.{Creator}
 use Rattle.spec_state.specs.declared.task.Creator.TheVariants.{Committed, Live}
 use Rattle.spec_state.specs.declared.task.Task.{Task}
-use Rattle.spec_state.specs.View.{View, task_at, queue_at, finished_at, cores_at, block_at}
+use Rattle.spec_state.specs.View.{View, queue_at, finished_at, cores_at, block_at}
 use Rattle.spec_state.specs.Tasks.{is_dispatched}
 use Rattle.spec_state.specs.Least.{Spot, Queued, Spilled_at, IsQueuedAt, HasKey, ranked_cmp, IsLeastSpot, IsLeastTask, IsTheLeast, IsLeastSpilled, IsAllCommitted, IsHeir, IsFirm, HasName, Precedes}
+use Rattle.spec_state.proofs.Proved.{map_at}
 use Rattle.event_def.specs.End.{HasEnd, IsOver, LeastIsTrapped}
-use Rattle.outcome_law.specs.Alike.{Renaming, inverse_of, renamed_creator, IsAlikeTask, IsAlikeAt, AreAlike}
+use Rattle.outcome_law.specs.Alike.{Renaming, inverse_of, renamed_creator, IsAlikeTask, AreAlike}
 use Rattle.outcome_law.specs.Laws.{EndIsAlike}
-use Rattle.outcome_law.proofs.Alike.{Partner, partner, none_there, alike_turned}
-
--- what stands at a place of a mapped list
-pub index_mapped : {X Y : Type 0} (f : X → Y) (xs : List X) (k : ℕ) (d : X) → slice_index_or (map f xs) k (f d) ≡ f (slice_index_or xs k d)
-index_mapped f [] k d = refl
-index_mapped f (x ∷ xs) zero d = refl
-index_mapped f (x ∷ xs) (suc k) d = index_mapped f xs k d
+use Rattle.outcome_law.proofs.Alike.{partner, alike_turned}
 
 -- a task stands at the place, and its partner there
 pub record QueuedToo (r : Renaming) (b : View) (tile place k : ℕ) (x : Task) : Type 0 where
@@ -38,13 +33,13 @@ pub record LeastToo (r : Renaming) (b : View) (id : ℕ) (x : Task) : Type 0 whe
 
 module _ (r : Renaming) (a b : View) (alike : AreAlike r a b) where
   pub queue_too : (tile : ℕ) → queue_at b tile ≡ map r.to (queue_at a tile)
-  queue_too tile = ap (λ (qs : List (List ℕ)). slice_index_or qs tile []) alike.queues ∙ index_mapped (map r.to) a.queues tile []
+  queue_too tile = ap (λ (qs : List (List ℕ)). slice_index_or qs tile []) alike.queues ∙ map_at (map r.to) a.queues tile []
 
   pub finished_too : (tile : ℕ) → finished_at b tile ≡ map r.to (finished_at a tile)
-  finished_too tile = ap (λ (qs : List (List ℕ)). slice_index_or qs tile []) alike.finished ∙ index_mapped (map r.to) a.finished tile []
+  finished_too tile = ap (λ (qs : List (List ℕ)). slice_index_or qs tile []) alike.finished ∙ map_at (map r.to) a.finished tile []
 
   pub cores_too : (tile : ℕ) → cores_at b tile ≡ map (option_map r.to) (cores_at a tile)
-  cores_too tile = ap (λ (qs : List (List (Option ℕ))). slice_index_or qs tile []) alike.cores ∙ index_mapped (map (option_map r.to)) a.cores tile []
+  cores_too tile = ap (λ (qs : List (List (Option ℕ))). slice_index_or qs tile []) alike.cores ∙ map_at (map (option_map r.to)) a.cores tile []
 
   pub block_too : (tile : ℕ) → block_at b tile ≡ block_at a tile
   block_too tile = ap (λ v. block_at v tile) alike.frame

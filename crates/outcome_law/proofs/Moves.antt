@@ -1,37 +1,33 @@
 -- Tasks that move between queues and blocks leave views that are alike.
-use Rattle.std.proofs.Common.{◌≡◌, ◌≢◌, ◌≤◌, ◌<◌, ◌+◌, ◌++◌, zero, suc, ℕ, Bool, true, false, List, [], ◌∷◌, map, take, length, Option, Some, None, option_map, is_some, refl, sym, ap, subst, ◌∙◌, inl, inr, ◌⊎◌, arith}
-use Rattle.std.specs.Prelude.{slice_get, slice_index_or, slice_set, Contains, AllPairs}
+use Rattle.std.proofs.Common.{◌≡◌, ◌≤◌, ◌<◌, ℕ, List, [], ◌∷◌, map, None, option_map, refl, sym, ap, subst, ◌∙◌, inl, inr, arith}
+use Rattle.std.specs.Prelude.{slice_set, Contains}
 use Rattle.std.specs.List.{AllZip}
-use Rattle.std.specs.Ordering.{ordering_reverse}
-use Rattle.std.specs.declared.cmp.Ordering.TheVariants.{Less, Equal, Greater}
 use Rattle.std.proofs.lemmas.List.{length-map}
-use Rattle.std.proofs.lemmas.List.Elements.{All-contains, All-contains_itself}
-use Rattle.fractal_vt.specs.Keys.{key_cmp}
-use Rattle.fractal_vt.specs.Least.{IsFirstLeast}
-use Rattle.fractal_vt.proofs.Proved.{AllPairs-map, key_cmp_total}
-use Rattle.spill_store.specs.SpilledTasks.{Spilled, open_key, IsLeastInBlock, TakesLeast}
+use Rattle.std.proofs.lemmas.List.Elements.{All-contains_itself}
+use Rattle.fractal_vt.proofs.Proved.{AllPairs-map}
+use Rattle.spill_store.specs.SpilledTasks.{Spilled}
 use Rattle.spill_store.specs.Pushing.{after_pushes}
-use Rattle.task_law.specs.Room.{RoomTask, queue_after}
+use Rattle.task_law.specs.Room.{queue_after}
 use Rattle.task_desc.specs.declared.desc.Name.{Name}
 use Rattle.memory_law.specs.Tasks.{In}
 use Rattle.spec_state.specs.declared.task.Creator.{Creator}
 use Rattle.spec_state.specs.declared.task.Creator.TheVariants.{Committed, Live}
 use Rattle.spec_state.specs.declared.task.Task.{Task}
 use Rattle.spec_state.specs.declared.reserving.TheConstants.{MAX_MOVED}
-use Rattle.spec_state.specs.View.{View, task_at, queue_at, block_at}
+use Rattle.spec_state.specs.View.{View, task_at}
 use Rattle.spec_state.specs.Tasks.{descriptor_of, spilled_as}
-use Rattle.spec_state.specs.Groups.{room_tasks, room_task}
-use Rattle.spec_state.specs.Least.{Queued, IsLeastTask, IsHeir, HasName, Precedes}
+use Rattle.spec_state.specs.Groups.{room_tasks}
+use Rattle.spec_state.specs.Least.{HasName, Precedes}
 use Rattle.spec_state.specs.Room.{IsMovable, AreChosen, IsSpilledAs, Coalesces}
-use Rattle.spec_law.proofs.Tasks.Places.{get_contains, contains_get}
-use Rattle.outcome_law.specs.Alike.{Renaming, inverse_of, renamed_creator, IsAlikeTask, IsAlikeAt, AreAlike}
-use Rattle.outcome_law.proofs.Alike.{Partner, partner, none_there, alike_turned}
+use Rattle.spec_law.proofs.Proved.{contains_in, in_contains}
+use Rattle.outcome_law.specs.Alike.{Renaming, inverse_of, renamed_creator, IsAlikeAt, AreAlike}
+use Rattle.outcome_law.proofs.Alike.{partner, alike_turned}
 use Rattle.outcome_law.proofs.Aborts.{was_in, in_renamed, one_to, waiting_same}
 use Rattle.outcome_law.proofs.Leasts.{block_too, precedes_too, name_too}
 use Rattle.outcome_law.proofs.Lists.{contains_mapped, map_same, left_mapped}
-use Rattle.outcome_law.proofs.Queries.{Too, idle_firm_too}
+use Rattle.outcome_law.proofs.Queries.{idle_firm_too}
 use Rattle.outcome_law.proofs.Picks.{task_one}
-use Rattle.outcome_law.proofs.Chosen.{has_in, in_has, in_or_not, chosen_are_one}
+use Rattle.outcome_law.proofs.Chosen.{in_or_not, chosen_are_one}
 
 module _ (r : Renaming) (a b : View) (alike : AreAlike r a b) (tile : ℕ) where
   pub movable_too : (k : ℕ) → IsMovable a tile k → IsMovable b tile (r.to k)
@@ -43,11 +39,11 @@ module _ (r : Renaming) (a b : View) (alike : AreAlike r a b) (tile : ℕ) where
       let way_back : (k : ℕ) → IsMovable b tile k → IsMovable a tile (r.from k) = movable_too (inverse_of r) b a (alike_turned r a b alike) tile in
       let forth : (k : ℕ) → Contains ids (r.from k) → Contains (map r.to ids) k = λ k has. subst (Contains (map r.to ids)) (r.forth k) (contains_mapped r.to ids (r.from k) has) in
       record {
-        movable = λ k has. (let w = was_in r.to k ids (has_in (map r.to ids) k has) in subst (IsMovable b tile) (sym w.2) (movable_too r a b alike tile w.0 (c.movable w.0 (in_has ids w.0 w.1))));
+        movable = λ k has. (let w = was_in r.to k ids (contains_in (map r.to ids) k has) in subst (IsMovable b tile) (sym w.2) (movable_too r a b alike tile w.0 (c.movable w.0 (in_contains ids w.0 w.1))));
         few = subst (λ n. n ≤ MAX_MOVED) (sym (length-map ids r.to)) c.few;
         all = λ less k movable. forth k (c.all (subst (λ n. n < MAX_MOVED) (length-map ids r.to) less) (r.from k) (way_back k movable));
-        latest = λ stays k movable none has. (let w = was_in r.to k ids (has_in (map r.to ids) k has) in
-            let before = precedes_too r a b alike tile (r.from stays) w.0 (c.latest (r.from stays) w.0 (way_back stays movable) (λ h. none (forth stays h)) (in_has ids w.0 w.1)) in
+        latest = λ stays k movable none has. (let w = was_in r.to k ids (contains_in (map r.to ids) k has) in
+            let before = precedes_too r a b alike tile (r.from stays) w.0 (c.latest (r.from stays) w.0 (way_back stays movable) (λ h. none (forth stays h)) (in_contains ids w.0 w.1)) in
             subst (λ s. Precedes b tile s k) (r.forth stays) (subst (λ j. Precedes b tile (r.to (r.from stays)) j) (sym w.2) before));
         rising = AllPairs-map (Precedes a tile) (Precedes b tile) (Contains ids) r.to (λ k j in_k in_j before. precedes_too r a b alike tile k j before) ids (All-contains_itself ids) c.rising;
       }
@@ -81,10 +77,10 @@ module _ (r : Renaming) (a b : View) (alike : AreAlike r a b) where
       let ids : two.ids ≡ map r.to one.ids = chosen_are_one b tile two.ids (map r.to one.ids) two.chosen (chosen_too r a b alike tile one.ids one.chosen) in
       let moved : two.moved ≡ one.moved = all_same one.ids one.moved two.moved one.spilled (subst (λ is. AllZip (IsSpilledAs b) is two.moved) ids two.spilled) in
       let tasks : (k : ℕ) → IsAlikeAt r.to (task_at a' k) (task_at b' (r.to k)) = λ k. elim (in_or_not k one.ids) [
-        | inl is ↦ subst (λ s. IsAlikeAt r.to s (task_at b' (r.to k))) (sym (one.gone k (in_has one.ids k is)))
-            (subst (λ s. IsAlikeAt r.to None s) (sym (two.gone (r.to k) (in_has two.ids (r.to k) (subst (In (r.to k)) (sym ids) (in_renamed r.to k one.ids is))))) tt)
-        | inr none ↦ subst (λ s. IsAlikeAt r.to s (task_at b' (r.to k))) (sym (one.others k (λ has. none (has_in one.ids k has))))
-            (subst (λ s. IsAlikeAt r.to (task_at a k) s) (sym (two.others (r.to k) (λ has. (let w = was_in r.to (r.to k) one.ids (subst (In (r.to k)) ids (has_in two.ids (r.to k) has)) in
+        | inl is ↦ subst (λ s. IsAlikeAt r.to s (task_at b' (r.to k))) (sym (one.gone k (in_contains one.ids k is)))
+            (subst (λ s. IsAlikeAt r.to None s) (sym (two.gone (r.to k) (in_contains two.ids (r.to k) (subst (In (r.to k)) (sym ids) (in_renamed r.to k one.ids is))))) tt)
+        | inr none ↦ subst (λ s. IsAlikeAt r.to s (task_at b' (r.to k))) (sym (one.others k (λ has. none (contains_in one.ids k has))))
+            (subst (λ s. IsAlikeAt r.to (task_at a k) s) (sym (two.others (r.to k) (λ has. (let w = was_in r.to (r.to k) one.ids (subst (In (r.to k)) ids (contains_in two.ids (r.to k) has)) in
             none (subst (λ j. In j one.ids) (sym (one_to r k w.0 w.2)) w.1))))) (alike.tasks k))
       ] in
       let blocks : b'.blocks ≡ a'.blocks = two.blocks ∙ ((λ i. slice_set (ap (λ v. v.blocks) alike.frame i) tile (after_pushes (block_too r a b alike tile i) (moved i))) ∙ sym one.blocks) in

@@ -1,6 +1,6 @@
 -- Two openings are alike.
-use Rattle.std.proofs.Common.{◌≡◌, ◌≢◌, ◌≤◌, ◌<◌, ◌+◌, zero, suc, ℕ, Bool, true, false, List, [], ◌∷◌, map, length, Option, Some, None, option_map, is_some, refl, sym, ap, subst, ◌∙◌, inl, inr, ◌⊎◌, arith}
-use Rattle.std.specs.Prelude.{slice_get, slice_index_or, slice_set, Contains, replicate}
+use Rattle.std.proofs.Common.{◌≡◌, ◌<◌, zero, suc, ℕ, true, List, [], ◌∷◌, map, length, Option, Some, None, option_map, is_some, refl, sym, ap, subst, ◌∙◌, inl, inr, ◌⊎◌, arith}
+use Rattle.std.specs.Prelude.{slice_get, slice_index_or, Contains, replicate}
 use Rattle.std.specs.List.{enumerate_from}
 use Rattle.std.proofs.lemmas.Bool.{cases_eq}
 use Rattle.guest_image.specs.declared.image.ImageTask.{ImageTask}
@@ -9,18 +9,19 @@ use Rattle.guest_image.specs.ImageValue.{ImageValue}
 use Rattle.place_policy.specs.Serving.{first_placed}
 use Rattle.spec_state.specs.declared.settings.Settings.{Settings}
 use Rattle.task_law.specs.Room.{queue_after}
-use Rattle.spec_state.specs.declared.task.Creator.TheVariants.{Committed, Live}
+use Rattle.spec_state.specs.declared.task.Creator.TheVariants.{Committed}
 use Rattle.spec_state.specs.declared.task.Task.{Task}
 use Rattle.spec_state.specs.View.{View, task_at, queue_at, finished_at, cores_at, queued_last, ChangesTask}
 use Rattle.spec_state.specs.Tasks.{idle_task}
 use Rattle.spec_state.specs.Groups.{room_tasks, room_task, live_creator}
 use Rattle.spec_state.specs.Opening.{IsEmptyView}
 use Rattle.spec_state.specs.Room.{QueueHasRoom, IsFull, Coalesces}
-use Rattle.spec_law.proofs.Tasks.Filtered.{queue_filtered, filter_is, filter_was}
+use Rattle.spec_law.proofs.Tasks.Filtered.{queue_filtered, filter_is}
+use Rattle.spec_law.proofs.Proved.{contains_in, in_contains}
 use Rattle.event_def.specs.Book.{BookView, picked_tile}
-use Rattle.event_def.specs.Opening.{IsOpening, PlacesImageTask, PlacesAll, opening_book, image_descriptor}
+use Rattle.event_def.specs.Opening.{PlacesImageTask, PlacesAll, opening_book, image_descriptor}
 use Rattle.event_law.proofs.Openings.Queued.{kept_at, last_was}
-use Rattle.outcome_law.specs.Alike.{Renaming, inverse_of, IsAlikeTask, IsAlikeAt, AreAlike, AreAlikeBooks}
+use Rattle.outcome_law.specs.Alike.{Renaming, IsAlikeAt, AreAlike, AreAlikeBooks}
 use Rattle.event_law.proofs.Openings.Opened.{opening_is_sound}
 use Rattle.outcome_law.specs.Laws.{AreSameBooks, OpeningIsOne, ScriptIsOne}
 use Rattle.outcome_law.proofs.Closes.{close_is_one}
@@ -28,7 +29,7 @@ use Rattle.outcome_law.proofs.Leasts.{end_is_alike}
 use Rattle.outcome_law.proofs.Scripts.{play_is_one}
 use Rattle.outcome_law.proofs.Anew.{HoldsTasks, IsThere, with_new, named_so, alike_anew}
 use Rattle.outcome_law.proofs.Changes.{changed_alike, ended_alike, version_same}
-use Rattle.outcome_law.proofs.Chosen.{in_or_not, has_in, in_has}
+use Rattle.outcome_law.proofs.Chosen.{in_or_not}
 use Rattle.outcome_law.proofs.Events.{picked_alike}
 use Rattle.outcome_law.proofs.Moves.{coalesces_alike}
 use Rattle.outcome_law.proofs.News.{idle_alike}
@@ -113,8 +114,8 @@ coalesced_fresh tile old new is c = record {
   ended = λ t k has. is.ended t k (subst (λ v. Contains (finished_at v t) k) c.frame has);
   held = λ t core k at. is.held t core k (sym (ap (λ v. slice_get (cores_at v t) core) c.frame) ∙ at);
   rooted = λ k x there. elim (in_or_not k c.ids) [
-    | inl moved ↦ absurd (let clash : None ≡ Some x = sym (c.gone k (in_has c.ids k moved)) ∙ there in cc (clash))
-    | inr stays ↦ is.rooted k x (sym (c.others k (λ has. stays (has_in c.ids k has))) ∙ there)
+    | inl moved ↦ absurd (let clash : None ≡ Some x = sym (c.gone k (in_contains c.ids k moved)) ∙ there in cc (clash))
+    | inr stays ↦ is.rooted k x (sym (c.others k (λ has. stays (contains_in c.ids k has))) ∙ there)
   ];
 }
 

@@ -1,34 +1,16 @@
 -- What is picked of a view is one task.
-use Rattle.std.proofs.Common.{◌≡◌, ◌≢◌, ◌≤◌, ◌<◌, ℕ, Bool, true, false, List, [], ◌∷◌, map, length, Option, Some, None, option_map, refl, sym, ap, subst, ◌∙◌, inl, inr, ◌⊎◌, arith}
-use Rattle.std.specs.Prelude.{slice_get, slice_index_or, Contains}
-use Rattle.std.specs.Ordering.{ordering_reverse}
-use Rattle.std.specs.declared.cmp.Ordering.{Ordering}
-use Rattle.std.specs.declared.cmp.Ordering.TheVariants.{Less, Equal, Greater}
-use Rattle.std.proofs.lemmas.Bool.{cases_eq, cases_lt}
+use Rattle.std.proofs.Common.{◌≡◌, ◌<◌, ℕ, true, Option, Some, sym, ap, ◌∙◌, inl, inr, arith}
+use Rattle.std.proofs.lemmas.Bool.{cases_eq}
 use Rattle.fractal_vt.specs.Keys.{key_cmp}
 use Rattle.fractal_vt.proofs.Proved.{key_cmp_total}
 use Rattle.spec_state.specs.declared.task.Task.{Task}
-use Rattle.spec_state.specs.View.{View, task_at, queue_at, finished_at, cores_at}
+use Rattle.spec_state.specs.View.{View, task_at}
 use Rattle.spec_state.specs.Tasks.{is_dispatched}
-use Rattle.spec_state.specs.Least.{Queued, IsQueuedAt, ranked_cmp, Precedes}
-use Rattle.spec_state.specs.Queries.{IsQueued, IsIdle, IsLeastIdle, IsLatest, IsFreeCore, IsLowestFree}
+use Rattle.spec_state.specs.Queries.{IsLeastIdle, IsLatest, IsLowestFree}
 use Rattle.spec_law.specs.Sound.{SoundOrder}
 use Rattle.spec_law.proofs.Dispatches.Below.{no_tie}
-use Rattle.spec_law.proofs.Tasks.Places.{contains_get}
-use Rattle.spec_law.proofs.Tasks.Ranked.{ranked_turned, not_greater_ties}
-
--- of two queued tasks not each comes before the other
-pub not_both_ways : (view : View) (tile k j : ℕ) (x y : Task) → IsQueued view tile k → task_at view k ≡ Some x → IsQueued view tile j → task_at view j ≡ Some y
-    → Precedes view tile k j → Precedes view tile j k → ⊥
-not_both_ways view tile k j x y in_k there in_j there' before behind =
-    let p = contains_get (queue_at view tile) k in_k in
-    let q = contains_get (queue_at view tile) j in_j in
-    let one : IsQueuedAt view tile p.0 k x = record { queued = p.1; there = there } in
-    let two : IsQueuedAt view tile q.0 j y = record { queued = q.1; there = there' } in
-    let less : ranked_cmp x.key (Queued tile p.0) y.key (Queued tile q.0) ≡ Less = before p.0 q.0 x y one two in
-    let more : ranked_cmp x.key (Queued tile p.0) y.key (Queued tile q.0) ≡ Greater =
-    ranked_turned x.key (Queued tile p.0) y.key (Queued tile q.0) ∙ ap ordering_reverse (behind q.0 p.0 y x two one) in
-    absurd (cc (less, more))
+use Rattle.spec_law.proofs.Tasks.Ranked.{not_greater_ties}
+use Rattle.spec_law.proofs.Proved.{not_both_ways}
 
 pub least_idle_one : (view : View) (tile k j : ℕ) (x y : Task) → IsLeastIdle view tile k x → IsLeastIdle view tile j y → k ≡ j
 least_idle_one view tile k j x y one two = elim (cases_eq k j) [

@@ -1,18 +1,17 @@
 -- Views that are alike answer queries alike.
-use Rattle.std.proofs.Common.{◌≡◌, ◌≢◌, ◌≤◌, ◌<◌, ℕ, Bool, true, false, List, [], ◌∷◌, map, length, Option, Some, None, option_map, refl, sym, ap, subst, ◌∙◌, inl, inr, ◌⊎◌}
-use Rattle.std.specs.Prelude.{slice_get, slice_index_or, Contains}
-use Rattle.std.specs.declared.cmp.Ordering.TheVariants.{Less, Greater}
+use Rattle.std.proofs.Common.{◌≡◌, ◌≢◌, ℕ, Bool, true, false, List, Option, option_map, sym, ap, subst, ◌∙◌}
+use Rattle.std.specs.Prelude.{slice_get, Contains}
+use Rattle.std.specs.declared.cmp.Ordering.TheVariants.{Greater}
 use Rattle.std.proofs.lemmas.Option.{slice_get-map}
 use Rattle.fractal_vt.specs.Keys.{key_cmp}
 use Rattle.spec_state.specs.declared.task.Task.{Task}
-use Rattle.spec_state.specs.View.{View, task_at, queue_at, finished_at, cores_at}
+use Rattle.spec_state.specs.View.{View, queue_at, finished_at, cores_at}
 use Rattle.spec_state.specs.Tasks.{is_dispatched}
-use Rattle.spec_state.specs.Filters.{has_touched, has_written}
-use Rattle.spec_state.specs.Least.{IsFirm, Precedes}
+use Rattle.spec_state.specs.Least.{Precedes}
 use Rattle.spec_state.specs.Queries.{IsQueued, IsIdle, IsLeastIdle, IsIdleFirm, IsDispatched, IsOnCore, IsRunning, IsFinished, IsLatest, IsFreeCore, IsLowestFree, IsLater, HasLine, Conflicts}
-use Rattle.outcome_law.specs.Alike.{Renaming, inverse_of, renamed_creator, IsAlikeTask, IsAlikeAt, AreAlike}
-use Rattle.outcome_law.proofs.Alike.{Partner, partner, none_there, alike_turned}
-use Rattle.outcome_law.proofs.Leasts.{index_mapped, queue_too, finished_too, cores_too, firm_too, precedes_too}
+use Rattle.outcome_law.specs.Alike.{Renaming, inverse_of, IsAlikeTask, AreAlike}
+use Rattle.outcome_law.proofs.Alike.{partner, alike_turned}
+use Rattle.outcome_law.proofs.Leasts.{queue_too, finished_too, cores_too, firm_too, precedes_too}
 use Rattle.outcome_law.proofs.Lists.{contains_mapped}
 
 -- the partner is of this kind
@@ -23,9 +22,6 @@ pub record Too (to : ℕ → ℕ) (kind : ℕ → Task → Type 0) (k : ℕ) (x 
 
 key_same : (to : ℕ → ℕ) (x y : Task) → IsAlikeTask to x y → y.key ≡ x.key
 key_same to x y alike = ap (λ t. t.key) alike.other_is
-
-pub dispatched_same : (to : ℕ → ℕ) (x y : Task) → IsAlikeTask to x y → is_dispatched y ≡ is_dispatched x
-dispatched_same to x y alike = ap is_dispatched alike.other_is
 
 module _ (r : Renaming) (a b : View) (alike : AreAlike r a b) where
   pub is_queued_too : (tile k : ℕ) → IsQueued a tile k → IsQueued b tile (r.to k)

@@ -1,17 +1,18 @@
 -- A renumbering leaves views that are alike.
-use Rattle.std.proofs.Common.{◌≡◌, ◌≢◌, ◌≤◌, ◌<◌, ◌+◌, zero, suc, ℕ, Bool, true, false, List, [], ◌∷◌, map, length, Option, Some, None, option_map, refl, sym, ap, subst, ◌∙◌, inl, inr, ◌⊎◌, arith}
-use Rattle.std.specs.Prelude.{slice_get, slice_index_or, Contains, AllPairs}
+use Rattle.std.proofs.Common.{◌≡◌, ◌<◌, ℕ, List, map, length, Option, Some, None, option_map, sym, ap, subst, ◌∙◌, arith}
+use Rattle.std.specs.Prelude.{slice_index_or, Contains}
 use Rattle.std.proofs.lemmas.List.Kept.{AllPairs-from_increasing}
 use Rattle.spill_store.specs.SpilledTasks.{renumbered_spilled}
-use Rattle.fractal_vt.specs.Renumbered.{renumbered_levels, renumbered_key}
+use Rattle.fractal_vt.specs.Renumbered.{renumbered_levels}
 use Rattle.spec_state.specs.declared.task.Task.{Task}
-use Rattle.spec_state.specs.View.{View, task_at, queue_at}
+use Rattle.spec_state.specs.View.{View, task_at}
 use Rattle.spec_state.specs.Groups.{all_spilled}
 use Rattle.spec_state.specs.Numbers.{IsTieOf, IsInUse, on_path, in_domain, of_task, of_spilled, IsNumberTable, renumbered_task, Renumbers, FreesNumber, has_free, renumbers}
-use Rattle.outcome_law.specs.Alike.{Renaming, inverse_of, renamed_creator, IsAlikeTask, IsAlikeAt, AreAlike}
-use Rattle.outcome_law.proofs.Alike.{Partner, partner, none_there, alike_turned}
-use Rattle.outcome_law.proofs.Leasts.{index_mapped}
-use Rattle.outcome_law.proofs.Chosen.{has_in, in_has, rises, one_order}
+use Rattle.spec_state.proofs.Proved.{map_at}
+use Rattle.outcome_law.specs.Alike.{Renaming, inverse_of, IsAlikeAt, AreAlike}
+use Rattle.outcome_law.proofs.Alike.{partner, alike_turned}
+use Rattle.outcome_law.proofs.Chosen.{rises, one_order}
+use Rattle.spec_law.proofs.Proved.{contains_in, in_contains}
 
 -- a number is not below itself
 both_below : (x y : ℕ) → Unit {0} → Unit {0} → x < y → y < x → ⊥
@@ -22,8 +23,8 @@ table_is_one view table other one two =
     one_order (λ x. Unit {0}) (λ x y. x < y) both_below table other (λ x at. tt)
     (rises (λ x. Unit {0}) (λ x y. x < y) both_below table (AllPairs-from_increasing table one.rising))
     (rises (λ x. Unit {0}) (λ x y. x < y) both_below other (AllPairs-from_increasing other two.rising))
-    (λ x at. has_in other x ((two.exact x).1 ((one.exact x).0 (in_has table x at))))
-    (λ x at. has_in table x ((one.exact x).1 ((two.exact x).0 (in_has other x at))))
+    (λ x at. contains_in other x ((two.exact x).1 ((one.exact x).0 (in_contains table x at))))
+    (λ x at. contains_in table x ((one.exact x).1 ((two.exact x).0 (in_contains other x at))))
 
 module _ (r : Renaming) (a b : View) (alike : AreAlike r a b) where
   in_use_too : (number : ℕ) → IsInUse a number → IsInUse b number
@@ -47,7 +48,7 @@ module _ (r : Renaming) (a b : View) (alike : AreAlike r a b) where
   renumbered_alike table (Some x) None same = absurd same
 
 renumbered_at : (old new : View) (table : List ℕ) → new.tasks ≡ map (option_map (renumbered_task table)) old.tasks → (k : ℕ) → task_at new k ≡ option_map (renumbered_task table) (task_at old k)
-renumbered_at old new table is k = ap (λ (ts : List (Option Task)). slice_index_or ts k None) is ∙ index_mapped (option_map (renumbered_task table)) old.tasks k None
+renumbered_at old new table is k = ap (λ (ts : List (Option Task)). slice_index_or ts k None) is ∙ map_at (option_map (renumbered_task table)) old.tasks k None
 
 module _ (r : Renaming) (a b : View) (alike : AreAlike r a b) where
   table_too : (table : List ℕ) → IsNumberTable a table → IsNumberTable b table

@@ -1,6 +1,6 @@
 -- Room in a queue, on a core and in a commit queue is made alike.
-use Rattle.std.proofs.Common.{◌≡◌, ◌≢◌, ◌≤◌, ◌<◌, ◌+◌, zero, suc, ℕ, Bool, true, false, List, [], ◌∷◌, map, length, Option, Some, None, option_map, refl, sym, ap, subst, ◌∙◌, inl, inr, ◌⊎◌, arith}
-use Rattle.std.specs.Prelude.{slice_get, slice_index_or, Contains}
+use Rattle.std.proofs.Common.{◌≡◌, ℕ, true, List, [], ◌∷◌, length, Option, Some, option_map, refl, sym, ap, subst, ◌∙◌, inl, inr, arith}
+use Rattle.std.specs.Prelude.{Contains}
 use Rattle.std.proofs.lemmas.Bool.{cases_eq}
 use Rattle.std.proofs.lemmas.List.{length-map}
 use Rattle.spec_state.specs.declared.task.Creator.{Creator}
@@ -10,23 +10,23 @@ use Rattle.spec_state.specs.declared.task.Task.{Task}
 use Rattle.spec_state.specs.View.{View, task_at, queue_at, finished_at}
 use Rattle.spec_state.specs.Tasks.{is_dispatched}
 use Rattle.spec_state.specs.Groups.{live_creator}
-use Rattle.spec_state.specs.Least.{IsFirm, Precedes}
-use Rattle.spec_state.specs.Queries.{IsQueued, IsDispatched, IsOnCore, IsFinished, IsFreeCore, IsLatest, IsLatestOnCore, IsLatestFinished, IsLatestDispatched, IsLater, Conflicts}
+use Rattle.spec_state.specs.Least.{Precedes}
+use Rattle.spec_state.specs.Queries.{IsOnCore, IsFinished, IsFreeCore, IsLatest}
 use Rattle.spec_state.specs.Aborts.{Aborts, OnlyNode}
-use Rattle.spec_state.specs.Room.{Asker, Enqueuer, Splitter, IsLeastAsker, IsVictim, QueueHasRoom, IsFull, NoneMoves, IsMovable, Coalesces, MakesRoom, queue_has_room, coalesces, aborts_victim, aborts_creator}
-use Rattle.event_def.specs.Causes.{AllCoresHeld, IsCommitFull}
+use Rattle.spec_state.specs.Room.{Asker, Enqueuer, Splitter, IsLeastAsker, IsVictim, QueueHasRoom, IsFull, NoneMoves, Coalesces, MakesRoom, queue_has_room, coalesces, aborts_victim, aborts_creator}
+use Rattle.event_def.specs.Causes.{AllCoresHeld}
 use Rattle.event_def.specs.Events.{FreesCore, FreesCommit}
 use Rattle.event_def.specs.Events as ended
 use Rattle.spec_law.specs.Sound.{SoundOrder}
-use Rattle.outcome_law.specs.Alike.{Renaming, inverse_of, renamed_creator, IsAlikeTask, IsAlikeAt, AreAlike}
-use Rattle.outcome_law.proofs.Alike.{Partner, partner, none_there, alike_turned, task_turned}
+use Rattle.spec_law.proofs.Proved.{in_contains, not_both_ways}
+use Rattle.outcome_law.specs.Alike.{Renaming, inverse_of, IsAlikeTask, AreAlike}
+use Rattle.outcome_law.proofs.Alike.{partner, alike_turned, task_turned}
 use Rattle.outcome_law.proofs.Aborts.{AreFirsts, AbortAlike, aborts_alike, one_to, live_renamed}
 use Rattle.outcome_law.proofs.Anew.{HoldsTasks, IsThere}
-use Rattle.outcome_law.proofs.Chosen.{in_has}
 use Rattle.outcome_law.proofs.Leasts.{queue_too, finished_too, firm_too, precedes_too, the_least_too, spilled_too}
 use Rattle.outcome_law.proofs.Moves.{movable_too, coalesces_alike}
-use Rattle.outcome_law.proofs.Queries.{Too, is_queued_too, on_core_too, is_finished_too, dispatched_too, free_core_too, latest_too, conflicts_too, later_too}
-use Rattle.outcome_law.proofs.Picks.{not_both_ways, latest_one, task_one}
+use Rattle.outcome_law.proofs.Queries.{Too, is_queued_too, on_core_too, is_finished_too, free_core_too, latest_too}
+use Rattle.outcome_law.proofs.Picks.{latest_one, task_one}
 
 -- who asks, under the other name
 abbrev pub asker_too : (ℕ → ℕ) → Asker → Asker
@@ -72,11 +72,7 @@ module _ (r : Renaming) (a b : View) (alike : AreAlike r a b) where
     where
       by_list : (ids : List ℕ) → c.ids ≡ ids → ⊥
       by_list [] is = c.some is
-      by_list (k ∷ ids) is = none k (c.chosen.movable k (subst (λ (l : List ℕ). Contains l k) (sym is) (in_has (k ∷ ids) k (inl refl))))
-
-asker_back : (r : Renaming) (asker : Asker) → asker_too r.from (asker_too r.to asker) ≡ asker
-asker_back r (Enqueuer id) = ap Enqueuer (r.back id)
-asker_back r Splitter = refl
+      by_list (k ∷ ids) is = none k (c.chosen.movable k (subst (λ (l : List ℕ). Contains l k) (sym is) (in_contains (k ∷ ids) k (inl refl))))
 
 enqueuer_back : (r : Renaming) (k : ℕ) → asker_too r.to (Enqueuer (r.from k)) ≡ Enqueuer k
 enqueuer_back r k = ap Enqueuer (r.forth k)

@@ -1,16 +1,12 @@
 -- What is said of the acts of a script is one thing.
-use Rattle.std.proofs.Common.{◌≡◌, ◌≢◌, ◌≤◌, ◌<◌, ◌+◌, ◌++◌, ◌==◌, zero, suc, ℕ, Bool, true, false, List, [], ◌∷◌, map, Option, Some, None, refl, sym, ap, subst, ◌∙◌, inl, inr, ◌⊎◌, arith, cond}
-use Rattle.std.specs.Prelude.{filter, not, if◌then◌else◌}
+use Rattle.std.proofs.Common.{◌≡◌, ◌≤◌, ◌<◌, ℕ, List, [], ◌∷◌, Some, None, refl, sym, ap, subst, ◌∙◌, arith}
 use Rattle.std.specs.List.{AllByRecursion}
-use Rattle.std.proofs.lemmas.Bool.{cases_eq}
 use Rattle.guest_image.specs.ImageValue.{ImageValue}
 use Rattle.rv_core.specs.declared.state.Stop.TheVariants as stop
 use Rattle.rv_core.specs.LegValue.{LegValue, IsLegOfImage}
-use Rattle.rv_core.specs.Legs.{StopIsInData, IsLeg}
-use Rattle.rv_core.proofs.Proved.{next_at-inside, PlainInstructions-within}
+use Rattle.rv_core.specs.Legs.{IsLeg}
 use Rattle.spec_state.specs.declared.settings.Settings.{Settings}
 use Rattle.spec_state.specs.declared.task.Task.{Task}
-use Rattle.spec_state.specs.View.{View, task_at}
 use Rattle.spec_law.specs.Sound.{Sound}
 use Rattle.event_def.specs.declared.event.Advance.{Advance}
 use Rattle.event_def.specs.declared.event.Advance.TheVariants as answers
@@ -18,75 +14,29 @@ use Rattle.event_def.specs.declared.event.Event.{Event}
 use Rattle.event_def.specs.declared.event.Event.TheVariants as event
 use Rattle.event_def.specs.declared.event.Reply.{Reply}
 use Rattle.event_def.specs.declared.event.Reply.TheVariants as reply
-use Rattle.event_def.specs.Advancing.{AdvanceAnswers, IsLegFrom, IsNoCommit, IsNextEvent}
-use Rattle.event_def.specs.Book.{BookView}
+use Rattle.event_def.specs.Advancing.{AdvanceAnswers, IsNoCommit, IsNextEvent}
 use Rattle.event_def.specs.End.{IsOver}
 use Rattle.event_def.specs.Events.{IsGiven}
 use Rattle.event_def.specs.Happens.{Happens}
-use Rattle.event_law.proofs.Falls.Legs.{counted, stands}
 use Rattle.event_law.proofs.Given.{running_within, next_event_is_given}
 use Rattle.event_law.proofs.Keeps.Events.{happens_keeps}
-use Rattle.event_law.proofs.Keeps.Forced.{Follows}
+use Rattle.event_law.proofs.Proved.{leg_is_run}
 use Rattle.step_script.specs.declared.act.Act.{Act}
 use Rattle.step_script.specs.declared.act.Act.TheVariants as acts
 use Rattle.step_script.specs.declared.saying.Said.{Said}
 use Rattle.step_script.specs.declared.saying.Word.TheVariants as words
-use Rattle.step_script.specs.Playing.{HeldLeg, is_held_for, held_for, without_held_leg, holding, PlayState, plainly, HandsIn, MakesInPlay, Stays, HasLegAt, NoneRuns, Steps, Takes, Gives, said_of, DoesAdvance, Does, DoesAll, Plays}
+use Rattle.step_script.specs.Playing.{HeldLeg, held_for, without_held_leg, holding, PlayState, plainly, HandsIn, MakesInPlay, Stays, HasLegAt, NoneRuns, Steps, Takes, Gives, said_of, Does, DoesAll}
 use Rattle.step_script.specs.Playing.{step_runs, step_ended, step_stale, take_holds, take_stale, give_hands, give_ended, give_stale}
 use Rattle.step_script.specs.Ranges.{ActIsInRange}
-use Rattle.outcome_law.specs.Alike.{Renaming, inverse_of, IsAlikeTask, AreAlike, AreAlikeBooks}
-use Rattle.outcome_law.specs.Laws.{AreSameBooks, IsSameOutcome, PlayIsOne}
+use Rattle.step_script.proofs.HeldLegs.{AreRuns, held_runs, without_runs, ended_runs}
+use Rattle.outcome_law.specs.Alike.{Renaming, inverse_of, AreAlike}
+use Rattle.outcome_law.specs.Laws.{AreSameBooks, PlayIsOne}
 use Rattle.outcome_law.proofs.Alike.{alike_turned}
 use Rattle.outcome_law.proofs.Leasts.{over_too}
 use Rattle.outcome_law.proofs.Nexts.{leg_one, next_one}
 use Rattle.outcome_law.proofs.Outcomes.{outcome_is_one}
 use Rattle.outcome_law.proofs.Picks.{task_one}
-use Rattle.outcome_law.proofs.Queries.{Too, running_too}
-
--- a leg from within the budget is a run
-leg_is_run : (image : ImageValue) (budget quantum : ℕ) (leg : LegValue)
-    → IsLeg image image.data_size budget quantum leg.from leg.to leg.steps leg.stop → leg.from.used ≤ budget
-    → IsLegOfImage image budget leg
-leg_is_run image budget quantum leg is low = record {
-  run = is.run;
-  next = stands image budget quantum leg is;
-  inside = by_case (cases_eq leg.steps quantum);
-  counted = counted image budget quantum leg is;
-  within = PlainInstructions-within image image.data_size budget leg.steps leg.from leg.to is.run low;
-}
-  where
-    by_case : (leg.steps ≡ quantum) ⊎ (leg.steps ≢ quantum) → StopIsInData image.data_size leg.stop
-    by_case (inl all) = subst (StopIsInData image.data_size) (sym (is.full all)) tt
-    by_case (inr fewer) =
-        let bound = is.bound in
-        next_at-inside image image.data_size budget leg.to leg.stop (is.next (omega (arith, bound, fewer)))
-
--- ---- legs that are held are runs
-
-abbrev pub AreRuns : ImageValue → Settings → List HeldLeg → Type 0
-AreRuns image settings held = AllByRecursion (λ (h : HeldLeg). IsLegOfImage image settings.budget h.leg) held
-
-module _ (image : ImageValue) (settings : Settings) (tile core : ℕ) where
-  held_runs : (held : List HeldLeg) (leg : LegValue) → AreRuns image settings held → held_for tile core held ≡ Some leg → IsLegOfImage image settings.budget leg
-  held_runs [] leg runs is = absurd (cc (is))
-  held_runs (h ∷ held) leg runs is = by_test (is_held_for tile core h) is (held_runs held leg runs.1)
-    where
-      by_test : (t : Bool) → (if t then Some h.leg else held_for tile core held) ≡ Some leg → (held_for tile core held ≡ Some leg → IsLegOfImage image settings.budget leg) → IsLegOfImage image settings.budget leg
-      by_test true found rest = let same : h.leg ≡ leg = cc in subst (IsLegOfImage image settings.budget) same runs.0
-      by_test false found rest = rest found
-
-  without_runs : (held : List HeldLeg) → AreRuns image settings held
-      → AreRuns image settings (without_held_leg tile core held)
-  without_runs [] runs = tt
-  without_runs (h ∷ held) runs = by_test (not (is_held_for tile core h)) (without_runs held runs.1)
-    where
-      by_test : (t : Bool) → AreRuns image settings (without_held_leg tile core held) → AreRuns image settings (cond t (h ∷ without_held_leg tile core held) (without_held_leg tile core held))
-      by_test true rest = (runs.0, rest)
-      by_test false rest = rest
-
-  ended_runs : (held : List HeldLeg) (h : HeldLeg) → AreRuns image settings held → IsLegOfImage image settings.budget h.leg → AreRuns image settings (held ++ h ∷ [])
-  ended_runs [] h runs run = (run, tt)
-  ended_runs (g ∷ held) h runs run = (runs.0, ended_runs held h runs.1 run)
+use Rattle.outcome_law.proofs.Queries.{running_too}
 
 -- two plays that go alike so far
 pub record GoAlike (image : ImageValue) (settings : Settings) (p q : PlayState) : Type 0 where

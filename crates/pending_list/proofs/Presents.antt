@@ -1,5 +1,5 @@
 -- The tasks that are there, as slots come, go and become vacant.
-use Rattle.std.proofs.Common.{◌≡◌, ◌≢◌, refl, sym, ap, subst, ◌∙◌, ◌==◌, ◌||◌, ℕ, zero, suc, ◌+◌, ◌-◌, ◌<◌, ◌≤◌, Bool, true, false, List, [], ◌∷◌, ◌++◌, length, set, take, drop, Some, None, Option, is_some, if◌then◌else◌, arith}
+use Rattle.std.proofs.Common.{◌≡◌, ◌≢◌, refl, sym, ap, subst, ◌∙◌, ◌==◌, ◌||◌, ℕ, zero, suc, ◌+◌, ◌-◌, ◌<◌, Bool, true, false, List, [], ◌∷◌, ◌++◌, length, set, take, drop, Some, None, Option, is_some, if◌then◌else◌, arith}
 use Rattle.std.specs.List.{All, list_any}
 use Rattle.std.proofs.lemmas.Bool.Decides.{nat_tests}
 use Rattle.std.proofs.lemmas.List.{take_more, take-append-drop, append-nil, length-append, length_push, length-take-le, get_or-take}
@@ -24,14 +24,6 @@ present-append (x ∷ xs) ys = go x.here (present-append xs ys) where
       ≡ (if b then x.task ∷ present xs else present xs) ++ present ys
   go true is = ap (λ ts. x.task ∷ ts) is
   go false is = is
-
-pub length-present : (xs : List Slot) → length (present xs) ≤ length xs
-length-present [] = omega arith
-length-present (x ∷ xs) = go x.here (length-present xs) where
-  go : (b : Bool) → length (present xs) ≤ length xs
-      → length (if b then x.task ∷ present xs else present xs) ≤ suc (length xs)
-  go true is = omega arith
-  go false is = omega arith
 
 -- what holds of the tasks that are there
 pub All-present : (P : PendingTask → Type 0) (xs : List Slot)

@@ -1,35 +1,23 @@
 -- Decimal numbers that are written are read again, and where a line ends.
-use Rattle.std.proofs.Common.{◌≡◌, ◌≢◌, ℕ, ◌/◌, ◌%◌, ◌<◌, ◌≤◌, ◌^◌, ◌==◌, ◌&&◌, ◌||◌, not, nat_lt, nat_le, option_map, List, [], ◌∷◌, ◌++◌, length, get_or, Some, None, refl, ap, arith, rules, true, false, Bool, zero, suc, eq-eqb, subst, length-append}
+use Rattle.std.proofs.Common.{◌≡◌, ◌≢◌, ℕ, ◌/◌, ◌%◌, ◌<◌, ◌≤◌, ◌^◌, ◌==◌, ◌&&◌, nat_le, option_map, List, [], ◌∷◌, ◌++◌, length, get_or, Some, None, refl, ap, arith, rules, true, false, Bool, suc, eq-eqb, subst, length-append}
 use Rattle.std.specs.Fmt.{decimal}
 use Rattle.std.specs.List.{list_all, flat_map}
 use Rattle.std.specs.Char.{is_ascii_digit}
 use Rattle.std.specs.Int.{IsInRange}
 use Rattle.std.specs.Str.{bytes_eq}
-use Rattle.std.proofs.lemmas.Bool.{eqb-true}
-use Rattle.std.proofs.lemmas.Fmt.{digits_decimal, digits_value-decimal, decimal_nonempty, first_decimal, decimal_digit}
+use Rattle.std.proofs.lemmas.Bool.{eqb-true, and_parts}
 use Rattle.std.proofs.lemmas.Str.Parse.{not_in_digits}
 use Rattle.std.proofs.lemmas.List.{take_at, drop_at}
 use Rattle.report_text.specs.Hex.{byte_hex, word_hex}
 use Rattle.text_lines.specs.Lines.{cut, behind, lines_of}
-use Rattle.text_lines.specs.Numerals.{number, field}
-use Rattle.text_lines.proofs.Proved.{lines_cut, own}
+use Rattle.text_lines.specs.Numerals.{field}
+use Rattle.text_lines.proofs.Proved.{lines_cut, own, all_digits, number_back, Free, free_both}
+use Rattle.text_lines.proofs.Proved.{cut_free}
 use Rattle.report_text.proofs.HexBack.{digit-free}
-
-pub and_two : (a b : Bool) → (a && b) ≡ true → (a ≡ true) × (b ≡ true)
-and_two true b is = (refl, is)
-and_two false b is = cc
 
 pub and_false : (a : Bool) → (a && false) ≡ false
 and_false true = refl
 and_false false = refl
-
-not_true : (a : Bool) → not a ≡ true → a ≡ false
-not_true true is = cc
-not_true false is = refl
-
--- decimal digits are all digits
-pub all_digits : (n : ℕ) → n < 2 ^ 64 → list_all is_ascii_digit (decimal n) ≡ true
-all_digits n small = digits_decimal own n small
 
 -- a list that has no c is cut off whole before a c
 cut_before : (c : ℕ) (xs rest : List ℕ) → ((k : ℕ) → k < length xs → get_or xs k 0 ≢ c) → cut c (xs ++ c ∷ rest) ≡ Some (xs, rest)
@@ -40,20 +28,6 @@ cut_before c (x ∷ xs) rest none =
 
 no_digit : (n c : ℕ) → n < 2 ^ 64 → (IsInRange 48 57 c → ⊥) → (k : ℕ) → k < length (decimal n) → get_or (decimal n) k 0 ≢ c
 no_digit n c small out k lt = not_in_digits own (decimal n) c (all_digits n small) out k lt
-
-no_leading_zero : (n : ℕ) → n < 2 ^ 64 → (not (get_or (decimal n) 0 0 == 48) || length (decimal n) == 1) ≡ true
-no_leading_zero zero small = rw (decimal_digit 0 (omega arith)) refl
-no_leading_zero (suc n) small =
-    let above : 48 < get_or (decimal (suc n)) 0 0 = first_decimal (suc n) (omega arith) small in
-    let ne : (get_or (decimal (suc n)) 0 0 == 48) ≡ false = search (rules, above) in
-    rw ne refl
-
--- a number that is written is read again
-pub number_back : (n : ℕ) → n < 2 ^ 32 → number (decimal n) ≡ Some n
-number_back n small =
-    let some : nat_lt 0 (length (decimal n)) ≡ true = search (rules, decimal_nonempty n (omega (arith, small))) in
-    let fits : nat_lt n (2 ^ 32) ≡ true = search (rules, small) in
-    rw (all_digits n (omega (arith, small)), some, no_leading_zero n (omega (arith, small)), digits_value-decimal own n (omega (arith, small)), fits) refl
 
 -- and so is a field
 pub field_back : (n c : ℕ) (rest : List ℕ) → n < 2 ^ 32 → (IsInRange 48 57 c → ⊥) → field c (decimal n ++ c ∷ rest) ≡ Some (n, rest)
@@ -67,21 +41,13 @@ dot h = omega (arith, h)
 
 -- ---- lines
 
--- a list has no c
-abbrev pub Free : ℕ → List ℕ → Type 0
-Free c xs = list_all (λ x. not (x == c)) xs ≡ true
-
-pub free_both : (c : ℕ) (xs ys : List ℕ) → Free c xs → Free c ys → Free c (xs ++ ys)
-free_both c [] ys h g = g
-free_both c (x ∷ xs) ys h g = let both = and_two (not (x == c)) _ h in rw (both.0, free_both c xs ys both.1 g) refl
-
 digit_free : (x : ℕ) (b : Bool) → (x == 10) ≡ b → is_ascii_digit x ≡ true → b ≡ false
 digit_free x false is digit = refl
 digit_free x true is digit = let bad : is_ascii_digit 10 ≡ true = subst (λ k. is_ascii_digit k ≡ true) (eqb-true x 10 is) digit in cc
 
 digits_free : (xs : List ℕ) → list_all is_ascii_digit xs ≡ true → Free 10 xs
 digits_free [] h = refl
-digits_free (x ∷ xs) h = let both = and_two (is_ascii_digit x) _ h in let e : (x == 10) ≡ false = digit_free x (x == 10) refl both.0 in rw (e, digits_free xs both.1) refl
+digits_free (x ∷ xs) h = let both = and_parts (is_ascii_digit x) _ h in let e : (x == 10) ≡ false = digit_free x (x == 10) refl both.0 in rw (e, digits_free xs both.1) refl
 
 pub number_free : (n : ℕ) → n < 2 ^ 32 → Free 10 (decimal n)
 number_free n small = digits_free (decimal n) (all_digits n (omega (arith, small)))
@@ -102,13 +68,6 @@ word_free c w lt =
     free_both c (b3 ++ b2 ++ b1) b0
     (free_both c (b3 ++ b2) b1 (free_both c b3 b2 (byte_free c (w / 2 ^ 24) lt) (byte_free c (w / 2 ^ 16 % 2 ^ 8) lt)) (byte_free c (w / 2 ^ 8 % 2 ^ 8) lt))
     (byte_free c (w % 2 ^ 8) lt)
-
-pub cut_free : (c : ℕ) (xs rest : List ℕ) → Free c xs → cut c (xs ++ c ∷ rest) ≡ Some (xs, rest)
-cut_free c [] rest h = rw (eq-eqb c c refl) refl
-cut_free c (x ∷ xs) rest h =
-    let both = and_two (not (x == c)) _ h in
-    let ne : (x == c) ≡ false = not_true (x == c) both.0 in
-    rw ne (ap (option_map (λ p. (x ∷ p.0, p.1))) (cut_free c xs rest both.1))
 
 -- a line with its newline, and more lines
 pub lines_on : (line rest : List ℕ) → Free 10 line → lines_of (line ++ 10 ∷ rest) ≡ line ∷ lines_of rest

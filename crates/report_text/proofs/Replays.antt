@@ -1,22 +1,18 @@
 -- How a turn is refused.
-use Rattle.std.proofs.Common.{◌≡◌, ◌≢◌, ℕ, zero, suc, ◌+◌, ◌<◌, ◌&&◌, ◌||◌, nat_le, List, [], ◌∷◌, ◌++◌, length, take, get_or, Some, None, Bool, true, false, refl, sym, ap, ◌∙◌, subst, arith, if◌then◌else◌, map, Contains, MatchBool}
-use Rattle.std.specs.List.{list_any, slice_get}
-use Rattle.std.specs.Option.{unwrap_or}
-use Rattle.std.proofs.lemmas.Bool.Decides.{nat_tests}
-use Rattle.std.proofs.lemmas.Grind.{common_steps}
-use Rattle.std.proofs.lemmas.Option.{slice_get-get_or}
+use Rattle.std.proofs.Common.{◌≡◌, ◌≢◌, ℕ, zero, suc, ◌+◌, ◌<◌, List, [], ◌∷◌, ◌++◌, length, take, get_or, Some, None, Bool, true, false, refl, sym, ap, ◌∙◌, arith, MatchBool}
+use Rattle.std.specs.List.{slice_get}
+use Rattle.std.proofs.lemmas.Option.{slice_get-get_or, same_Some}
 use Rattle.std.proofs.Math.Seq.{take-length}
 use Rattle.guest_image.specs.ImageValue.{ImageValue}
 use Rattle.task_desc.specs.declared.desc.Name.{Name}
-use Rattle.pending_list.specs.declared.task.PendingTask.{PendingTask}
 use Rattle.run_journal.specs.declared.journal.Entry.{Entry}
 use Rattle.serial_machine.specs.declared.fault.TurnFault.{TurnFault}
 use Rattle.serial_machine.specs.declared.fault.TurnFault.TheVariants as faults
 use Rattle.serial_machine.specs.BagValue.{BagValue}
 use Rattle.serial_machine.specs.State.{SerialState}
 use Rattle.serial_machine.specs.TaskRun.{TaskEnd, Done, Trapped}
-use Rattle.serial_machine.specs.Turn.{turn, MayTurn, TrapsSo, run_in_bag, RefusesTurn, find_named, is_named, is_least, is_pending}
-use Rattle.serial_machine.proofs.Proved.{is_pending-inner, may-why}
+use Rattle.serial_machine.specs.Turn.{turn, TrapsSo, run_in_bag, RefusesTurn, find_named}
+use Rattle.serial_machine.proofs.Proved.{may-why}
 
 pub found_at : (es : List Entry) (i : ℕ) (d e : Entry) → i < length es → e ≡ get_or es i d → slice_get es i ≡ Some e
 found_at es i d e lt is = slice_get-get_or es i d lt ∙ ap Some (sym is)
@@ -24,12 +20,9 @@ found_at es i d e lt is = slice_get-get_or es i d lt ∙ ap Some (sym is)
 pub none-other : {A : Type 0} (a : A) → None ≡ Some a → ⊥
 none-other a h = cc
 
-pub some-same : {A : Type 0} (a b : A) → Some a ≡ Some b → a ≡ b
-some-same a b h = ap (λ o. unwrap_or o a) h
-
 pub take-more : {X : Type 0} (es : List X) (i : ℕ) (e : X) → slice_get es i ≡ Some e → take (i + 1) es ≡ take i es ++ e ∷ []
 take-more [] i e h = absurd (none-other e h)
-take-more (x ∷ es) zero e h = ap (λ y. y ∷ []) (some-same x e h)
+take-more (x ∷ es) zero e h = ap (λ y. y ∷ []) (same_Some x e h)
 take-more (x ∷ es) (suc i) e h = let k : suc i + 1 ≡ suc (i + 1) = omega arith in rw k (ap (λ r. x ∷ r) (take-more es i e h))
 
 -- ---- windows
@@ -66,24 +59,6 @@ abbrev rest-of : List BagValue → List BagValue
 rest-of [] = []
 rest-of (b ∷ bs) = bs
 
-pub found-any : (name : Name) (tasks : List PendingTask) (t : PendingTask) → find_named name tasks ≡ Some t → list_any (is_named name) tasks ≡ true
-found-any name [] t f = absurd (none-other t f)
-found-any name (x ∷ xs) t f = go (is_named name x) f (found-any name xs t) where
-  go : (b : Bool) → (if b then Some x else find_named name xs) ≡ Some t → (find_named name xs ≡ Some t → list_any (is_named name) xs ≡ true) → (b || list_any (is_named name) xs) ≡ true
-  go true f ih = refl
-  go false f ih = ih f
-
-pub both : (a b : Bool) → (a && b) ≡ true → (a ≡ true) × (b ≡ true)
-both true b h = (refl, h)
-both false b h = cc
-
-pub least-none : (ts u : ℕ) (tasks : List PendingTask) → is_least ts tasks ≡ true → u < ts → Contains (map (λ t. t.ts) tasks) u → ⊥
-least-none ts u [] h lt (k, l, e) = absurd (omega (arith, l))
-least-none ts u (t ∷ tasks) h lt (zero, l, e) = first (both _ _ h).0 e where
-  first : nat_le ts t.ts ≡ true → t.ts ≡ u → ⊥
-  first le e = grind (arith, nat_tests, common_steps)
-least-none ts u (t ∷ tasks) h lt (suc k, l, e) = least-none ts u tasks (both _ _ h).1 lt (k, omega (arith, l), e)
-
 abbrev to_fault : TaskEnd → TurnFault
 to_fault (Trapped c p) = faults.Trap c p
 to_fault (Done t) = faults.Memory
@@ -97,7 +72,7 @@ trap-why image budget s name cause pc (faults.NotLeast ts) t h other = absurd (m
 trap-why image budget s name cause pc (faults.Trap c p) t h other =
     let bags : h.bag ≡ t.bag = ap (first-of t.bag) (sym h.may.top ∙ t.may.top) in
     let outers : h.outer ≡ t.outer = ap rest-of (sym h.may.top ∙ t.may.top) in
-    let tasks : h.task ≡ t.task = some-same h.task t.task (sym h.may.found ∙ ap (λ b. find_named name b.tasks) bags ∙ t.may.found) in
+    let tasks : h.task ≡ t.task = same_Some h.task t.task (sym h.may.found ∙ ap (λ b. find_named name b.tasks) bags ∙ t.may.found) in
     ap to_fault (sym h.run ∙ ap (λ b. run_in_bag image budget s b h.outer h.task) bags ∙ ap (λ o. run_in_bag image budget s t.bag o h.task) outers ∙ ap (λ k. run_in_bag image budget s t.bag t.outer k) tasks ∙ t.run)
 trap-why image budget s name cause pc faults.Memory t h other = absurd (other refl)
 

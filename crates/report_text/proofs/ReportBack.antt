@@ -4,7 +4,7 @@ use Rattle.std.specs.Fmt.{decimal}
 use Rattle.std.specs.declared.option.Option.{Option}
 use Rattle.std.specs.Char.{is_ascii_digit}
 use Rattle.std.specs.List.{list_all, flat_map, enumerate_from, range_with_len, AllByRecursion}
-use Rattle.std.proofs.lemmas.Bool.{eqb-true}
+use Rattle.std.proofs.lemmas.Bool.{eqb-true, and_parts}
 use Rattle.std.proofs.lemmas.Bool.Decides.{nat_tests}
 use Rattle.std.proofs.lemmas.Fmt.{decimal_nonempty}
 use Rattle.guest_image.specs.ImageValue.{ImageValue, IsImage}
@@ -17,13 +17,14 @@ use Rattle.report_text.specs.declared.limits.TheConstants.{MAX_ENTRIES, MAX_DEPT
 use Rattle.report_text.specs.declared.report.WindowWord.{WindowWord}
 use Rattle.report_text.specs.Hex.{byte_hex, word_hex, hex_digit, hex_bytes}
 use Rattle.text_lines.specs.Lines.{behind, lines_of, cut}
+use Rattle.text_lines.proofs.Proved.{all_digits, number_back, Free, free_both, cut_free}
 use Rattle.report_text.specs.Grammar.{entry_in, output_in, output_bytes, window_in, trap_in, end_in, onto_journal, onto_window, with_output, entries_at, window_at, report_of}
 use Rattle.report_text.specs.Report.{name_text, entry_line, entry_lines, output_digits, output_line, window_word, window_of, window_line, body_lines, end_line, report}
 use Rattle.report_text.specs.ReadBack.{IsName, EntryFits, TrapFits, EndFits, ReportReadsBack}
 use Rattle.undo_log.specs.Number.{AreBytes}
 use Rattle.report_text.proofs.Steps.{onto_journal_both, onto_journal_none, entry_step, output_step, onto_window_both, onto_window_none, word_step}
 use Rattle.report_text.proofs.HexBack.{word-back, bytes-back}
-use Rattle.report_text.proofs.NumberBack.{and_two, and_false, all_digits, number_back, field_back, space, dot, Free, free_both, number_free, bytes_free, word_free, cut_free, lines_on, behind_front, behind_other}
+use Rattle.report_text.proofs.NumberBack.{and_false, field_back, space, dot, number_free, bytes_free, word_free, lines_on, behind_front, behind_other}
 
 -- ---- entries
 
@@ -72,7 +73,7 @@ no_output : (digits rest : List ℕ) → list_all is_ascii_digit digits ≡ true
 unfolding output_in
 no_output [] rest all some = absurd (omega (arith, some))
 no_output (x ∷ xs) rest all some =
-    rw (behind_other 111 x (codes "utput ") (xs ++ rest) (digit_other x (x == 111) refl (and_two (is_ascii_digit x) _ all).0)) refl
+    rw (behind_other 111 x (codes "utput ") (xs ++ rest) (digit_other x (x == 111) refl (and_parts (is_ascii_digit x) _ all).0)) refl
 
 entry_no_output : (n : ℕ) (e : Entry) → n ≤ MAX_ENTRIES → output_in (entry_text n e) ≡ None
 entry_no_output n e small = ap output_in (entry_regrouped n e) ∙ no_output (decimal n) _ (all_digits n (omega (arith, small))) (decimal_nonempty n (omega (arith, small)))

@@ -3,7 +3,7 @@ use Rattle.std.proofs.Common.{◌≡◌, ◌≢◌, ℕ, zero, suc, ◌+◌, ◌
 use Rattle.std.specs.declared.option.Option.{Option}
 use Rattle.std.specs.List.{list_any, slice_get}
 use Rattle.std.specs.Option.{unwrap_or}
-use Rattle.std.proofs.lemmas.Option.{slice_get_within}
+use Rattle.std.proofs.lemmas.Option.{slice_get_within, same_Some}
 use Rattle.guest_image.specs.ImageValue.{ImageValue}
 use Rattle.task_desc.specs.declared.desc.Name.{Name}
 use Rattle.pending_list.specs.declared.task.PendingTask.{PendingTask}
@@ -15,12 +15,12 @@ use Rattle.serial_machine.specs.State.{SerialState}
 use Rattle.serial_machine.specs.Turn.{turn, turn_from_stack, RefusesTurn, find_named, is_named, is_least, is_pending}
 use Rattle.serial_machine.specs.Turn.{inner}
 use Rattle.serial_machine.specs.Run.{Runs, IsRun, IsEnd, opening}
-use Rattle.serial_machine.proofs.Proved.{is_pending-inner}
+use Rattle.serial_machine.proofs.Proved.{is_pending-inner, least-none}
 use Rattle.report_text.specs.declared.report.Report.{Report}
 use Rattle.report_text.specs.declared.verdict.Verdict.TheVariants as verdicts
 use Rattle.report_text.specs.Report.{window_of}
 use Rattle.report_text.specs.Check.{IsReplayed, IsNoTurn, IsWrongEntry, IsWrongOutput, DifferFirst, IsWrongWord, IsWrongEnd, IsReportOf, AgreeOnTheLine}
-use Rattle.report_text.proofs.Replays.{none-other, some-same, least-none, trap-none}
+use Rattle.report_text.proofs.Replays.{none-other, trap-none}
 
 -- ---- runs
 
@@ -51,7 +51,7 @@ turn-in-run : (image : ImageValue) (budget : ℕ) (s : SerialState) (es : List E
     → Runs image budget s es after → slice_get es k ≡ Some e → Runs image budget s (take k es) mid → IsTurn image budget mid e
 turn-in-run image budget s [] after mid k e h stands g = absurd (none-other e stands)
 turn-in-run image budget s (x ∷ xs) after mid zero e (m, t, r) stands g =
-    let same : x ≡ e = some-same x e stands in
+    let same : x ≡ e = same_Some x e stands in
     let P : Entry → Type 0 = λ y. turn image budget s y.name ≡ Some (m, y) in
     record { next = m; turned_so = ap (λ z. turn image budget z e.name) (sym g) ∙ subst P same t }
 turn-in-run image budget s (x ∷ xs) after mid (suc k) e (m, t, r) stands (n, u, q) =

@@ -12,4 +12,3 @@ pub mod Joined
 pub mod Creators
 pub mod Remains
 pub mod Made
-pub mod Unstarted

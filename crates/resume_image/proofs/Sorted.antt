@@ -1,4 +1,5 @@
--- Two lists in the order of their names that hold the same tasks are one list.
+-- Two lists of pending tasks, each sorted by the tasks' names, that hold the same tasks are one list; permuted lists
+-- hold the same tasks.
 use Rattle.std.proofs.Common.{◌≡◌, refl, sym, ap, ◌∙◌, subst, zero, suc, true, false, List, [], ◌∷◌, Contains, AllPairs, IsPermutation, ◌⊎◌, inl, inr, arith}
 use Rattle.std.specs.List.{AllByRecursion}
 use Rattle.std.proofs.lemmas.Bool.Decides.{nat_tests}
@@ -9,6 +10,7 @@ use Rattle.spec_state.specs.declared.pending.Pending.{Pending}
 use Rattle.spec_state.specs.Pendings.{IsBefore}
 use Rattle.pending_law.proofs.Proved.{Holds}
 
+-- sorted by names: each task stands before those behind it
 abbrev pub AreInOrder : List Pending → Type 0
 AreInOrder [] = Unit {0}
 AreInOrder (p ∷ ps) = AllByRecursion (IsBefore p) ps × AreInOrder ps
@@ -20,12 +22,12 @@ in_order (p ∷ ps) sorted = (
   in_order ps (λ i j d before inside. sorted (suc i) (suc j) d (omega arith) (omega arith)),
 )
 
-pub holds_contained : (ps : List Pending) (p : Pending) → Contains ps p → Holds ps p
+holds_contained : (ps : List Pending) (p : Pending) → Contains ps p → Holds ps p
 holds_contained [] p (k, inside, is) = absurd (omega arith)
 holds_contained (q ∷ qs) p (zero, inside, is) = inl is
 holds_contained (q ∷ qs) p (suc k, inside, is) = inr (holds_contained qs p (k, omega arith, is))
 
-pub contains_held : (ps : List Pending) (p : Pending) → Holds ps p → Contains ps p
+contains_held : (ps : List Pending) (p : Pending) → Holds ps p → Contains ps p
 contains_held [] p held = absurd held
 contains_held (q ∷ qs) p (inl same) = (zero, omega arith, same)
 contains_held (q ∷ qs) p (inr held) = (let at = contains_held qs p held in (suc at.0, omega (arith, at.1), at.2))

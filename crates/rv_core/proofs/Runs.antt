@@ -1,6 +1,6 @@
 -- What follows from plain instructions: each is counted and within the budget, and what stops a run lies inside the data.
-use Rattle.std.proofs.Common.{◌≡◌, ◌≢◌, ℕ, ◌+◌, ◌<◌, ◌≤◌, ◌%◌, ◌==◌, not, Option, Some, None, Bool, true, false, nat_lt, ◌&&◌, if◌then◌else◌, zero, suc, refl, subst, arith, add-zero, add-suc}
-use Rattle.std.proofs.lemmas.Bool.{ltb-true, leb-true, eqb-true}
+use Rattle.std.proofs.Common.{◌≡◌, ◌≢◌, ℕ, ◌+◌, ◌<◌, ◌≤◌, ◌%◌, ◌==◌, not, Option, Some, None, Bool, true, false, nat_lt, if◌then◌else◌, zero, suc, refl, subst, arith, add-zero, add-suc}
+use Rattle.std.proofs.lemmas.Bool.{ltb-true, leb-true, eqb-true, and_parts}
 use Rattle.guest_image.specs.ImageValue.{ImageValue}
 use Rattle.rv_table.specs.declared.instr.Instr.{Instr}
 use Rattle.rv_table.specs.declared.instr.Effect.{Effect}
@@ -31,11 +31,6 @@ either size core false one other chosen otherwise = otherwise refl
 trap_keeps : (size : ℕ) (core : Core) (cause : ℕ) → Keeps size core (traps core cause)
 trap_keeps size core cause = (tt, λ e. cc)
 
-both : (a b : Bool) → (a && b) ≡ true → (a ≡ true) × (b ≡ true)
-both true true h = (refl, refl)
-both true false h = cc
-both false b h = cc
-
 true_from_not : (b : Bool) → not b ≡ false → b ≡ true
 true_from_not true h = refl
 true_from_not false h = cc
@@ -43,7 +38,7 @@ true_from_not false h = cc
 -- an access that passes both tests of the code lies in the data
 inside : (size addr n : ℕ) → not (addr % n == 0) ≡ false → is_within DATA_START size addr n ≡ true → (DATA_START ≤ addr) × (addr + n ≤ DATA_START + size) × (addr % n ≡ 0)
 inside size addr n aligned within =
-    let (low, high) = both _ _ within in
+    let (low, high) = and_parts _ _ within in
     (leb-true _ _ low, leb-true _ _ high, eqb-true _ _ (true_from_not _ aligned))
 
 load_keeps : (size : ℕ) (core : Core) (width : LoadWidth) (rd addr : ℕ) (raw : Option ℕ) → not (addr % load_width width == 0) ≡ false → Keeps size core (load_next size core width rd addr raw)

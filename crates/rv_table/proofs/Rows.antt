@@ -4,7 +4,7 @@ use Rattle.std.specs.List.{list_all, All, AllPairs}
 use Rattle.std.proofs.lemmas.List.Sums.{AllPass-from_list_all}
 use Rattle.std.proofs.lemmas.List.Elements.{All-cons}
 use Rattle.std.proofs.lemmas.List.Kept.{AllPairs-cons}
-use Rattle.std.proofs.lemmas.Bool.{eqb-true, eq-eqb}
+use Rattle.std.proofs.lemmas.Bool.{eqb-true, eq-eqb, and_parts, false_from_ne_true}
 use Rattle.rv_table.specs.Fields.{opcode, funct3, funct7}
 use Rattle.rv_table.specs.Table.{Pattern, Opcode, Funct3, Funct7, Word, fits, Row, table, Excludes, Settles}
 
@@ -58,19 +58,14 @@ record HasFixed (p : Pattern) (word : ℕ) : Type 0 where
   funct7_is : Has (fixed_funct7 p) (funct7 word)
   word_is : Has (fixed_word p) word
 
-both : (a b : Bool) → (a && b) ≡ true → (a ≡ true) × (b ≡ true)
-both true true h = (refl, refl)
-both true false h = cc
-both false b h = cc
-
 has_fixed : (p : Pattern) (word : ℕ) → fits p word ≡ true → HasFixed p word
 has_fixed (Opcode op) word h = record { opcode_is = eqb-true _ _ h; funct3_is = tt; funct7_is = tt; word_is = tt }
 has_fixed (Funct3 f3 op) word h =
-    let (three, op_is) = both _ _ h in
+    let (three, op_is) = and_parts _ _ h in
     record { opcode_is = eqb-true _ _ op_is; funct3_is = eqb-true _ _ three; funct7_is = tt; word_is = tt }
 has_fixed (Funct7 f7 f3 op) word h =
-    let (upper, op_is) = both _ _ h in
-    let (seven, three) = both _ _ upper in
+    let (upper, op_is) = and_parts _ _ h in
+    let (seven, three) = and_parts _ _ upper in
     record { opcode_is = eqb-true _ _ op_is; funct3_is = eqb-true _ _ three; funct7_is = eqb-true _ _ seven; word_is = tt }
 has_fixed (Word v) word h =
     let same : word ≡ v = eqb-true _ _ h in
@@ -106,17 +101,13 @@ all_apart (row ∷ rows) = list_all (λ other. are_apart row.pattern other.patte
 from_test : (rows : List Row) → all_apart rows ≡ true → AllPairs Excludes rows
 from_test [] h = λ i j d below inside. absurd (omega arith)
 from_test (row ∷ rows) h =
-    let (here, later) = both _ _ h in
+    let (here, later) = and_parts _ _ h in
     AllPairs-cons Excludes row rows
     (λ k d inside word one other. apart _ _ word (AllPass-from_list_all _ rows here k d inside) one other)
     (from_test rows later)
 
 pub table_is_apart : AllPairs Excludes table
 table_is_apart = from_test table refl
-
-not_true : (b : Bool) → (b ≡ true → ⊥) → b ≡ false
-not_true true h = absurd (h refl)
-not_true false h = refl
 
 tail_apart : (row : Row) (rows : List Row) → AllPairs Excludes (row ∷ rows) → AllPairs Excludes rows
 tail_apart row rows h = λ i j d below inside word one other.
@@ -132,7 +123,7 @@ settles (row ∷ rows) h =
     (λ k d inside word fit.
     let before : 0 < suc k = omega arith in
     let within : suc k < length (row ∷ rows) = omega arith in
-    let misses : fits row.pattern word ≡ false = not_true _ (λ first. h 0 (suc k) d before within word first fit) in
+    let misses : fits row.pattern word ≡ false = false_from_ne_true _ (λ first. h 0 (suc k) d before within word first fit) in
     rw misses (settles rows (tail_apart row rows h) k d inside word fit))
 
 pub table_settles : All (Settles table) table

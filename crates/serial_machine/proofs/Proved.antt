@@ -3,7 +3,7 @@ pub use Rattle.serial_machine.proofs.Kept.{EndHolds, request-sub_fits, StepHolds
 pub use Rattle.serial_machine.proofs.Naming.{AreNamed-after, AreNamed-opening, kids, kids-fresh, kids_for, once-in-first, times-append}
 pub use Rattle.serial_machine.proofs.Naming.{times-kids, times-without_name, times_in-inner, times_in-sub}
 pub use Rattle.serial_machine.proofs.Naming.{times_in-super}
-pub use Rattle.serial_machine.proofs.Refused.{may-why}
+pub use Rattle.serial_machine.proofs.Refused.{least-none, may-why}
 pub use Rattle.serial_machine.proofs.Runs.{spent_traps, after_instructions-plain_step, after_instructions-stop}
 pub use Rattle.serial_machine.proofs.Stacks.{without_name-none}
 pub use Rattle.serial_machine.proofs.Turns.{is_pending-inner, IsStack-after, IsStack-inner}

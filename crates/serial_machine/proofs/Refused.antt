@@ -1,9 +1,10 @@
 -- Why a task that may take the next turn is refused.
-use Rattle.std.proofs.Common.{◌≡◌, ◌&&◌, ◌||◌, ◌<◌, nat_le, ℕ, zero, suc, List, [], ◌∷◌, Some, Bool, true, false, refl, sym, ap, ◌∙◌, subst, arith, if◌then◌else◌, map, Contains}
+use Rattle.std.proofs.Common.{◌≡◌, ◌||◌, ◌<◌, nat_le, ℕ, zero, suc, List, [], ◌∷◌, Some, Bool, true, false, refl, sym, ap, ◌∙◌, subst, arith, if◌then◌else◌, map, Contains}
 use Rattle.std.specs.List.{list_any}
 use Rattle.std.proofs.lemmas.Bool.Decides.{nat_tests}
 use Rattle.std.proofs.lemmas.Grind.{common_steps}
 use Rattle.std.proofs.lemmas.Option.{none-some, same_Some}
+use Rattle.std.proofs.lemmas.Bool.{and_parts}
 use Rattle.guest_image.specs.ImageValue.{ImageValue}
 use Rattle.task_desc.specs.declared.desc.Name.{Name}
 use Rattle.pending_list.specs.declared.task.PendingTask.{PendingTask}
@@ -16,24 +17,20 @@ use Rattle.serial_machine.specs.WholeRun.{IsTrapOrMemory}
 use Rattle.serial_machine.proofs.Turns.{is_pending-inner}
 
 -- a task that is found has its name among the tasks
-found-any : (name : Name) (tasks : List PendingTask) (t : PendingTask) → find_named name tasks ≡ Some t → list_any (is_named name) tasks ≡ true
+pub found-any : (name : Name) (tasks : List PendingTask) (t : PendingTask) → find_named name tasks ≡ Some t → list_any (is_named name) tasks ≡ true
 found-any name [] t f = absurd (none-some t f)
 found-any name (x ∷ xs) t f = go (is_named name x) f (found-any name xs t) where
   go : (b : Bool) → (if b then Some x else find_named name xs) ≡ Some t → (find_named name xs ≡ Some t → list_any (is_named name) xs ≡ true) → (b || list_any (is_named name) xs) ≡ true
   go true f ih = refl
   go false f ih = ih f
 
-both : (a b : Bool) → (a && b) ≡ true → (a ≡ true) × (b ≡ true)
-both true b h = (refl, h)
-both false b h = cc
-
 -- no task has a smaller timestamp than a least one
-least-none : (ts u : ℕ) (tasks : List PendingTask) → is_least ts tasks ≡ true → u < ts → Contains (map (λ t. t.ts) tasks) u → ⊥
+pub least-none : (ts u : ℕ) (tasks : List PendingTask) → is_least ts tasks ≡ true → u < ts → Contains (map (λ t. t.ts) tasks) u → ⊥
 least-none ts u [] h lt (k, l, e) = absurd (omega (arith, l))
-least-none ts u (t ∷ tasks) h lt (zero, l, e) = first (both _ _ h).0 e where
+least-none ts u (t ∷ tasks) h lt (zero, l, e) = first (and_parts _ _ h).0 e where
   first : nat_le ts t.ts ≡ true → t.ts ≡ u → ⊥
   first le e = grind (arith, nat_tests, common_steps)
-least-none ts u (t ∷ tasks) h lt (suc k, l, e) = least-none ts u tasks (both _ _ h).1 lt (k, omega (arith, l), e)
+least-none ts u (t ∷ tasks) h lt (suc k, l, e) = least-none ts u tasks (and_parts _ _ h).1 lt (k, omega (arith, l), e)
 
 -- it is refused for its trap, or for want of memory
 pub may-why : (image : ImageValue) (budget : ℕ) (s : SerialState) (name : Name) (fault : TurnFault) (bag : BagValue) (outer : List BagValue) (task : PendingTask)

@@ -1,5 +1,5 @@
 -- Names that a bag has not, bags that leave a stack, and room.
-use Rattle.std.proofs.Common.{◌≡◌, refl, sym, ap, ◌∙◌, ◌≤◌, ◌<◌, ◌+◌, ℕ, zero, suc, Bool, true, false, not, ◌||◌, List, [], ◌∷◌, length, take, drop, map, get_or, set, arith, if◌then◌else◌}
+use Rattle.std.proofs.Common.{◌≡◌, refl, sym, ap, ◌∙◌, ◌≤◌, ◌<◌, ◌+◌, ℕ, zero, suc, Bool, true, false, not, ◌||◌, List, [], ◌∷◌, length, take, drop, get_or, set, arith, if◌then◌else◌}
 use Rattle.std.proofs.lemmas.List.{drop-drop}
 use Rattle.std.specs.List.{list_any}
 use Rattle.task_desc.specs.declared.desc.Name.{Name}
@@ -8,10 +8,6 @@ use Rattle.serial_machine.specs.declared.bag.Bag.{Bag}
 use Rattle.serial_machine.specs.Turn.{is_named, without_name, is_pending}
 use Rattle.serial_machine.specs.Names.{times, one}
 use Rattle.serial_machine.specs.Stack.{bag_value, bags, HaveSpare}
-
-pub list_any_map : {A B : Type 0} (p : B → Bool) (f : A → B) (xs : List A) → list_any p (map f xs) ≡ list_any (λ x. p (f x)) xs
-list_any_map p f [] = refl
-list_any_map p f (x ∷ xs) = ap (λ b. p (f x) || b) (list_any_map p f xs)
 
 -- the first bag's task of a name, found in what the code keeps
 pub any_bag : (name : Name) (stack : List Bag) → list_any (λ b. list_any (is_named name) b.tasks.tasks) stack ≡ is_pending name (bags stack)

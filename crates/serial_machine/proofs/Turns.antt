@@ -68,11 +68,6 @@ pub finish-done : (o : TaskEnd) (t : TaskState) → FinishesRun o run_ends.Done 
 finish-done (Done u) t h = ap Done (sym h)
 finish-done (Trapped cause pc) t h = absurd h
 
-pub turn-finished : (image : ImageValue) (budget : ℕ) (s : SerialState) (name : Name) (bag : BagValue) (outer : List BagValue) (task : PendingTask) (t : TaskState)
-    → MayTurn s.stack name bag outer task → FinishesRun (run_in_bag image budget s bag outer task) run_ends.Done t
-    → turn image budget s name ≡ Some (record { stack = stack_after bag outer name (s.count + 1) task.ts t.spawns t.sub; memory = t.memory; output = s.output ++ t.bytes; count = s.count + 1 }, record { name = name; depth = bag.depth; ts = task.ts })
-turn-finished image budget s name bag outer task t m f = turn-done image budget s name bag outer task t m (finish-done _ t f)
-
 pub finish-trapped : (o : TaskEnd) (cause pc : ℕ) (t : TaskState) → FinishesRun o (run_ends.Trapped cause pc) t → o ≡ Trapped cause pc
 finish-trapped (Done u) cause pc t h = absurd h
 finish-trapped (Trapped c p) cause pc t h = rw (h.0, h.1) refl

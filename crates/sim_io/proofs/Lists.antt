@@ -2,7 +2,6 @@
 use Rattle.std.proofs.Common.{◌≡◌, ℕ, zero, suc, ◌+◌, ◌<◌, ◌≤◌, List, [], ◌∷◌, ◌++◌, length, take, drop, get_or, Ok, Err, refl, arith, append_assoc, append-nil}
 use Rattle.std.proofs.Math.Seq.{take-length}
 use Rattle.std.specs.List.{flat_map}
-use Rattle.std.proofs.KnownBytes.{Appends-nil}
 use Rattle.sim_io.specs.Parts.{SinkTakes, Writes}
 use Rattle.sim_io.specs.Streams.{SinkState}
 use Rattle.sim_io.proofs.Fronts.{SinkTakes-trans, TakesFront-more, TakesFront-then}
@@ -11,9 +10,6 @@ use Rattle.sim_io.proofs.Fronts.{SinkTakes-trans, TakesFront-more, TakesFront-th
 pub record Wrote (old new : SinkState) (text : List ℕ) : Type 0 where
   pub taken : SinkTakes old new text
   pub later : old.faults ≤ new.faults
-
-pub wrote_nothing : (a : SinkState) → Wrote a a []
-wrote_nothing a = record { taken = Appends-nil a.taken; later = omega arith }
 
 -- and then another one
 pub wrote_more : {E : Type 0} (a b c : SinkState) (x y : List ℕ) → Wrote a b x → Writes {E = E} b c (Ok tt) y → Wrote a c (x ++ y)

@@ -1,8 +1,8 @@
 -- One piece of a text after another.
 use Rattle.std.proofs.Common.{◌≡◌, ℕ, ◌+◌, ◌≤◌, List, ◌++◌, take, drop, length, ap, sym, ◌∙◌, arith}
 use Rattle.std.proofs.lemmas.List.{take_at, drop-drop, take-append-drop, length-drop, length-take-le}
-use Rattle.std.proofs.Math.Seq.{take-add, take-length}
-use Rattle.sim_io.specs.Parts.{SinkTakes, TakesFront}
+use Rattle.std.proofs.Math.Seq.{take-add}
+use Rattle.sim_io.specs.Parts.{SinkTakes}
 use Rattle.sim_io.specs.Streams.{SinkState}
 use Rattle.sim_io.proofs.Fronts.{SinkTakes-trans}
 
@@ -18,11 +18,3 @@ drop-copied bytes buf part at n fits is =
     ∙ ap (λ p. p ++ drop (at + n) bytes) (take_at (take n (drop at bytes)) (drop n buf) n len)
     ∙ ap (λ p. take n (drop at bytes) ++ p) (sym (drop-drop n at bytes))
     ∙ take-append-drop n (drop at bytes))
-
--- a whole text is a front of itself
-pub front_whole : (a b : SinkState) (xs : List ℕ) → SinkTakes a b xs → TakesFront a b xs
-front_whole a b xs h = record { count = length xs; within = omega arith; front = rw (take-length xs) h }
-
--- a front by its length
-pub front_of : (a b : SinkState) (xs : List ℕ) (k : ℕ) → k ≤ length xs → SinkTakes a b (take k xs) → TakesFront a b xs
-front_of a b xs k le h = record { count = k; within = le; front = h }

@@ -1,36 +1,22 @@
 -- The order along a tile's queue, in which no id stands twice.
-use Rattle.std.proofs.Common.{◌≡◌, ◌≢◌, ◌⊎◌, ◌<◌, ℕ, List, Some, refl, sym, ap, ◌∙◌, inl, inr, arith, slice_get}
+use Rattle.std.proofs.Common.{◌≡◌, ◌≢◌, ◌⊎◌, ◌<◌, ℕ, Some, refl, sym, ap, ◌∙◌, inl, inr, arith, slice_get}
 use Rattle.std.specs.Ordering.{nat_cmp, ordering_then, ordering_reverse}
 use Rattle.std.specs.declared.cmp.Ordering.{Ordering}
 use Rattle.std.specs.declared.cmp.Ordering.TheVariants.{Less, Equal, Greater}
-use Rattle.std.proofs.lemmas.Bool.{cases_eq, cases_lt}
 use Rattle.std.proofs.lemmas.Bool.Decides.{nat_tests}
-use Rattle.std.proofs.lemmas.Option.{slice_get_within, get_or_from_slice_get}
 use Rattle.fractal_vt.specs.declared.key.Key.{Key}
 use Rattle.fractal_vt.specs.Keys.{key_cmp}
-use Rattle.fractal_vt.proofs.Proved.{key_cmp_total}
+use Rattle.fractal_vt.proofs.Proved.{key_cmp_total, less_number}
 use Rattle.tile_queues.specs.Queue.{AreDistinct}
+use Rattle.tile_queues.proofs.Proved.{one_place}
 use Rattle.spec_state.specs.declared.task.Task.{Task}
 use Rattle.spec_state.specs.View.{View, queue_at}
 use Rattle.spec_state.specs.Least.{Queued, ranked_cmp, IsQueuedAt, Precedes}
 use Rattle.spec_state.proofs.Proved.{less_then, same_tile}
 use Rattle.spec_commit.specs.Latest.{HasLessKey}
 
--- an id stands at one place
-pub one_place : (ids : List ℕ) (p q id : ℕ) → AreDistinct ids → slice_get ids p ≡ Some id → slice_get ids q ≡ Some id → p ≡ q
-one_place ids p q id distinct at again = elim (cases_lt p q) [
-  | inl less ↦ absurd (apart p q less at again)
-  | inr upto ↦ elim (cases_eq p q) [ inl same ↦ same | inr other ↦ absurd (apart q p (omega (arith, upto, other)) again at) ]
-]
-  where
-    apart : (i j : ℕ) → i < j → slice_get ids i ≡ Some id → slice_get ids j ≡ Some id → ⊥
-    apart i j less first second = distinct i j id less (slice_get_within ids j id second) (get_or_from_slice_get ids i id id first ∙ sym (get_or_from_slice_get ids j id id second))
-
-number_less : (a b : ℕ) → a < b → nat_cmp a b ≡ Less
-number_less a b less = grind (arith, nat_tests)
-
-less_number : (a b : ℕ) → nat_cmp a b ≡ Less → a < b
-less_number a b less = grind (arith, nat_tests)
+less_is_below : (a b : ℕ) → nat_cmp a b ≡ Less → a < b
+less_is_below a b less = grind (arith, nat_tests)
 
 -- in one tile an order by key and place is one by key, or by place where keys tie
 ranked : (o : Ordering) (tile p q : ℕ) → ordering_then o (ordering_then (nat_cmp tile tile) (nat_cmp p q)) ≡ ordering_then o (nat_cmp p q)
@@ -38,7 +24,7 @@ ranked o tile p q = ap (λ r. ordering_then o (ordering_then r (nat_cmp p q))) (
 
 by_parts : (o : Ordering) (p q : ℕ) → ordering_then o (nat_cmp p q) ≡ Less → (o ≡ Less) ⊎ ((o ≡ Equal) × (p < q))
 by_parts Less p q less = inl refl
-by_parts Equal p q less = inr (refl, less_number p q less)
+by_parts Equal p q less = inr (refl, less_is_below p q less)
 by_parts Greater p q less = absurd (cc (less))
 
 parts : (o : Ordering) (tile p q : ℕ) → ordering_then o (ordering_then (nat_cmp tile tile) (nat_cmp p q)) ≡ Less → (o ≡ Less) ⊎ ((o ≡ Equal) × (p < q))
@@ -49,7 +35,7 @@ by_key o tile p q less = ap (λ r. ordering_then r (ordering_then (nat_cmp tile 
 
 by_place : (o : Ordering) (tile p q : ℕ) → o ≢ Greater → p < q → ordering_then o (ordering_then (nat_cmp tile tile) (nat_cmp p q)) ≡ Less
 by_place Less tile p q not less = refl
-by_place Equal tile p q not less = ranked Equal tile p q ∙ number_less p q less
+by_place Equal tile p q not less = ranked Equal tile p q ∙ less_number p q less
 by_place Greater tile p q not less = absurd (not refl)
 
 ranked_trans : (a b c : Key) (tile p q r : ℕ) → ranked_cmp a (Queued tile p) b (Queued tile q) ≡ Less → ranked_cmp b (Queued tile q) c (Queued tile r) ≡ Less

@@ -1,17 +1,16 @@
 -- A renumbering, by the parts of a state.
-use Rattle.std.proofs.Common.{◌≡◌, ◌<◌, ◌≤◌, ◌+◌, ◌*◌, ◌^◌, ◌∷◌, ◌++◌, ℕ, zero, suc, cond, List, [], length, map, take, drop, Option, Some, None, refl, sym, ap, subst, ◌∙◌, inl, inr, arith, option_map, slice_index_or}
+use Rattle.std.proofs.Common.{◌≡◌, ◌<◌, ◌≤◌, ◌+◌, ◌^◌, ◌∷◌, ℕ, zero, suc, cond, List, [], length, map, Option, Some, None, refl, sym, ap, subst, ◌∙◌, inl, inr, arith, option_map, slice_index_or}
 use Rattle.std.specs.Prelude.{All, Contains, ◌↔◌, is_some, count_by, flat_map}
-use Rattle.std.proofs.Math.Nat.{mul-le-mul_left}
 use Rattle.std.specs.List.Sorted.{IsStrictlyIncreasing}
-use Rattle.std.proofs.lemmas.List.{length-map, get_or_default, take_at}
+use Rattle.std.proofs.lemmas.List.{length-map, get_or_default}
 use Rattle.std.proofs.lemmas.List.Elements.{All-nil, All-cons, Contains-append_left, Contains-append_right}
-use Rattle.std.proofs.lemmas.List.Sums.{sum_by-cons, sum_by-le}
+use Rattle.std.proofs.lemmas.List.Sums.{sum_by-cons}
 use Rattle.commit_arbiter.specs.declared.candidate.Candidate.{Candidate}
 use Rattle.commit_arbiter.specs.Indexed.{HoldsCandidates, renumbered_candidate}
 use Rattle.fractal_vt.specs.declared.level.Level.{Level}
 use Rattle.run_journal.specs.declared.journal.Entry.{Entry}
 use Rattle.fractal_vt.specs.Renumbered.{place_in, renumbered_levels, renumbered_level, HoldsKey}
-use Rattle.spill_store.specs.SpilledTasks.{Spilled, BlockValue, HoldsSpilled, open_key, renumbered_spilled}
+use Rattle.spill_store.specs.SpilledTasks.{Spilled, HoldsSpilled, open_key, renumbered_spilled}
 use Rattle.slab.specs.Slab.{Slab}
 use Rattle.tile_queues.specs.Queue.{QueueValue}
 use Rattle.spec_state.specs.declared.settings.Settings.{Settings}
@@ -19,21 +18,14 @@ use Rattle.spec_state.specs.declared.task.Status.{Status}
 use Rattle.spec_state.specs.declared.task.Status.TheVariants.{Finished}
 use Rattle.spec_state.specs.declared.task.Task.{Task}
 use Rattle.spec_state.specs.View.{View, task_at}
-use Rattle.spec_state.specs.Settings.{IsValid}
 use Rattle.spec_state.specs.Tasks.{depth_of}
-use Rattle.spec_state.specs.Fits.{view_of_parts, entries_in, queued_count, HasTiles, HasSlots, SlotCounts}
+use Rattle.spec_state.specs.Fits.{view_of_parts, HasSlots, SlotCounts}
 use Rattle.spec_state.specs.Children.{AreNoted, ChildrenValue, IsChildAt}
 use Rattle.spec_state.specs.Numbers.{IsInUse, IsPathsOrTasks, IsNumberTable, Renumbers, renumbered_task, on_path, of_task}
 use Rattle.spec_state.specs.Stored.{HasCore, HasTask, IsWellFormed, IsStored, IsIndexed, candidate_of}
-use Rattle.spec_state.proofs.Proved.{noted_back, table_holds_spilled, table_holds_task}
+use Rattle.spec_state.proofs.Proved.{noted_back, table_holds_spilled, table_holds_task, map_at}
 use Rattle.spec_dispatch.specs.Table.{held_numbers}
 use Rattle.spec_dispatch.proofs.Tabled.{held_are}
-
--- an option of a mapped list
-option_mapped : (f : Task → Task) (tasks : List (Option Task)) (id : ℕ) → slice_index_or (map (option_map f) tasks) id None ≡ option_map f (slice_index_or tasks id None)
-option_mapped f [] id = refl
-option_mapped f (t ∷ tasks) zero = refl
-option_mapped f (t ∷ tasks) (suc id) = option_mapped f tasks id
 
 -- what a mapped option holds comes from what the option holds
 mapped_some : (f : Task → Task) (o : Option Task) (y : Task) → option_map f o ≡ Some y → (x : Task) × (o ≡ Some x) × (y ≡ f x)
@@ -54,21 +46,6 @@ as_many_mapped f (t ∷ tasks) =
     let same : weight (option_map f t) ≡ weight t = ap (λ b. cond b 1 0) (still_some f t) in
     let rest = as_many_mapped f tasks in
     omega (arith, now, was, same, rest)
-
--- no more tasks are there than the task queues hold at most
-pub few_tasks : (settings : Settings) (tasks : List (Option Task)) (queues finished : List QueueValue)
-    (core_lists block_lists : ℕ) (counts : SlotCounts) → IsValid settings
-    → HasTiles settings queues finished core_lists block_lists → HasSlots settings tasks queues counts
-    → count_by is_some tasks ≤ 4096
-few_tasks settings tasks queues finished core_lists block_lists counts valid tiles has =
-    let fits : queued_count queues ≤ length queues * settings.task_queue = sum_by-le (λ q. length q.ids) settings.task_queue queues has.short in
-    let most : length queues * settings.task_queue ≤ 4096 = product (length queues) settings.task_queue (omega (arith, tiles.queue_count, valid.tiles.1)) valid.task_queue.1 in
-    omega (arith, fits, most, has.used)
-  where
-    product : (a b : ℕ) → a ≤ 16 → b ≤ 256 → a * b ≤ 4096
-    product a b few short =
-        let wide = mul-le-mul_left a short in
-        omega (arith, wide, few)
 
 -- a table of the path's and the tasks' numbers has all that are in use
 is_table : (view : View) (table : List ℕ) (tasks : Slab Task) → view.tasks ≡ tasks.slots → IsStrictlyIncreasing table
@@ -143,7 +120,7 @@ module _ (view : View) (table : List ℕ) (is : IsNumberTable view table) where
 
 module _ (old new : View) (r : Renumbers old new) where
   each : (id : ℕ) → task_at new id ≡ option_map (renumbered_task r.table) (task_at old id)
-  each id = ap (λ tasks. slice_index_or tasks id None) r.tasks ∙ option_mapped (renumbered_task r.table) old.tasks id
+  each id = ap (λ tasks. slice_index_or tasks id None) r.tasks ∙ map_at (option_map (renumbered_task r.table)) old.tasks id None
 
   pub now : (id : ℕ) (t : Task) → task_at old id ≡ Some t → task_at new id ≡ Some (renumbered_task r.table t)
   now id t there = each id ∙ ap (option_map (renumbered_task r.table)) there
@@ -198,14 +175,14 @@ pub indexed_renumbered : (table : List ℕ) (tasks : List (Option Task)) (lists 
     → IsIndexed tasks lists arrivals next entries → IsIndexed (map (option_map (renumbered_task table)) tasks) lists arrivals next (map (renumbered_candidate table) entries)
 indexed_renumbered table tasks lists arrivals next entries is = record {
   all = λ id t there.
-      (let one = mapped_some (renumbered_task table) (slice_index_or tasks id None) t (sym (option_mapped (renumbered_task table) tasks id) ∙ there) in
+      (let one = mapped_some (renumbered_task table) (slice_index_or tasks id None) t (sym (map_at (option_map (renumbered_task table)) tasks id None) ∙ there) in
       subst (λ x. Contains (map (renumbered_candidate table) entries) (candidate_of arrivals id x)) (sym one.2) (into entries (candidate_of arrivals id one.0) (is.all id one.0 one.1)));
   each = λ e has.
       (let one = from entries e has in
       let task = is.each one.0 one.1 in
       let ids : e.id ≡ one.0.id = ap (λ (x : Candidate). x.id) one.2 in (
         renumbered_task table task.0,
-        option_mapped (renumbered_task table) tasks e.id ∙ ap (λ j. option_map (renumbered_task table) (slice_index_or tasks j None)) ids ∙ ap (option_map (renumbered_task table)) task.1,
+        map_at (option_map (renumbered_task table)) tasks e.id None ∙ ap (λ j. option_map (renumbered_task table) (slice_index_or tasks j None)) ids ∙ ap (option_map (renumbered_task table)) task.1,
         one.2 ∙ ap (renumbered_candidate table) task.2 ∙ ap (λ j. candidate_of arrivals j (renumbered_task table task.0)) (sym ids),
       ));
   early = is.early;
@@ -237,14 +214,6 @@ noted_after table tasks now children is = noted_back tasks now children back
     back : (k id place : ℕ) → IsChildAt id place (slice_index_or now k None) → IsChildAt id place (slice_index_or tasks k None)
     back k id place one =
         let each : slice_index_or now k None ≡ option_map (renumbered_task table) (slice_index_or tasks k None) =
-        ap (λ ts. slice_index_or ts k None) is ∙ option_mapped (renumbered_task table) tasks k in
+        ap (λ ts. slice_index_or ts k None) is ∙ map_at (option_map (renumbered_task table)) tasks k None in
         let was = mapped_some (renumbered_task table) (slice_index_or tasks k None) one.child (sym each ∙ one.there) in
         record { child = was.0; there = was.1; made_by = ap (λ (t : Task). t.creator) (sym was.2) ∙ one.made_by }
-
--- what the blocks hold, once they were lent as a slice
-pub blocks_after : (table : List ℕ) (blocks lent now : List BlockValue) (count : ℕ) → lent ≡ blocks → length lent ≡ count → length now ≡ length lent
-    → entries_in now ≡ map (map (renumbered_spilled table)) (entries_in lent)
-    → entries_in (take count (now ++ drop (length now) blocks))
-    ≡ map (map (renumbered_spilled table)) (entries_in blocks)
-blocks_after table blocks lent now count same long stays is =
-    ap entries_in (take_at now (drop (length now) blocks) count (stays ∙ long)) ∙ is ∙ ap (λ bs. map (map (renumbered_spilled table)) (entries_in bs)) same

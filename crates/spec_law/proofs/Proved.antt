@@ -1,6 +1,6 @@
 -- What the proofs of this crate give to those above, but for what `outcome_law` names by its file.
 pub use Rattle.spec_law.proofs.Aborted.Cascades.{cascade_is_later, conflicts_spare_asker}
-pub use Rattle.spec_law.proofs.Aborted.KeptHeir.{abort_keeps_heir, upto_of}
+pub use Rattle.spec_law.proofs.Aborted.KeptHeir.{abort_keeps_heir}
 pub use Rattle.spec_law.proofs.Aborted.KeptSound.{abort_for_room_is_sound, abort_of_conflicts_is_sound, abort_of_later_is_sound}
 pub use Rattle.spec_law.proofs.Aborted.KeptSound.{abort_of_one_is_sound}
 pub use Rattle.spec_law.proofs.Aborted.KeptTasks.{each_now}
@@ -30,7 +30,7 @@ pub use Rattle.spec_law.proofs.Renumbers.One.{after as renumbered_to, each_now a
 pub use Rattle.spec_law.proofs.Renumbers.One.{is_after as is_renumbered, now as renumbered_now, same_order, spilled_was}
 pub use Rattle.spec_law.proofs.Renumbers.Sound.{renumbering_leaves_numbers, renumbering_says_same, renumbering_stays_sound}
 pub use Rattle.spec_law.proofs.Rooms.Child.{child_is_above}
-pub use Rattle.spec_law.proofs.Rooms.Fit.{heirs_are_one}
+pub use Rattle.spec_law.proofs.Rooms.Fit.{contains_in, heirs_are_one, in_contains}
 pub use Rattle.spec_law.proofs.Rooms.Later.{victim_is_later}
 pub use Rattle.spec_law.proofs.Rooms.Made.{leaves_entry}
 pub use Rattle.spec_law.proofs.Rooms.Returned.{split_keeps_least}
@@ -40,7 +40,7 @@ pub use Rattle.spec_law.proofs.Steps.One.{StepsOne, worked}
 pub use Rattle.spec_law.proofs.Steps.Sound.{keeps_steps}
 pub use Rattle.spec_law.proofs.Tasks.Beside.{id_below, mapped_some, queued_stands, spilled_key, spilled_stands, which}
 pub use Rattle.spec_law.proofs.Tasks.Contained.{some_first}
-pub use Rattle.spec_law.proofs.Tasks.Distinct.{distinct_at, one_place}
+pub use Rattle.spec_law.proofs.Tasks.Distinct.{distinct_at}
 pub use Rattle.spec_law.proofs.Tasks.Filtered.{filter_leaves, list_mapped}
 pub use Rattle.spec_law.proofs.Tasks.Firm.{spilled_are_firm}
 pub use Rattle.spec_law.proofs.Tasks.Foremost.{Free, free_is_keyed}
@@ -49,6 +49,7 @@ pub use Rattle.spec_law.proofs.Tasks.Lowest.{lowest}
 pub use Rattle.spec_law.proofs.Tasks.Next.{firm_is_committed, in_spilled, least_is_next, none_is_committed, spot_of}
 pub use Rattle.spec_law.proofs.Tasks.Places.{contains_get, get_contains, place_in_all}
 pub use Rattle.spec_law.proofs.Tasks.Ranked.{first_not_greater, least_is_one, ranked_turned, same_spot}
+pub use Rattle.spec_law.proofs.Tasks.Turned.{not_both_ways}
 pub use Rattle.spec_law.proofs.Tasks.Rebound.{below_all}
 pub use Rattle.spec_law.proofs.Tasks.Returned.{other_test, same_test}
 pub use Rattle.spec_law.proofs.Tasks.Stacked.{run_stack}

@@ -1,6 +1,7 @@
 -- Which uncommitted task comes first, and what stands where.
 pub mod Ranked
 pub mod Places
+pub mod Turned
 pub mod Beside
 pub mod Stacked
 pub mod Foremost

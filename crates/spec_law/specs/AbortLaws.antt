@@ -1,4 +1,4 @@
--- What an abort is to the laws of order, of tasks and of memory.
+-- What an abort is to the laws of order, of tasks and of memory, and that it keeps a view sound.
 use Rattle.std.specs.Prelude.{◌≡◌, ◌≢◌, ℕ, Bool, true, false, not, List, map, filter, Option, Some}
 use Rattle.guest_image.specs.ImageValue.{ImageValue}
 use Rattle.memory_law.specs.Events as memory
@@ -139,7 +139,7 @@ AbortOfConflictsIsSound =
     → task_at old id ≡ Some task → Aborts (Conflicts old task line write) old aborted new
     → StaysSound image old sound new
 
--- an abort of a task that is later than another queued one keeps a view sound
+-- an abort of a dispatched task that is later than a queued one keeps a view sound
 abbrev pub AbortOfLaterIsSound : Type 0
 AbortOfLaterIsSound =
     (image : ImageValue) (id v : ℕ) (task x : Task) (old : View) (aborted : ℕ) (new : View) (sound : Sound image old)

@@ -1,4 +1,5 @@
-//! What an abort is to the laws of order, of tasks and of memory. Each is the contract of a function that does nothing.
+//! What an abort is to the laws of order, of tasks and of memory, and that it keeps a view sound. Each is the contract
+//! of a function that does nothing.
 
 ghost use Rattle.spec_law.specs.AbortLaws.{AbortKeepsHeirOfView, AbortKeepsSoundMemory, AbortKeepsSoundOrder};
 ghost use Rattle.spec_law.specs.AbortLaws.{AbortKeepsSoundSizes};
@@ -83,7 +84,7 @@ pub fn abort_of_conflicts_is_sound()
     ensures { AbortOfConflictsIsSound }
 {}
 
-/// An abort of a task that is later than another queued one keeps a view sound.
+/// An abort of a dispatched task that is later than a queued one keeps a view sound.
 pub fn abort_of_later_is_sound()
     ensures { AbortOfLaterIsSound }
 {}

@@ -6,6 +6,7 @@ use Rattle.std.specs.Ordering.{is_lt}
 use Rattle.std.proofs.lemmas.Bool.{and_parts, and_from}
 use Rattle.std.proofs.lemmas.Option.{slice_get_within, slice_get-get_or}
 use Rattle.fractal_vt.specs.Keys.{key_cmp}
+use Rattle.fractal_vt.proofs.Proved.{less_from}
 use Rattle.spec_state.specs.declared.task.Status.{Status}
 use Rattle.spec_state.specs.declared.task.Status.TheVariants.{Idle, Running, Trapped, Finished}
 use Rattle.spec_state.specs.declared.task.Task.{Task}
@@ -16,7 +17,6 @@ use Rattle.spec_state.specs.Queries.{Conflicts, HasLine}
 use Rattle.spec_state.proofs.Proved.{within_lists}
 use Rattle.spec_rollback.specs.Marking.{has_line, conflicts, conflicts_at, IsInTile, IsInTiles, IsMarkedIfFound, Finds}
 use Rattle.spec_rollback.specs.Marking.{FindsConflicts}
-use Rattle.spec_rollback.proofs.Pulled.{less_is}
 
 -- the line of an access, as a test
 line_is : (write : Bool) (task : Task) (line : ℕ) → has_line write task line ≡ true → HasLine write task line
@@ -40,7 +40,7 @@ module _ (view : View) (task : Task) (line : ℕ) (write : Bool) where
           let two = and_parts (is_dispatched other) (has_line write other line) one.0 in
           record {
             other = other;
-            later = record { there = at; dispatched = two.0; later = less_is (key_cmp task.key other.key) one.1 };
+            later = record { there = at; dispatched = two.0; later = less_from (key_cmp task.key other.key) one.1 };
             has_line = line_is write other line two.1;
           }
 

@@ -1,5 +1,5 @@
 -- Lists that hold no task.
-use Rattle.std.proofs.Common.{◌≡◌, ◌<◌, ◌∷◌, ℕ, suc, List, [], length, map, replicate, Option, Some, None, refl, sym}
+use Rattle.std.proofs.Common.{◌≡◌, ◌∷◌, ℕ, suc, List, [], length, map, replicate, Option, Some, None, refl, sym}
 use Rattle.std.proofs.Common.{ap, ◌∙◌, arith, slice_index_or, slice_get}
 use Rattle.std.specs.Prelude.{Contains, All, IsSome, Bool, true, false, option_map, if◌then◌else◌}
 use Rattle.std.proofs.lemmas.List.Elements.{All-tail, All-head, All-cons}
@@ -14,15 +14,15 @@ use Rattle.spec_state.specs.View.{View, task_at}
 use Rattle.spec_state.specs.Groups.{logged_tasks, logged_task}
 use Rattle.spec_state.specs.Stored.{IsStored, HasTask, HasCore}
 use Rattle.spec_state.specs.Aborts.{is_marked, UndoesAll}
+use Rattle.spec_state.proofs.Proved.{has_head}
 use Rattle.spec_rollback.specs.Lists.{HasLists}
 use Rattle.spec_rollback.specs.Removed.{RemovesThese}
-use Rattle.spec_rollback.proofs.Marked.{contains_first}
 use Rattle.spec_rollback.proofs.Undone.{same_set}
 
 -- a list that contains nothing
 holds_nothing : (ids : List ℕ) → ((id : ℕ) → Contains ids id → ⊥) → ids ≡ []
 holds_nothing [] none = refl
-holds_nothing (id ∷ ids) none = absurd (none id (contains_first id ids))
+holds_nothing (id ∷ ids) none = absurd (none id (has_head id ids))
 
 pub all_empty : (lists : List (List ℕ)) → ((tile id : ℕ) → Contains (slice_index_or lists tile []) id → ⊥)
     → lists ≡ replicate (length lists) []

@@ -1,5 +1,6 @@
--- Marked ids and lists of them: how many they are, and that none is listed twice.
-use Rattle.std.proofs.Common.{◌≡◌, ◌≢◌, ◌⊎◌, ◌≤◌, ◌<◌, ◌+◌, ◌*◌, ◌∷◌, ◌++◌, ℕ, zero, suc, Bool, true, false, List, []}
+-- Marked ids and lists of them: a list of them all is as long as they are many, and in any order it has none twice; and
+-- lists that are written back.
+use Rattle.std.proofs.Common.{◌≡◌, ◌≢◌, ◌≤◌, ◌+◌, ◌∷◌, ◌++◌, ℕ, suc, Bool, true, false, List, []}
 use Rattle.std.proofs.Common.{length, take, drop, Option, Some, None, refl, sym, ap, subst, ◌∙◌, inl, inr, cond, arith}
 use Rattle.std.proofs.Common.{slice_index_or, slice_set}
 use Rattle.std.specs.Prelude.{◌↔◌, Contains, AllPairs, count_by, is_some, IsSome}
@@ -11,16 +12,11 @@ use Rattle.std.specs.List.Sorted.{IsPermutation}
 use Rattle.spec_state.specs.StateValue.{Scratch}
 use Rattle.spec_rollback.specs.Pulled.{ListsMarked}
 use Rattle.std.proofs.lemmas.List.Recursion.{is_count_by}
-use Rattle.std.proofs.lemmas.List.Sums.{sum_by-le}
-use Rattle.std.proofs.Math.Nat.{mul-le-mul}
 use Rattle.std.proofs.Math.Seq.{take-append_seam}
 use Rattle.abort_cascade.specs.Cascade.{Marked}
-use Rattle.abort_cascade.proofs.Proved.{count-mark}
-use Rattle.tile_queues.specs.Queue.{QueueValue}
-use Rattle.spec_state.specs.declared.settings.Settings.{Settings}
+use Rattle.abort_cascade.proofs.Proved.{count-mark, marked_within}
 use Rattle.spec_state.specs.declared.task.Task.{Task}
-use Rattle.spec_state.specs.Settings.{IsValid}
-use Rattle.spec_state.specs.Fits.{queued_count, HasTiles, HasSlots, SlotCounts}
+use Rattle.spec_state.proofs.Proved.{head_or_tail, has_head, in_tail}
 
 -- how many marks are set
 abbrev count : List Bool → ℕ
@@ -32,24 +28,7 @@ pub put_back : {X : Type 0} (n : ℕ) (new old : List X) → length new ≡ leng
 put_back {X} n new old same is =
     ap (λ m. take m (new ++ drop (length new) old)) (is ∙ sym same) ∙ take-append_seam new (drop (length new) old)
 
--- what stands in a longer list is its first or stands behind it
-pub contains_cases : (x : ℕ) (xs : List ℕ) (k : ℕ) → Contains (x ∷ xs) k → (x ≡ k) ⊎ Contains xs k
-contains_cases x xs k (zero, within, is) = inl is
-contains_cases x xs k (suc n, within, is) = inr (n, omega (arith, within), is)
-
-pub contains_first : (x : ℕ) (xs : List ℕ) → Contains (x ∷ xs) x
-contains_first x xs = (0, omega arith, refl)
-
-pub contains_later : (x : ℕ) (xs : List ℕ) (k : ℕ) → Contains xs k → Contains (x ∷ xs) k
-contains_later x xs k has = (suc has.0, (let low = has.1 in omega (arith, low)), has.2)
-
--- a marked id lies within the marks
-pub marked_within : (marks : List Bool) (id : ℕ) → Marked marks id → id < length marks
-marked_within [] id marked = absurd (cc)
-marked_within (mark ∷ marks) zero marked = omega arith
-marked_within (mark ∷ marks) (suc id) marked = let rest = marked_within marks id marked in omega arith
-
--- without a mark that is set there is one less
+-- taking off a mark that is set leaves one less
 one_less : (marks : List Bool) (id : ℕ) → Marked marks id → count marks ≡ count (slice_set marks id false) + 1
 one_less marks id marked =
     let within = marked_within marks id marked in
@@ -61,12 +40,12 @@ one_less marks id marked =
     ap count (sym same) ∙ count-mark (slice_set marks id false) id (omega (arith, within, length-set marks id false))
     off
 
--- the others stay
+-- taking off a mark leaves the others
 others_stay : (marks : List Bool) (id k : ℕ) → k ≢ id → Marked (slice_set marks id false) k ↔ Marked marks k
 others_stay marks id k other =
     let same = get_or-set_other marks id k false false other in (λ m. sym same ∙ m, λ m. same ∙ m)
 
--- a mark that was taken off is off
+-- what is marked still is another id
 is_off : (marks : List Bool) (id k : ℕ) → Marked (slice_set marks id false) k → k ≢ id
 is_off marks id k marked same =
     let within = marked_within (slice_set marks id false) k marked in
@@ -76,7 +55,7 @@ is_off marks id k marked same =
     in
     absurd (cc (marked, off))
 
--- the same number by recursion
+-- how many marks are set, by recursion
 abbrev marks_in : List Bool → ℕ
 marks_in [] = 0
 marks_in (mark ∷ marks) = cond mark (1 + marks_in marks) (marks_in marks)
@@ -121,27 +100,14 @@ fewer marks tasks there =
     let rest = fewer_in marks tasks there in
     omega (arith, rest, marks_in_is marks, tasks_in_is tasks)
 
--- a state's tasks are no more than its task queues may hold
-pub few_tasks : (settings : Settings) (tasks : List (Option Task)) (queues finished : List QueueValue)
-    (core_lists block_lists : ℕ) (counts : SlotCounts)
-    → IsValid settings → HasTiles settings queues finished core_lists block_lists
-    → HasSlots settings tasks queues counts → count_by is_some tasks ≤ 4096
-few_tasks settings tasks queues finished core_lists block_lists counts valid tiles has =
-    let fits : queued_count queues ≤ length queues * settings.task_queue = sum_by-le (λ q. length q.ids)
-    settings.task_queue queues has.short in
-    let few : length queues ≤ 16 = (let is = tiles.queue_count in let upto = valid.tiles.1 in omega (arith, is, upto))
-    in
-    let product : length queues * settings.task_queue ≤ 16 * 256 = mul-le-mul few valid.task_queue.1 in
-    omega (arith, fits, product, has.used)
-
--- what holds all marked ids is as long as they are many
+-- a list that holds all marked ids is at least as long as they are many
 no_more : (xs : List ℕ) (marks : List Bool) → ((k : ℕ) → Marked marks k → Contains xs k) → count marks ≤ length xs
 no_more [] marks all = let none = none_counted marks (λ k marked. (let low = (all k marked).1 in omega (arith, low)))
     in omega (arith, none)
 no_more (x ∷ xs) marks all = by_mark (no_more xs) (slice_index_or marks x false) refl
   where
     later : (k : ℕ) → k ≢ x → Contains (x ∷ xs) k → Contains xs k
-    later k other has = elim (contains_cases x xs k has) [ inl is ↦ absurd (other (sym is)) | inr behind ↦ behind ]
+    later k other has = elim (head_or_tail x xs k has) [ inl is ↦ absurd (other (sym is)) | inr behind ↦ behind ]
 
     by_mark : ((ms : List Bool) → ((k : ℕ) → Marked ms k → Contains xs k) → count ms ≤ length xs) → (mark : Bool)
         → slice_index_or marks x false ≡ mark → count marks ≤ length (x ∷ xs)
@@ -167,7 +133,7 @@ listed_once (x ∷ xs) marks all long =
     absent : Contains xs x → ⊥
     absent has =
         let all_behind : (k : ℕ) → Marked marks k
-        → Contains xs k = λ k marked. elim (contains_cases x xs k ((all k).0 marked)) [
+        → Contains xs k = λ k marked. elim (head_or_tail x xs k ((all k).0 marked)) [
           | inl is ↦ subst (Contains xs) is has
           | inr behind ↦ behind
         ] in
@@ -175,17 +141,17 @@ listed_once (x ∷ xs) marks all long =
         omega (arith, upto, long)
 
     marked : Marked marks x
-    marked = (all x).1 (contains_first x xs)
+    marked = (all x).1 (has_head x xs)
 
     rest : ((ms : List Bool) → ((k : ℕ) → Marked ms k ↔ Contains xs k) → length xs ≤ count ms
         → AllPairs (λ a b. a ≢ b) xs) → AllPairs (λ a b. a ≢ b) xs
     rest go =
         let both : (k : ℕ) → Marked (slice_set marks x false) k ↔ Contains xs k = λ k. (
           λ at. (let other = is_off marks x k at in elim
-              (contains_cases x xs k ((all k).0 ((others_stay marks x k other).0 at)))
+              (head_or_tail x xs k ((all k).0 ((others_stay marks x k other).0 at)))
               [ inl is ↦ absurd (other (sym is)) | inr behind ↦ behind ]),
           λ has. (others_stay marks x k (λ same. absent (subst (Contains xs) same has))).1
-              ((all k).1 (contains_later x xs k has)),
+              ((all k).1 (in_tail x xs k has)),
         ) in
         let one = one_less marks x marked in
         go (slice_set marks x false) both (omega (arith, long, one))

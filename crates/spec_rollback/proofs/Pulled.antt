@@ -2,14 +2,13 @@
 use Rattle.std.proofs.Common.{◌≡◌, ◌⊎◌, ℕ, Bool, true, List, Option, Some, None, refl, sym, ap, subst, ◌∙◌, inl, inr}
 use Rattle.std.specs.Prelude.{◌↔◌, ◌==◌, ◌&&◌, IsSome, is_some, count_by, ◌≤◌}
 use Rattle.std.specs.Ordering.{is_lt}
-use Rattle.std.specs.declared.cmp.Ordering.{Ordering}
-use Rattle.std.specs.declared.cmp.Ordering.TheVariants.{Less, Equal, Greater}
 use Rattle.std.proofs.lemmas.Bool.{and_parts, and_from, or_cases, or_left, or_right}
 use Rattle.std.proofs.lemmas.Bool.Decides.{nat_tests}
 use Rattle.std.proofs.Common.{arith}
 use Rattle.abort_cascade.specs.Cascade.{Reached, start, step, IsLeastClosed, Marked}
 use Rattle.spec_rollback.proofs.Marked.{fewer}
 use Rattle.fractal_vt.specs.Keys.{key_cmp}
+use Rattle.fractal_vt.proofs.Proved.{less_from}
 use Rattle.line_table.specs.Signature.{meets_of}
 use Rattle.line_table.proofs.Proved.{meets_of-Meet}
 use Rattle.spec_state.specs.declared.task.Task.{Task}
@@ -18,12 +17,6 @@ use Rattle.spec_state.specs.Tasks.{is_dispatched}
 use Rattle.spec_state.specs.Groups.{live_creator}
 use Rattle.spec_state.specs.Aborts.{ReadsFrom, PullsInView}
 use Rattle.spec_rollback.specs.Pulled.{is_creator, reads_from, reads_from_some, pulls_task, pull_in}
-
--- an order that is less is Less
-pub less_is : (o : Ordering) → is_lt o ≡ true → o ≡ Less
-less_is Less is = refl
-less_is Equal is = absurd (cc)
-less_is Greater is = absurd (cc)
 
 creator_is : (id : ℕ) (creator : Option ℕ) → is_creator id creator ≡ true → creator ≡ Some id
 creator_is id None is = absurd (cc)
@@ -53,7 +46,7 @@ module _ (view : View) (a b : ℕ) where
             there = at;
             dispatched = three.0;
             reader = y;
-            later = record { there = at_b; dispatched = three.1; later = less_is (key_cmp x.key y.key) one.1 };
+            later = record { there = at_b; dispatched = three.1; later = less_from (key_cmp x.key y.key) one.1 };
             meets = (meets_of-Meet x.lines y.lines).0 two.1;
           }
 

@@ -60,9 +60,6 @@ seen_more {X} of items n item at id = (to, from)
     from (inl seen) = (seen.0, (let low = seen.1 in omega (arith, low)), seen.2)
     from (inr is) = (n, omega arith, ap (option_map of) at ∙ ap Some is)
 
-pub seen_none : {X : Type 0} (of : X → Option ℕ) (items : List X) (id : ℕ) → IsSeen of items 0 id → ⊥
-seen_none of items id seen = (let low = seen.1 in omega (arith, low))
-
 -- one tile more holds what it holds
 pub tiles_more : (cores : List (List (Option ℕ))) (finished : List (List ℕ)) (n : ℕ) (id : ℕ)
     → IsInTiles cores finished (n + 1) id ↔

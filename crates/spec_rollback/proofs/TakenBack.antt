@@ -14,7 +14,7 @@ use Rattle.spec_state.specs.Tasks.{idle_again}
 use Rattle.spec_state.specs.Aborts.{is_marked, is_marked_creator, taken_back}
 use Rattle.spec_state.specs.Leaving.{freed_of, TaskLeaves, SetsBack}
 use Rattle.spec_state.specs.Stored.{IsStored}
-use Rattle.spec_rollback.proofs.Marked.{contains_later, contains_first}
+use Rattle.spec_state.proofs.Proved.{has_head, in_tail}
 use Rattle.spec_rollback.specs.TakenBack.{freed_of_these, TakesOne, TakesThese}
 
 -- these, and one more
@@ -93,10 +93,6 @@ queue_same mid new same [] = refl
 queue_same mid new same (k ∷ ids) =
     ap (λ ks. kept_by (is_some (mid k)) k ks) (queue_same mid new same ids)
     ∙ ap (λ b. kept_by b k (queue_after new ids)) (sym (same k))
-
-is_some-room_tasks : (o : Option Task) → is_some (option_map room_task o) ≡ is_some o
-is_some-room_tasks None = refl
-is_some-room_tasks (Some t) = refl
 
 module _ (marks : List Bool) (these : ℕ → Bool) (old mid new : View) (back : TakesThese marks these old mid) (id : ℕ)
     (fresh : these id ≡ false) (marked : is_marked marks id ≡ true) where
@@ -235,8 +231,8 @@ queue_itself : (tasks : ℕ → Option RoomTask) (ids : List ℕ) → ((k : ℕ)
     → ids ≡ queue_after tasks ids
 queue_itself tasks [] there = refl
 queue_itself tasks (k ∷ ids) there =
-    ap (λ ks. k ∷ ks) (queue_itself tasks ids (λ j has. there j (contains_later k ids j has)))
-    ∙ ap (λ b. kept_by b k (queue_after tasks ids)) (sym (there k (contains_first k ids)))
+    ap (λ ks. k ∷ ks) (queue_itself tasks ids (λ j has. there j (in_tail k ids j has)))
+    ∙ ap (λ b. kept_by b k (queue_after tasks ids)) (sym (there k (has_head k ids)))
 
 queues_itself : (tasks : ℕ → Option RoomTask) (queues : List (List ℕ))
     → ((tile k : ℕ) → Contains (slice_index_or queues tile []) k → is_some (tasks k) ≡ true)

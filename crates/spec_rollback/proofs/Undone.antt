@@ -18,10 +18,11 @@ use Rattle.spec_state.specs.StateValue.{Scratch}
 use Rattle.spec_state.specs.Aborts.{is_marked}
 use Rattle.spec_rollback.specs.Pulled.{ListsMarked}
 use Rattle.spec_state.specs.Tasks.{is_dispatched}
+use Rattle.spec_state.proofs.Proved.{head_or_tail, has_head, in_tail}
 use Rattle.std.specs.Option.{option_cmp}
 use Rattle.fractal_vt.specs.Keys.{key_cmp}
 use Rattle.spec_rollback.specs.Undone.{key_in, ids_cmp, Falls, undone_one, undone_down}
-use Rattle.spec_rollback.proofs.Marked.{contains_cases, contains_first, contains_later, members_once}
+use Rattle.spec_rollback.proofs.Marked.{members_once}
 
 -- the id is one of these
 abbrev pub among : List ℕ → ℕ → Bool
@@ -37,14 +38,14 @@ other_id k x other = grind (arith, nat_tests)
 pub among_is : (xs : List ℕ) (k : ℕ) → among xs k ≡ true → Contains xs k
 among_is [] k is = absurd (cc)
 among_is (x ∷ xs) k is = elim (cases_eq k x) [
-  | inl same ↦ subst (Contains (x ∷ xs)) (sym same) (contains_first x xs)
-  | inr other ↦ contains_later x xs k
+  | inl same ↦ subst (Contains (x ∷ xs)) (sym same) (has_head x xs)
+  | inr other ↦ in_tail x xs k
       (among_is xs k (sym (ap (λ b. if b then true else among xs k) (other_id k x other)) ∙ is))
 ]
 
 pub is_among : (xs : List ℕ) (k : ℕ) → Contains xs k → among xs k ≡ true
 is_among [] k has = absurd (let low = has.1 in omega (arith, low))
-is_among (x ∷ xs) k has = elim (contains_cases x xs k has) [
+is_among (x ∷ xs) k has = elim (head_or_tail x xs k has) [
   | inl same ↦ ap (λ b. if b then true else among xs k) (same_id k x (sym same))
   | inr behind ↦ by_test (k == x) (is_among xs k behind)
 ]
@@ -142,7 +143,7 @@ module _ (tasks : List (Option Task)) where
       is_latest t at runs = record {
         there = ap (option_map logged_task) at;
         dispatched = runs;
-        member = is_among (x ∷ list) x (contains_first x list);
+        member = is_among (x ∷ list) x (has_head x list);
         none_later = λ k other there runs' earlier.
             let back = read_back k other there in
             let earlier' : Earlier (logged_task t) (logged_task back.0) = subst (Earlier (logged_task t)) back.2

@@ -1,32 +1,22 @@
 -- The first of the queued tasks and the first of the spilled ones.
 use Rattle.std.proofs.Common.{◌≡◌, ◌≢◌, ◌<◌, ◌≤◌, ◌+◌, ◌∷◌, ℕ, true, false, List, [], length, map, take, Some, refl, sym, ap, subst, ◌∙◌, inl, inr, arith, slice_get, slice_index_or}
 use Rattle.std.specs.Cmp.{IsTotalOrder}
-use Rattle.std.specs.Ordering.{nat_cmp, ordering_then, ordering_reverse, is_gt, is_lt}
+use Rattle.std.specs.Ordering.{nat_cmp, ordering_then, ordering_reverse, is_lt}
 use Rattle.std.specs.declared.cmp.Ordering.{Ordering}
 use Rattle.std.specs.declared.cmp.Ordering.TheVariants.{Less, Equal, Greater}
 use Rattle.std.proofs.lemmas.Bool.{cases_eq, cases_lt}
 use Rattle.std.proofs.lemmas.Bool.Decides.{nat_tests}
 use Rattle.std.proofs.lemmas.Cmp.{upto, alike_right}
-use Rattle.std.proofs.lemmas.List.{get_or-take, get_or-map}
+use Rattle.std.proofs.lemmas.List.{get_or-take}
 use Rattle.std.proofs.lemmas.Option.{slice_get_within, slice_get-map, get_or_from_slice_get}
 use Rattle.std.proofs.Common.{option_map, length-take-le}
 use Rattle.fractal_vt.specs.declared.key.Key.{Key}
 use Rattle.fractal_vt.specs.Keys.{key_cmp}
-use Rattle.fractal_vt.proofs.Proved.{key_cmp_total, least_at}
-use Rattle.spill_store.specs.SpilledTasks.{Spilled, BlockValue, first_key, open_key, IsLeastKey}
+use Rattle.fractal_vt.proofs.Proved.{key_cmp_total, least_at, not_greater, greater_not, less_from, less_number}
+use Rattle.spill_store.specs.SpilledTasks.{Spilled, first_key, open_key, IsLeastKey}
 use Rattle.spill_store.specs.Fronts.{IsFirstOfAll}
 use Rattle.spec_state.specs.Least.{Spilled_at, ranked_cmp, place_cmp}
 use Rattle.spec_state.specs.Fronts.{IsFirstSpilled, HoldNone}
-
-not_gt : (o : Ordering) → o ≢ Greater → is_gt o ≡ false
-not_gt Less not = refl
-not_gt Equal not = refl
-not_gt Greater not = absurd (not refl)
-
-gt_not : (o : Ordering) → is_gt o ≡ false → o ≢ Greater
-gt_not Less is same = cc
-gt_not Equal is same = cc
-gt_not Greater is same = cc
 
 pub less_then : {K : Type 0} {R : K → K → Ordering} (total : IsTotalOrder R) (x y z : K) → R x y ≡ Less → R y z ≢ Greater → R x z ≡ Less
 less_then {K} {R} total x y z less upto = by_case (R y z) refl upto
@@ -36,17 +26,9 @@ less_then {K} {R} total x y z less upto = by_case (R y z) refl upto
     by_case Equal e not = sym (alike_right total y z x e) ∙ less
     by_case Greater e not = absurd (not refl)
 
-pub less_from : (o : Ordering) → is_lt o ≡ true → o ≡ Less
-less_from Less e = refl
-less_from Equal e = absurd (cc)
-less_from Greater e = absurd (cc)
-
 -- not above is transitive
 pub not_above : {K : Type 0} {R : K → K → Ordering} (total : IsTotalOrder R) (x y z : K) → R x y ≢ Greater → R y z ≢ Greater → R x z ≢ Greater
-not_above {K} {R} total x y z a b = gt_not (R x z) (upto total x y z (not_gt (R x y) a) (not_gt (R y z) b))
-
-less_tile : (a b : ℕ) → a < b → nat_cmp a b ≡ Less
-less_tile a b less = grind (arith, nat_tests)
+not_above {K} {R} total x y z a b = greater_not (R x z) (upto total x y z (not_greater (R x y) a) (not_greater (R y z) b))
 
 pub same_tile : (a : ℕ) → nat_cmp a a ≡ Equal
 same_tile a = grind (arith, nat_tests)
@@ -69,7 +51,7 @@ lower_tile key other tile place t p not less = go (key_cmp key other) not
   where
     go : (o : Ordering) → o ≢ Greater → ordering_then o (ordering_then (nat_cmp tile t) (nat_cmp place p)) ≢ Greater
     go Less fine = λ same. cc
-    go Equal fine = subst (λ o. ordering_then o (nat_cmp place p) ≢ Greater) (sym (less_tile tile t less)) (λ same. cc)
+    go Equal fine = subst (λ o. ordering_then o (nat_cmp place p) ≢ Greater) (sym (less_number tile t less)) (λ same. cc)
     go Greater fine = absurd (fine refl)
 
 -- a lesser key
@@ -182,11 +164,6 @@ module _ (blocks : List (List Spilled)) (n : ℕ) where
               back Equal e off = λ same. cc
               back Greater e off = absurd (cc (ap is_lt e, off))
 
--- what is seen of a tile's block
-pub entries_at : (blocks : List BlockValue) (tile : ℕ) (block : BlockValue) → tile < length blocks → block ≡ slice_index_or blocks tile block
-    → slice_index_or (map (λ b. b.entries) blocks) tile [] ≡ block.entries
-entries_at blocks tile block within is = get_or-map (λ (b : BlockValue). b.entries) blocks tile block [] within ∙ ap (λ (b : BlockValue). b.entries) (sym is)
-
 -- what the blocks of all tiles tell of their first task
 pub first_is_spilled : (blocks : List (List Spilled)) (tile : ℕ) (key : Key) → IsFirstOfAll blocks tile key → IsFirstSpilled blocks (length blocks) tile key
 first_is_spilled blocks tile key is = by_list (slice_index_or blocks tile []) refl is.own
@@ -218,6 +195,3 @@ first_is_spilled blocks tile key is = by_list (slice_index_or blocks tile []) re
       of_task = (let both : Some (open_key e) ≡ Some key = sym (ap first_key same) ∙ own in let mine : open_key e ≡ key = cc (both) in sym mine);
       first = later;
     }
-
-pub none_is_spilled : (blocks : List (List Spilled)) → ((tile : ℕ) → tile < length blocks → slice_index_or blocks tile [] ≡ []) → HoldNone blocks (length blocks)
-none_is_spilled blocks none t p x less at = absurd (cc (at, ap (λ (ls : List Spilled). slice_get ls p) (none t less)))

@@ -37,8 +37,8 @@ place_reverse t p u q = go (nat_cmp t u) (nat_cmp u t) (nat_cmp_total.antisymm u
     go Equal b is = ap (λ o. ordering_then o (nat_cmp q p)) is ∙ nat_cmp_total.antisymm q p
     go Greater b is = ap (λ o. ordering_then o (nat_cmp q p)) is
 
-same_place : (t p u q : ℕ) → place_cmp t p u q ≡ Equal → (t ≡ u) × (p ≡ q)
-same_place t p u q tie = go (nat_cmp t u) refl tie
+pub tied_place : (t p u q : ℕ) → place_cmp t p u q ≡ Equal → (t ≡ u) × (p ≡ q)
+tied_place t p u q tie = go (nat_cmp t u) refl tie
   where
     go : (a : Ordering) → nat_cmp t u ≡ a → ordering_then a (nat_cmp p q) ≡ Equal → (t ≡ u) × (p ≡ q)
     go Less is e = absurd (cc (e))
@@ -52,7 +52,7 @@ one_least view a b x y least other =
     let down = other.least.least (Queued x.tile least.place) least.least.key least.least.has in
     let tie = both_ties (key_cmp least.least.key other.least.key) (place_cmp x.tile least.place y.tile other.place) (key_cmp other.least.key least.least.key) (place_cmp y.tile other.place x.tile least.place)
     (key_cmp_total.antisymm other.least.key least.least.key) (place_reverse x.tile least.place y.tile other.place) up down in
-    let same = same_place x.tile least.place y.tile other.place tie in
+    let same = tied_place x.tile least.place y.tile other.place tie in
     let here = least.queued_at.queued in
     let there = other.queued_at.queued in
     let both : Some a ≡ Some b = sym here ∙ ap (λ t. slice_get (Rattle.spec_state.specs.View.queue_at view t) least.place) same.0

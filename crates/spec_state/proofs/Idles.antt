@@ -11,7 +11,7 @@ use Rattle.std.proofs.lemmas.List.{take_all}
 use Rattle.std.proofs.lemmas.List.Elements.{Contains-get_or}
 use Rattle.std.proofs.lemmas.Option.{slice_get-get_or, slice_get_within, get_or_from_slice_get}
 use Rattle.fractal_vt.specs.Keys.{key_cmp}
-use Rattle.fractal_vt.proofs.Proved.{key_cmp_total}
+use Rattle.fractal_vt.proofs.Proved.{key_cmp_total, less_from}
 use Rattle.tile_queues.specs.Queue.{AreDistinct}
 use Rattle.spec_state.specs.declared.task.Status.TheVariants.{Idle}
 use Rattle.spec_state.specs.declared.task.Task.{Task}
@@ -22,9 +22,10 @@ use Rattle.spec_state.specs.Queries.{IsIdle, IsLeastIdle, IsIdleFirm}
 use Rattle.spec_state.specs.Picks.{IsIdleAt, IsFirstIdle, IsIdlePick, IsIdleFirmBy}
 use Rattle.spec_state.specs.Stored.{IsStored}
 use Rattle.spec_state.proofs.Entered.{held_at}
-use Rattle.spec_state.proofs.Fronts.{less_then, less_from, same_tile}
+use Rattle.spec_state.proofs.Fronts.{less_then, same_tile}
 use Rattle.spec_state.proofs.Heirs.{firm_by, by_firm}
-use Rattle.spec_state.proofs.Picks.{one_task, turned, by_key, seen_cases}
+use Rattle.spec_state.proofs.Picks.{one_task, by_key, seen_cases}
+use Rattle.spec_state.proofs.Leasts.{upto_turned}
 
 same_id : (xs : List ℕ) (p a b : ℕ) → slice_get xs p ≡ Some a → slice_get xs p ≡ Some b → a ≡ b
 same_id xs p a b at also = let both : Some a ≡ Some b = sym at ∙ also in cc
@@ -104,7 +105,7 @@ module _ (view : View) (ids : List ℕ) (count id : ℕ) (task : Task) (at : sli
       least = λ p k x below is. elim (cases_eq p count) [
         | inl same ↦ subst (λ (t : Task). key_cmp was_first.task.key t.key ≢ Greater) (sym (is_next p k x same is))
             (subst (λ (t : Task). key_cmp t.key task.key ≢ Greater) (sym (own_task was_first))
-            (turned task.key first.key off))
+            (upto_turned task.key first.key off))
         | inr other ↦ was_first.least p k x (omega (arith, below, other)) is
       ];
       first = was_first.first;

@@ -1,5 +1,5 @@
 -- The least task is the first of the queued ones or the first of the spilled ones.
-use Rattle.std.proofs.Common.{◌≡◌, ◌≢◌, ◌<◌, ◌∷◌, ℕ, List, [], length, Option, Some, None, refl, sym, ap, subst, ◌∙◌, inl, inr, arith, slice_get, slice_index_or}
+use Rattle.std.proofs.Common.{◌≡◌, ◌≢◌, ◌<◌, ◌∷◌, ℕ, List, [], length, Some, None, refl, sym, ap, subst, ◌∙◌, inl, inr, arith, slice_get, slice_index_or}
 use Rattle.std.specs.Prelude.{Contains}
 use Rattle.std.specs.Ordering.{nat_cmp, ordering_then, ordering_reverse, is_lt}
 use Rattle.std.proofs.Common.{true, false}
@@ -8,10 +8,7 @@ use Rattle.std.specs.declared.cmp.Ordering.TheVariants.{Less, Equal, Greater}
 use Rattle.std.proofs.lemmas.Bool.{cases_eq, cases_lt}
 use Rattle.std.proofs.lemmas.Bool.Decides.{nat_tests}
 use Rattle.std.proofs.lemmas.Cmp.{tied_itself}
-use Rattle.std.proofs.lemmas.List.{get_or_past, length-map}
-use Rattle.std.proofs.Common.{map}
-use Rattle.std.specs.Prelude.{IfSome}
-use Rattle.spec_state.specs.declared.leading.BlockFront.{BlockFront}
+use Rattle.std.proofs.lemmas.List.{get_or_past}
 use Rattle.std.proofs.lemmas.List.Elements.{All-contains}
 use Rattle.std.proofs.lemmas.Option.{slice_get-get_or}
 use Rattle.commit_arbiter.specs.declared.candidate.Candidate.{Candidate}
@@ -20,8 +17,8 @@ use Rattle.commit_arbiter.proofs.Proved.{entry_cmp_total}
 use Rattle.fractal_vt.specs.declared.key.Key.{Key}
 use Rattle.fractal_vt.specs.Keys.{key_cmp}
 use Rattle.fractal_vt.specs.Sorted.{IsInOrder}
-use Rattle.fractal_vt.proofs.Proved.{AllPairs-head, key_cmp_total}
-use Rattle.spill_store.specs.SpilledTasks.{Spilled, BlockValue, open_key}
+use Rattle.fractal_vt.proofs.Proved.{AllPairs-head, key_cmp_total, less_from, then_less, greater_number}
+use Rattle.spill_store.specs.SpilledTasks.{Spilled, open_key}
 use Rattle.spec_state.specs.declared.task.Task.{Task}
 use Rattle.spec_state.specs.declared.task.TaskId.{TaskId}
 use Rattle.spec_state.specs.declared.task.Where.{Where}
@@ -32,7 +29,7 @@ use Rattle.spec_state.specs.Queries.{IsQueued}
 use Rattle.spec_state.specs.Stored.{IsStored, IsIndexed, candidate_of}
 use Rattle.spec_state.specs.Fronts.{IsFirstQueued, IsFirstSpilled, HoldNone, IsStanding}
 use Rattle.spec_state.proofs.Entered.{head_or_tail, has_head, held_at}
-use Rattle.spec_state.proofs.Fronts.{not_above, less_then, less_from, upto_place}
+use Rattle.spec_state.proofs.Fronts.{not_above, less_then, upto_place}
 
 -- the head of a list in order comes before all of it
 head_upto : (e : Candidate) (es : List Candidate) → IsInOrder candidate_cmp (e ∷ es) → (x : Candidate) → Contains (e ∷ es) x → candidate_cmp e x ≢ Greater
@@ -57,9 +54,6 @@ equal_numbers a b same = elim (cases_lt a b) [
     | inr other ↦ absurd (let is : nat_cmp a b ≡ Greater = grind (arith, nat_tests) in let both : Greater ≡ Equal = sym is ∙ same in cc)
   ]
 ]
-
-greater_number : (a b : ℕ) → b < a → nat_cmp a b ≡ Greater
-greater_number a b less = grind (arith, nat_tests)
 
 module _ (size : ℕ) (view : View) (arrivals : List ℕ) (next : ℕ) (stored : IsStored size view) where
   module _ (e : Candidate) (es : List Candidate) (is : IsIndexed view.tasks view.queues arrivals next (e ∷ es)) (order : IsInOrder candidate_cmp (e ∷ es)) (task : Task)
@@ -113,11 +107,6 @@ within_blocks blocks t p s at = elim (cases_lt t (length blocks)) [
   | inr past ↦ absurd (cc (ap (λ (es : List Spilled). slice_get es p) (get_or_past blocks t [] past), at))
 ]
 
-behind_queued : (o : Ordering) → o ≢ Greater → ordering_then o Less ≢ Greater
-behind_queued Less not = λ same. cc
-behind_queued Equal not = λ same. cc
-behind_queued Greater not = absurd (not refl)
-
 module _ (view : View) where
   -- the first queued task is the least where no spilled one has a lesser key
   pub least_queued : (id : ℕ) (task : Task) → IsFirstQueued view id task → ((t p : ℕ) (s : Spilled) → slice_get (block_at view t) p ≡ Some s → key_cmp task.key (open_key s) ≢ Greater)
@@ -131,7 +120,7 @@ module _ (view : View) where
       least : (other : Spot) (other_key : Key) → HasKey view other other_key → ranked_cmp task.key (Queued task.tile first.place) other_key other ≢ Greater
       least (Queued tile p) key (k, x, at, same) = subst (λ y. ranked_cmp task.key (Queued task.tile first.place) y (Queued tile p) ≢ Greater) (sym same) (first.first tile p k x at)
       least (Spilled_at t p) key (s, at, same) = subst (λ y. ranked_cmp task.key (Queued task.tile first.place) y (Spilled_at t p) ≢ Greater) (sym same)
-          (behind_queued (key_cmp task.key (open_key s)) (spilled t p s at))
+          (then_less (key_cmp task.key (open_key s)) (spilled t p s at))
 
   -- the first spilled task is the least where its key is less than that of each queued one
   pub least_spilled : (tile : ℕ) (key : Key) → IsFirstSpilled view.blocks (length view.blocks) tile key → ((t p k : ℕ) (x : Task) → IsQueuedAt view t p k x → key_cmp key x.key ≡ Less)
@@ -174,18 +163,6 @@ module _ (view : View) where
   stands (where_.Finished k) id task is least = (task, subst (λ (j : TaskId). IsLeastTask view j.0 task) (sym is.0) least, is.1)
   stands (where_.Spilled k) id task is least = absurd is
 
--- the first of the spilled tasks, of the blocks as they are seen
-pub front_seen : (blocks : List BlockValue) (seen : List (List Spilled)) (front : Option BlockFront) → map (λ b. b.entries) blocks ≡ seen
-    → IfSome front (λ f. IsFirstSpilled (map (λ b. b.entries) blocks) (length blocks) f.tile f.key.now) → IfSome front (λ f. IsFirstSpilled seen (length seen) f.tile f.key.now)
-front_seen blocks seen front same is =
-    subst (λ (bs : List (List Spilled)). IfSome front (λ f. IsFirstSpilled bs (length bs) f.tile f.key.now)) same
-    (subst (λ n. IfSome front (λ f. IsFirstSpilled (map (λ b. b.entries) blocks) n f.tile f.key.now)) (sym (length-map blocks (λ (b : BlockValue). b.entries))) is)
-
-pub none_seen : (blocks : List BlockValue) (seen : List (List Spilled)) → map (λ b. b.entries) blocks ≡ seen → HoldNone (map (λ b. b.entries) blocks) (length blocks) → HoldNone seen (length seen)
-none_seen blocks seen same is =
-    subst (λ (bs : List (List Spilled)). HoldNone bs (length bs)) same
-    (subst (HoldNone (map (λ b. b.entries) blocks)) (sym (length-map blocks (λ (b : BlockValue). b.entries))) is)
-
 no_spilled : (blocks : List (List Spilled)) → HoldNone blocks (length blocks) → (t p : ℕ) (s : Spilled) → slice_get (slice_index_or blocks t []) p ≡ Some s → ⊥
 no_spilled blocks none t p s at = none t p s (within_blocks blocks t p s at) at
 
@@ -201,7 +178,7 @@ pub stands_alone : (view : View) (w : Where) (id : TaskId) (found : (task : Task
     → HoldNone view.blocks (length view.blocks) → IsLeast view w
 stands_alone view w id found now at standing none = stands_first view w id found now at standing (λ t p s here. absurd (no_spilled view.blocks none t p s here))
 
-upto_turned : (a b : Key) → is_lt (key_cmp a b) ≡ false → key_cmp b a ≢ Greater
+pub upto_turned : (a b : Key) → is_lt (key_cmp a b) ≡ false → key_cmp b a ≢ Greater
 upto_turned a b off = back (key_cmp b a) (key_cmp_total.antisymm a b)
   where
     back : (r : Ordering) → key_cmp a b ≡ ordering_reverse r → r ≢ Greater

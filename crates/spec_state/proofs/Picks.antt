@@ -1,11 +1,11 @@
 -- What a loop over tasks picks of those that it has seen, for the readers in src/latest, conflicts and queued.
-use Rattle.std.proofs.Common.{◌≡◌, ◌≢◌, ◌⊎◌, ◌<◌, ◌≤◌, ◌+◌, ◌∷◌, ◌++◌, ℕ, true, false, List, [], length}
+use Rattle.std.proofs.Common.{◌≡◌, ◌≢◌, ◌⊎◌, ◌<◌, ◌≤◌, ◌+◌, ◌∷◌, ◌++◌, ℕ, true, List, [], length}
 use Rattle.std.proofs.Common.{take, Option, Some, None, refl, sym, ap, subst, ◌∙◌, inl, inr, arith}
 use Rattle.std.proofs.Common.{slice_index_or}
 use Rattle.std.specs.Prelude.{Contains, IfSome, IsSome, IsNone, is_some, ◌↔◌}
-use Rattle.std.specs.Ordering.{is_lt, ordering_reverse}
+use Rattle.std.specs.Ordering.{is_lt}
 use Rattle.std.specs.declared.cmp.Ordering.{Ordering}
-use Rattle.std.specs.declared.cmp.Ordering.TheVariants.{Less, Equal, Greater}
+use Rattle.std.specs.declared.cmp.Ordering.TheVariants.{Equal, Greater}
 use Rattle.std.proofs.lemmas.Cmp.{tied_itself}
 use Rattle.std.proofs.lemmas.List.{take_more, take_all}
 use Rattle.std.proofs.lemmas.List.Elements.{Contains-push, Contains-push_cases, Contains-append_left}
@@ -22,12 +22,6 @@ use Rattle.spec_state.proofs.Fronts.{not_above}
 -- the task of an id is one
 pub one_task : (view : View) (id : ℕ) (x y : Task) → task_at view id ≡ Some x → task_at view id ≡ Some y → x ≡ y
 one_task view id x y at also = let both : Some x ≡ Some y = sym at ∙ also in cc
-
--- a comparison that isn't less, turned round
-pub turned : (a b : Key) → is_lt (key_cmp a b) ≡ false → key_cmp b a ≢ Greater
-turned a b off above =
-    absurd (let less : key_cmp a b ≡ Less = key_cmp_total.antisymm a b
-    ∙ ap ordering_reverse above in cc (ap is_lt less, off))
 
 pub less_upto : (a b : Key) → is_lt (key_cmp a b) ≡ true → key_cmp a b ≢ Greater
 less_upto a b less above = absurd (cc (ap is_lt above, less))

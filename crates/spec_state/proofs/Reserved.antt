@@ -1,12 +1,10 @@
 -- A block with more room: what is seen of the blocks stays, and no room is less.
 use Rattle.std.proofs.Common.{◌≡◌, ◌+◌, ◌<◌, ◌≤◌, ◌∷◌, ℕ, zero, suc, List, [], length, map, refl, sym, ap, ◌∙◌, arith, slice_index_or}
-use Rattle.std.specs.Prelude.{slice_set, IfSome, IsSome, OnOk, Result, Ok, Err, Some, None, unwrap_or}
+use Rattle.std.specs.Prelude.{slice_set, IfSome, IsSome, Some, None, unwrap_or}
 use Rattle.std.proofs.Common.{Option}
-use Rattle.std.specs.declared.alloc.AllocError.{AllocError}
 use Rattle.spill_store.specs.SpilledTasks.{BlockValue}
 use Rattle.spec_state.specs.declared.task.Task.{Task}
 use Rattle.spec_state.specs.declared.task.TaskId.{TaskId}
-use Rattle.spec_state.specs.StateValue.{StateValue, CoversLog, CoversChild, Covers}
 
 pub same_entries : (blocks : List BlockValue) (tile : ℕ) (block after : BlockValue) → block ≡ slice_index_or blocks tile block → after.entries ≡ block.entries
     → map (λ b. b.entries) (slice_set blocks tile after) ≡ map (λ b. b.entries) blocks
@@ -33,17 +31,6 @@ spare_grows (b ∷ blocks) zero block after is more zero =
 spare_grows (b ∷ blocks) zero block after is more (suc k) = omega arith
 spare_grows (b ∷ blocks) (suc tile) block after is more zero = omega arith
 spare_grows (b ∷ blocks) (suc tile) block after is more (suc k) = spare_grows blocks tile block after is more k
-
--- what a reservation makes room for is covered
-pub covered : (state : StateValue) (task : Option TaskId) (tile spare : ℕ) → IfSome task (λ id. CoversLog state id.0) → IfSome task (λ id. CoversChild state id.0)
-    → slice_index_or state.spare.blocks tile 0 ≡ spare → (result : Result (Unit {0}) AllocError) → OnOk result (8 ≤ spare) → OnOk result (Covers state task tile)
-covered state task tile spare log child is (Ok done) more = record { log = log; child = child; pushes = omega (arith, is, more) }
-covered state task tile spare log child is (Err error) more = tt
-
--- what an Ok tells is weakened
-pub on_ok : {P Q : Type 0} (result : Result (Unit {0}) AllocError) → (P → Q) → OnOk result P → OnOk result Q
-on_ok (Ok done) weaker more = weaker more
-on_ok (Err error) weaker more = tt
 
 -- a larger buffer, where one was needed, has the room that is wanted, and no less than there was
 pub grown_covers : (made : Option ℕ) (items old : ℕ) → (made ≡ None → items ≤ old) → IfSome made (λ larger. (items ≤ larger) × (old ≤ larger))

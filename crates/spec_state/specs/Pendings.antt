@@ -69,8 +69,8 @@ abbrev pub pending_queued : Option Task → Option Pending
 pending_queued None = None
 pending_queued (Some task) = pending_by task.creator task
 
--- a spilled task, which pends where its creator is one of so many that have committed: so a spilled child of
--- the least task is left out, as its queued brothers are
+-- a spilled task, which pends where the image or one of so many that have committed made it: so a spilled child of the
+-- least task is left out, as its queued brothers are
 abbrev pub pending_spilled : ℕ → Desc → Option Pending
 pending_spilled count d =
     if nat_le d.name.creator count

@@ -1,4 +1,5 @@
-//! What the next call of a task depends on. No call takes memory.
+//! What the next call of a task depends on, what the type of a state keeps, and what a run leaves. No call takes
+//! memory.
 
 ghost use Rattle.std.specs.Prelude.{◌≡◌, ◌≤◌, ◌<◌, length, IsSome, IfSome};
 ghost use Rattle.task_desc.specs.declared.calls.TheConstants.{MAX_CHILDREN, MAX_DEPTH};

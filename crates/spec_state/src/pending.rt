@@ -64,7 +64,8 @@ fn queued_at(tasks: &KeptSlab<Task>, id: usize) -> Option<Pending>
     }
 }
 
-/// A spilled task as one that pends; None exactly where its creator is none of so many that have committed.
+/// A spilled task as one that pends; None exactly where neither the image nor one of so many that have committed
+/// made it.
 fn spilled_as(count: u32, desc: &Desc) -> Option<Pending>
     ensures { result ≡ pending_spilled count desc.now }
 {

@@ -1,20 +1,20 @@
 -- Entries in the order of their keys: what a push leaves, and where it goes.
-use Rattle.std.proofs.Common.{◌≡◌, ◌≢◌, ℕ, zero, suc, ◌+◌, ◌≤◌, true, false, List, [], ◌∷◌, ◌++◌, Some, length, map, slice_get, refl, sym, ap, subst, ◌∙◌, arith}
-use Rattle.std.specs.List.{All, AllPairs, Contains, insert, filter}
+use Rattle.std.proofs.Common.{◌≡◌, ◌≢◌, ℕ, zero, ◌+◌, ◌≤◌, true, false, List, [], ◌∷◌, ◌++◌, Some, map, slice_get, refl, sym, ap, subst, ◌∙◌, arith}
+use Rattle.std.specs.List.{All, insert}
 use Rattle.std.specs.List.Sorted.{IsPermutation}
-use Rattle.std.specs.Ordering.{is_lt, is_eq}
+use Rattle.std.specs.Ordering.{is_lt}
 use Rattle.std.specs.declared.cmp.Ordering.TheVariants.{Less, Greater}
 use Rattle.std.specs.Cmp.{IsTotalOrder}
 use Rattle.std.proofs.lemmas.Cmp.{on_total, tied_itself}
 use Rattle.std.proofs.lemmas.Option.{slice_get_within, get_or_from_slice_get}
 use Rattle.std.proofs.lemmas.List.{append-nil}
 use Rattle.std.proofs.lemmas.List.Elements.{All-nil, All-cons}
-use Rattle.std.proofs.lemmas.List.Sorted.{IsPermutation-refl, IsPermutation-trans, IsPermutation-append_left, IsPermutation-to_front, IsPermutation-sym, Contains-permutation}
+use Rattle.std.proofs.lemmas.List.Sorted.{IsPermutation-refl, IsPermutation-trans, IsPermutation-append_left}
 use Rattle.std.specs.Option.{IfSome}
 use Rattle.fractal_vt.specs.Keys.{key_cmp}
 use Rattle.fractal_vt.specs.Sorted.{IsInOrder, place_for}
 use Rattle.fractal_vt.specs.Renumbered.{HoldsKey}
-use Rattle.fractal_vt.proofs.Proved.{All-after_insert, AllPairs-head, AllPairs-map, in_order-after_insert, after_insert-permutes, inserted_at, keeps_order, key_cmp_total, length-after_insert, place_beyond, place_upto, ties_behind}
+use Rattle.fractal_vt.proofs.Proved.{AllPairs-head, AllPairs-map, in_order-after_insert, after_insert-permutes, inserted_at, keeps_order, key_cmp_total, place_beyond, place_upto, ties_behind}
 use Rattle.spill_store.specs.SpilledTasks.{Spilled, open_key, by_key, after_push, first_key, renumbered_spilled, HoldsSpilled, TakesLeast, IsLeastKey}
 use Rattle.spill_store.specs.Pushing.{after_pushes, PushesStandInOrder, PushGoesBehindTies}
 
@@ -33,25 +33,12 @@ search_beyond entry entries k e there later order =
 
 -- what a push leaves
 
-pub length-after_push : (entries : List Spilled) (entry : Spilled)
-    → length (after_push entries entry) ≡ suc (length entries)
-length-after_push entries entry = length-after_insert by_key entry entries
-
 pub after_push-permutes : (entries : List Spilled) (entry : Spilled)
     → IsPermutation (entry ∷ entries) (after_push entries entry)
 after_push-permutes entries entry = after_insert-permutes by_key entry entries
 
-pub All-after_push : (P : Spilled → Type 0) (entries : List Spilled) (entry : Spilled) → P entry → All P entries → All P (after_push entries entry)
-All-after_push P entries entry here all = All-after_insert P by_key entry entries here all
-
 pub in_order-after_push : (entries : List Spilled) (entry : Spilled) → IsInOrder by_key entries → IsInOrder by_key (after_push entries entry)
 in_order-after_push entries entry order = in_order-after_insert by_key by_key_total entry entries order
-
-pub Contains-after_push : (entries : List Spilled) (entry other : Spilled) → Contains (entry ∷ entries) other → Contains (after_push entries entry) other
-Contains-after_push entries entry other there = Contains-permutation (entry ∷ entries) (after_push entries entry) other (after_push-permutes entries entry) there
-
-pub Contains-from_pushed : (entries : List Spilled) (entry other : Spilled) → Contains (after_push entries entry) other → Contains (entry ∷ entries) other
-Contains-from_pushed entries entry other there = Contains-permutation (after_push entries entry) (entry ∷ entries) other (IsPermutation-sym (entry ∷ entries) (after_push entries entry) (after_push-permutes entries entry)) there
 
 -- a task put at its place
 pub put_in : (entry : Spilled) (old new : List Spilled) (place : ℕ) → place ≡ place_for by_key entry old → new ≡ insert old place entry → new ≡ after_push old entry

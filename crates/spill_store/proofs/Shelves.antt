@@ -1,8 +1,8 @@
 -- Entries at places: what an edit of the places' order leaves.
-use Rattle.std.proofs.Common.{◌≡◌, ◌≢◌, ℕ, zero, suc, ◌+◌, ◌<◌, ◌≤◌, false, nat_eq, List, [], ◌∷◌, ◌++◌, length, get_or, set, take, drop, map, refl, sym, ap, subst, ◌∙◌, arith}
+use Rattle.std.proofs.Common.{◌≡◌, ◌≢◌, ℕ, zero, suc, ◌+◌, ◌<◌, ◌≤◌, false, nat_eq, List, [], ◌∷◌, ◌++◌, length, get_or, set, map, refl, sym, ap, subst, ◌∙◌, arith}
 use Rattle.std.specs.List.{All, IsDistinct, AllByRecursion, insert}
 use Rattle.std.specs.List.Sorted.{IsPermutation}
-use Rattle.std.proofs.lemmas.List.{append-nil, append_assoc, map-append, take-map, drop-map, get_or-set_same, get_or-set_other, length-set, length-map, length-append}
+use Rattle.std.proofs.lemmas.List.{append-nil, append_assoc, get_or-set_same, get_or-set_other, length-set, length-map, length-append}
 use Rattle.std.proofs.lemmas.List.Edits.{length-insert, insert-append_left}
 use Rattle.std.proofs.lemmas.List.Elements.{All-head, All-tail}
 use Rattle.std.proofs.lemmas.List.Sorted.{IsPermutation-insert, IsPermutation-to_front, IsPermutation-sym, All-permutation}
@@ -11,12 +11,7 @@ use Rattle.std.proofs.lemmas.Cmp.{nat_eq_equiv}
 use Rattle.std.proofs.lemmas.Bool.Decides.{nat_tests}
 use Rattle.spill_store.specs.SpilledTasks.{Spilled, renumbered_spilled}
 use Rattle.spill_store.specs.Shelved.{blank_spilled, at_places, IsShelved}
-
-map-insert : {X Y : Type 0} (f : X → Y) (xs : List X) (i : ℕ) (x : X) → map f (insert xs i x) ≡ insert (map f xs) i (f x)
-map-insert f xs i x =
-    map-append f (take i xs) (x ∷ drop i xs)
-    ∙ ap (λ ys. ys ++ f x ∷ map f (drop i xs)) (sym (take-map f i xs))
-    ∙ ap (λ ys. take i (map f xs) ++ f x ∷ ys) (sym (drop-map f i xs))
+use Rattle.fractal_vt.proofs.Proved.{map-insert, All-front}
 
 -- a write to a place that is not among them changes no task
 places-set : (kept : List Spilled) (place : ℕ) (e : Spilled) (places : List ℕ) → AllByRecursion (λ other. nat_eq place other ≡ false) places → at_places (set kept place e) places ≡ at_places kept places
@@ -43,10 +38,6 @@ places-append kept e (p ∷ places) inside =
 last_there : (kept : List Spilled) (e : Spilled) → get_or (kept ++ e ∷ []) (length kept) blank_spilled ≡ e
 last_there [] e = refl
 last_there (x ∷ kept) e = last_there kept e
-
-All-front : (P : ℕ → Type 0) (xs ys : List ℕ) → AllByRecursion P (xs ++ ys) → AllByRecursion P xs
-All-front P [] ys all = tt
-All-front P (x ∷ xs) ys all = (all.0, All-front P xs ys all.1)
 
 above_all : (n : ℕ) (xs : List ℕ) → All (λ x. x < n) xs → AllByRecursion (λ x. nat_eq n x ≡ false) xs
 above_all n [] all = tt

@@ -1,9 +1,8 @@
--- Which tile has the first of all tasks.
-use Rattle.std.proofs.Common.{◌≡◌, ◌≢◌, ◌⊎◌, ℕ, ◌+◌, ◌<◌, ◌≤◌, true, false, ◌&&◌, ◌||◌, Option, Some, None, List, [], ◌∷◌, length, set, refl, sym, ap, subst, ◌∙◌, inl, inr, arith, slice_get, slice_index_or, zero, suc}
+-- Which tile's block has the first of all spilled tasks.
+use Rattle.std.proofs.Common.{◌≡◌, ◌≢◌, ◌⊎◌, ℕ, ◌+◌, ◌<◌, ◌≤◌, true, false, Option, Some, None, List, [], ◌∷◌, length, set, refl, sym, ap, subst, ◌∙◌, inl, inr, arith, slice_get, slice_index_or, zero, suc}
 use Rattle.std.specs.Bool.{if◌then◌else◌}
-use Rattle.std.specs.Prelude.{nat_lt}
 use Rattle.std.specs.Cmp.{IsTotalOrder}
-use Rattle.std.specs.Ordering.{nat_cmp, ordering_then, ordering_reverse, is_lt, is_eq, is_gt}
+use Rattle.std.specs.Ordering.{nat_cmp, ordering_then, ordering_reverse, is_lt}
 use Rattle.std.specs.declared.cmp.Ordering.{Ordering}
 use Rattle.std.specs.declared.cmp.Ordering.TheVariants.{Less, Equal, Greater}
 use Rattle.std.proofs.lemmas.Bool.{cases_eq, cases_lt}
@@ -14,25 +13,15 @@ use Rattle.std.proofs.lemmas.Option.{slice_get_within, get_or_from_slice_get}
 use Rattle.fractal_vt.specs.Sorted.{IsInOrder}
 use Rattle.fractal_vt.specs.declared.key.Key.{Key}
 use Rattle.fractal_vt.specs.Keys.{key_cmp}
-use Rattle.fractal_vt.proofs.Proved.{key_cmp_total}
+use Rattle.fractal_vt.proofs.Proved.{key_cmp_total, not_greater, greater_not}
 use Rattle.spill_store.specs.SpilledTasks.{Spilled, open_key, by_key, after_push, first_key}
 use Rattle.spill_store.specs.Fronts.{Front, key_rank, key_or, front_cmp, front_at, FrontPrecedes, IsFront, IsFrontBut, IsFirstOfAll}
 
 pub front_cmp_total : IsTotalOrder front_cmp
 front_cmp_total = then_total (on_total (λ f. key_rank f.key) nat_cmp_total) (then_total (on_total (λ f. key_or f.key) key_cmp_total) (on_total (λ f. f.tile) nat_cmp_total))
 
-not_gt : (o : Ordering) → o ≢ Greater → is_gt o ≡ false
-not_gt Less not = refl
-not_gt Equal not = refl
-not_gt Greater not = absurd (not refl)
-
-gt_not : (o : Ordering) → is_gt o ≡ false → o ≢ Greater
-gt_not Less is same = cc
-gt_not Equal is same = cc
-gt_not Greater is same = cc
-
 through : (x y z : Front) → front_cmp x y ≢ Greater → front_cmp y z ≢ Greater → front_cmp x z ≢ Greater
-through x y z a b = gt_not (front_cmp x z) (upto front_cmp_total x y z (not_gt (front_cmp x y) a) (not_gt (front_cmp y z) b))
+through x y z a b = greater_not (front_cmp x z) (upto front_cmp_total x y z (not_greater (front_cmp x y) a) (not_greater (front_cmp y z) b))
 
 itself : (x : Front) → front_cmp x x ≢ Greater
 itself x e = let no_way : Equal ≡ Greater = sym (tied_itself front_cmp_total x) ∙ e in cc
@@ -81,21 +70,6 @@ module _ (lists : List (List Spilled)) where
     | inl same ↦ subst (λ k. FrontPrecedes lists best k) (sym same) (not_less_upto (front_at lists count) (front_at lists best) not)
     | inr other ↦ is t (omega (arith, below, other))
   ]
-
--- what a test of two keys says
-pub by_keys : (key next : Key) (tile other : ℕ) → is_lt (front_cmp (record { key = Some key; tile = tile }) (record { key = Some next; tile = other })) ≡ (is_lt (key_cmp key next) || (is_eq (key_cmp key next) && nat_lt tile other))
-by_keys key next tile other = by_case (key_cmp key next)
-  where
-    tiles : is_lt (nat_cmp tile other) ≡ nat_lt tile other
-    tiles = grind (arith, nat_tests)
-
-    by_case : (o : Ordering) → is_lt (ordering_then o (nat_cmp tile other)) ≡ (is_lt o || (is_eq o && nat_lt tile other))
-    by_case Less = refl
-    by_case Equal = tiles
-    by_case Greater = refl
-
-pub by_tiles : (tile other : ℕ) → is_lt (front_cmp (record { key = None; tile = tile }) (record { key = None; tile = other })) ≡ nat_lt tile other
-by_tiles tile other = grind (arith, nat_tests)
 
 -- a push makes the first key of a tile no greater
 pub pushed_upto : (tile : ℕ) (entries : List Spilled) (entry : Spilled) → front_cmp (record { key = first_key (after_push entries entry); tile = tile }) (record { key = first_key entries; tile = tile }) ≢ Greater
@@ -172,7 +146,7 @@ module _ (lists : List (List Spilled)) (front : ℕ) (is : IsFront lists front) 
           let before = against other (Some key) (Some (open_key e)) at (ap first_key same) inside in
           let mine : key_cmp key (open_key e) ≢ Greater = keys (key_cmp key (open_key e)) (nat_cmp front other) before in
           let theirs = of_first e es place entry (subst (IsInOrder by_key) same (order other inside)) (ap (λ (ls : List Spilled). slice_get ls place) (sym same) ∙ there) in (
-            gt_not (key_cmp key (open_key entry)) (upto key_cmp_total key (open_key e) (open_key entry) (not_gt (key_cmp key (open_key e)) mine) (not_gt (key_cmp (open_key e) (open_key entry)) theirs)),
+            greater_not (key_cmp key (open_key entry)) (upto key_cmp_total key (open_key e) (open_key entry) (not_greater (key_cmp key (open_key e)) mine) (not_greater (key_cmp (open_key e) (open_key entry)) theirs)),
             λ tie. by_order (key_cmp key (open_key e)) refl mine before theirs tie,
           )
         where

@@ -1,13 +1,16 @@
 -- Legs that are held for cores.
 use Rattle.std.proofs.Common.{◌≡◌, ℕ, zero, suc, ◌<◌, ◌≤◌, Bool, true, false, cond, not, nat_lt, List, [], ◌∷◌, length, get_or, Some, None, refl, ap, sym, ◌∙◌, arith}
 use Rattle.std.specs.declared.option.Option.{Option}
-use Rattle.std.specs.List.{remove, position, position_or_len}
+use Rattle.std.specs.List.{remove, position, position_or_len, AllByRecursion}
 use Rattle.std.proofs.lemmas.List.Quantifiers.{position-Some}
 use Rattle.std.proofs.lemmas.List.Sums.{fails_before_first}
 use Rattle.std.proofs.lemmas.Option.{none-some}
 use Rattle.std.proofs.lemmas.Bool.Decides.{nat_tests}
-use Rattle.rv_core.specs.LegValue.{LegValue}
+use Rattle.std.proofs.Common.{subst, ◌++◌, if◌then◌else◌}
+use Rattle.rv_core.specs.LegValue.{LegValue, IsLegOfImage}
 use Rattle.step_script.specs.Playing.{HeldLeg, is_held_for, held_for, without_held_leg}
+use Rattle.guest_image.specs.ImageValue.{ImageValue}
+use Rattle.spec_state.specs.declared.settings.Settings.{Settings}
 
 -- the first leg that stands there for a core is what is held for it
 held_at : (tile core : ℕ) (held : List HeldLeg) (i : ℕ) (d : HeldLeg) → i < length held → is_held_for tile core (get_or held i d) ≡ true
@@ -80,3 +83,36 @@ pub without_held_leg-at_place : (tile core : ℕ) (held : List HeldLeg) (i : ℕ
     → without_held_leg tile core (remove held i) ≡ without_held_leg tile core held
 without_held_leg-at_place tile core held i d found =
     let at = position-Some (is_held_for tile core) held i d found in without_removed tile core held i d at.0 at.1
+
+-- ---- legs that are held are runs of the image
+
+abbrev pub AreRuns : ImageValue → Settings → List HeldLeg → Type 0
+AreRuns image settings held = AllByRecursion (λ (h : HeldLeg). IsLegOfImage image settings.budget h.leg) held
+
+module _ (image : ImageValue) (settings : Settings) (tile core : ℕ) where
+  pub held_runs : (held : List HeldLeg) (leg : LegValue) → AreRuns image settings held → held_for tile core held ≡ Some leg
+      → IsLegOfImage image settings.budget leg
+  held_runs [] leg runs is = absurd (cc (is))
+  held_runs (h ∷ held) leg runs is = by_test (is_held_for tile core h) is (held_runs held leg runs.1)
+    where
+      by_test : (t : Bool) → (if t then Some h.leg else held_for tile core held) ≡ Some leg
+          → (held_for tile core held ≡ Some leg → IsLegOfImage image settings.budget leg)
+          → IsLegOfImage image settings.budget leg
+      by_test true found rest = let same : h.leg ≡ leg = cc in subst (IsLegOfImage image settings.budget) same runs.0
+      by_test false found rest = rest found
+
+  pub without_runs : (held : List HeldLeg) → AreRuns image settings held
+      → AreRuns image settings (without_held_leg tile core held)
+  without_runs [] runs = tt
+  without_runs (h ∷ held) runs = by_test (not (is_held_for tile core h)) (without_runs held runs.1)
+    where
+      by_test : (t : Bool) → AreRuns image settings (without_held_leg tile core held)
+          → AreRuns image settings
+          (cond t (h ∷ without_held_leg tile core held) (without_held_leg tile core held))
+      by_test true rest = (runs.0, rest)
+      by_test false rest = rest
+
+  pub ended_runs : (held : List HeldLeg) (h : HeldLeg) → AreRuns image settings held
+      → IsLegOfImage image settings.budget h.leg → AreRuns image settings (held ++ h ∷ [])
+  ended_runs [] h runs run = (run, tt)
+  ended_runs (g ∷ held) h runs run = (runs.0, ended_runs held h runs.1 run)

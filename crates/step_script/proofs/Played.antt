@@ -61,7 +61,7 @@ gives_stale N tile core book held after said goes_on none rest is =
     })
 
 -- one act more
-does_more : (N : Type 0) (image : ImageValue) (script : List Act) (act : Act) (old mid new : PlayState) (saids : List Said) (said : Said)
+pub does_more : (N : Type 0) (image : ImageValue) (script : List Act) (act : Act) (old mid new : PlayState) (saids : List Said) (said : Said)
     → DoesAll N image script old saids mid → Does N image act mid said new
     → DoesAll N image (script ++ act ∷ []) old (saids ++ said ∷ []) new
 does_more N image [] act old mid new [] said same does = (new, subst (λ x. Does N image act x said new) (sym same) does, refl)

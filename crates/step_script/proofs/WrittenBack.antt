@@ -1,38 +1,21 @@
 -- A script that is written is read back.
-use Rattle.std.proofs.Common.{◌≡◌, ℕ, ◌+◌, ◌<◌, ◌≤◌, ◌^◌, ◌==◌, ◌&&◌, ◌||◌, not, nat_lt, option_map, List, [], ◌∷◌, ◌++◌, length, get_or, Some, refl, ap, arith, rules, true, false, Bool, zero, suc, eq-eqb, Ok, ◌∙◌}
+use Rattle.std.proofs.Common.{◌≡◌, ℕ, ◌+◌, ◌<◌, ◌≤◌, ◌^◌, ◌==◌, nat_lt, List, [], ◌∷◌, ◌++◌, Some, refl, ap, arith, rules, true, false, Bool, Ok, ◌∙◌}
 use Rattle.std.specs.Fmt.{decimal}
 use Rattle.std.specs.List.{list_all, AllByRecursion}
 use Rattle.std.specs.Char.{is_ascii_digit}
-use Rattle.std.proofs.lemmas.Bool.{eqb-true}
-use Rattle.std.proofs.lemmas.Fmt.{digits_decimal, digits_value-decimal, decimal_nonempty, first_decimal, decimal_digit}
+use Rattle.std.proofs.lemmas.Bool.{eqb-true, and_parts}
 use Rattle.step_script.specs.declared.act.Act.{Act}
 use Rattle.step_script.specs.declared.act.Act.TheVariants as acts
-use Rattle.text_lines.specs.Lines.{cut, lines_of}
+use Rattle.text_lines.specs.Lines.{lines_of}
 use Rattle.text_lines.specs.Numerals.{number, number_below}
 use Rattle.step_script.specs.Grammar.{core_in, act_at, act_in, acts_at, onto_acts}
 use Rattle.step_script.specs.Ranges.{ActIsInRange}
 use Rattle.step_script.specs.Written.{line_of_act, core_text, script, ScriptReadsBack}
-use Rattle.text_lines.proofs.Proved.{lines_cut, own}
+use Rattle.text_lines.proofs.Proved.{lines_cut, all_digits, number_back, Free, free_both}
+use Rattle.text_lines.proofs.Proved.{cut_free}
 use Rattle.step_script.proofs.Steps.{act_step}
 
 -- ---- numbers
-
--- decimal digits are all digits
-all_digits : (n : ℕ) → n < 2 ^ 64 → list_all is_ascii_digit (decimal n) ≡ true
-all_digits n small = digits_decimal own n small
-
-no_leading_zero : (n : ℕ) → n < 2 ^ 64 → (not (get_or (decimal n) 0 0 == 48) || length (decimal n) == 1) ≡ true
-no_leading_zero zero small = rw (decimal_digit 0 (omega arith)) refl
-no_leading_zero (suc n) small =
-    let above : 48 < get_or (decimal (suc n)) 0 0 = first_decimal (suc n) (omega arith) small in
-    let ne : (get_or (decimal (suc n)) 0 0 == 48) ≡ false = search (rules, above) in
-    rw ne refl
-
-number_back : (n : ℕ) → n < 2 ^ 32 → number (decimal n) ≡ Some n
-number_back n small =
-    let some : nat_lt 0 (length (decimal n)) ≡ true = search (rules, decimal_nonempty n (omega (arith, small))) in
-    let fits : nat_lt n (2 ^ 32) ≡ true = search (rules, small) in
-    rw (all_digits n (omega (arith, small)), some, no_leading_zero n (omega (arith, small)), digits_value-decimal own n (omega (arith, small)), fits) refl
 
 -- a number below a bound that is written is read again
 number_below_back : (bound n : ℕ) → bound ≤ 2 ^ 32 → n < bound → number_below bound (decimal n) ≡ Some n
@@ -43,36 +26,13 @@ number_below_back bound n top small =
 
 -- ---- lines
 
--- a list has no c
-abbrev Free : ℕ → List ℕ → Type 0
-Free c xs = list_all (λ x. not (x == c)) xs ≡ true
-
-pub and_two : (a b : Bool) → (a && b) ≡ true → (a ≡ true) × (b ≡ true)
-and_two true b is = (refl, is)
-and_two false b is = cc
-
-not_true : (a : Bool) → not a ≡ true → a ≡ false
-not_true true is = cc
-not_true false is = refl
-
-free_both : (c : ℕ) (xs ys : List ℕ) → Free c xs → Free c ys → Free c (xs ++ ys)
-free_both c [] ys h g = g
-free_both c (x ∷ xs) ys h g = let both = and_two (not (x == c)) _ h in rw (both.0, free_both c xs ys both.1 g) refl
-
-cut_free : (c : ℕ) (xs rest : List ℕ) → Free c xs → cut c (xs ++ c ∷ rest) ≡ Some (xs, rest)
-cut_free c [] rest h = rw (eq-eqb c c refl) refl
-cut_free c (x ∷ xs) rest h =
-    let both = and_two (not (x == c)) _ h in
-    let ne : (x == c) ≡ false = not_true (x == c) both.0 in
-    rw ne (ap (option_map (λ p. (x ∷ p.0, p.1))) (cut_free c xs rest both.1))
-
 digit_free : (c x : ℕ) (b : Bool) → c < 48 → (x == c) ≡ b → is_ascii_digit x ≡ true → b ≡ false
 digit_free c x false low is digit = refl
 digit_free c x true low is digit = grind (arith, digit, low, eqb-true x c is)
 
 digits_free : (c : ℕ) (xs : List ℕ) → c < 48 → list_all is_ascii_digit xs ≡ true → Free c xs
 digits_free c [] low h = refl
-digits_free c (x ∷ xs) low h = let both = and_two (is_ascii_digit x) _ h in let e : (x == c) ≡ false = digit_free c x (x == c) low refl both.0 in rw (e, digits_free c xs low both.1) refl
+digits_free c (x ∷ xs) low h = let both = and_parts (is_ascii_digit x) _ h in let e : (x == c) ≡ false = digit_free c x (x == c) low refl both.0 in rw (e, digits_free c xs low both.1) refl
 
 number_free : (c n : ℕ) → c < 48 → n < 2 ^ 32 → Free c (decimal n)
 number_free c n low small = digits_free c (decimal n) low (all_digits n (omega (arith, small)))

@@ -6,7 +6,7 @@ use Rattle.std.specs.List.{list_all}
 use Rattle.std.specs.Char.{is_ascii_digit}
 use Rattle.std.specs.Str.{bytes_eq}
 use Rattle.std.specs.Str.Parse.{digits_value}
-use Rattle.std.proofs.lemmas.Bool.{eqb-true}
+use Rattle.std.proofs.lemmas.Bool.{eqb-true, and_parts}
 use Rattle.std.proofs.lemmas.Fmt.{decimal-digits_value}
 use Rattle.step_script.specs.declared.act.Act.{Act}
 use Rattle.step_script.specs.declared.act.Act.TheVariants as acts
@@ -15,7 +15,6 @@ use Rattle.text_lines.specs.Numerals.{is_plain, number, number_below}
 use Rattle.step_script.specs.Grammar.{core_in, on_tile, on_core, act_at, act_in, acts_at, after_act}
 use Rattle.step_script.specs.Written.{line_of_act, core_text, ReadsOnly}
 use Rattle.text_lines.proofs.Proved.{own}
-use Rattle.step_script.proofs.WrittenBack.{and_two}
 
 -- ---- bytes
 
@@ -23,7 +22,7 @@ same_bytes : (xs ys : List ℕ) → bytes_eq xs ys ≡ true → xs ≡ ys
 same_bytes [] [] h = refl
 same_bytes [] (y ∷ ys) h = cc
 same_bytes (x ∷ xs) [] h = cc
-same_bytes (x ∷ xs) (y ∷ ys) h = let both = and_two (x == y) _ h in rw (eqb-true x y both.0, same_bytes xs ys both.1) refl
+same_bytes (x ∷ xs) (y ∷ ys) h = let both = and_parts (x == y) _ h in rw (eqb-true x y both.0, same_bytes xs ys both.1) refl
 
 -- the two parts of a cut are the list
 abbrev Joins : ℕ → List ℕ → Option (List ℕ × List ℕ) → Type 0
@@ -47,7 +46,7 @@ cut_joins c (x ∷ xs) = by_first c x xs (x == c) refl (cut_joins c xs)
 digits_only : (ds : List ℕ) (b : Bool) → (is_plain ds && nat_lt (digits_value 10 ds) (2 ^ 32)) ≡ b → IfSome (if◌then◌else◌ {A = Option ℕ} b (Some (digits_value 10 ds)) None) (λ n. decimal n ≡ ds)
 digits_only ds false is = tt
 digits_only ds true is =
-    let both = and_two (is_plain ds) _ is in
+    let both = and_parts (is_plain ds) _ is in
     let plain : is_plain ds ≡ true = both.0 in
     let less : nat_lt (digits_value 10 ds) (2 ^ 32) ≡ true = both.1 in
     let digits : list_all is_ascii_digit ds ≡ true = grind (arith, plain) in

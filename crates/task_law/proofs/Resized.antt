@@ -1,4 +1,4 @@
--- A logged run whose log replays on a memory is one on a memory of that size.
+-- A logged run whose log replays on a memory is one for data of that memory's size, and so is an end call.
 use Rattle.std.proofs.Common.{◌≡◌, ◌≤◌, ◌+◌, ◌-◌, ◌%◌, ◌==◌, ◌∷◌, ◌++◌, ℕ, Bool, true, false, List, [], length, not, nat_lt, Option, Some, None, refl, sym, ap, subst, ◌∙◌, arith, if◌then◌else◌}
 use Rattle.std.proofs.lemmas.Bool.Decides.{nat_tests}
 use Rattle.std.proofs.lemmas.Grind.{common_steps}
@@ -169,7 +169,7 @@ module _ (image : ImageValue) (budget size : ℕ) (ctx : Ctx) (start : TaskState
       let Near : Stop → Type 0 = λ found. Reaches (length memory) (Stops found) in
       asks_on asks (subst Near (sym at.is) (ends_within DATA_START at.addr access.offset access.width (store_width at.width) (length memory) at.offset_is at.bytes_is room))
 
-  -- each step of the run is one on the memory
+  -- a run whose log replays on the memory is one for data of its size
   pub logged_on : {log : List Access} {task : TaskState} → LoggedRun image budget size ctx start log task → Replays memory log
       → LoggedRun image budget (length memory) ctx start log task
   logged_on none chain = none

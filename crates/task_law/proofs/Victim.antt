@@ -1,31 +1,22 @@
--- A full queue has a victim, and each queue in which something moves gets shorter.
-use Rattle.std.proofs.Common.{◌≡◌, ◌≢◌, ◌⊎◌, ℕ, ◌<◌, ◌≤◌, Bool, true, false, List, [], ◌∷◌, length, Option, Some, None, refl, sym, ap, subst, ◌∙◌, inl, inr, arith}
+-- A queue of two tasks or more has a victim, so at each queue with room for two some rule applies; and a coalescing
+-- makes a queue in which something moves shorter.
+use Rattle.std.proofs.Common.{◌≡◌, ◌≢◌, ◌⊎◌, ℕ, ◌≤◌, Bool, true, false, List, [], ◌∷◌, length, Option, Some, None, refl, sym, ap, subst, ◌∙◌, inl, inr, arith}
 use Rattle.std.proofs.lemmas.Bool.{cases_eq, cases_lt}
 use Rattle.std.specs.Ordering.{is_gt, ordering_reverse}
 use Rattle.std.specs.declared.cmp.Ordering.{Ordering}
 use Rattle.std.specs.declared.cmp.Ordering.TheVariants.{Less, Equal, Greater}
 use Rattle.std.proofs.lemmas.Cmp.{upto, tied_itself}
 use Rattle.fractal_vt.specs.Levels.{levels_cmp}
-use Rattle.fractal_vt.proofs.Proved.{levels_cmp_total}
+use Rattle.fractal_vt.proofs.Proved.{levels_cmp_total, not_greater, greater_not}
 use Rattle.task_law.specs.Tasks.{In}
-use Rattle.task_law.specs.Room.{RoomTask, IsFirmInQueue, IsMovableInQueue, NoneMovesInQueue, IsVictimInQueue, IsFirst, Rule, Free, Coalesces, Stalls, Takes, IdsAreApart, SomeRuleApplies, IsChosenInQueue, queue_after, CoalesceShortensQueue}
+use Rattle.task_law.specs.Room.{RoomTask, IsFirmInQueue, IsMovableInQueue, NoneMovesInQueue, IsVictimInQueue, IsFirst, Rule, Free, Coalesces, Stalls, Takes, IdsAreApart, SomeRuleApplies, IsChosenInQueue, CoalesceShortensQueue}
 use Rattle.task_law.proofs.Rooms.{shorter}
-
-not_greater : (o : Ordering) → o ≢ Greater → is_gt o ≡ false
-not_greater Less differs = refl
-not_greater Equal differs = refl
-not_greater Greater differs = absurd (differs refl)
-
-greater_not : (o : Ordering) → is_gt o ≡ false → o ≢ Greater
-greater_not Less e = λ never. absurd (cc)
-greater_not Equal e = λ never. absurd (cc)
-greater_not Greater e = absurd (cc)
 
 same_asker : (asker : Option ℕ) (k : ℕ) → (asker ≡ Some k) ⊎ (asker ≢ Some k)
 same_asker None k = inr (λ e. absurd (cc (e)))
 same_asker (Some a) k = elim (cases_eq a k) [ inl e ↦ inl (ap Some e) | inr differs ↦ inr (λ e. differs (cc)) ]
 
--- of two different ids one is not the asker's
+-- of a queue of two ids or more one is not the asker's
 pub someone_else : (asker : Option ℕ) (queue : List ℕ) → IdsAreApart queue → 2 ≤ length queue → (v : ℕ) × In v queue × (asker ≢ Some v)
 someone_else asker [] distinct many = absurd (omega (arith, many))
 someone_else asker (k ∷ []) distinct many = absurd (omega (arith, many))
@@ -124,18 +115,16 @@ module _ (tasks : ℕ → Option RoomTask) (asker : Option ℕ) where
       let one = someone_else asker queue distinct many in
       elim (search_all queue there) [ inl none ↦ absurd (none one.0 one.1 one.2) | inr found ↦ found ]
 
--- something is chosen where something moves, and then the queue gets shorter
+-- where something moves, something is chosen
 pub chosen_is_some : (tasks : ℕ → Option RoomTask) (heir : Option ℕ) (queue chosen : List ℕ) (k : ℕ) → IsChosenInQueue tasks heir queue chosen → IsMovableInQueue tasks heir queue k → (j : ℕ) × In j chosen × In j queue
 chosen_is_some tasks heir queue [] k is moves = absurd (is.all (omega arith) k moves)
 chosen_is_some tasks heir queue (j ∷ chosen) k is moves = (j, inl refl, (is.movable j (inl refl)).0)
 
-pub chosen_makes_room : (tasks new : ℕ → Option RoomTask) (heir : Option ℕ) (queue chosen : List ℕ) (k : ℕ) → IsChosenInQueue tasks heir queue chosen → IsMovableInQueue tasks heir queue k → ((j : ℕ) → In j chosen → new j ≡ None) → length (queue_after new queue) < length queue
-chosen_makes_room tasks new heir queue chosen k is moves gone =
+-- so a coalescing makes the queue shorter
+pub coalescing_makes_room : CoalesceShortensQueue
+coalescing_makes_room tasks new heir queue chosen k is moves gone =
     let one = chosen_is_some tasks heir queue chosen k is moves in
     shorter new one.0 queue (gone one.0 one.1) one.2
-
-pub coalescing_makes_room : CoalesceShortensQueue
-coalescing_makes_room tasks new heir queue chosen k is moves gone = chosen_makes_room tasks new heir queue chosen k is moves gone
 
 -- a task is firm or not
 firm_or_not : (heir : Option ℕ) (task : RoomTask) → IsFirmInQueue heir task ⊎ (IsFirmInQueue heir task → ⊥)

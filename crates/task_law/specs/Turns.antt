@@ -1,4 +1,5 @@
--- The whole of a commit: a finished least task whose log replays takes the serial machine's next turn.
+-- The whole of a commit: a finished least task whose log replays takes the serial machine's next turn; and a trapped
+-- one traps there too.
 use Rattle.std.specs.Prelude.{◌≡◌, ℕ, ◌+◌, Bool, true, List, ◌∷◌, ◌++◌, length, Option, Some}
 use Rattle.guest_image.specs.ImageValue.{ImageValue}
 use Rattle.undo_log.specs.declared.access.Access.{Access}
@@ -50,7 +51,8 @@ LeastCommitsSerially =
     → IsReadyToCommit image budget s task turn_number index own outer log after
     → (state : SerialState) × IsSerialTurn image budget s new spilled task turn_number index log after state
 
--- a trapped least task whose log replays on the serial memory is the serial machine's next task, and traps there too
+-- a trapped least task whose log replays on the serial memory may take the serial machine's next turn, and its run
+-- there ends in the same trap
 abbrev pub LeastTrapsSerially : Type 0
 LeastTrapsSerially =
     (image : ImageValue) (budget id turn_number index : ℕ) (runs : Bool) (s : SerialState) (tasks : ℕ → Option BagTask)

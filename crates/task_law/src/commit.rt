@@ -1,4 +1,4 @@
-//! The commit of the least task is a turn of the serial machine.
+//! The commit of the least task is a turn of the serial machine, and its trap is one there.
 
 ghost use Rattle.task_law.specs.Commit.{CommitIsTurn, CommitKeepsTasks, LeastHasTurn};
 ghost use Rattle.task_law.specs.Domains.{ContextFits, TurnKeepsDomains};
@@ -31,13 +31,14 @@ pub fn turn_keeps_domains()
     ensures { TurnKeepsDomains }
 {}
 
-/// A finished least task commits as the serial machine's next turn: the same stores, output and children, and the
-/// pending tasks after that turn are the free tasks after the commit.
+/// A finished least task whose log replays commits as the serial machine's next turn: the same stores, output and
+/// children, and the pending tasks after that turn are the free tasks after the commit.
 pub fn least_commits_serially()
     ensures { LeastCommitsSerially }
 {}
 
-/// A trapped least task is the serial machine's next task, and its serial turn ends in the same trap.
+/// A trapped least task whose log replays on the serial memory may take the serial machine's next turn, and its run
+/// there ends in the same trap.
 pub fn least_traps_serially()
     ensures { LeastTrapsSerially }
 {}

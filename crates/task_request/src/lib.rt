@@ -1,5 +1,5 @@
-//! What a task asks for, once a leg of it has stopped: a load, a store, a child, a subdomain, a byte, its end or a
-//! trap.
+//! What a task asks for, once a leg of it has stopped: a load, a store, a child, a subdomain, a byte, its end, a trap,
+//! or to go on.
 //!
 //! Both machines run a task leg by leg and ask here what stands at its core: [`request_of`] reads the stop of the
 //! leg, at an ECALL the registers, and the rules of calls. What the answer then does to a task is one definition by

@@ -26,9 +26,6 @@ number_too_large ds plain large = let e : nat_lt (digits_value 10 ds) (2 ^ 32) �
 plain_digits : (ds : List ℕ) → is_plain ds ≡ true → (list_all is_ascii_digit ds ≡ true) × (0 < length ds)
 plain_digits ds plain = grind (arith, plain)
 
-pub number_not_plain : (ds : List ℕ) → is_plain ds ≡ false → number ds ≡ None
-number_not_plain ds plain = rw plain refl
-
 by_answer : {E : Type 0} (ds : List ℕ) (r : Result ℕ E) → is_plain ds ≡ true → OkIff r ((0 < length ds) × (digits_value 10 ds < 2 ^ 32)) (digits_value 10 ds) → result_ok r ≡ number ds
 by_answer ds (Ok n) plain h = ap Some h.1 ∙ sym (number_from ds plain h.0.1)
 by_answer ds (Err e) plain h = sym (number_too_large ds plain (λ small. h ((plain_digits ds plain).1, small)))

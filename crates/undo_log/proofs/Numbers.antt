@@ -56,7 +56,7 @@ written_comm bytes offset width value other (suc size) value' apart =
     ap (λ b. after_write b (other + 1) size (value' / 256)) (sym (after_write-set bytes offset width value other (value' % 256) outside))
     ∙ written_comm (set bytes other (value' % 256)) offset width value (other + 1) size (value' / 256) inner
 
-low_digit : (digit rest : ℕ) → digit < 256 → ((digit + 256 * rest) % 256 ≡ digit) × ((digit + 256 * rest) / 256 ≡ rest)
+pub low_digit : (digit rest : ℕ) → digit < 256 → ((digit + 256 * rest) % 256 ≡ digit) × ((digit + 256 * rest) / 256 ≡ rest)
 low_digit digit rest small =
     let split = div-add-mod (digit + 256 * rest) 256 in
     (omega (arith, split), omega (arith, split))

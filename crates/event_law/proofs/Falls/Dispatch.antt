@@ -1,7 +1,7 @@
 -- A dispatch in the tile of the least task, which is idle, makes the dispatched task the least one.
 use Rattle.std.proofs.Common.{ℕ, ◌≡◌, ◌≢◌, ◌<◌, inl, inr, [], false, Option, Some, None, refl, sym, ap, subst, ◌∙◌, map}
 use Rattle.std.specs.Prelude.{slice_get, slice_index_or}
-use Rattle.std.proofs.lemmas.Bool.{cases_eq}
+use Rattle.std.proofs.lemmas.Bool.{cases_eq, false_from_ne_true}
 use Rattle.std.proofs.lemmas.Cmp.{tied_itself, upto}
 use Rattle.std.specs.Ordering.{is_gt}
 use Rattle.std.specs.declared.cmp.Ordering.{Ordering}
@@ -10,7 +10,7 @@ use Rattle.fractal_vt.specs.Keys.{key_cmp, levels}
 use Rattle.fractal_vt.specs.Levels.{closed_level}
 use Rattle.fractal_vt.specs.declared.key.Key.{Key}
 use Rattle.fractal_vt.specs.Renumbered.{HoldsKey, renumbered_key}
-use Rattle.fractal_vt.proofs.Proved.{equal_keys_tie, key_cmp_total}
+use Rattle.fractal_vt.proofs.Proved.{equal_keys_tie, key_cmp_total, not_greater}
 use Rattle.guest_image.specs.ImageValue.{ImageValue}
 use Rattle.order_law.proofs.Proved.{below_reopened, rises}
 use Rattle.spill_store.specs.SpilledTasks.{Spilled, open_key}
@@ -33,17 +33,10 @@ use Rattle.event_def.specs.Events.{FreesCore}
 use Rattle.event_def.specs.Events as events
 use Rattle.event_law.proofs.Granted.{is_idle}
 use Rattle.event_law.proofs.Keeps.Forced.{spared_stays}
-use Rattle.event_law.proofs.Keeps.Steps.{unmarked}
 
 -- the first key is not above the second
 abbrev pub IsUpto : Key → Key → Type 0
 IsUpto a b = is_gt (key_cmp a b) ≡ false
-
--- what is not greater passes the test
-not_above : (o : Ordering) → o ≢ Greater → is_gt o ≡ false
-not_above Less low = refl
-not_above Equal low = refl
-not_above Greater low = absurd (low refl)
 
 -- a key below one that is not above a third is below that
 below_upto : (a b c : Key) → key_cmp a b ≡ Less → IsUpto b c → key_cmp a c ≡ Less
@@ -91,8 +84,8 @@ module _ (image : ImageValue) (old : View) (sound : Sound image old) (tile id : 
     task = task;
     idle = is_idle old tile id task least idle there;
     key = refl;
-    queued = λ k x at. not_above (key_cmp task.key x.key) (upto_queued old id task least sound.sizes k x at);
-    spilled = λ u p s at. not_above (key_cmp task.key (open_key s)) (upto_spilled old id task least u p s at);
+    queued = λ k x at. not_greater (key_cmp task.key x.key) (upto_queued old id task least sound.sizes k x at);
+    spilled = λ u p s at. not_greater (key_cmp task.key (open_key s)) (upto_spilled old id task least u p s at);
   }
 
   -- a task on a core is another one
@@ -106,7 +99,7 @@ module _ (image : ImageValue) (old : View) (sound : Sound image old) (tile id : 
   -- and its cascade spares the least one
   core_spares : (v : ℕ) (x : Task) (aborted : ℕ) (mid : View) → IsLatestOnCore old tile v x → (aborts : Aborts (OnlyNode v) old aborted mid) → is_marked aborts.marks id ≡ false
   core_spares v x aborted mid latest aborts =
-      unmarked (is_marked aborts.marks id)
+      false_from_ne_true (is_marked aborts.marks id)
       (λ marked.
       let later = cascade_is_later image old v x aborts.marks sound latest.of_kind.1.there aborts.cascade id marked (on_core_is_other v x latest) in
       let both : Some later.0 ≡ Some task = sym later.1 ∙ least.queued_at.there in
@@ -182,7 +175,7 @@ module _ (image : ImageValue) (mid new : View) (sound : Sound image mid) (tile :
         let before : ranked_cmp d.task.key (Queued tile first.0) is.task.key (Queued tile second.0) ≡ Less =
         d.least.least is.id is.task other is.idle first.0 second.0 d.task is.task first.1 second.1 in
         subst (IsUpto d.task.key) is.key
-        (not_above (key_cmp d.task.key is.task.key)
+        (not_greater (key_cmp d.task.key is.task.key)
         (first_not_greater (key_cmp d.task.key is.task.key) (spot_cmp (Queued tile first.0) (Queued tile second.0)) (λ greater. absurd (cc (sym before ∙ greater)))))
   ]
 

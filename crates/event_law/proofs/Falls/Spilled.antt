@@ -10,6 +10,7 @@ use Rattle.std.specs.declared.cmp.Ordering.{Ordering}
 use Rattle.std.specs.declared.cmp.Ordering.TheVariants.{Less, Equal, Greater}
 use Rattle.fractal_vt.specs.Keys.{key_cmp, levels}
 use Rattle.fractal_vt.specs.declared.key.Key.{Key}
+use Rattle.fractal_vt.proofs.Proved.{then_greater}
 use Rattle.guest_image.specs.ImageValue.{ImageValue}
 use Rattle.order_law.proofs.Proved.{below_reopened}
 use Rattle.spill_store.specs.SpilledTasks.{Spilled, open_key}
@@ -23,12 +24,6 @@ use Rattle.spec_state.specs.Room.{Splitter, Coalesces, IsSpilledAs, MakesRoom, q
 use Rattle.spec_law.specs.Sound.{Sound, SoundSizes}
 use Rattle.spec_law.proofs.Proved.{abort_of_one_is_sound, abort_takes, added_stands, each_now, inside, pushes_each, queued_at, queued_was, StandsAt}
 use Rattle.event_law.proofs.Keeps.Events.{spilled_no_heir}
-
--- an answer that is not greater, and then greater, is less
-then_greater : (o : Ordering) → ordering_then o Greater ≢ Greater → o ≡ Less
-then_greater Less upto = refl
-then_greater Equal upto = absurd (upto refl)
-then_greater Greater upto = absurd (upto refl)
 
 -- of two tiles one comes first, whatever the places
 tiles_decide : (tile u p q r s : ℕ) → u ≢ tile → place_cmp tile p u q ≡ place_cmp tile r u s

@@ -4,6 +4,7 @@ use Rattle.std.specs.Prelude.{length, filter, not, slice_index_or, Contains}
 use Rattle.std.specs.declared.cmp.Ordering.TheVariants.{Less}
 use Rattle.std.proofs.lemmas.Cmp.{tied_itself}
 use Rattle.std.proofs.lemmas.List.Filters.{length-filter_both}
+use Rattle.std.proofs.lemmas.Bool.{false_from_ne_true}
 use Rattle.fractal_vt.specs.Keys.{key_cmp}
 use Rattle.fractal_vt.specs.declared.key.Key.{Key}
 use Rattle.fractal_vt.proofs.Proved.{key_cmp_total}
@@ -33,10 +34,9 @@ use Rattle.event_law.proofs.Lists.{at_each_place}
 use Rattle.event_law.proofs.Openings.Sized.{FitsQueue, none_fit}
 use Rattle.event_law.proofs.Keeps.Forced.{Follows, follows_itself, abort_follows, least_is_heir, running_is_dispatched, still_taken, spared_stays}
 use Rattle.event_law.proofs.Keeps.Room.{room_follows, asker_is_there, room_is_free}
-use Rattle.event_law.proofs.Keeps.Steps.{unmarked}
 
 -- a running task isn't idle
-running_is_busy : (core : ℕ) (status : Status) → status ≡ Running core → status ≢ Idle
+pub running_is_busy : (core : ℕ) (status : Status) → status ≡ Running core → status ≢ Idle
 running_is_busy core status runs idle = (let no_way : Running core ≡ Idle = sym runs ∙ idle in absurd (cc (no_way)))
 
 -- a filter leaves fewer where one doesn't pass
@@ -98,7 +98,7 @@ module _ (image : ImageValue) (book : BookView) (sound : Sound image book.view) 
   -- the cascade of a later task spares this one
   later_spares : (v : ℕ) (x : Task) (aborted : ℕ) (mid : View) → IsLater book.view task v x → (aborts : Aborts (OnlyNode v) book.view aborted mid) → is_marked aborts.marks id ≡ false
   later_spares v x aborted mid later aborts =
-      unmarked (is_marked aborts.marks id)
+      false_from_ne_true (is_marked aborts.marks id)
       (λ marked.
       let apart : id ≢ v = λ same.
       (let both : Some task ≡ Some x = sym there ∙ (ap (task_at book.view) same ∙ later.there) in

@@ -18,7 +18,8 @@ use Rattle.spec_state.specs.View.{View, task_at, queue_at}
 use Rattle.spec_state.specs.Least.{Queued, IsQueuedAt, ranked_cmp, spot_cmp}
 use Rattle.spec_state.specs.Queries.{IsIdle, IsLeastIdle}
 use Rattle.spec_law.specs.Sound.{SoundSizes}
-use Rattle.spec_law.proofs.Proved.{contains_get, distinct_at, get_contains, one_place, ranked_turned, same_spot}
+use Rattle.spec_law.proofs.Proved.{contains_get, distinct_at, get_contains, ranked_turned, same_spot}
+use Rattle.tile_queues.proofs.Proved.{one_place}
 
 -- a key at a place of a tile's queue
 record Ranked : Type 0 where

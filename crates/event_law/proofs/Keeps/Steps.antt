@@ -1,5 +1,6 @@
 -- A step of a running task that forces nothing, or that takes back what conflicts with it, leaves a sound view.
-use Rattle.std.proofs.Common.{ℕ, ◌/◌, ◌≡◌, inl, Bool, true, false, Some, refl, sym, ap, subst, ◌∙◌}
+use Rattle.std.proofs.Common.{ℕ, ◌/◌, ◌≡◌, Bool, true, false, Some, refl, sym, ap, subst, ◌∙◌}
+use Rattle.std.proofs.lemmas.Bool.{false_from_ne_true}
 use Rattle.guest_image.specs.declared.image.Kind.{Kind}
 use Rattle.guest_image.specs.ImageValue.{ImageValue}
 use Rattle.rv_core.specs.LegValue.{LegValue, IsLegOfImage}
@@ -18,11 +19,6 @@ use Rattle.spec_law.specs.Keeping.{AsksAt, IsLegOf, NoneConflicts}
 use Rattle.spec_law.proofs.Proved.{abort_of_conflicts_is_sound, abort_takes, byte_stays_sound, conflicts_spare_asker, load_stays_sound, marked_is_back, quantum_stays_sound, store_stays_sound, sub_stays_sound, trap_stays_sound}
 use Rattle.event_def.specs.Events.{TakesConflicts, LoadEvent, StoreEvent}
 use Rattle.event_law.proofs.Keeps.Forced.{Follows, abort_follows, still_taken, spared_stays}
-
--- a mark that isn't there
-pub unmarked : (b : Bool) → (b ≡ true → ⊥) → b ≡ false
-unmarked true not_marked = absurd (not_marked refl)
-unmarked false not_marked = refl
 
 module _ (image : ImageValue) (old : View) (sound : Sound image old) (tile core : ℕ) (leg : LegValue) (run : IsLegOfImage image old.settings.budget leg) (id : ℕ) (task : Task) (takes : TakesLeg old tile core leg id task) where
   -- the leg is one of a running task
@@ -76,7 +72,7 @@ module _ (image : ImageValue) (old : View) (sound : Sound image old) (tile core 
     asker_stays : task_at mid id ≡ Some task
     asker_stays =
         spared_stays (Conflicts old task (offset / old.settings.line) write) old mid aborted id forced
-        (unmarked (is_marked forced.marks id)
+        (false_from_ne_true (is_marked forced.marks id)
         (conflicts_spare_asker image old id (offset / old.settings.line) task write forced.marks sound there forced.cascade))
         ∙ there
 

@@ -56,7 +56,7 @@ module _ (kind : Kind) where
     pub history : view.history ≡ []
     pub sound : AreSound 0 0 false (bag_tasks view) (bags_spilled view)
 
-  -- image tasks of some places are ones of more
+  -- initial tasks of some places are ones of more
   weaker : (few more : ℕ → ImageTask → Type 0) (view : View) → ((index : ℕ) (from : ImageTask) → few index from → more index from) → AreImageTasks kind few view
       → AreImageTasks kind more view
   weaker few more view each are =

@@ -4,6 +4,7 @@ use Rattle.std.specs.Prelude.{length, slice_get, map, replicate, nat_lt, nat_le,
 use Rattle.std.specs.List.{enumerate_from}
 use Rattle.std.proofs.lemmas.List.Elements.{All-map, All-append, All-replicate, All-weaker}
 use Rattle.fractal_vt.specs.Levels.{closed_level}
+use Rattle.fractal_vt.proofs.Proved.{all_get}
 use Rattle.guest_image.specs.declared.image.ImageTask.{ImageTask}
 use Rattle.guest_image.specs.declared.image.Kind.{Kind}
 use Rattle.guest_image.specs.declared.image.Kind.TheVariants.{Unordered, Ordered}
@@ -37,7 +38,7 @@ use Rattle.spec_law.proofs.Proved.{none_noted}
 use Rattle.event_def.specs.Book.{BookView}
 use Rattle.event_def.specs.Opening.{root_kinds}
 use Rattle.event_law.specs.Laws.{OpeningIsSound}
-use Rattle.event_law.proofs.Lists.{at_each_place, at_place, all_of_lists, from_option, counted_places}
+use Rattle.event_law.proofs.Lists.{at_each_place, all_of_lists, from_option, counted_places}
 use Rattle.event_law.proofs.Openings.Rooted as rooted
 use Rattle.event_law.proofs.Openings.Rooted.{IsImageTask, IsImageSpilled, AreImageTasks}
 use Rattle.event_law.proofs.Openings.Sized.{IsSized, all_sized, none_sized}
@@ -106,7 +107,7 @@ module _ (image : ImageValue) (settings : Settings) (among : ℕ → ImageTask �
           let one = from_option keyed_task (task_at view id) x queued in
           subst IsRoot one.2 (root_task view.version one.0 (are.tasks id one.0 one.1))
       by_case (inr entry) =
-          at_place IsRoot (map (keyed_spilled (length view.history) None) (all_spilled view)) entry.0 x
+          all_get IsRoot (map (keyed_spilled (length view.history) None) (all_spilled view)) entry.0 x
           (All-map IsRoot (keyed_spilled (length view.history) None) (all_spilled view)
           (All-weaker (IsImageSpilled image.kind among) (λ s. IsRoot (keyed_spilled (length view.history) None s)) (root_spilled (length view.history)) (all_spilled view)
           (all_of_lists (IsImageSpilled image.kind among) view.blocks are.spilled)))

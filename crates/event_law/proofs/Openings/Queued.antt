@@ -7,20 +7,10 @@ use Rattle.std.proofs.lemmas.List.{get_or_past, get_or-set_same, get_or-set_othe
 use Rattle.std.proofs.lemmas.List.Elements.{Contains-push, Contains-push_cases, Contains-append_left}
 use Rattle.std.proofs.lemmas.List.Kept.{AllPairs-filter}
 use Rattle.task_law.specs.Room.{RoomTask, kept_by, queue_after}
-
--- what stands in a list is its first element or stands behind it
-pub here_or_behind : (x : ℕ) (xs : List ℕ) (id : ℕ) → Contains (x ∷ xs) id → (x ≡ id) ⊎ Contains xs id
-here_or_behind x xs id c = by_place c.0 c.1 c.2
-  where
-    by_place : (k : ℕ) → k < length (x ∷ xs) → slice_index_or (x ∷ xs) k id ≡ id → (x ≡ id) ⊎ Contains xs id
-    by_place zero below is = inl is
-    by_place (suc k) below is = inr (k, omega (arith, below), is)
+use Rattle.spec_state.proofs.Proved.{head_or_tail, in_tail}
 
 here : (x : ℕ) (xs : List ℕ) (id : ℕ) → x ≡ id → Contains (x ∷ xs) id
 here x xs id is = (0, omega arith, is)
-
-behind : (x : ℕ) (xs : List ℕ) (id : ℕ) → Contains xs id → Contains (x ∷ xs) id
-behind x xs id c = (suc c.0, omega (arith, c.1), c.2)
 
 module _ (tasks : ℕ → Option RoomTask) where
   -- a queue without the ids of tasks that have gone is what a filter keeps of it
@@ -39,18 +29,18 @@ module _ (tasks : ℕ → Option RoomTask) where
   kept_was (k ∷ ks) id c = by_case (is_some (tasks k)) c (kept_was ks id)
     where
       by_case : (b : Bool) → Contains (kept_by b k (queue_after tasks ks)) id → (Contains (queue_after tasks ks) id → Contains ks id) → Contains (k ∷ ks) id
-      by_case true there rest = elim (here_or_behind k (queue_after tasks ks) id there) [ inl is ↦ here k ks id is | inr more ↦ behind k ks id (rest more) ]
-      by_case false there rest = behind k ks id (rest there)
+      by_case true there rest = elim (head_or_tail k (queue_after tasks ks) id there) [ inl is ↦ here k ks id is | inr more ↦ in_tail k ks id (rest more) ]
+      by_case false there rest = in_tail k ks id (rest there)
 
   -- and a task that is there stands there still
   pub kept_stays : (queue : List ℕ) (id : ℕ) → Contains queue id → is_some (tasks id) ≡ true → Contains (queue_after tasks queue) id
   kept_stays [] id c some = c
-  kept_stays (k ∷ ks) id c some = by_case (is_some (tasks k)) refl (here_or_behind k ks id c) (λ more. kept_stays ks id more some)
+  kept_stays (k ∷ ks) id c some = by_case (is_some (tasks k)) refl (head_or_tail k ks id c) (λ more. kept_stays ks id more some)
     where
       by_case : (b : Bool) → is_some (tasks k) ≡ b → (k ≡ id) ⊎ Contains ks id → (Contains ks id → Contains (queue_after tasks ks) id)
           → Contains (kept_by b k (queue_after tasks ks)) id
       by_case true is (inl same) rest = here k (queue_after tasks ks) id same
-      by_case true is (inr more) rest = behind k (queue_after tasks ks) id (rest more)
+      by_case true is (inr more) rest = in_tail k (queue_after tasks ks) id (rest more)
       by_case false is (inl same) rest =
           let no_way : false ≡ true = sym is ∙ (ap (λ j. is_some (tasks j)) same ∙ some) in
           absurd (cc (no_way))
@@ -63,7 +53,7 @@ module _ (tasks : ℕ → Option RoomTask) where
     where
       by_case : (b : Bool) → is_some (tasks k) ≡ b → Contains (kept_by b k (queue_after tasks ks)) id → (Contains (queue_after tasks ks) id → is_some (tasks id) ≡ true)
           → is_some (tasks id) ≡ true
-      by_case true is there rest = elim (here_or_behind k (queue_after tasks ks) id there) [
+      by_case true is there rest = elim (head_or_tail k (queue_after tasks ks) id there) [
         | inl same ↦ ap (λ j. is_some (tasks j)) (sym same) ∙ is
         | inr more ↦ rest more
       ]
@@ -81,7 +71,7 @@ module _ (tasks : ℕ → Option RoomTask) where
   -- where a task has gone it is shorter
   pub kept_fewer : (queue : List ℕ) (id : ℕ) → Contains queue id → is_some (tasks id) ≡ false → length (queue_after tasks queue) < length queue
   kept_fewer [] id c gone = absurd (omega (arith, c.1))
-  kept_fewer (k ∷ ks) id c gone = by_case (is_some (tasks k)) refl (here_or_behind k ks id c) (λ more. kept_fewer ks id more gone) (kept_few ks)
+  kept_fewer (k ∷ ks) id c gone = by_case (is_some (tasks k)) refl (head_or_tail k ks id c) (λ more. kept_fewer ks id more gone) (kept_few ks)
     where
       by_case : (b : Bool) → is_some (tasks k) ≡ b → (k ≡ id) ⊎ Contains ks id → (Contains ks id → length (queue_after tasks ks) < length ks)
           → length (queue_after tasks ks) ≤ length ks → length (kept_by b k (queue_after tasks ks)) < length (k ∷ ks)

@@ -28,9 +28,9 @@ coalesced_was tile old new c id task there =
     let stays : Contains c.ids id → ⊥ = λ moved. (let gone : None ≡ Some task = sym (c.gone id moved) ∙ there in cc) in
     sym (c.others id stays) ∙ there
 
--- of which image tasks at which places are spoken
+-- of which initial tasks at which places are spoken
 module _ (kind : Kind) (among : ℕ → ImageTask → Type 0) where
-  -- the task is an image task of these, in this version and in the tile that was picked for it
+  -- the task is an initial task of these, in this version and in the tile that was picked for it
   pub record IsImageTask (version : ℕ) (task : Task) : Type 0 where
     pub index : ℕ
     pub tile : ℕ
@@ -50,7 +50,7 @@ module _ (kind : Kind) (among : ℕ → ImageTask → Type 0) where
     pub tasks : (id : ℕ) (task : Task) → task_at view id ≡ Some task → IsImageTask view.version task
     pub spilled : All (λ block. All IsImageSpilled block) view.blocks
 
-  -- an image task is spilled as one
+  -- an initial task is spilled as one
   spilled_one : (view : View) (id : ℕ) (s : Spilled) → AreImageTasks view → IsSpilledAs view id s → IsImageSpilled s
   spilled_one view id s are as_is =
       let root = are.tasks id as_is.task as_is.there in
@@ -70,7 +70,7 @@ module _ (kind : Kind) (among : ℕ → ImageTask → Type 0) where
   spilled_all view (id ∷ ids) (s ∷ moved) are zip =
       All-cons IsImageSpilled s moved (spilled_one view id s are zip.0) (spilled_all view ids moved are zip.1)
 
-  -- a coalescing leaves image tasks alone
+  -- a coalescing leaves initial tasks alone
   pub coalesces_keeps : (tile : ℕ) (old new : View) → AreImageTasks old → Coalesces tile old new → AreImageTasks new
   coalesces_keeps tile old new are c =
       record {

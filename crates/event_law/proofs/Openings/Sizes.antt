@@ -23,11 +23,12 @@ use Rattle.spec_state.specs.Groups.{all_spilled}
 use Rattle.spec_state.specs.Stored.{HasCore, HasTask}
 use Rattle.spec_law.specs.Sound.{SoundSizes}
 use Rattle.event_def.specs.Opening.{root_kinds}
-use Rattle.event_law.proofs.Lists.{at_each_place, at_place, all_of_lists}
+use Rattle.event_law.proofs.Lists.{at_each_place, all_of_lists}
 use Rattle.event_law.proofs.Openings.Rooted.{IsImageSpilled, AreImageTasks}
 use Rattle.event_law.proofs.Openings.Sized.{IsSized, FitsQueue, none_fit}
 use Rattle.event_law.proofs.Openings.Tiles.{HaveTiles}
 use Rattle.event_law.proofs.Openings.Untouched.{IsUntouched}
+use Rattle.fractal_vt.proofs.Proved.{all_get}
 
 -- the root's kind is one bit
 one_bit : (kind : Kind) → root_kinds kind < 2
@@ -38,7 +39,7 @@ one_bit Ordered = omega arith
 none_held : (tiles cores tile core id : ℕ) → slice_get (slice_index_or (replicate tiles (replicate cores None)) tile []) core ≡ Some (Some id) → ⊥
 none_held tiles cores tile core id held =
     let free : (list : List (Option ℕ)) → All (λ (o : Option ℕ). o ≡ None) list → slice_get list core ≡ Some (Some id) → ⊥ =
-    λ list all at. none-some id (sym (at_place (λ (o : Option ℕ). o ≡ None) list core (Some id) all at)) in
+    λ list all at. none-some id (sym (all_get (λ (o : Option ℕ). o ≡ None) list core (Some id) all at)) in
     let each : All (λ (o : Option ℕ). o ≡ None) (slice_index_or (replicate tiles (replicate cores None)) tile []) =
     at_each_place (λ (list : List (Option ℕ)). All (λ (o : Option ℕ). o ≡ None) list) (replicate tiles (replicate cores None)) tile []
     (All-replicate (λ (list : List (Option ℕ)). All (λ (o : Option ℕ). o ≡ None) list) tiles (replicate cores None) (All-replicate (λ (o : Option ℕ). o ≡ None) cores None refl))

@@ -6,12 +6,11 @@ use Rattle.std.specs.Cmp.{IsTotalOrder}
 use Rattle.std.specs.Ordering.{nat_cmp, on, then_cmp}
 use Rattle.std.specs.declared.cmp.Ordering.{Ordering}
 use Rattle.fractal_vt.specs.declared.key.Key.{Key}
-use Rattle.fractal_vt.proofs.Proved.{key_cmp_total}
+use Rattle.fractal_vt.proofs.Proved.{key_cmp_total, greater_not}
 use Rattle.spill_store.specs.SpilledTasks.{Spilled, open_key}
 use Rattle.spec_state.specs.declared.task.Task.{Task}
 use Rattle.spec_state.specs.View.{View, task_at, queue_at, block_at}
 use Rattle.spec_state.specs.Least.{Spot, Queued, Spilled_at, HasKey, IsAllCommitted, IsLeastSpot, ranked_cmp, spot_cmp}
-use Rattle.spec_law.proofs.Proved.{upto_of}
 use Rattle.event_law.proofs.Search.{HasLeast, IsBelow, only_one, either_least, search}
 
 -- the kind of a spot: queued ones come first
@@ -150,7 +149,7 @@ module _ (view : View) where
       record {
         key = low.one.key;
         has = of low.one low.is;
-        least = λ spot key has. upto_of (ranked_cmp low.one.key low.one.spot key spot) (low.low (record { spot = spot; key = key }) (among spot key has));
+        least = λ spot key has. greater_not (ranked_cmp low.one.key low.one.spot key spot) (low.low (record { spot = spot; key = key }) (among spot key has));
       },
     )
   ]

@@ -10,7 +10,7 @@ use Rattle.event_law.proofs.Falls.Rest.{at_most, idle_at_least, running_at_least
 use Rattle.event_law.proofs.Rests.Rest.{rest_is_bounded}
 
 -- something is left, however it stands
-some_rest : (budget : ℕ) (stands : Standing) → 1 ≤ rest_of_way budget stands
+pub some_rest : (budget : ℕ) (stands : Standing) → 1 ≤ rest_of_way budget stands
 some_rest budget standing.Over = omega arith
 some_rest budget standing.Finished = omega arith
 some_rest budget (standing.Running used) = omega arith

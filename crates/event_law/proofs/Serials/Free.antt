@@ -3,6 +3,7 @@ use Rattle.std.proofs.Common.{◌≡◌, ℕ, ◌+◌, ◌<◌, [], length, map,
 use Rattle.std.proofs.lemmas.List.{length-map}
 use Rattle.fractal_vt.specs.declared.key.Key.{Key}
 use Rattle.fractal_vt.specs.Levels.{closed_level, levels_cmp}
+use Rattle.fractal_vt.proofs.Proved.{greater_not}
 use Rattle.guest_image.specs.ImageValue.{ImageValue}
 use Rattle.order_law.specs.Events.{IsLeastInKeys}
 use Rattle.order_law.specs.Tasks.{Keyed, levels_of}
@@ -13,7 +14,7 @@ use Rattle.spec_state.specs.Groups.{all_keyed, all_spilled, bag_creator, bag_spi
 use Rattle.spec_state.specs.Least.{HasKey, IsAllCommitted, Queued, Spilled_at, Spot}
 use Rattle.spec_law.specs.Sound.{Sound}
 use Rattle.spec_state.specs.View.{View, task_at}
-use Rattle.spec_law.proofs.Proved.{below_all, firm_is_committed, Free, free_is_keyed, id_below, in_spilled, lowest, mapped_some, none_is_committed, place_in_all, queued_stands, spilled_key, spilled_stands, spot_of, upto_of, which}
+use Rattle.spec_law.proofs.Proved.{below_all, firm_is_committed, Free, free_is_keyed, id_below, in_spilled, lowest, mapped_some, none_is_committed, place_in_all, queued_stands, spilled_key, spilled_stands, spot_of, which}
 use Rattle.task_law.specs.Tasks.{pending}
 use Rattle.event_law.proofs.Serials.Stack.{none_stands, stands_nowhere}
 
@@ -98,7 +99,7 @@ module _ (image : ImageValue) (view : View) (sound : Sound image view) where
         let at = spot_is_keyed spot key has in
         absurd (cc (none at.0 (below_bound at.0 at.1 at.2), at.2))
     | inr low ↦ least_is_free low.id low.task
-        (record { there = low.there; least = λ k y at. upto_of (levels_cmp (levels_of low.task) (levels_of y)) (low.low k y (below_bound k y at) at) })
+        (record { there = low.there; least = λ k y at. greater_not (levels_cmp (levels_of low.task) (levels_of y)) (low.low k y (below_bound k y at) at) })
   ]
 
   -- where no task is pending, none is uncommitted

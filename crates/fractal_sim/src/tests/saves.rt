@@ -1,4 +1,5 @@
-//! Runs that are saved at their commit limit, and runs that go on from what was saved.
+//! The command `save`: what it writes at the commit limit, what can't be saved, runs that end before the limit, and
+//! runs that go on from what was saved.
 
 use crate::tests::images::{
     BELOW, CHILD, CUT, DEEPER, DEEPER_AT_2, FULL_FRONT, FULL_TASK, OUTSIDE, READER, SAVED_CHILD,
@@ -230,7 +231,7 @@ fn full_image(alloc: Global) -> Result<Vec<u8>, Fail> {
 
 // The first task commits and leaves 64 children beside the 65,535 others.
 #[test]
-fn more_tasks_than_an_image_has_are_told(rt: HostRuntime) -> Result<(), Fail> {
+fn more_tasks_than_an_image_may_have_are_told(rt: HostRuntime) -> Result<(), Fail> {
     let bytes = full_image(rt.alloc())?;
     leaves(
         &rt,

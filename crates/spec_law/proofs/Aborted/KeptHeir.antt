@@ -1,13 +1,13 @@
 -- An abort that spares the heir leaves it the heir, and makes none where there was none.
 use Rattle.std.proofs.Common.{◌≡◌, ◌≢◌, ◌+◌, ◌<◌, ℕ, Bool, true, false, List, [], length, Option, Some, None, refl, sym, ap, subst, ◌∙◌, inl, inr, arith, map, slice_get, slice_index_or, is_some}
 use Rattle.std.proofs.lemmas.List.{length-map}
-use Rattle.std.specs.Ordering.{is_gt, ordering_reverse}
+use Rattle.std.specs.Ordering.{ordering_reverse}
 use Rattle.std.specs.declared.cmp.Ordering.{Ordering}
 use Rattle.std.specs.declared.cmp.Ordering.TheVariants.{Less, Equal, Greater}
 use Rattle.fractal_vt.specs.declared.key.Key.{Key}
 use Rattle.fractal_vt.specs.Keys.{key_cmp}
 use Rattle.fractal_vt.specs.Levels.{closed_level, levels_cmp}
-use Rattle.fractal_vt.proofs.Proved.{equal_keys_tie, key_cmp_total}
+use Rattle.fractal_vt.proofs.Proved.{equal_keys_tie, key_cmp_total, greater_not, less_of}
 use Rattle.order_law.specs.Tasks.{Keyed, levels_of, HasNumber}
 use Rattle.order_law.specs.Events.{IsLeastInKeys}
 use Rattle.order_law.proofs.Proved.{below_reopened, innermost, least_is_below}
@@ -28,19 +28,10 @@ use Rattle.spec_law.proofs.Aborted.KeptSizes.{abort_keeps_sizes}
 use Rattle.spec_law.proofs.Aborted.Spared.{least_key, not_below_least}
 use Rattle.spec_law.proofs.Tasks.Places.{place_in_one, place_in_all}
 use Rattle.spec_law.proofs.Tasks.Filtered.{get_mapped, got_mapped}
-use Rattle.spec_law.proofs.Tasks.Leasts.{less_of, makes_least}
+use Rattle.spec_law.proofs.Tasks.Leasts.{makes_least}
 use Rattle.spec_law.proofs.Tasks.Ranked.{first_not_greater}
 use Rattle.spec_law.proofs.Tasks.Lowest.{lowest}
-
-pub some_of : {X : Type 0} (o : Option X) → is_some o ≡ true → (x : X) × (o ≡ Some x)
-some_of None is = absurd (cc)
-some_of (Some x) is = (x, refl)
-
--- what the test says of two answers
-pub upto_of : (o : Ordering) → is_gt o ≡ false → o ≢ Greater
-upto_of Less is e = absurd (cc)
-upto_of Equal is e = absurd (cc)
-upto_of Greater is e = absurd (cc)
+use Rattle.spec_law.proofs.Rooms.Later.{there_is}
 
 -- keys of which neither is above the other are one
 pub same_key : (a b : Key) → key_cmp a b ≢ Greater → key_cmp b a ≢ Greater → a ≡ b
@@ -75,7 +66,7 @@ module _ (marks : List Bool) (old new : View) (takes : TakesMarked marks old new
       where
         numbers : heir.0.key ≡ t.key → k ≡ id
         numbers same =
-            let number = some_of heir.0.key.tb heir.2 in
+            let number = there_is heir.0.key.tb heir.2 in
             order.order.numbers_differ k id (keyed_task t) (keyed_task heir.0) number.0
             (queued_stands old (Some id) k t there) (queued_stands old (Some id) id heir.0 heir.1.queued_at.there)
             (sym (ap (λ key. key.tb) same) ∙ number.1) number.1
@@ -110,7 +101,7 @@ module _ (marks : List Bool) (old new : View) (takes : TakesMarked marks old new
     not_n : (key : Key) → key.tb ≡ None → key_cmp key n.key ≢ Greater → key_cmp n.key key ≢ Greater → ⊥
     not_n key open' one two =
         let same = same_key key n.key one two in
-        let number = some_of n.key.tb runs in
+        let number = there_is n.key.tb runs in
         absurd (cc (sym open', ap (λ k. k.tb) same, number.1))
 
     -- the lowest of all tasks of before
@@ -123,7 +114,7 @@ module _ (marks : List Bool) (old new : View) (takes : TakesMarked marks old new
       dispatched_low t there is run = heir k t (makes_least old sizes k t there others spilled) run
         where
           number : (m : ℕ) × HasNumber task m
-          number = let m = some_of t.key.tb run in (m.0, ap (λ x. x.last.tb) is ∙ m.1)
+          number = let m = there_is t.key.tb run in (m.0, ap (λ x. x.last.tb) is ∙ m.1)
 
           others : (j : ℕ) (x : Task) → j ≢ k → task_at old j ≡ Some x → key_cmp t.key x.key ≡ Less
           others j x other at =
@@ -202,7 +193,7 @@ module _ (marks : List Bool) (old new : View) (takes : TakesMarked marks old new
           let at = queued_stands old None id n n_was in
           absurd (cc (none id (below_bound id (keyed_task n) at), at))
       | inr low ↦ no_low low.id low.task
-          (record { there = low.there; least = λ k y at. upto_of (levels_cmp (levels_of low.task) (levels_of y)) (low.low k y (below_bound k y at) at) })
+          (record { there = low.there; least = λ k y at. greater_not (levels_cmp (levels_of low.task) (levels_of y)) (low.low k y (below_bound k y at) at) })
     ]
 
 pub abort_keeps_heir : AbortKeepsHeirOfView

@@ -1,5 +1,6 @@
 -- A load or a store with which no task conflicts keeps a view sound.
 use Rattle.std.proofs.Common.{◌≡◌, ◌∷◌, ◌++◌, ◌/◌, ℕ, List, Bool, true, false, [], length, Some, None, refl, sym, ap, subst, ◌∙◌, is_some, option_map}
+use Rattle.std.proofs.lemmas.Bool.{false_from_ne_true}
 use Rattle.guest_image.specs.ImageValue.{ImageValue}
 use Rattle.memory_law.specs.Chain.{IsChained}
 use Rattle.memory_law.specs.Events as memory
@@ -31,11 +32,6 @@ use Rattle.spec_law.proofs.Steps.Sizes.{lists_stay, step_keeps_sizes}
 use Rattle.spec_law.proofs.Steps.Sound.{stood}
 use Rattle.spec_law.proofs.Steps.Tasks.{step_keeps_tasks}
 use Rattle.spec_law.proofs.Tasks.Beside.{mapped_some}
-
--- where no later task conflicts, each answer is no
-false_of : (b : Bool) → (b ≡ true → ⊥) → b ≡ false
-false_of true none = absurd (none refl)
-false_of false none = refl
 
 -- an access keeps the number that stood there
 access_old : (memory : List ℕ) (call : MemoryCall) → (access_of memory call).old ≡ number_at memory (access_of memory call).offset (access_of memory call).width
@@ -104,12 +100,12 @@ module _ (image : ImageValue) (old new : View) (sound : Sound image old) (tile c
   no_later_wrote : access.new ≡ None → memory.NoLaterWrote (logged_tasks old) (logged_task task) (access.offset / old.settings.line)
   no_later_wrote none k other at runs later =
       let line = no_line false (ap is_some none) k other at runs later in
-      false_of (other.wrote (access.offset / old.settings.line)) (λ wrote. line.2 (sym (ap (λ t. t.wrote (access.offset / old.settings.line)) line.1) ∙ wrote))
+      false_from_ne_true (other.wrote (access.offset / old.settings.line)) (λ wrote. line.2 (sym (ap (λ t. t.wrote (access.offset / old.settings.line)) line.1) ∙ wrote))
 
   no_later_touched : (value : ℕ) → access.new ≡ Some value → memory.NoLaterTouched (logged_tasks old) (logged_task task) (access.offset / old.settings.line)
   no_later_touched value some k other at runs later =
       let line = no_line true (ap is_some some) k other at runs later in
-      false_of (other.touched (access.offset / old.settings.line)) (λ touched. line.2 (sym (ap (λ t. t.touched (access.offset / old.settings.line)) line.1) ∙ touched))
+      false_from_ne_true (other.touched (access.offset / old.settings.line)) (λ touched. line.2 (sym (ap (λ t. t.touched (access.offset / old.settings.line)) line.1) ∙ touched))
 
   chained_by : (c : MemoryCall) → call ≡ c → IsChained old.settings.line (logged_tasks new) sound.serial.memory (after_call old.memory call)
   chained_by (Load offset width) is =

@@ -7,10 +7,8 @@ use Rattle.memory_law.specs.Tasks.{Logged}
 use Rattle.memory_law.proofs.Proved.{idle_tasks_keep_chain}
 use Rattle.serial_machine.specs.State.{SerialState}
 use Rattle.task_law.proofs.Proved.{get_cases, get_front}
-use Rattle.spec_state.specs.declared.task.Status.{Status}
-use Rattle.spec_state.specs.declared.task.Status.TheVariants.{Idle, Running, Trapped, Finished}
 use Rattle.spec_state.specs.declared.task.Task.{Task}
-use Rattle.spec_state.specs.View.{View, version_of, task_at, queue_at}
+use Rattle.spec_state.specs.View.{View, task_at, queue_at}
 use Rattle.spec_state.specs.Filters.{HasNotes}
 use Rattle.spec_state.specs.Tasks.{idle_again, is_dispatched}
 use Rattle.spec_state.specs.Groups.{logged_tasks, logged_task}
@@ -20,17 +18,11 @@ use Rattle.spec_law.specs.Sound.{StandsAs, SoundMemory}
 use Rattle.spec_law.proofs.Accesses.Noted.{none_noted}
 use Rattle.spec_law.proofs.Steps.One.{each_stepped}
 use Rattle.spec_law.proofs.Tasks.Beside.{mapped_some}
+use Rattle.spec_law.proofs.Moves.MovingMemory.{stands_idle}
 
 -- the view as it was, but for what such a task changes
 abbrev pub added_to : View → View → View
 added_to old new = record old { tasks = new.tasks; queues = new.queues }
-
--- a task that stands so and is not dispatched is idle, and has done nothing
-pub undispatched_idle : (image : ImageValue) (version budget : ℕ) (t : Task) (s : Status) → StandsAs image version budget t s → is_dispatched t ≡ false → t ≡ idle_again version t
-undispatched_idle image version budget t Idle stands off = stands
-undispatched_idle image version budget t (Running core) stands off = absurd (cc (stands.0, off))
-undispatched_idle image version budget t (Trapped core cause) stands off = absurd (cc (stands.0, off))
-undispatched_idle image version budget t Finished stands off = absurd (cc (stands.0, off))
 
 module _ (old new : View) (id : ℕ) (task : Task) (adds : Adds id task old new) where
   -- who stood at a place of a queue stands there
@@ -70,7 +62,7 @@ module _ (old new : View) (id : ℕ) (task : Task) (adds : Adds id task old new)
         where
           is_idle : (t : Task) → task_at new k ≡ Some t → is_dispatched t ≡ false → t ≡ idle_again old.version t
           is_idle = each_stepped old new id task adds.changes (λ j t. is_dispatched t ≡ false → t ≡ idle_again old.version t)
-              (λ j t other here out. undispatched_idle image old.version old.settings.budget t t.status (stands j t here) out) (λ out. idle) k
+              (λ j t other here out. stands_idle image old.version old.settings.budget t t.status (stands j t here) out) (λ out. idle) k
 
       logs_stay : (k : ℕ) (x : Logged) → x.dispatched ≡ true → logged_tasks old k ≡ Some x → logged_tasks new k ≡ Some x
       logs_stay k x runs at =

@@ -1,5 +1,6 @@
 -- A new child keeps the order of all uncommitted tasks.
 use Rattle.std.proofs.Common.{◌≡◌, ◌≢◌, ◌<◌, ℕ, Bool, true, false, List, length, Option, Some, None, refl, sym, ap, subst, ◌∙◌, map, option_map, nat_lt}
+use Rattle.std.proofs.lemmas.Bool.{lt-ltb}
 use Rattle.fractal_vt.specs.Levels.{closed_level}
 use Rattle.order_law.specs.Events.{beside, Changes, IsPlaced}
 use Rattle.order_law.specs.Ordered.{IsOrdered}
@@ -13,7 +14,7 @@ use Rattle.spec_law.specs.Sound.{SoundOrder}
 use Rattle.spec_state.proofs.Proved.{still_there}
 use Rattle.spec_law.proofs.Adds.One.{added_to}
 use Rattle.spec_law.proofs.Tasks.Rebound.{rebound, entry_idle, task_there, low_is, high_is}
-use Rattle.spec_law.proofs.Tasks.Beside.{id_below, low_test, mapped_some}
+use Rattle.spec_law.proofs.Tasks.Beside.{id_below, mapped_some}
 
 module _ (old new : View) (id : ℕ) (task : Task) (adds : Adds id task old new) (heir : Option ℕ) where
   -- the spilled tasks, as the order reads them
@@ -43,7 +44,7 @@ module _ (old new : View) (id : ℕ) (task : Task) (adds : Adds id task old new)
 
   vacant : before id ≡ None
   vacant =
-      low_is (length new.tasks) (keyed_tasks old) entries id (low_test id (length new.tasks) (id_below new id task adds.changes.changed))
+      low_is (length new.tasks) (keyed_tasks old) entries id (lt-ltb id (length new.tasks) (id_below new id task adds.changes.changed))
       ∙ ap (option_map keyed_task) adds.vacant
 
   changes : Changes before after id (Some (keyed_task task))

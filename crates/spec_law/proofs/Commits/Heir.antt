@@ -5,6 +5,7 @@ use Rattle.std.specs.declared.cmp.Ordering.TheVariants.{Less, Greater}
 use Rattle.fractal_vt.specs.declared.key.Key.{Key}
 use Rattle.fractal_vt.specs.Keys.{key_cmp}
 use Rattle.fractal_vt.specs.Levels.{closed_level, levels_cmp}
+use Rattle.fractal_vt.proofs.Proved.{greater_not}
 use Rattle.order_law.specs.Tasks.{Keyed, levels_of}
 use Rattle.order_law.specs.Events.{IsLeastInKeys}
 use Rattle.order_law.proofs.Proved.{least_is_below}
@@ -19,7 +20,7 @@ use Rattle.spec_law.proofs.Aborted.Spared.{least_key, not_below_least}
 use Rattle.spec_law.proofs.Tasks.Filtered.{get_mapped, got_mapped}
 use Rattle.spec_law.proofs.Tasks.Leasts.{makes_least}
 use Rattle.spec_law.proofs.Tasks.Lowest.{lowest}
-use Rattle.spec_law.proofs.Aborted.KeptHeir.{upto_of, same_key, not_above}
+use Rattle.spec_law.proofs.Aborted.KeptHeir.{same_key, not_above}
 use Rattle.spec_law.proofs.Tasks.Beside.{id_below, mapped_some, queued_stands}
 use Rattle.spec_law.proofs.Tasks.Places.{place_in_all, place_in_one}
 use Rattle.spec_law.proofs.Tasks.Ranked.{first_not_greater}
@@ -107,5 +108,5 @@ module _ (view : View) (sizes : SoundSizes view) (sound : SoundOrder view None) 
   heir_of = elim (lowest (all_keyed view None) bound) [
     | inl none ↦ (None, no_heir none)
     | inr low ↦ by_lowest low.id low.task
-        (record { there = low.there; least = λ k y at. upto_of (levels_cmp (levels_of low.task) (levels_of y)) (low.low k y (below_bound k y at) at) })
+        (record { there = low.there; least = λ k y at. greater_not (levels_cmp (levels_of low.task) (levels_of y)) (low.low k y (below_bound k y at) at) })
   ]

@@ -4,10 +4,11 @@ use Rattle.std.specs.Prelude.{Contains}
 use Rattle.std.proofs.lemmas.List.{length-append, map-append}
 use Rattle.std.proofs.lemmas.Option.{slice_get-map}
 use Rattle.std.specs.declared.cmp.Ordering.TheVariants.{Greater}
+use Rattle.std.proofs.lemmas.Bool.{lt-ltb, le-leb}
 use Rattle.fractal_vt.specs.Keys as keys
 use Rattle.fractal_vt.specs.Levels.{closed_level, levels_cmp}
 use Rattle.order_law.specs.Events as order
-use Rattle.order_law.specs.Events.{beside, without_creator, IsLeastInKeys, IsAmongSpilled}
+use Rattle.order_law.specs.Events.{beside, without_creator, IsLeastInKeys}
 use Rattle.order_law.specs.Ordered.{IsOrdered}
 use Rattle.order_law.specs.Tasks.{Keyed, levels_of}
 use Rattle.order_law.proofs.Proved.{commit_law, rename_keeps_order}
@@ -23,11 +24,10 @@ use Rattle.spec_law.specs.Sound.{SoundOrder, SoundSizes}
 use Rattle.spec_law.proofs.Aborted.Taken.{none_of}
 use Rattle.spec_law.proofs.Tasks.Places.{get_contains}
 use Rattle.spec_law.proofs.Tasks.Filtered.{got_mapped, get_mapped}
-use Rattle.spec_law.proofs.Tasks.Foremost.{le_test}
 use Rattle.spec_law.proofs.Tasks.Next.{none_below, queued_key}
 use Rattle.spec_law.proofs.Tasks.Rebound.{low_is, high_is, rebound, entry_idle, entry_creator}
 use Rattle.spec_law.proofs.Commits.Taken.{leaves, none_stays, was_there, keyed_child, keyed_other}
-use Rattle.spec_law.proofs.Tasks.Beside.{id_below, low_test, mapped_some, queued_stands}
+use Rattle.spec_law.proofs.Tasks.Beside.{id_below, mapped_some, queued_stands}
 
 -- the least task is the least of all for the order
 pub least_of_all : (view : View) → SoundSizes view → (heir : Option ℕ) (id : ℕ) (task : Task) → IsLeastTask view id task → IsLeastInKeys (all_keyed view heir) id (keyed_task task)
@@ -61,7 +61,7 @@ module _ (old new : View) (commit : Commits old new) (sizes : SoundSizes old) (f
       let low = firm from.0 (get_contains (all_spilled old) j from.0 from.1) in
       get_mapped (keyed_spilled (length old.history + 1) heir) (all_spilled old) j from.0 from.1
       ∙ ap (λ c. Some (record (keyed_spilled 0 None from.0) { creator = c }))
-      (ap (λ b. heir_unless b heir) (le_test from.0.desc.name.creator (length old.history + 1) low))
+      (ap (λ b. heir_unless b heir) (le-leb from.0.desc.name.creator (length old.history + 1) low))
       ∙ ap (λ y. Some (without_creator y)) (sym from.2)
 
   -- where there was no entry there is none
@@ -93,7 +93,7 @@ module _ (old new : View) (commit : Commits old new) (sizes : SoundSizes old) (f
 
       gone : mid commit.id ≡ None
       gone =
-          low_is bound (keyed_tasks new) after commit.id (low_test commit.id bound (id_below old commit.id commit.task commit.least.queued_at.there))
+          low_is bound (keyed_tasks new) after commit.id (lt-ltb commit.id bound (id_below old commit.id commit.task commit.least.queued_at.there))
           ∙ ap (option_map keyed_task) (leaves old new commit)
 
       children : (k : ℕ) (x : Keyed) → k ≢ commit.id → all_keyed old (Some commit.id) k ≡ Some x → x.creator ≡ Some commit.id → mid k ≡ Some (without_creator x)

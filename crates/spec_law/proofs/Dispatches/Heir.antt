@@ -1,14 +1,13 @@
 -- The heir after a dispatch: the one of before, where there was one, and else the dispatched task, where it is the least one then.
-use Rattle.std.proofs.Common.{◌≡◌, ◌≢◌, ◌⊎◌, ◌<◌, ◌+◌, ◌∷◌, ◌++◌, ℕ, true, false, [], length, Option, Some, None, refl, sym, ap, subst, ◌∙◌, inl, inr, arith, map, is_some}
+use Rattle.std.proofs.Common.{◌≡◌, ◌≢◌, ◌⊎◌, ◌<◌, ◌+◌, ◌∷◌, ◌++◌, ℕ, true, [], length, Option, Some, None, refl, sym, ap, subst, ◌∙◌, inl, inr, arith, map, is_some}
 use Rattle.std.proofs.lemmas.Bool.{cases_eq}
 use Rattle.std.proofs.lemmas.Cmp.{upto}
 use Rattle.std.proofs.lemmas.List.{length-map}
-use Rattle.std.specs.Ordering.{is_gt}
 use Rattle.std.specs.declared.cmp.Ordering.{Ordering}
 use Rattle.std.specs.declared.cmp.Ordering.TheVariants.{Less, Equal, Greater}
 use Rattle.fractal_vt.specs.Keys.{key_cmp}
 use Rattle.fractal_vt.specs.Levels.{closed_level, level_cmp, levels_cmp}
-use Rattle.fractal_vt.proofs.Proved.{levels_cmp_total}
+use Rattle.fractal_vt.proofs.Proved.{levels_cmp_total, not_greater, greater_not, less_of}
 use Rattle.order_law.specs.Ordered.{TieBelow, LevelsBelow}
 use Rattle.order_law.specs.Tasks.{Keyed, levels_of}
 use Rattle.order_law.proofs.Proved.{cmp_alike, levels_alike, LevelsBelow-append}
@@ -20,25 +19,13 @@ use Rattle.spec_state.specs.Least.{IsHeir, IsLeastTask}
 use Rattle.spec_state.specs.Changes.{Dispatches}
 use Rattle.spec_law.specs.Sound.{SoundOrder, SoundSizes}
 use Rattle.spec_law.proofs.Tasks.Beside.{which, spilled_stands, id_below, mapped_some, queued_stands}
-use Rattle.spec_law.proofs.Tasks.Leasts.{less_of, makes_least}
+use Rattle.spec_law.proofs.Tasks.Leasts.{makes_least}
 use Rattle.spec_law.proofs.Tasks.Lowest.{IsLowest, lowest}
 use Rattle.spec_law.proofs.Tasks.Rebound.{below_all}
 use Rattle.spec_law.proofs.Dispatches.Below.{number_of, no_tie, upto_spilled, upto_queued, below_others}
 use Rattle.spec_law.proofs.Dispatches.One as one
 use Rattle.spec_law.proofs.Dispatches.One.{after, now, was, was_this}
 use Rattle.spec_law.proofs.Tasks.Places.{place_in_all, place_in_one}
-
--- two lists of levels of which the first is at most the second
-upto_of : (o : Ordering) → is_gt o ≡ false → o ≢ Greater
-upto_of Less is e = absurd (cc)
-upto_of Equal is e = absurd (cc)
-upto_of Greater is e = absurd (cc)
-
--- and the other way round
-of_upto : (o : Ordering) → o ≢ Greater → is_gt o ≡ false
-of_upto Less low = refl
-of_upto Equal low = refl
-of_upto Greater low = absurd (low refl)
 
 -- the levels of a task that was dispatched have numbers of before
 levels_below : (view : View) (heir : Option ℕ) → SoundOrder view heir → (k : ℕ) (t : Task) → task_at view k ≡ Some t → is_dispatched t ≡ true
@@ -141,9 +128,9 @@ module _ (old new : View) (heir : Option ℕ) (tile : ℕ) (d : Dispatches tile 
     where
       upto_each : (k : ℕ) (x : Keyed) → all_keyed (after old new tile d) heir k ≡ Some x → levels_cmp (levels_of (keyed_task (now old new tile d))) (levels_of x) ≢ Greater
       upto_each k x at =
-          upto_of (levels_cmp (levels_of (keyed_task (now old new tile d))) (levels_of x))
+          greater_not (levels_cmp (levels_of (keyed_task (now old new tile d))) (levels_of x))
           (upto levels_cmp_total (levels_of (keyed_task (now old new tile d))) (levels_of low.task) (levels_of x)
-          (of_upto (levels_cmp (levels_of (keyed_task (now old new tile d))) (levels_of low.task)) upto_low) (low.low k x (below_bound k x at) at))
+          (not_greater (levels_cmp (levels_of (keyed_task (now old new tile d))) (levels_of low.task)) upto_low) (low.low k x (below_bound k x at) at))
 
   -- where it is below it, it isn't
   is_not_least : (low : IsLowest (all_keyed (after old new tile d) heir) bound) → levels_cmp (levels_of (keyed_task (now old new tile d))) (levels_of low.task) ≡ Greater

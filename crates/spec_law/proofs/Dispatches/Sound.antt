@@ -1,7 +1,7 @@
 -- A dispatch keeps a view sound.
 use Rattle.std.proofs.Common.{◌≡◌, ◌<◌, ◌≤◌, ◌∷◌, ℕ, true, nat_le, List, [], length, map, Option, Some, None, refl, sym, ap, subst, ◌∙◌, inl, inr, arith, suc}
 use Rattle.std.specs.Prelude.{Contains}
-use Rattle.std.proofs.lemmas.Bool.Decides.{nat_tests}
+use Rattle.std.proofs.lemmas.Bool.{le-leb}
 use Rattle.guest_image.specs.ImageValue.{ImageValue}
 use Rattle.fractal_vt.specs.Levels.{closed_level}
 use Rattle.order_law.specs.Events.{beside}
@@ -21,16 +21,12 @@ use Rattle.spec_law.proofs.Dispatches.Tasks.{same_heir_tasks, new_heir_tasks, no
 use Rattle.spec_law.proofs.Dispatches.Sizes.{dispatched_sizes}
 use Rattle.spec_law.proofs.Dispatches.Heir.{heir_stays, heir_other, heir_after}
 
--- what is at most another passes the test for it
-low_test : (a b : ℕ) → a ≤ b → nat_le a b ≡ true
-low_test a b low = grind (arith, nat_tests)
-
 -- spilled tasks with committed creators are read the same, whatever the heir
 read_alike : (count : ℕ) (one other : Option ℕ) (entries : List Spilled) → ((s : Spilled) → Contains entries s → s.desc.name.creator ≤ count)
     → map (keyed_spilled count one) entries ≡ map (keyed_spilled count other) entries
 read_alike count one other [] low = refl
 read_alike count one other (s ∷ entries) low =
-    let test : nat_le s.desc.name.creator count ≡ true = low_test s.desc.name.creator count (low s (0, omega arith, refl)) in
+    let test : nat_le s.desc.name.creator count ≡ true = le-leb s.desc.name.creator count (low s (0, omega arith, refl)) in
     let none : heir_unless (nat_le s.desc.name.creator count) one ≡ heir_unless (nat_le s.desc.name.creator count) other =
     ap (λ b. heir_unless b one) test ∙ sym (ap (λ b. heir_unless b other) test)
     in

@@ -7,7 +7,7 @@ use Rattle.std.specs.Ordering.{is_lt, nat_cmp}
 use Rattle.std.specs.Prelude.{length, slice_get, slice_index_or, slice_set, All, Contains, flat_map, map}
 use Rattle.spill_store.specs.SpilledTasks.{Spilled, by_key, after_push}
 use Rattle.spill_store.specs.Pushing.{after_pushes}
-use Rattle.spec_law.proofs.Tasks.Contained.{head_or_behind}
+use Rattle.spec_state.proofs.Proved.{head_or_tail}
 
 -- these elements are added to the first list one after another, each at some place, which makes the second
 abbrev pub AddsEach : {X : Type 0} → List X → List X → List X → Type 0
@@ -94,7 +94,7 @@ added_was (e ∷ es) before after x adds has =
 -- so does what is added
 pub added_is : {X : Type 0} (es before after : List X) (x : X) → AddsEach es before after → Contains es x → Contains after x
 added_is [] before after x adds has = absurd (omega (arith, has.1))
-added_is (e ∷ es) before after x adds has = elim (head_or_behind e es x has) [
+added_is (e ∷ es) before after x adds has = elim (head_or_tail e es x has) [
   | inl same ↦
       added_was es (adds.0 ++ e ∷ adds.1) after x adds.3 (Contains-append_right adds.0 (e ∷ adds.1) x (0, omega arith, same))
   | inr later ↦ added_is es (adds.0 ++ e ∷ adds.1) after x adds.3 later
@@ -106,7 +106,7 @@ added_now [] before after x same has = inl (subst (λ xs. Contains xs x) same ha
 added_now (e ∷ es) before after x adds has = elim (added_now es (adds.0 ++ e ∷ adds.1) after x adds.3 has) [
   | inl among ↦ elim (Contains-append_cases adds.0 (e ∷ adds.1) x among) [
     | inl front ↦ inl (subst (λ xs. Contains xs x) (sym adds.2) (Contains-append_left adds.0 adds.1 x front))
-    | inr rest ↦ elim (head_or_behind e adds.1 x rest) [
+    | inr rest ↦ elim (head_or_tail e adds.1 x rest) [
       | inl same ↦ inr (0, omega arith, same)
       | inr back ↦ inl (subst (λ xs. Contains xs x) (sym adds.2) (Contains-append_right adds.0 adds.1 x back))
     ]
@@ -176,7 +176,7 @@ then_others {X} e es before mid after place x first last = record { to = last.to
     others k y is = elim (last.others k y is) [
       | inl between ↦ elim (first.others between.0 y between.1) [
         | inl was ↦ inl (was.0, was.1, between.2 ∙ was.2)
-        | inr new ↦ elim (head_or_behind e [] y new) [ inl same ↦ inr (0, omega arith, same) | inr none ↦ absurd (omega (arith, none.1)) ]
+        | inr new ↦ elim (head_or_tail e [] y new) [ inl same ↦ inr (0, omega arith, same) | inr none ↦ absurd (omega (arith, none.1)) ]
       ]
       | inr later ↦ inr (suc later.0, omega (arith, later.1), later.2)
     ]

@@ -8,7 +8,7 @@ use Rattle.task_desc.specs.declared.desc.Name.{Name}
 use Rattle.task_law.specs.Tasks.{BagTask, Live, Names, SpilledBagTask}
 use Rattle.task_law.specs.Moves.{CoalescesInBags, spilled_of}
 use Rattle.spec_law.proofs.Moves.Added.{AddsEach}
-use Rattle.spec_law.proofs.Tasks.Contained.{head_or_behind}
+use Rattle.spec_state.proofs.Proved.{head_or_tail}
 
 -- no id stands twice
 abbrev pub AreApart : List ℕ → Type 0
@@ -26,7 +26,7 @@ apart_from R (k ∷ ks) pairs none = (
 
 -- what is neither the first one nor behind it is none of them
 not_first_of : (id : ℕ) (ids : List ℕ) (k : ℕ) → (k ≡ id → ⊥) → (Contains ids k → ⊥) → Contains (id ∷ ids) k → ⊥
-not_first_of id ids k other not_behind c = elim (head_or_behind id ids k c) [ inl same ↦ other (sym same) | inr behind ↦ not_behind behind ]
+not_first_of id ids k other not_behind c = elim (head_or_tail id ids k c) [ inl same ↦ other (sym same) | inr behind ↦ not_behind behind ]
 
 -- nothing where the id is this one
 abbrev gone_if : {A B : Type 0} → A ⊎ B → Option BagTask → Option BagTask

@@ -1,7 +1,7 @@
 -- Tasks that move between the queues and the blocks, either way: what such a change is, and what it leaves.
-use Rattle.std.proofs.Common.{◌≡◌, ◌⊎◌, ◌+◌, ◌≤◌, nat_le, ℕ, true, false, length, Option, Some, None, sym, ap, subst, ◌∙◌, inl, inr, arith, is_some}
+use Rattle.std.proofs.Common.{◌≡◌, ◌⊎◌, ◌≤◌, nat_le, ℕ, true, length, Option, Some, None, sym, ap, subst, ◌∙◌, inl, inr, arith, is_some}
 use Rattle.std.specs.Prelude.{Contains, slice_get}
-use Rattle.std.proofs.lemmas.Bool.Decides.{nat_tests}
+use Rattle.std.proofs.lemmas.Bool.{le-leb}
 use Rattle.task_desc.specs.declared.desc.Name.{Name}
 use Rattle.spill_store.specs.SpilledTasks.{Spilled, open_key}
 use Rattle.spec_state.specs.declared.task.Creator.{Creator}
@@ -12,6 +12,7 @@ use Rattle.spec_state.specs.Tasks.{idle_again, is_dispatched, descriptor_of, spi
 use Rattle.spec_state.specs.Groups.{all_spilled, heir_unless, keyed_task, keyed_spilled, live_creator}
 use Rattle.spec_state.specs.Least.{Queued, IsHeir, HasName}
 use Rattle.spec_law.proofs.Tasks.Ranked.{least_is_one}
+use Rattle.spec_law.proofs.Tasks.Next.{above_test}
 
 -- the idle task and the spilled one are the same task, under its name
 pub record IsSpillOf (view : View) (t : Task) (s : Spilled) : Type 0 where
@@ -71,22 +72,14 @@ one_heir view (Some k) h one is =
     let place : one.1.place ≡ is.1.place = cc in
     sym one.1.queued_at.queued ∙ (λ i. slice_get (queue_at view (tile i)) (place i)) ∙ is.1.queued_at.queued
 
--- what is at most another passes the test for it
-low_test : (a b : ℕ) → a ≤ b → nat_le a b ≡ true
-low_test a b low = grind (arith, nat_tests)
-
--- and what is one more fails it
-high_test : (a b : ℕ) → a ≡ b + 1 → nat_le a b ≡ false
-high_test a b high = grind (arith, nat_tests)
-
 -- by its name a firm task has the creator that the order of tasks reads
 named_creator : (view : View) (heir : Option ℕ) (c : Creator) (name : Name) → IsHeir view heir → HasName view c name
     → heir_unless (nat_le name.creator (length view.history)) heir ≡ live_creator c
 named_creator view heir (Committed turn index) name is named =
     let low : name.creator ≤ length view.history = subst (λ n. n.creator ≤ length view.history) (sym named.1) named.0 in
-    ap (λ b. heir_unless b heir) (low_test name.creator (length view.history) low)
+    ap (λ b. heir_unless b heir) (le-leb name.creator (length view.history) low)
 named_creator view heir (Live task index) name is named =
-    ap (λ b. heir_unless b heir) (high_test name.creator (length view.history) (ap (λ n. n.creator) named.1))
+    ap (λ b. heir_unless b heir) (above_test name.creator (length view.history) (ap (λ n. n.creator) named.1))
     ∙ one_heir view heir task.0 is named.0
 
 -- the order of tasks reads the same of both

@@ -4,7 +4,7 @@ use Rattle.std.specs.Prelude.{Contains}
 use Rattle.std.specs.declared.cmp.Ordering.TheVariants.{Less, Greater}
 use Rattle.fractal_vt.specs.declared.key.Key.{Key}
 use Rattle.fractal_vt.specs.Keys.{key_cmp}
-use Rattle.fractal_vt.proofs.Proved.{equal_keys_tie}
+use Rattle.fractal_vt.proofs.Proved.{equal_keys_tie, less_of}
 use Rattle.spill_store.specs.SpilledTasks.{Spilled, open_key}
 use Rattle.spec_state.specs.declared.task.Task.{Task}
 use Rattle.spec_state.specs.View.{View, task_at}
@@ -13,7 +13,7 @@ use Rattle.spec_state.specs.Groups.{all_spilled}
 use Rattle.spec_state.specs.Least.{Spot, Queued, Spilled_at, HasKey, spot_cmp, IsHeir, IsLeastTask}
 use Rattle.spec_law.specs.Sound.{SoundOrder, SoundSizes}
 use Rattle.spec_law.proofs.Aborted.Spared.{queued_at, least_key}
-use Rattle.spec_law.proofs.Tasks.Leasts.{less_of, makes_least}
+use Rattle.spec_law.proofs.Tasks.Leasts.{makes_least}
 use Rattle.spec_law.proofs.Dispatches.Below.{same_number}
 use Rattle.spec_law.proofs.Moves.Moving.{Moves, moved_to, IsSpilledIn, IsQueuedIn, runs_still, runs_was, spill_key}
 use Rattle.spec_law.proofs.Moves.MovingOrder.{moved_order}

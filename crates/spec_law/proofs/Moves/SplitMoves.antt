@@ -14,8 +14,9 @@ use Rattle.spec_state.specs.Tasks.{descriptor_of, idle_task, spilled_as, spilled
 use Rattle.spec_state.specs.Groups.{all_spilled, bag_spilled, bag_task, bag_tasks, bags_spilled}
 use Rattle.spec_state.specs.Least.{IsHeir}
 use Rattle.spec_state.specs.Room.{Splits}
+use Rattle.spec_state.proofs.Proved.{head_or_tail}
 use Rattle.spec_law.specs.Sound.{SoundSizes}
-use Rattle.spec_law.proofs.Tasks.Contained.{head_or_behind, less_in_one}
+use Rattle.spec_law.proofs.Tasks.Contained.{less_in_one}
 use Rattle.spec_law.proofs.Moves.Moving.{IsSpillOf, IsSpilledIn, IsQueuedIn, Moves}
 use Rattle.spec_law.proofs.Moves.MovingBags.{names_of, heirs_of}
 use Rattle.spec_law.proofs.Tasks.Places.{get_contains, place_in_all}
@@ -81,7 +82,7 @@ module _ (old new : View) (tile : ℕ) (sizes : SoundSizes old) (c : Splits tile
   spilled_still : (s : Spilled) → Contains (all_spilled old) s → Contains (all_spilled new) s ⊎ IsQueuedIn old new s
   spilled_still s has = elim (Contains-append_cases parts.0 (c.spilled ∷ parts.1) s (subst (λ xs. Contains xs s) parts.2 has)) [
     | inl front ↦ inl (subst (λ xs. Contains xs s) (sym parts.3) (Contains-append_left parts.0 parts.1 s front))
-    | inr rest ↦ elim (head_or_behind c.spilled parts.1 s rest) [
+    | inr rest ↦ elim (head_or_tail c.spilled parts.1 s rest) [
       | inl same ↦ inr (c.id, back_task, c.changes.changed, subst (IsSpillOf old back_task) same spill)
       | inr back ↦ inl (subst (λ xs. Contains xs s) (sym parts.3) (Contains-append_right parts.0 parts.1 s back))
     ]

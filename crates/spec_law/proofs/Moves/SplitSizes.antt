@@ -10,8 +10,8 @@ use Rattle.spec_state.specs.View.{View, task_at, queue_at}
 use Rattle.spec_state.specs.Queries.{IsQueued}
 use Rattle.spec_state.specs.Room.{Splits, QueueHasRoom}
 use Rattle.spec_state.specs.Stored.{HasTask}
+use Rattle.spec_state.proofs.Proved.{head_or_tail}
 use Rattle.spec_law.specs.Sound.{SoundOrder, SoundSizes}
-use Rattle.spec_law.proofs.Tasks.Contained.{head_or_behind}
 use Rattle.spec_law.proofs.Moves.Moving.{moved_to}
 use Rattle.spec_law.proofs.Moves.MovingSizes.{moved_sizes}
 use Rattle.spec_law.proofs.Moves.SplitMoves.{back_task, is_back, queued_still, split_moves}
@@ -50,7 +50,7 @@ module _ (old new : View) (heir : Option ℕ) (tile : ℕ) (order : SoundOrder o
         in
         elim (Contains-append_cases (queue_at old at) (c.id ∷ []) k (subst (λ ids. Contains ids k) here has)) [
           | inl held ↦ inl held
-          | inr last ↦ elim (head_or_behind c.id [] k last) [ inl is ↦ inr (same, is) | inr none ↦ absurd (omega (arith, none.1)) ]
+          | inr last ↦ elim (head_or_tail c.id [] k last) [ inl is ↦ inr (same, is) | inr none ↦ absurd (omega (arith, none.1)) ]
         ]
     | inr other ↦ inl (subst (λ ids. Contains ids k) (queue_other at other) has)
   ]

@@ -16,11 +16,11 @@ use Rattle.spec_state.specs.declared.task.Task.{Task}
 use Rattle.spec_state.specs.View.{View, task_at}
 use Rattle.spec_state.specs.Groups.{all_keyed, all_spilled, keyed_tasks, keyed_spilled, keyed_task}
 use Rattle.spec_state.specs.Numbers.{IsInUse, IsPathsOrTasks, IsTieOf, on_path, in_domain, of_task, of_spilled}
+use Rattle.spec_state.proofs.Proved.{head_or_tail}
 use Rattle.tile_queues.specs.Queue.{AreDistinct}
 use Rattle.spec_law.specs.Sound.{Sound}
 use Rattle.spec_law.specs.Renumbering.{NumbersAreHeld, NumbersInUseAreFew}
 use Rattle.spec_law.proofs.Tasks.Beside.{id_below, mapped_some, queued_stands, spilled_stands, which}
-use Rattle.spec_law.proofs.Tasks.Contained.{head_or_behind}
 use Rattle.spec_law.proofs.Tasks.Filtered.{get_mapped}
 use Rattle.spec_law.proofs.Tasks.Places.{contains_get, get_contains, parted}
 use Rattle.spec_law.proofs.Tasks.Rebound.{below_all}
@@ -29,7 +29,7 @@ use Rattle.spec_law.proofs.Tasks.Rebound.{below_all}
 without_one : (front back : List ℕ) (n m : ℕ) → n ≢ m → Contains (front ++ n ∷ back) m → Contains (front ++ back) m
 without_one front back n m other has = elim (Contains-append_cases front (n ∷ back) m has) [
   | inl before ↦ Contains-append_left front back m before
-  | inr later ↦ elim (head_or_behind n back m later) [
+  | inr later ↦ elim (head_or_tail n back m later) [
     | inl same ↦ absurd (other same)
     | inr behind ↦ Contains-append_right front back m behind
   ]

@@ -1,5 +1,5 @@
 -- A renumbered view: each task and each level has another number, by a table that has them all.
-use Rattle.std.proofs.Common.{◌≡◌, ◌++◌, ◌∷◌, ℕ, zero, suc, List, [], length, Option, Some, None, refl, sym, ap, subst, ◌∙◌, arith, map, flat_map, option_map, slice_get, slice_index_or, is_some}
+use Rattle.std.proofs.Common.{◌≡◌, ◌++◌, ◌∷◌, ℕ, zero, suc, List, [], length, Option, Some, None, refl, sym, ap, subst, ◌∙◌, arith, map, flat_map, option_map, slice_get, is_some}
 use Rattle.std.specs.Prelude.{Contains}
 use Rattle.std.proofs.lemmas.List.{map-append}
 use Rattle.fractal_vt.specs.declared.key.Key.{Key}
@@ -11,17 +11,10 @@ use Rattle.spec_state.specs.declared.task.Task.{Task}
 use Rattle.spec_state.specs.View.{View, task_at, block_at}
 use Rattle.spec_state.specs.Groups.{all_spilled}
 use Rattle.spec_state.specs.Numbers.{Renumbers, renumbered_task}
-use Rattle.spec_state.proofs.Proved.{table_holds_spilled, table_holds_task}
+use Rattle.spec_state.proofs.Proved.{table_holds_spilled, table_holds_task, map_at}
 use Rattle.spec_law.proofs.Tasks.Beside.{mapped_some}
 use Rattle.spec_law.proofs.Tasks.Filtered.{list_mapped, get_mapped, got_mapped}
 use Rattle.spec_law.proofs.Tasks.Places.{place_in_all, get_contains}
-
--- an option of a mapped list
-option_mapped : (f : Task → Task) (tasks : List (Option Task)) (id : ℕ)
-    → slice_index_or (map (option_map f) tasks) id None ≡ option_map f (slice_index_or tasks id None)
-option_mapped f [] id = refl
-option_mapped f (t ∷ tasks) zero = refl
-option_mapped f (t ∷ tasks) (suc id) = option_mapped f tasks id
 
 -- lists of lists, each mapped, are one mapped list
 flat_mapped : {X Y : Type 0} (f : X → Y) (lists : List (List X)) → flat_map (λ xs. xs) (map (map f) lists) ≡ map f (flat_map (λ xs. xs) lists)
@@ -49,7 +42,7 @@ module _ (old new : View) (r : Renumbers old new) where
 
   -- each task is renumbered
   pub each : (id : ℕ) → task_at after id ≡ option_map (renumbered_task r.table) (task_at old id)
-  each id = option_mapped (renumbered_task r.table) old.tasks id
+  each id = map_at (option_map (renumbered_task r.table)) old.tasks id None
 
   -- a task that was there
   pub now : (id : ℕ) (t : Task) → task_at old id ≡ Some t → task_at after id ≡ Some (renumbered_task r.table t)

@@ -1,5 +1,5 @@
 -- Each rule of room leaves a free place.
-use Rattle.std.proofs.Common.{◌≡◌, ℕ, ◌<◌, ◌≤◌, Bool, true, false, List, [], length, Some, None, option_map, refl, sym, ap, subst, ◌∙◌, inl, inr, arith, slice_index_or, if◌then◌else◌}
+use Rattle.std.proofs.Common.{◌≡◌, ℕ, ◌<◌, ◌≤◌, Bool, true, List, [], length, Some, None, option_map, refl, sym, ap, subst, ◌∙◌, inl, inr, arith, slice_index_or, if◌then◌else◌}
 use Rattle.std.proofs.lemmas.Bool.{cases_lt}
 use Rattle.std.proofs.lemmas.List.{get_or_past}
 use Rattle.task_law.proofs.Proved.{shorter, shorter_or_same}
@@ -14,13 +14,7 @@ use Rattle.spec_law.specs.Sound.{SoundSizes}
 use Rattle.spec_law.proofs.Tasks.Beside.{id_below}
 use Rattle.spec_law.proofs.Rooms.Fit.{contains_in}
 use Rattle.spec_law.proofs.Rooms.Moved.{queue_is, coalesce_makes_room}
-
--- a mark is one of the marks
-marked_within : (marks : List Bool) (id : ℕ) → is_marked marks id ≡ true → id < length marks
-marked_within marks id marked = elim (cases_lt id (length marks)) [
-  | inl low ↦ low
-  | inr past ↦ absurd (cc (get_or_past marks id false past, marked))
-]
+use Rattle.spec_law.proofs.Aborted.Taken.{marked_below}
 
 -- a cascade takes the children of its first task
 child_marked : (view : View) (marks : List Bool) (id creator : ℕ) (task : Task) → IsCascade view (OnlyNode creator) marks → task_at view id ≡ Some task → live_creator task.creator ≡ Some creator
@@ -30,7 +24,7 @@ child_marked view marks id creator task cascade there made_by =
     let below = id_below view id task there in
     let size = cascade.size in
     let within : id < length marks = omega (arith, below, size) in (
-      cascade.least.closed creator id (marked_within marks creator first) within ((cascade.pulls creator id).1 (inl (record { child = task; there = there; made_by = made_by }))) first,
+      cascade.least.closed creator id (marked_below marks creator first) within ((cascade.pulls creator id).1 (inl (record { child = task; there = there; made_by = made_by }))) first,
       first,
     )
 

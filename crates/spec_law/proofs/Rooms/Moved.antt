@@ -1,12 +1,11 @@
 -- A coalescing makes queues shorter, and a split returns the least task.
-use Rattle.std.proofs.Common.{◌≡◌, ◌≢◌, ℕ, zero, suc, ◌<◌, ◌≤◌, List, [], ◌∷◌, length, map, take, All, Option, Some, None, option_map, refl, sym, ap, subst, ◌∙◌, inl, inr, arith, slice_get, slice_index_or}
+use Rattle.std.proofs.Common.{◌≡◌, ◌≢◌, ℕ, zero, suc, ◌<◌, ◌≤◌, List, [], ◌∷◌, length, map, take, Option, Some, None, option_map, refl, sym, ap, subst, ◌∙◌, inl, inr, arith, slice_get, slice_index_or}
 use Rattle.std.proofs.lemmas.Bool.{cases_lt}
-use Rattle.std.proofs.lemmas.Bool.Decides.{nat_tests}
 use Rattle.std.proofs.lemmas.Cmp.{nat_cmp_total, tied_itself}
-use Rattle.std.proofs.lemmas.Option.{slice_get-map, slice_get_within, get_or_from_slice_get}
+use Rattle.std.proofs.lemmas.Option.{slice_get-map}
 use Rattle.std.specs.Ordering.{nat_cmp, ordering_then, ordering_reverse}
 use Rattle.std.specs.declared.cmp.Ordering.TheVariants.{Less, Equal, Greater}
-use Rattle.fractal_vt.proofs.Proved.{key_cmp_total}
+use Rattle.fractal_vt.proofs.Proved.{key_cmp_total, greater_number, all_get}
 use Rattle.fractal_vt.specs.Keys.{key_cmp}
 use Rattle.spill_store.specs.SpilledTasks.{Spilled, open_key, IsLeastInBlock}
 use Rattle.task_law.specs.Room.{RoomTask, queue_after}
@@ -36,10 +35,6 @@ coalesce_makes_room tile old new moves =
       λ other. subst (λ queue. length queue ≤ length (queue_at old other)) (sym (now other)) (shorter_or_same (room_tasks new) (queue_at old other)),
     )
 
--- what holds of all holds of what is found at a place
-all_get : {X : Type 0} (P : X → Type 0) (xs : List X) (k : ℕ) (x : X) → All P xs → slice_get xs k ≡ Some x → P x
-all_get P xs k x all at = subst P (get_or_from_slice_get xs k x x at) (all k x (slice_get_within xs k x at))
-
 -- what is found at a place is found there before any later place
 get_before : {X : Type 0} (xs : List X) (k n : ℕ) (x : X) → k < n → slice_get xs k ≡ Some x → slice_get (take n xs) k ≡ Some x
 get_before [] k n x low at = absurd (cc (at))
@@ -47,14 +42,10 @@ get_before (y ∷ xs) k zero x low at = absurd (omega (arith, low))
 get_before (y ∷ xs) zero (suc n) x low at = at
 get_before (y ∷ xs) (suc k) (suc n) x low at = get_before xs k n x (omega (arith, low)) at
 
--- a number is greater than one below it
-later_is_greater : (a b : ℕ) → b < a → nat_cmp a b ≡ Greater
-later_is_greater a b low = grind (arith, nat_tests)
-
 -- in one tile, a place that does not rank above another is no later
 no_later : (tile p q : ℕ) → place_cmp tile p tile q ≢ Greater → p ≤ q
 no_later tile p q upto = elim (cases_lt q p) [
-  | inl late ↦ absurd (upto (ap (λ o. ordering_then o (nat_cmp p q)) (tied_itself nat_cmp_total tile) ∙ later_is_greater p q late))
+  | inl late ↦ absurd (upto (ap (λ o. ordering_then o (nat_cmp p q)) (tied_itself nat_cmp_total tile) ∙ greater_number p q late))
   | inr low ↦ low
 ]
 

@@ -4,9 +4,8 @@ use Rattle.std.proofs.lemmas.Bool.{cases_eq, cases_lt}
 use Rattle.std.proofs.lemmas.Cmp.{nat_cmp_total, tied_itself}
 use Rattle.std.proofs.lemmas.List.{get_or_past, get_or-set_same, get_or-set_other}
 use Rattle.std.specs.Ordering.{nat_cmp, ordering_then}
-use Rattle.std.specs.declared.cmp.Ordering.{Ordering}
 use Rattle.std.specs.declared.cmp.Ordering.TheVariants.{Less, Equal, Greater}
-use Rattle.fractal_vt.proofs.Proved.{key_cmp_total}
+use Rattle.fractal_vt.proofs.Proved.{key_cmp_total, then_less, then_greater, get_end}
 use Rattle.fractal_vt.specs.Keys.{key_cmp}
 use Rattle.fractal_vt.specs.declared.key.Key.{Key}
 use Rattle.spill_store.specs.SpilledTasks.{Spilled, open_key}
@@ -28,11 +27,6 @@ pushed [] x y (suc k) at = absurd (cc (at))
 pushed (z ∷ xs) x y zero at = inl at
 pushed (z ∷ xs) x y (suc k) at = elim (pushed xs x y k at) [ inl was ↦ inl was | inr end ↦ inr (ap suc end.0, end.1) ]
 
--- the element at the end
-last_there : {X : Type 0} (xs : List X) (x : X) → slice_get (xs ++ x ∷ []) (length xs) ≡ Some x
-last_there [] x = refl
-last_there (y ∷ xs) x = last_there xs x
-
 -- what is left once one element was taken out was there before
 was_there : {X : Type 0} (xs : List X) (i k : ℕ) (x : X) → slice_get (remove xs i) k ≡ Some x → (j : ℕ) × (slice_get xs j ≡ Some x)
 was_there [] zero k x at = absurd (cc (at))
@@ -40,18 +34,6 @@ was_there [] (suc i) k x at = absurd (cc (at))
 was_there (y ∷ xs) zero k x at = (suc k, at)
 was_there (y ∷ xs) (suc i) zero x at = (zero, at)
 was_there (y ∷ xs) (suc i) (suc k) x at = let more = was_there xs i k x at in (suc more.0, more.1)
-
--- an answer that is not greater, and then greater, is less
-then_greater : (o : Ordering) → ordering_then o Greater ≢ Greater → o ≡ Less
-then_greater Less upto = refl
-then_greater Equal upto = absurd (upto refl)
-then_greater Greater upto = absurd (upto refl)
-
--- an answer that is not greater, and then less, is not greater
-then_less : (o : Ordering) → o ≢ Greater → ordering_then o Less ≢ Greater
-then_less Less upto e = absurd (cc (e))
-then_less Equal upto e = absurd (cc (e))
-then_less Greater upto e = upto refl
 
 -- a spot ranks no higher than itself
 itself_upto : (key : Key) (spot : Spot) → spot_cmp spot spot ≡ Equal → ranked_cmp key spot key spot ≢ Greater
@@ -161,7 +143,7 @@ split_keeps_least image tile old new sound least splits =
     let task : Task = idle_task old.version (spilled_descriptor splits.spilled) splits.creator tile in
     let place : ℕ = length (queue_at old tile) in
     let stands : slice_get (queue_at new tile) place ≡ Some splits.id =
-    ap (λ queue. slice_get queue place) (queue_now tile old new sound.sizes least splits) ∙ last_there (queue_at old tile) splits.id in (
+    ap (λ queue. slice_get queue place) (queue_now tile old new sound.sizes least splits) ∙ get_end (queue_at old tile) splits.id in (
       task,
       record {
         place = place;

@@ -1,10 +1,10 @@
 -- All uncommitted tasks by id: the queued ones under their own, and each spilled one under some id behind those.
 use Rattle.std.proofs.Common.{◌≡◌, ◌⊎◌, ℕ, ◌+◌, ◌-◌, ◌<◌, Bool, true, false, length, map, Option, Some, None, option_map, refl, sym, ap, ◌∙◌, inl, inr, arith, slice_get, if◌then◌else◌, nat_lt}
-use Rattle.std.proofs.lemmas.Bool.{cases_lt}
-use Rattle.std.proofs.lemmas.Bool.Decides.{nat_tests}
+use Rattle.std.proofs.lemmas.Bool.{cases_lt, lt-ltb}
 use Rattle.std.proofs.lemmas.List.{get_or_past}
 use Rattle.std.proofs.lemmas.Option.{slice_get-map}
 use Rattle.order_law.specs.Tasks.{Keyed}
+use Rattle.order_law.proofs.Proved.{high_test}
 use Rattle.spill_store.specs.SpilledTasks.{Spilled}
 use Rattle.spec_state.specs.declared.task.Task.{Task}
 use Rattle.spec_state.specs.View.{View, task_at}
@@ -14,14 +14,6 @@ use Rattle.spec_state.specs.Groups.{keyed_tasks, keyed_task, keyed_spilled, all_
 pub mapped_some : {X Y : Type 0} (f : X → Y) (o : Option X) (y : Y) → option_map f o ≡ Some y → (x : X) × (o ≡ Some x) × (y ≡ f x)
 mapped_some f None y at = absurd (cc (at))
 mapped_some f (Some x) y at = (x, refl, cc)
-
--- an id below the bound passes the test for it
-pub low_test : (k bound : ℕ) → k < bound → nat_lt k bound ≡ true
-low_test k bound low = grind (arith, nat_tests)
-
--- an id from the bound on fails it
-high_test : (bound j : ℕ) → nat_lt (bound + j) bound ≡ false
-high_test bound j = grind (arith, nat_tests)
 
 -- a task's id is below the number of slots
 pub id_below : (view : View) (id : ℕ) (task : Task) → task_at view id ≡ Some task → id < length view.tasks
@@ -38,7 +30,7 @@ module _ (view : View) (heir : Option ℕ) where
   -- a queued task stands under its id
   pub queued_stands : (id : ℕ) (task : Task) → task_at view id ≡ Some task → all_keyed view heir id ≡ Some (keyed_task task)
   queued_stands id task at =
-      ap (λ b. if b then keyed_tasks view id else slice_get (map spilled_key (all_spilled view)) (id - length view.tasks)) (low_test id (length view.tasks) (id_below view id task at))
+      ap (λ b. if b then keyed_tasks view id else slice_get (map spilled_key (all_spilled view)) (id - length view.tasks)) (lt-ltb id (length view.tasks) (id_below view id task at))
       ∙ ap (option_map keyed_task) at
 
   -- a spilled task stands under some id

@@ -2,11 +2,7 @@
 use Rattle.std.proofs.Common.{◌≡◌, ◌≢◌, ◌⊎◌, ◌<◌, ◌∷◌, ◌++◌, ℕ, zero, suc, List, [], length, Some, refl, sym, ap, ◌∙◌, inl, inr, arith, drop, take, slice_index_or, slice_get, append_assoc}
 use Rattle.std.specs.Prelude.{Contains, flat_map, remove, slice_set}
 use Rattle.std.proofs.lemmas.Bool.{cases_eq}
-
--- what a list contains is its head or stands behind it
-pub head_or_behind : {X : Type 0} (y : X) (xs : List X) (x : X) → Contains (y ∷ xs) x → (y ≡ x) ⊎ Contains xs x
-head_or_behind y xs x (zero, below, at) = inl at
-head_or_behind y xs x (suc k, below, at) = inr (k, omega (arith, below), at)
+use Rattle.spec_state.proofs.Proved.{head_or_tail}
 
 -- an id is one of a list or is not
 pub decided : (ids : List ℕ) (k : ℕ) → Contains ids k ⊎ (Contains ids k → ⊥)
@@ -15,7 +11,7 @@ decided (id ∷ ids) k = elim (cases_eq id k) [
   | inl same ↦ inl (0, omega arith, same)
   | inr other ↦ elim (decided ids k) [
     | inl behind ↦ inl (suc behind.0, omega (arith, behind.1), behind.2)
-    | inr none ↦ inr (λ c. elim (head_or_behind id ids k c) [ inl same ↦ other same | inr behind ↦ none behind ])
+    | inr none ↦ inr (λ c. elim (head_or_tail id ids k c) [ inl same ↦ other same | inr behind ↦ none behind ])
   ]
 ]
 

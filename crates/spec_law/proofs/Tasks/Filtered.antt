@@ -4,6 +4,7 @@ use Rattle.std.specs.Prelude.{Contains, filter}
 use Rattle.std.proofs.lemmas.List.Elements.{All-contains, All-contains_itself, All-filter, filter_passes}
 use Rattle.std.proofs.lemmas.List.Filters.{length-filter_both}
 use Rattle.task_law.specs.Room.{RoomTask, kept_by, queue_after}
+use Rattle.spec_state.proofs.Proved.{in_tail}
 
 -- no more is left than was there
 pub filter_shorter : {X : Type 0} (p : X → Bool) (xs : List X) → length (filter p xs) ≤ length xs
@@ -17,10 +18,6 @@ filter_was p xs x has = All-contains (Contains xs) (filter p xs) x (All-filter p
 pub filter_is : {X : Type 0} (p : X → Bool) (xs : List X) (x : X) → Contains (filter p xs) x → p x ≡ true
 filter_is p xs x has = All-contains (λ y. p y ≡ true) (filter p xs) x (filter_passes p xs) has
 
--- what a list contains it contains behind one element more
-behind_one : {X : Type 0} (y : X) (xs : List X) (x : X) → Contains xs x → Contains (y ∷ xs) x
-behind_one y xs x has = (suc has.0, omega arith, has.2)
-
 -- what was there and passes is left
 pub filter_leaves : {X : Type 0} (p : X → Bool) (xs : List X) (x : X) → Contains xs x → p x ≡ true → Contains (filter p xs) x
 filter_leaves p [] x has passes = absurd (omega (arith, has.1))
@@ -29,7 +26,7 @@ filter_leaves p (y ∷ xs) x (zero, below, at) passes =
 filter_leaves p (y ∷ xs) x (suc k, below, at) passes = by_test (p y) (filter_leaves p xs x (k, omega arith, at) passes)
   where
     by_test : (b : Bool) → Contains (filter p xs) x → Contains (cond b (y ∷ filter p xs) (filter p xs)) x
-    by_test true has = behind_one y (filter p xs) x has
+    by_test true has = in_tail y (filter p xs) x has
     by_test false has = has
 
 -- a queue without the ids of tasks that have gone is filtered by what is there

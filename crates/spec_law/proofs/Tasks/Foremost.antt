@@ -1,13 +1,13 @@
 -- What stands innermost in the order of tasks is foremost among the free tasks: none is deeper, and none of its depth is earlier.
-use Rattle.std.proofs.Common.{◌≡◌, ℕ, ◌+◌, ◌≤◌, nat_le, true, length, Option, Some, None, refl, sym, ap, ◌∙◌, inl, inr, arith}
-use Rattle.std.proofs.lemmas.Bool.Decides.{nat_tests}
+use Rattle.std.proofs.Common.{◌≡◌, ℕ, ◌+◌, ◌≤◌, length, Option, Some, None, refl, sym, ap, ◌∙◌, inl, inr, arith}
 use Rattle.std.proofs.lemmas.List.{length-map}
+use Rattle.std.proofs.lemmas.Bool.{le-leb}
 use Rattle.fractal_vt.specs.Levels.{closed_level}
 use Rattle.order_law.specs.Innermost.{IsInnermost}
 use Rattle.order_law.specs.Tasks.{Keyed}
 use Rattle.pending_list.specs.declared.task.PendingTask.{PendingTask}
 use Rattle.task_law.specs.Tasks as bags
-use Rattle.task_law.specs.Tasks.{In, IsFree, IsSpilled}
+use Rattle.task_law.specs.Tasks.{IsFree, IsSpilled}
 use Rattle.spec_state.specs.declared.task.Creator.{Creator}
 use Rattle.spec_state.specs.declared.task.Creator.TheVariants.{Committed, Live}
 use Rattle.spec_state.specs.View.{View, task_at}
@@ -20,10 +20,6 @@ use Rattle.spec_law.proofs.Tasks.Beside.{mapped_some, spilled_key, queued_stands
 committed_is_none : (c : Creator) (turn index : ℕ) → bag_creator c ≡ bags.Committed turn index → live_creator c ≡ None
 committed_is_none (Committed t i) turn index e = refl
 committed_is_none (Live task i) turn index e = absurd (cc (e))
-
--- what is at most another passes the test for it
-pub le_test : (a b : ℕ) → a ≤ b → nat_le a b ≡ true
-le_test a b low = grind (arith, nat_tests)
 
 module _ (view : View) (sizes : SoundSizes view) (heir : Option ℕ) where
   -- a free task of the view
@@ -62,7 +58,7 @@ module _ (view : View) (sizes : SoundSizes view) (heir : Option ℕ) where
         id = stands.0;
         x = spilled_key view heir from.1;
         there = stands.1;
-        committed = ap (λ b. heir_unless b heir) (le_test from.1.desc.name.creator (length view.history) low);
+        committed = ap (λ b. heir_unless b heir) (le-leb from.1.desc.name.creator (length view.history) low);
         deep = ap (λ n. n + 1) (length-map from.1.domain closed_level) ∙ deep ∙ sym (ap (λ e. e.depth) from.3);
         timed = sym (ap (λ e. e.task.ts) from.3);
       }

@@ -2,32 +2,20 @@
 use Rattle.std.proofs.Common.{◌≡◌, ◌≢◌, ℕ, Some, refl, sym, ap, subst, ◌∙◌, inl, inr, slice_get}
 use Rattle.std.proofs.lemmas.Bool.{cases_eq}
 use Rattle.std.proofs.lemmas.Cmp.{tied_itself, nat_cmp_total}
-use Rattle.std.specs.Ordering.{ordering_then, ordering_reverse}
-use Rattle.std.specs.declared.cmp.Ordering.{Ordering}
+use Rattle.std.specs.Ordering.{ordering_then}
 use Rattle.std.specs.declared.cmp.Ordering.TheVariants.{Less, Equal, Greater}
 use Rattle.fractal_vt.specs.declared.key.Key.{Key}
 use Rattle.fractal_vt.specs.Keys.{key_cmp}
-use Rattle.fractal_vt.proofs.Proved.{key_cmp_total}
+use Rattle.fractal_vt.proofs.Proved.{key_cmp_total, then_less}
 use Rattle.spill_store.specs.SpilledTasks.{Spilled, open_key}
 use Rattle.spec_state.specs.declared.task.Task.{Task}
 use Rattle.spec_state.specs.View.{View, task_at, queue_at, block_at}
 use Rattle.spec_state.specs.Least.{Spot, Queued, Spilled_at, HasKey, IsQueuedAt, IsLeastTask, ranked_cmp, spot_cmp}
 use Rattle.spec_law.specs.Sound.{SoundSizes}
 use Rattle.spec_law.proofs.Tasks.Places.{get_contains}
-use Rattle.spec_law.proofs.Tasks.Distinct.{distinct_at, one_place}
+use Rattle.spec_law.proofs.Tasks.Distinct.{distinct_at}
 use Rattle.spec_law.proofs.Aborted.Spared.{queued_at}
-
--- what is neither greater nor a tie is less
-pub less_of : (o : Ordering) → o ≢ Greater → o ≢ Equal → o ≡ Less
-less_of Less a b = refl
-less_of Equal a b = absurd (b refl)
-less_of Greater a b = absurd (a refl)
-
--- where the first of two answers is not greater, and the second is less, the whole is not greater
-then_less : (o : Ordering) → o ≢ Greater → ordering_then o Less ≢ Greater
-then_less Less a e = absurd (cc)
-then_less Equal a e = absurd (cc)
-then_less Greater a e = a refl
+use Rattle.tile_queues.proofs.Proved.{one_place}
 
 -- a task at its place ties with itself
 ranked_self : (key : Key) (tile place : ℕ) → ranked_cmp key (Queued tile place) key (Queued tile place) ≡ Equal

@@ -54,7 +54,7 @@ spilled_key_is view tile place s key at has =
     has.2 ∙ ap open_key same
 
 -- the number behind another is not below it
-above_test : (a b : ℕ) → a ≡ b + 1 → nat_le a b ≡ false
+pub above_test : (a b : ℕ) → a ≡ b + 1 → nat_le a b ≡ false
 above_test a b above = grind (arith, nat_tests)
 
 -- a spilled task is one for the bags

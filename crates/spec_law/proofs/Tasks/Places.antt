@@ -2,12 +2,7 @@
 use Rattle.std.proofs.Common.{◌≡◌, ◌⊎◌, ℕ, zero, suc, List, [], ◌∷◌, ◌++◌, map, flat_map, Contains, Some, refl, sym, ap, inl, inr, arith, slice_get, slice_index_or}
 use Rattle.std.proofs.lemmas.Option.{slice_get_within, get_or_from_slice_get}
 use Rattle.task_law.specs.Tasks.{In}
-
--- an element of the first list is one of both
-get_left : {X : Type 0} (xs ys : List X) (k : ℕ) (x : X) → slice_get xs k ≡ Some x → slice_get (xs ++ ys) k ≡ Some x
-get_left [] ys k x at = absurd (cc (at))
-get_left (y ∷ xs) ys zero x at = at
-get_left (y ∷ xs) ys (suc k) x at = get_left xs ys k x at
+use Rattle.fractal_vt.proofs.Proved.{get_front}
 
 -- an element of the second list is one of both
 get_right : {X : Type 0} (xs ys : List X) (k : ℕ) (x : X) → slice_get ys k ≡ Some x → (j : ℕ) × (slice_get (xs ++ ys) j ≡ Some x)
@@ -24,7 +19,7 @@ get_cases (y ∷ xs) ys (suc k) x at = get_cases xs ys k x at
 pub place_in_all : {X : Type 0} (lists : List (List X)) (i place : ℕ) (x : X) → slice_get (slice_index_or lists i []) place ≡ Some x
     → (k : ℕ) × (slice_get (flat_map (λ xs. xs) lists) k ≡ Some x)
 place_in_all [] i place x at = absurd (cc (at))
-place_in_all (xs ∷ lists) zero place x at = (place, get_left xs (flat_map (λ xs. xs) lists) place x at)
+place_in_all (xs ∷ lists) zero place x at = (place, get_front xs (flat_map (λ xs. xs) lists) place x at)
 place_in_all (xs ∷ lists) (suc i) place x at =
     let among = place_in_all lists i place x at in
     get_right xs (flat_map (λ xs. xs) lists) among.0 x among.1

@@ -1,14 +1,14 @@
 -- Another bound for the ids of spilled tasks renames them and keeps the order of all uncommitted tasks; and so an abort that spares the heir
 -- keeps it.
 use Rattle.std.proofs.Common.{◌≡◌, ◌⊎◌, ◌∷◌, [], ℕ, zero, suc, ◌+◌, ◌-◌, ◌<◌, Bool, true, false, List, length, Option, Some, None, refl, sym, ap, subst, ◌∙◌, inl, inr, arith, map, slice_get, nat_lt, nat_le, if◌then◌else◌}
-use Rattle.std.proofs.lemmas.Bool.Decides.{nat_tests}
 use Rattle.std.proofs.lemmas.Option.{slice_get_within}
+use Rattle.std.proofs.lemmas.Bool.{lt-ltb}
 use Rattle.fractal_vt.specs.Levels.{closed_level}
 use Rattle.order_law.specs.Tasks.{Keyed}
 use Rattle.order_law.specs.Events as order
 use Rattle.order_law.specs.Events.{beside, IsAmongSpilled}
 use Rattle.order_law.specs.Ordered.{IsOrdered}
-use Rattle.order_law.proofs.Proved.{abort_law, rename_keeps_order, Renames}
+use Rattle.order_law.proofs.Proved.{abort_law, rename_keeps_order, Renames, high_test}
 use Rattle.spill_store.specs.SpilledTasks.{Spilled}
 use Rattle.spec_state.specs.declared.task.Task.{Task}
 use Rattle.spec_state.specs.View.{View, task_at}
@@ -18,12 +18,6 @@ use Rattle.spec_law.specs.Sound.{SoundOrder}
 use Rattle.spec_law.specs.AbortLaws.{AbortKeepsSoundOrder}
 use Rattle.spec_law.proofs.Tasks.Beside.{mapped_some, id_below}
 use Rattle.spec_law.proofs.Aborted.Taken.{gone_stays, order_aborts}
-
-low_test : (k bound : ℕ) → k < bound → nat_lt k bound ≡ true
-low_test k bound low = grind (arith, nat_tests)
-
-high_test : (bound j : ℕ) → nat_lt (bound + j) bound ≡ false
-high_test bound j = grind (arith, nat_tests)
 
 -- what stands beside entries is a task or an entry
 module _ (bound : ℕ) (tasks : ℕ → Option Keyed) (entries : List Keyed) where
@@ -50,7 +44,7 @@ module _ (bound : ℕ) (tasks : ℕ → Option Keyed) (entries : List Keyed) whe
       by_test false high = let place = slice_get_within entries (k - bound) x (sym (high_is k high) ∙ at) in omega arith
 
   pub task_there : (k : ℕ) (x : Keyed) → k < bound → tasks k ≡ Some x → beside bound tasks entries k ≡ Some x
-  task_there k x low at = low_is k (low_test k bound low) ∙ at
+  task_there k x low at = low_is k (lt-ltb k bound low) ∙ at
 
   pub entry_there : (x : Keyed) → IsAmongSpilled x entries → (j : ℕ) × (beside bound tasks entries j ≡ Some x)
   entry_there x is =

@@ -1,5 +1,5 @@
-use Rattle.memory_law.proofs.WholeChains.{order_is_one}
+use Rattle.memory_law.proofs.Orders.{one_order}
 use Rattle.memory_law.proofs.laws.key_order_is_one.Goals as goal
 
 pub returns : goal.returns
-returns c = order_is_one
+returns c = one_order

@@ -4,9 +4,10 @@ use Rattle.std.proofs.lemmas.List.Sums.{count_by-le-length}
 use Rattle.abort_cascade.specs.Cascade.{Marked}
 use Rattle.spec_state.specs.StateValue.{StateValue}
 use Rattle.spec_state.specs.View.{task_at}
+use Rattle.spec_state.proofs.Proved.{few_tasks}
 use Rattle.spec_rollback.specs.Pulled.{ListsMarked}
 use Rattle.spec_rollback.proofs.Pulled.{few_members}
-use Rattle.spec_rollback.proofs.Marked.{put_back, few_tasks}
+use Rattle.spec_rollback.proofs.Marked.{put_back}
 use Rattle.spec_rollback.proofs.cascade.close_marks.Goals as goal
 
 pub returns-clause-size : goal.returns-clause-size

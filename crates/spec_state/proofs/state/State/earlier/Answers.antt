@@ -1,7 +1,8 @@
 use Rattle.std.proofs.Common.{rules}
 use Rattle.fractal_vt.specs.Keys.{key_cmp}
-use Rattle.spec_state.proofs.Picks.{first_none, second_none, first_picked, second_picked, turned, less_upto, by_key}
+use Rattle.spec_state.proofs.Picks.{first_none, second_none, first_picked, second_picked, less_upto, by_key}
 use Rattle.spec_state.proofs.state.State.earlier.Goals as goal
+use Rattle.spec_state.proofs.Leasts.{upto_turned}
 
 pub returns-in-None-default : goal.returns-in-None-default
 returns-in-None-default g c =
@@ -23,4 +24,4 @@ returns-else-is_lt g c =
     first_picked key_cmp by_key c.args.self.now.view c.args.one c.args.two c.in-Some-Some.first c.in-Some-Some.second
     c.task-in-Some-Some.result.now c.task.result.now c.in-Some-Some.is-0 c.in-Some-Some.is-1
     c.task-in-Some-Some.ensures c.task.ensures
-    (turned c.task.result.now.key c.task-in-Some-Some.result.now.key (search rules))
+    (upto_turned c.task.result.now.key c.task-in-Some-Some.result.now.key (search rules))

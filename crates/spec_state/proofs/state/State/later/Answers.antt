@@ -1,8 +1,9 @@
 use Rattle.std.proofs.Common.{rules}
 use Rattle.spec_state.specs.Picks.{latest_first}
-use Rattle.spec_state.proofs.Picks.{first_none, second_none, first_picked, second_picked, turned, less_upto}
+use Rattle.spec_state.proofs.Picks.{first_none, second_none, first_picked, second_picked, less_upto}
 use Rattle.spec_state.proofs.Picks.{by_latest}
 use Rattle.spec_state.proofs.state.State.later.Goals as goal
+use Rattle.spec_state.proofs.Leasts.{upto_turned}
 
 pub returns-in-None-default : goal.returns-in-None-default
 returns-in-None-default g c =
@@ -25,4 +26,4 @@ returns-else-is_lt g c =
     first_picked latest_first by_latest c.args.self.now.view c.args.one c.args.two c.in-Some-Some.first
     c.in-Some-Some.second c.task.result.now c.task-in-Some-Some.result.now c.in-Some-Some.is-0 c.in-Some-Some.is-1
     c.task.ensures c.task-in-Some-Some.ensures
-    (turned c.task.result.now.key c.task-in-Some-Some.result.now.key (search rules))
+    (upto_turned c.task.result.now.key c.task-in-Some-Some.result.now.key (search rules))
