@@ -1,11 +1,10 @@
 -- What acts come to.
-use Rattle.std.proofs.Common.{◌≡◌, ◌⊎◌, ◌≤◌, ◌<◌, ℕ, Bool, true, false, cond, not, List, [], ◌∷◌, length, Some, None}
+use Rattle.std.proofs.Common.{◌≡◌, ◌⊎◌, ◌≤◌, ◌<◌, ℕ, List, [], length, Some, None}
 use Rattle.std.proofs.Common.{Result, inl, inr, refl, sym, ap, subst, ◌∙◌}
 use Rattle.std.specs.Prelude.{IfOk, IfSome, slice_get}
-use Rattle.std.specs.declared.option.Option.{Option}
 use Rattle.std.proofs.lemmas.Bool.{cases_lt}
 use Rattle.std.proofs.lemmas.List.{get_or_past}
-use Rattle.std.proofs.lemmas.Option.{none-some, slice_get_within}
+use Rattle.std.proofs.lemmas.Option.{slice_get_within}
 use Rattle.std.proofs.lemmas.Result.{IfOk-weaker}
 use Rattle.guest_image.specs.ImageValue.{ImageValue}
 use Rattle.rv_core.specs.LegValue.{LegValue}
@@ -29,25 +28,11 @@ use Rattle.event_law.proofs.Proved.{next_event_is_given}
 use Rattle.event_lemma.proofs.Proved.{next_is_commit, next_is_dispatch, next_is_split, next_is_step, trapped_is_over}
 use Rattle.step_script.specs.declared.act.Act.{Act}
 use Rattle.step_script.specs.declared.act.Act.TheVariants as acts
-use Rattle.step_script.specs.Playing.{HasLegAt, HeldLeg, PlayState, held_for, holding, is_held_for, without_held_leg}
+use Rattle.step_script.specs.Playing.{HasLegAt, HeldLeg, PlayState, held_for, holding, without_held_leg}
+use Rattle.step_script.proofs.HeldLegs.{without_unheld}
 use Rattle.watch_text.specs.declared.asking.Asked.{Asked}
 use Rattle.watch_text.specs.Asking.{Attempt, AsksAdvance, AsksFor, AsksGive, AsksStep, AsksTake, Hands, Says}
 use Rattle.watch_text.specs.Asking.{advance_next, asks_of, give_hands, give_stale, step_runs, take_holds}
-
--- where no leg is held for a core, none is given up for it
-without_unheld : (tile core : ℕ) (held : List HeldLeg) → ◌≡◌ {A = Option LegValue} (held_for tile core held) None
-    → without_held_leg tile core held ≡ held
-without_unheld tile core [] none = refl
-without_unheld tile core (h ∷ held) none = go (is_held_for tile core h) refl none (without_unheld tile core held)
-  where
-    go : (test : Bool) → is_held_for tile core h ≡ test
-        → ◌≡◌ {A = Option LegValue} (cond test (Some h.leg) (held_for tile core held)) None
-        → (◌≡◌ {A = Option LegValue} (held_for tile core held) None → without_held_leg tile core held ≡ held)
-        → without_held_leg tile core (h ∷ held) ≡ h ∷ held
-    go true is none rest = absurd (none-some h.leg (sym none))
-    go false is none rest =
-        ap (λ test. cond (not test) (h ∷ without_held_leg tile core held) (without_held_leg tile core held)) is
-        ∙ ap (λ others. h ∷ others) (rest none)
 
 -- a step comes to the leg of the task that runs there
 pub step_asks : (N : Type 0) (image : ImageValue) (tile core : ℕ) (book : BookView) (leg : LegValue)

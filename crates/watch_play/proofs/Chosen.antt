@@ -3,17 +3,14 @@ use Rattle.std.proofs.Common.{◌≡◌, ◌⊎◌, ◌==◌, ℕ, Bool, true, f
 use Rattle.std.proofs.Common.{eq-eqb}
 use Rattle.std.specs.Prelude.{◌↔◌, IfSome, IsTrue, is_some}
 use Rattle.std.specs.declared.option.Option.{Option}
-use Rattle.std.specs.Ordering.{ordering_reverse}
-use Rattle.std.specs.declared.cmp.Ordering.TheVariants.{Greater, Less}
 use Rattle.std.proofs.lemmas.Bool.{cases_eq, eqb-true}
 use Rattle.spec_state.specs.declared.task.Task.{Task}
 use Rattle.spec_state.specs.declared.task.Where.{Where}
 use Rattle.spec_state.specs.declared.task.Where.TheVariants as where_
-use Rattle.spec_state.specs.Least.{IsAllCommitted, IsLeast, IsLeastSpilled, IsQueuedAt, IsTheLeast, Precedes, Queued}
-use Rattle.spec_state.specs.Least.{ranked_cmp}
-use Rattle.spec_state.specs.Queries.{IsFreeCore, IsLeastIdle, IsQueued}
-use Rattle.spec_state.specs.View.{View, queue_at, task_at}
-use Rattle.spec_law.proofs.Proved.{contains_get, ranked_turned}
+use Rattle.spec_state.specs.Least.{IsAllCommitted, IsLeast, IsLeastSpilled, IsTheLeast}
+use Rattle.spec_state.specs.Queries.{IsFreeCore, IsLeastIdle}
+use Rattle.spec_state.specs.View.{View}
+use Rattle.spec_law.proofs.Proved.{not_both_ways}
 use Rattle.run_journal.specs.declared.end.End.{End}
 use Rattle.event_def.specs.End.{HasEnd, IsOver}
 use Rattle.event_lemma.specs.Whereabouts.{IsUnfinished, queued_in, spilled_in}
@@ -24,21 +21,7 @@ use Rattle.watch_play.specs.Courses.{IsAskedInRound}
 
 -- ---- the least idle task of a tile is one
 
--- of two queued tasks not each comes before the other
-not_both_ways : (view : View) (tile k j : ℕ) (x y : Task) → IsQueued view tile k → task_at view k ≡ Some x
-    → IsQueued view tile j → task_at view j ≡ Some y → Precedes view tile k j → Precedes view tile j k → ⊥
-not_both_ways view tile k j x y in_k there in_j there' before behind =
-    let p = contains_get (queue_at view tile) k in_k in
-    let q = contains_get (queue_at view tile) j in_j in
-    let one : IsQueuedAt view tile p.0 k x = record { queued = p.1; there = there } in
-    let two : IsQueuedAt view tile q.0 j y = record { queued = q.1; there = there' } in
-    let less : ranked_cmp x.key (Queued tile p.0) y.key (Queued tile q.0) ≡ Less = before p.0 q.0 x y one two in
-    let more : ranked_cmp x.key (Queued tile p.0) y.key (Queued tile q.0) ≡ Greater =
-    ranked_turned x.key (Queued tile p.0) y.key (Queued tile q.0)
-    ∙ ap ordering_reverse (behind q.0 p.0 y x two one) in
-    absurd (cc (less, more))
-
-idle_is_one : (view : View) (tile k j : ℕ) (x y : Task) → IsLeastIdle view tile k x → IsLeastIdle view tile j y → j ≡ k
+pub idle_is_one : (view : View) (tile k j : ℕ) (x y : Task) → IsLeastIdle view tile k x → IsLeastIdle view tile j y → j ≡ k
 idle_is_one view tile k j x y one two = elim (cases_eq j k) [
   | inl same ↦ same
   | inr other ↦ absurd (not_both_ways view tile k j x y one.idle.queued one.idle.there two.idle.queued two.idle.there

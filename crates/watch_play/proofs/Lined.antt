@@ -83,20 +83,20 @@ module _ (N : Type 0) (image : ImageValue) (at place : ℕ) (act : Act) (old new
       (subst (λ v. IsAskedFor v asks request) same asked_for)
       there came)
 
-  -- its line, and the view behind it
-  pub line_is : (each : Option ℕ) (cleared front line : List ℕ) (table : List (Option Before)) (output : ℕ) → cleared
-      ≡ []
-      → front ≡ cleared ++ front_text at act asks task request → table ≡ table_of old.book.view
-      → output ≡ length old.book.view.output
-      → line ≡ front ++ rest_text table output new.book.view asks task request answer aborted new.book.steps
+  -- its line, and the view behind it, where this is said to have come of it
+  pub line_is : (each : Option ℕ) (cleared front line : List ℕ) (table : List (Option Before)) (output : ℕ)
+      (said : Reply) (took : ℕ) → cleared ≡ [] → front ≡ cleared ++ front_text at act asks task request
+      → table ≡ table_of old.book.view → output ≡ length old.book.view.output → said ≡ answer → took ≡ aborted
+      → line ≡ front ++ rest_text table output new.book.view asks task request said took new.book.steps
       ++ view_text each place new.book.view new.book.steps → line ≡ moment_lines each made
   unfolding line_of
-  line_is each cleared front line table output none begun table_is output_is is =
+  line_is each cleared front line table output said took none begun table_is output_is said_is took_is is =
       let first : front ≡ front_text at act asks task request =
       begun ∙ ap (λ l. l ++ front_text at act asks task request) none in
-      let text = λ (t : List (Option Before)) (n : ℕ). rest_text t n new.book.view asks task request answer aborted
-      new.book.steps in
+      let text = λ (t : List (Option Before)) (n : ℕ) (r : Reply) (a : ℕ).
+      rest_text t n new.book.view asks task request r a new.book.steps in
       let behind = view_text each place new.book.view new.book.steps in
-      let rest : text table output ≡ text (table_of old.book.view) (length old.book.view.output) =
-      (λ i. text (table_is i) (output_is i)) in
+      let rest : text table output said took
+      ≡ text (table_of old.book.view) (length old.book.view.output) answer aborted =
+      (λ i. text (table_is i) (output_is i) (said_is i) (took_is i)) in
       is ∙ (λ i. (first i ++ rest i) ++ behind)

@@ -8,9 +8,9 @@ use Rattle.guest_image.specs.ImageValue.{ImageValue}
 use Rattle.spec_law.specs.Sound.{Sound}
 use Rattle.event_def.specs.Book.{BookView}
 use Rattle.step_script.specs.declared.act.Act.{Act}
-use Rattle.step_script.specs.declared.saying.Said.{Said}
-use Rattle.step_script.specs.Playing.{Does, DoesAll, PlayState}
+use Rattle.step_script.specs.Playing.{DoesAll, PlayState}
 use Rattle.step_script.specs.Ranges.{ActIsInRange}
+use Rattle.step_script.proofs.Played.{does_more}
 use Rattle.watch_text.specs.Moments.{Moment}
 use Rattle.watch_play.specs.Courses.{OfScript, course_act}
 use Rattle.watch_play.specs.Replies.{StoryPlays, said_by}
@@ -31,16 +31,6 @@ map_pushed f [] x = refl
 map_pushed f (y ∷ xs) x = ap (λ l. f y ∷ l) (map_pushed f xs x)
 
 -- ---- plays
-
-does_more : (N : Type 0) (image : ImageValue) (script : List Act) (act : Act) (old mid new : PlayState)
-    (saids : List Said) (said : Said) → DoesAll N image script old saids mid → Does N image act mid said new
-    → DoesAll N image (script ++ act ∷ []) old (saids ++ said ∷ []) new
-does_more N image [] act old mid new [] said same does =
-    (new, subst (λ x. Does N image act x said new) (sym same) does, refl)
-does_more N image [] act old mid new (s ∷ saids) said none does = absurd none
-does_more N image (a ∷ script) act old mid new [] said none does = absurd none
-does_more N image (a ∷ script) act old mid new (s ∷ saids) said (between, one, rest) does =
-    (between, one, does_more N image script act between mid new saids said rest does)
 
 -- so many acts of the script were played, and the play is good
 record PlaysWell {N : Type 0} (image : ImageValue) (script : List Act) (opening : BookView) (count : ℕ)

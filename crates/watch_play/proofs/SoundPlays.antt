@@ -1,14 +1,9 @@
 -- A play that is sound stays so, moment by moment: the view is sound, the book goes on, and the legs that are held are
 -- runs.
-use Rattle.std.proofs.Common.{◌≡◌, ◌≢◌, ◌⊎◌, ◌<◌, ◌≤◌, ℕ, Bool, true, false, cond, not, List, [], ◌∷◌, ◌++◌, Some}
-use Rattle.std.proofs.Common.{inl, inr, sym, subst, ◌∙◌, arith}
-use Rattle.std.specs.Prelude.{if◌then◌else◌}
-use Rattle.std.specs.List.{AllByRecursion}
-use Rattle.std.proofs.lemmas.Bool.{cases_eq}
+use Rattle.std.proofs.Common.{◌≡◌, ◌<◌, ◌≤◌, ℕ, false, List}
+use Rattle.std.proofs.Common.{sym, subst, ◌∙◌, arith}
 use Rattle.guest_image.specs.ImageValue.{ImageValue}
 use Rattle.rv_core.specs.LegValue.{IsLegOfImage, LegValue}
-use Rattle.rv_core.specs.Legs.{IsLeg, StopIsInData}
-use Rattle.rv_core.proofs.Proved.{PlainInstructions-counted, PlainInstructions-within, next_at-inside}
 use Rattle.spec_state.specs.declared.settings.Settings.{Settings}
 use Rattle.spec_law.specs.Sound.{Sound}
 use Rattle.event_def.specs.declared.event.Event.{Event}
@@ -18,70 +13,17 @@ use Rattle.event_def.specs.declared.event.Reply.TheVariants as reply
 use Rattle.event_def.specs.Book.{BookView}
 use Rattle.event_def.specs.Events.{IsGiven}
 use Rattle.event_def.specs.Happens.{Happens}
-use Rattle.event_law.proofs.Proved.{event_stays_sound, next_event_is_given, running_within}
+use Rattle.event_law.proofs.Proved.{event_stays_sound, next_event_is_given, running_within, leg_is_run}
 use Rattle.event_lemma.proofs.Proved.{makes_keeps_settings}
 use Rattle.step_script.specs.declared.act.Act.{Act}
 use Rattle.step_script.specs.declared.act.Act.TheVariants as acts
-use Rattle.step_script.specs.Playing.{HasLegAt, HeldLeg, PlayState, held_for, is_held_for, without_held_leg}
+use Rattle.step_script.specs.Playing.{HasLegAt, HeldLeg, PlayState, without_held_leg}
 use Rattle.step_script.specs.Ranges.{ActIsInRange}
+use Rattle.step_script.proofs.HeldLegs.{AreRuns, held_runs, without_runs, ended_runs}
 use Rattle.watch_text.specs.Asking.{Attempt, AsksAdvance, AsksFor, AsksGive, AsksStep, AsksTake, Hands, HandsEvent}
 use Rattle.watch_text.specs.Asking.{Says}
 use Rattle.watch_text.specs.Asking as asking
 use Rattle.watch_text.specs.Moments.{ComesOf}
-
--- a leg from within the budget is a run
-leg_is_run : (image : ImageValue) (budget quantum : ℕ) (leg : LegValue)
-    → IsLeg image image.data_size budget quantum leg.from leg.to leg.steps leg.stop → leg.from.used ≤ budget
-    → IsLegOfImage image budget leg
-leg_is_run image budget quantum leg is low = record {
-  run = is.run;
-  next = λ other. elim (cases_eq leg.steps quantum) [
-    | inl all ↦ absurd (other (is.full all))
-    | inr fewer ↦ let bound = is.bound in is.next (omega (arith, bound, fewer))
-  ];
-  inside = by_case (cases_eq leg.steps quantum);
-  counted = PlainInstructions-counted image image.data_size budget leg.steps leg.from leg.to is.run;
-  within = PlainInstructions-within image image.data_size budget leg.steps leg.from leg.to is.run low;
-}
-  where
-    by_case : (leg.steps ≡ quantum) ⊎ (leg.steps ≢ quantum) → StopIsInData image.data_size leg.stop
-    by_case (inl all) = subst (StopIsInData image.data_size) (sym (is.full all)) tt
-    by_case (inr fewer) =
-        let bound = is.bound in
-        next_at-inside image image.data_size budget leg.to leg.stop (is.next (omega (arith, bound, fewer)))
-
--- ---- legs that are held
-
-abbrev pub AreRuns : ImageValue → Settings → List HeldLeg → Type 0
-AreRuns image settings held = AllByRecursion (λ (h : HeldLeg). IsLegOfImage image settings.budget h.leg) held
-
-module _ (image : ImageValue) (settings : Settings) (tile core : ℕ) where
-  held_runs : (held : List HeldLeg) (leg : LegValue) → AreRuns image settings held → held_for tile core held ≡ Some leg
-      → IsLegOfImage image settings.budget leg
-  held_runs [] leg runs is = absurd (cc (is))
-  held_runs (h ∷ held) leg runs is = by_test (is_held_for tile core h) is (held_runs held leg runs.1)
-    where
-      by_test : (t : Bool) → (if t then Some h.leg else held_for tile core held) ≡ Some leg
-          → (held_for tile core held ≡ Some leg → IsLegOfImage image settings.budget leg)
-          → IsLegOfImage image settings.budget leg
-      by_test true found rest = let same : h.leg ≡ leg = cc in subst (IsLegOfImage image settings.budget) same runs.0
-      by_test false found rest = rest found
-
-  without_runs : (held : List HeldLeg) → AreRuns image settings held
-      → AreRuns image settings (without_held_leg tile core held)
-  without_runs [] runs = tt
-  without_runs (h ∷ held) runs = by_test (not (is_held_for tile core h)) (without_runs held runs.1)
-    where
-      by_test : (t : Bool) → AreRuns image settings (without_held_leg tile core held)
-          → AreRuns image settings
-          (cond t (h ∷ without_held_leg tile core held) (without_held_leg tile core held))
-      by_test true rest = (runs.0, rest)
-      by_test false rest = rest
-
-  ended_runs : (held : List HeldLeg) (h : HeldLeg) → AreRuns image settings held
-      → IsLegOfImage image settings.budget h.leg → AreRuns image settings (held ++ h ∷ [])
-  ended_runs [] h runs run = (run, tt)
-  ended_runs (g ∷ held) h runs run = (runs.0, ended_runs held h runs.1 run)
 
 -- ---- plays
 

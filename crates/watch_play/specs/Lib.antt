@@ -1,4 +1,4 @@
--- Contracts mean all of these.
+-- Contracts of public calls mean all of these but Room.
 pub mod Courses
 pub mod Stories
 pub mod Texts
@@ -6,3 +6,5 @@ pub mod Playing
 pub mod Made
 pub mod Telling
 pub mod Replies
+pub mod Room
+pub mod Cascades

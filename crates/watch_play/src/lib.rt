@@ -13,11 +13,12 @@ mod laws;
 mod lockstep;
 mod opening;
 mod playing;
+mod room;
 mod stop;
 mod watch;
 
 pub use courses::{play_least, play_script};
-pub use laws::{moment_does, story_plays};
+pub use laws::{back_is_cascade, moment_does, story_plays};
 pub use lockstep::play_rounds;
 pub use opening::tell_opening;
 pub use stop::Stop;

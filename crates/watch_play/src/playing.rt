@@ -1,20 +1,23 @@
 //! One act, which is played and told.
 
-ghost use Rattle.std.specs.Prelude.{◌≡◌, ◌≢◌, ◌+◌, ◌<◌, ◌≤◌, ◌^◌, ◌++◌, IfSome, OnOk};
+ghost use Rattle.std.specs.Prelude.{◌≡◌, ◌≢◌, ◌+◌, ◌<◌, ◌≤◌, ◌^◌, ◌++◌, IfSome, IsTrue, OnOk, length};
 ghost use Rattle.std.specs.String.{string_bytes};
-ghost use Rattle.rv_core.specs.LegValue.{LegValue};
+ghost use Rattle.rv_core.specs.LegValue.{IsLegOfImage, LegValue};
+ghost use Rattle.spec_law.specs.Sound.{Sound};
 ghost use Rattle.event_def.specs.declared.event.Reply.TheVariants as reply;
 ghost use Rattle.conflict_book.specs.BookViews.{events_made, machine_view, view_of};
 ghost use Rattle.step_script.specs.Ranges.{ActIsInRange};
 ghost use Rattle.watch_text.specs.Asking.{AskedIsInRange, asks_of};
+ghost use Rattle.watch_text.specs.Changes.{IsOneIn, LeavesOthers, TakesBackNone, arrived_in};
 ghost use Rattle.watch_text.specs.Lines.{rest_text};
 ghost use Rattle.watch_text.specs.Moments.{task_of};
-ghost use Rattle.watch_text.specs.Taking.{table_of};
+ghost use Rattle.watch_text.specs.Taking.{id_count, table_of};
 ghost use Rattle.watch_play.specs.Made.{AttemptComes, TellsAct, play_of};
 ghost use Rattle.watch_play.specs.Playing.{ComesToLine};
 ghost use Rattle.watch_play.specs.Texts.{is_due, view_text};
 
 use crate::asking::ask;
+use crate::room::has_its_room;
 use crate::stop::Stop;
 use crate::watch::Watch;
 use conflict_book::{Applied, Book, Reply};
@@ -25,7 +28,9 @@ use sim_io::{Sink, write_all};
 use std::alloc::AllocError;
 use step_script::Act;
 use trace_tap::Tap;
-use watch_text::{About, Asked, about_of, put_front, put_rest, put_view, remember};
+use watch_text::{
+    About, Asked, Effect, about_of, arrived_in, put_front, put_rest, put_view, remember_behind,
+};
 
 /// What came of an act.
 #[derive(Clone, Copy, Debug, PartialEq, Eq)]
@@ -36,6 +41,16 @@ pub(crate) enum PlayedAct {
     Untold,
     /// Out of memory before anything was made.
     Unmade,
+}
+
+/// Law: what holds of every book and every leg. The state is sound, and the leg is a run of the image within the
+/// budget.
+fn are_sound<N: Naming, P: Placer, T: Tap>(book: &Book<N, P, T>, leg: &Leg<N>)
+    ensures sound { Sound N.image (machine_view book.now) }
+    ensures run { IsLegOfImage N.image (machine_view book.now).settings.budget leg.now }
+{
+    book.is_sound();
+    let _ = leg.stop();
 }
 
 /// Hands in what an act came to, or says its word.
@@ -88,21 +103,27 @@ fn put_view_behind<N: Naming, P: Placer, T: Tap>(
 }
 
 /// The rest of the line of an act, and the table of the tasks behind it. A refusal leaves both state and table, so
-/// nothing is looked at anew.
+/// nothing is looked at anew, and a quiet effect leaves the other tasks alone.
 fn tell_rest<N: Naming, P: Placer, T: Tap>(
     watch: &mut Watch<N, P, T>,
     asked: &Asked,
     about: &About,
-    output: usize,
-    applied: Applied,
+    effect: Effect,
 ) -> Result<(), AllocError>
-    requires within { AskedIsInRange N (machine_view watch.old.book).settings asked.now }
+    requires came { effect.reply ≡ reply.Ok → (leg : LegValue) → effect.arrived ≡ arrived_in
+        (machine_view watch.old.book) (asks_of {N = N} asked.now leg) (task_of about.now) about.now.request }
     requires each { IfSome watch.old.each (λ number. 1 ≤ number) }
-    requires stands { applied.reply ≢ reply.Ok → watch.old.table.items ≡ table_of (machine_view watch.old.book) }
+    requires stands { effect.reply ≢ reply.Ok → watch.old.table.items ≡ table_of (machine_view watch.old.book) }
+    requires long { length watch.old.table.items ≡ id_count (machine_view watch.old.book) }
+    requires kept { effect.reply ≡ reply.Ok → effect.aborted ≡ 0 → (leg : LegValue)
+        → TakesBackNone {N = N} watch.old.table.items (machine_view watch.old.book) (asks_of asked.now leg)
+        (task_of about.now) about.now.request }
+    requires quiet { IsTrue effect.quiet → (leg : LegValue) → LeavesOthers {N = N} watch.old.table.items
+        (machine_view watch.old.book) (asks_of asked.now leg) (task_of about.now) about.now.request }
     ensures line { (leg : LegValue) → let view = machine_view watch.old.book in
         OnOk result (string_bytes watch.new.line ≡ string_bytes watch.old.line
-        ++ rest_text watch.old.table.items output view (asks_of {N = N} asked.now leg) (task_of about.now)
-        about.now.request applied.reply applied.aborted (events_made watch.old.book)
+        ++ rest_text watch.old.table.items effect.output view (asks_of {N = N} asked.now leg) (task_of about.now)
+        about.now.request effect.reply effect.aborted (events_made watch.old.book)
         ++ view_text watch.old.each watch.old.count view (events_made watch.old.book)) }
     ensures table { OnOk result (watch.new.table.items ≡ table_of (machine_view watch.old.book)) }
     ensures play { play_of P.policy T.notes watch.new ≡ play_of P.policy T.notes watch.old }
@@ -112,20 +133,46 @@ fn tell_rest<N: Naming, P: Placer, T: Tap>(
     let state = watch.book.state();
     let events = watch.book.steps();
     let table = watch.table.as_slice();
-    put_rest(
-        &mut watch.line,
-        state,
-        table,
-        output,
-        asked,
-        about,
-        applied,
-        events,
-    )?;
+    put_rest(&mut watch.line, state, table, asked, about, effect, events)?;
     put_view_behind(&mut watch.line, &watch.book, watch.each, watch.count)?;
-    match applied.reply {
-        Reply::Ok => remember(state, &mut watch.table),
+    match effect.reply {
+        Reply::Ok => remember_behind(state, &mut watch.table, asked, about, effect),
         _ => Ok(()),
+    }
+}
+
+/// What came of an attempt: quiet where an event was made that took none back, and a task that came found its place.
+fn effect_of(applied: Applied, has_room: bool, arrived: Option<usize>, output: usize) -> Effect
+    ensures reply { result.reply ≡ applied.reply }
+    ensures aborted { result.aborted ≡ applied.aborted }
+    ensures quiet { IsTrue result.quiet → (applied.reply ≡ reply.Ok) × (applied.aborted ≡ 0) × IsTrue has_room }
+    ensures arrived { result.arrived ≡ arrived }
+    ensures output { result.output ≡ output }
+{
+    Effect {
+        reply: applied.reply,
+        aborted: applied.aborted,
+        quiet: has_room && applied.reply == Reply::Ok && applied.aborted == 0,
+        arrived,
+        output,
+    }
+}
+
+/// The task that came, where an event was made.
+fn arrived_by<N: Naming, P: Placer, T: Tap>(
+    book: &Book<N, P, T>,
+    asked: &Asked,
+    about: &About,
+    answer: Reply,
+) -> Option<usize>
+    requires within { AskedIsInRange N (machine_view book.now).settings asked.now }
+    requires one { answer ≡ reply.Ok → IsOneIn (machine_view book.now) about.now.request (task_of about.now) }
+    ensures { answer ≡ reply.Ok → (leg : LegValue) → result ≡ arrived_in (machine_view book.now)
+        (asks_of {N = N} asked.now leg) (task_of about.now) about.now.request }
+{
+    match answer {
+        Reply::Ok => arrived_in(book.state(), asked, about),
+        _ => None,
     }
 }
 
@@ -153,17 +200,21 @@ fn play_act<N: Naming, P: Placer, T: Tap>(
         return PlayedAct::Unmade;
     };
     let about = about_of(watch.book.state(), &asked, &watch.leg);
+    let has_room = has_its_room(&watch.book, &asked, &about);
     let output = watch.book.state().output().len();
     watch.line.clear();
     if put_front(&mut watch.line, at, act, &asked, &about, &watch.leg).is_err() {
         return PlayedAct::Unmade;
     }
+    are_sound(&watch.book, &watch.leg);
     let applied = make(&mut watch.book, &asked, &watch.leg);
     if applied.reply == Reply::Memory {
         return PlayedAct::Unmade;
     }
     watch.count += 1;
-    match tell_rest(watch, &asked, &about, output, applied) {
+    let arrived = arrived_by(&watch.book, &asked, &about, applied.reply);
+    let effect = effect_of(applied, has_room, arrived, output);
+    match tell_rest(watch, &asked, &about, effect) {
         Ok(()) => PlayedAct::Told,
         Err(_) => PlayedAct::Untold,
     }

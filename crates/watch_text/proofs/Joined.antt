@@ -1,8 +1,9 @@
 -- Texts that are put one behind another.
-use Rattle.std.proofs.Common.{◌≡◌, ◌∙◌, ℕ, ◌++◌, ◌∷◌, List, ap, sym, append_assoc}
-use Rattle.std.specs.Prelude.{codes}
+use Rattle.std.proofs.Common.{◌≡◌, ◌∙◌, ◌/◌, ◌%◌, ◌<◌, ◌≤◌, ◌^◌, ℕ, ◌++◌, ◌∷◌, List, ap, sym, append_assoc, arith}
+use Rattle.std.specs.Prelude.{codes, decimal}
 use Rattle.std.specs.Result.{OnOk}
 use Rattle.std.specs.declared.result.Result.{Result}
+use Rattle.std.proofs.lemmas.Fmt.{decimal_digit, decimal_step}
 use Rattle.std.proofs.lemmas.Result.{on_ok_weaker}
 use Rattle.watch_text.specs.Fields.{items_field, more_items}
 
@@ -29,3 +30,15 @@ items_put result text name old a b c new items first rest are head one more last
     ∙ regroup old name (text first) (more_items text rest) (codes "]")
     ∙ ap (λ all. old ++ items_field name text all) (sym are))
     last
+
+-- a number's last digit behind the others
+pub one_more_digit : (n : ℕ) → 10 ≤ n → n < 2 ^ 64 → decimal n ≡ decimal (n / 10) ++ decimal (n % 10)
+one_more_digit n long small =
+    decimal_step n long small ∙ ap (λ last. decimal (n / 10) ++ last) (sym (decimal_digit (n % 10) (omega arith)))
+
+-- the last digit behind the others
+pub digit_behind : {T E : Type 0} (result : Result T E) (old mid new : List ℕ) (n : ℕ) → 10 ≤ n → n < 2 ^ 64
+    → mid ≡ old ++ decimal (n / 10) → OnOk result (new ≡ mid ++ decimal (n % 10)) → OnOk result (new ≡ old ++ decimal n)
+digit_behind result old mid new n long small front last =
+    on_ok_weaker result (λ is. is ∙ ap (λ all. old ++ all) (sym (one_more_digit n long small)))
+    (two_texts result old mid new (decimal (n / 10)) (decimal (n % 10)) front last)

@@ -2,3 +2,5 @@ mod Ranged
 mod Placing
 mod Joined
 mod Handed
+mod Refreshed
+mod Quiet

@@ -3,7 +3,7 @@ use Rattle.std.proofs.Common.{◌≡◌, ◌∙◌, ℕ, ◌+◌, ◌<◌, ◌�
 use Rattle.std.proofs.Common.{zero, ⊎_elim, append_assoc}
 use Rattle.std.specs.Prelude.{codes, cond, find, filter, Bool, true, false, Some, None}
 use Rattle.std.specs.List.{flat_map, range_with_len}
-use Rattle.std.proofs.lemmas.Bool.{cases_lt}
+use Rattle.std.proofs.lemmas.Bool.{cases_lt, false_from_ne_true}
 use Rattle.std.proofs.lemmas.List.Concat.{flat_map-append}
 use Rattle.std.proofs.lemmas.List.Folds.{flat_map-map}
 use Rattle.std.proofs.lemmas.List.FromFn.{filter_of_map_range_with_len_more, map-range_with_len_more}
@@ -122,3 +122,11 @@ first_from p a (suc n) j low high none here =
 pub find_first : (p : ℕ → Bool) (n j : ℕ) → j < n → ((k : ℕ) → k < j → p k ≡ false) → p j ≡ true
     → find p (range_with_len 0 n) ≡ Some j
 find_first p n j below none here = first_from p 0 n j (omega arith) (omega arith) (λ k low high. none k high) here
+
+-- where no two numbers pass, one that does is found
+pub find_one : (p : ℕ → Bool) (n j : ℕ) → j < n → p j ≡ true → ((a b : ℕ) → p a ≡ true → p b ≡ true → a ≡ b)
+    → find p (range_with_len 0 n) ≡ Some j
+find_one p n j below here one =
+    find_first p n j below (λ k less. false_from_ne_true (p k) (λ is.
+    (let same : k ≡ j = one k j is here in absurd (omega (arith, less, same)))))
+    here

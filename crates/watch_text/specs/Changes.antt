@@ -1,6 +1,6 @@
 -- What stands in a line behind its event: the reply, and what changed.
-use Rattle.std.specs.Prelude.{◌-◌, ◌==◌, ◌&&◌, ℕ, Bool, false, List, [], ◌∷◌, ◌++◌, codes, decimal, drop, find}
-use Rattle.std.specs.Prelude.{length}
+use Rattle.std.specs.Prelude.{◌≡◌, ◌-◌, ◌==◌, ◌&&◌, ℕ, Bool, false, true, List, [], ◌∷◌, ◌++◌, codes, decimal}
+use Rattle.std.specs.Prelude.{drop, find, length}
 use Rattle.std.specs.Prelude.{Some, None, option_and_then, option_map, slice_get, if◌then◌else◌}
 use Rattle.std.specs.declared.option.Option.{Option}
 use Rattle.std.specs.List.{range_with_len}
@@ -22,7 +22,8 @@ use Rattle.event_def.specs.declared.event.Reply.TheVariants as reply
 use Rattle.watch_text.specs.declared.before.Before.{Before}
 use Rattle.watch_text.specs.Asking.{Attempt, Hands, Says}
 use Rattle.watch_text.specs.Fields.{hex_text, items_field, name_field, number_field, pair_text, some_field, word_field}
-use Rattle.watch_text.specs.Taking.{id_count, ids_back, ids_gone, ids_spilled, was_at}
+use Rattle.watch_text.specs.Taking.{OthersRemembered, TookBackNone, TookNone, id_count, ids_back, ids_gone}
+use Rattle.watch_text.specs.Taking.{ids_spilled, was_at}
 
 -- the last item
 abbrev pub last_item : {X : Type 0} → List X → Option X
@@ -61,6 +62,28 @@ child_in new task None = None
 child_in new task (Some (requests.Enqueue spawn)) = option_and_then (last_child new) task
 child_in new task (Some other) = None
 
+-- no two tasks are the child of this place
+abbrev pub IsOneChild : View → ℕ → ℕ → Type 0
+IsOneChild view parent index =
+    (a b : ℕ) → has_child view parent index a ≡ true → has_child view parent index b ≡ true → a ≡ b
+
+abbrev pub IsOneLastOf : View → ℕ → Option Task → Type 0
+IsOneLastOf view parent None = Unit {0}
+IsOneLastOf view parent (Some task) = IsOneChild view parent (length task.spawns - 1)
+
+-- so it is with the child that the task made last
+abbrev pub IsOneLast : View → ℕ → Type 0
+IsOneLast view parent = IsOneLastOf view parent (task_at view parent)
+
+abbrev pub IsOneIfSome : View → Option ℕ → Type 0
+IsOneIfSome view None = Unit {0}
+IsOneIfSome view (Some parent) = IsOneLast view parent
+
+-- and with the one that came with a request
+abbrev pub IsOneIn : View → Option Request → Option ℕ → Type 0
+IsOneIn new (Some (requests.Enqueue spawn)) task = IsOneIfSome new task
+IsOneIn new other task = Unit {0}
+
 -- the task that came: the child of an enqueue, or the one that a split brought back
 abbrev pub arrived_in : {N : Type 0} → View → Attempt N → Option ℕ → Option Request → Option ℕ
 arrived_in new (Hands (event.Step tile core leg)) task request = child_in new task request
@@ -71,6 +94,17 @@ arrived_in new asks task request = None
 abbrev pub done_in : {N : Type 0} → Attempt N → Option ℕ → Option ℕ
 done_in (Hands event.Commit) task = task
 done_in asks task = None
+
+-- the event took none back
+abbrev pub TakesBackNone : {N : Type 0} → List (Option Before) → View → Attempt N → Option ℕ → Option Request → Type 0
+TakesBackNone table new asks task request =
+    TookBackNone table new (arrived_in new asks task request) (done_in asks task)
+
+-- the event left the other tasks alone: it took none back and spilled none, and what was remembered of them is so still
+pub record LeavesOthers {N : Type 0} (table : List (Option Before)) (new : View) (asks : Attempt N) (task : Option ℕ)
+    (request : Option Request) : Type 0 where
+  pub took : TookNone table new (arrived_in new asks task request) (done_in asks task)
+  pub others : OthersRemembered table new task (arrived_in new asks task request) (done_in asks task)
 
 -- ---- tasks that were taken back
 
@@ -97,13 +131,16 @@ spilled_text table commits id = codes "[" ++ decimal id ++ named_text commits (w
 abbrev pub aborted_text : ℕ → List ℕ
 aborted_text aborted = if aborted == 0 then [] else number_field (codes "aborted") aborted
 
--- how many were taken back, which, which of these are gone, and which were spilled
-unfoldable pub taken_text : List (Option Before) → View → (arrived done : Option ℕ) → ℕ → List ℕ
-taken_text table new arrived done aborted =
-    aborted_text aborted
-    ++ items_field (codes "back") (back_text table) (ids_back table new arrived done)
+-- which were taken back, which of these are gone, and which were spilled
+abbrev pub lists_text : List (Option Before) → View → (arrived done : Option ℕ) → List ℕ
+lists_text table new arrived done =
+    items_field (codes "back") (back_text table) (ids_back table new arrived done)
     ++ items_field (codes "gone") decimal (ids_gone table new arrived)
     ++ items_field (codes "spilled") (spilled_text table (length new.history)) (ids_spilled table new arrived done)
+
+-- how many were taken back, and these
+unfoldable pub taken_text : List (Option Before) → View → (arrived done : Option ℕ) → ℕ → List ℕ
+taken_text table new arrived done aborted = aborted_text aborted ++ lists_text table new arrived done
 
 -- ---- what an event changed beside that
 

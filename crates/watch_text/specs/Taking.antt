@@ -1,5 +1,6 @@
--- Which tasks an event took back, discarded and spilled, told from what stood before it and what stands behind it.
-use Rattle.std.specs.Prelude.{◌==◌, ◌&&◌, ◌||◌, ◌*◌, not, ℕ, Bool, false, List, map, filter, length}
+-- Which tasks an event took back, discarded and spilled, told from what stood before it and what stands behind it; and
+-- what it is to leave the other tasks alone.
+use Rattle.std.specs.Prelude.{◌≡◌, ◌<◌, ◌==◌, ◌&&◌, ◌||◌, ◌*◌, not, ℕ, Bool, false, List, [], map, filter, length}
 use Rattle.std.specs.Prelude.{Some, None, is_none, is_some, option_map, slice_index_or}
 use Rattle.std.specs.declared.option.Option.{Option}
 use Rattle.std.specs.List.{range_with_len}
@@ -84,3 +85,37 @@ ids_gone table new arrived = filter (was_discarded table new arrived) (range_wit
 
 abbrev pub ids_spilled : List (Option Before) → View → (arrived done : Option ℕ) → List ℕ
 ids_spilled table new arrived done = filter (was_spilled table new arrived done) (range_with_len 0 (length table))
+
+-- none was taken back, whatever was spilled
+pub record TookBackNone (table : List (Option Before)) (new : View) (arrived done : Option ℕ) : Type 0 where
+  pub back : ids_back table new arrived done ≡ []
+  pub gone : ids_gone table new arrived ≡ []
+
+-- ---- an event that leaves other tasks alone
+
+-- none was taken back, discarded or spilled
+pub record TookNone (table : List (Option Before)) (new : View) (arrived done : Option ℕ) : Type 0 where
+  pub back : ids_back table new arrived done ≡ []
+  pub gone : ids_gone table new arrived ≡ []
+  pub spilled : ids_spilled table new arrived done ≡ []
+
+-- the creator is this task, which hasn't committed
+abbrev pub is_made_by : ℕ → Creator → Bool
+is_made_by id (Committed turn index) = false
+is_made_by id (Live task index) = task.0 == id
+
+abbrev pub was_made_by : ℕ → Option Before → Bool
+was_made_by id None = false
+was_made_by id (Some was) = is_made_by id was.creator
+
+-- it is a child of the task that committed
+abbrev pub is_orphan : (done : Option ℕ) → Option Before → Bool
+is_orphan None was = false
+is_orphan (Some id) was = was_made_by id was
+
+-- what the table has is what is remembered now: of all tasks but the one that the event is about, the one that came,
+-- and the children of the one that committed
+abbrev pub OthersRemembered : List (Option Before) → View → (about arrived done : Option ℕ) → Type 0
+OthersRemembered table new about arrived done =
+    (id : ℕ) → id < length table → is_id about id ≡ false → is_id arrived id ≡ false
+    → is_orphan done (was_at table id) ≡ false → was_at table id ≡ remembered new id

@@ -1,8 +1,7 @@
 //! What an event is about, as the machine stands before it.
 
-ghost use Rattle.std.specs.Prelude.{◌≡◌, ◌<◌, ◌↔◌, ℕ, IfSome, IsNone, IsTrue, None, Some, option_map};
+ghost use Rattle.std.specs.Prelude.{◌≡◌, ◌<◌, ℕ, IfSome, IsNone, None, Some, option_map};
 ghost use Rattle.rv_core.specs.LegValue.{LegValue};
-ghost use Rattle.spec_state.specs.declared.task.Status.TheVariants.{Running};
 ghost use Rattle.spec_state.specs.declared.task.Task.{Task};
 ghost use Rattle.spec_state.specs.Changes.{TakesLeg, request_of};
 ghost use Rattle.spec_state.specs.Least.{IsTheLeast};
@@ -13,8 +12,9 @@ ghost use Rattle.watch_text.specs.Moments.{IsAbout, IsAskedFor, task_of};
 
 use crate::asking::Asked;
 use conflict_book::Legless;
+use event_step::taker;
 use rv_core::{Leg, Naming};
-use spec_state::{State, Status, Task, TaskId, Where};
+use spec_state::{State, TaskId, Where};
 use task_request::{Request, request_of};
 
 /// What an event is about.
@@ -25,6 +25,16 @@ pub struct About {
     pub task: Option<TaskId>,
     /// What the task on the core asks for at the end of the leg; None where it doesn't take the leg.
     pub request: Option<Request>,
+}
+
+/// The id of the task that an event is about.
+pub(crate) fn task_of(about: &About) -> Option<usize>
+    ensures { result ≡ task_of about.now }
+{
+    match about.task {
+        None => None,
+        Some(id) => Some(id.0),
+    }
 }
 
 /// The id of the least task, where it is queued.
@@ -45,30 +55,6 @@ fn least_task<N: Naming>(state: &State<N>) -> Option<TaskId>
     match state.least() {
         None => None,
         Some(least) => queued_in(least),
-    }
-}
-
-/// Whether a task runs on this core of its tile and the leg begins at its kept core.
-fn takes<N: Naming>(task: &Task, core: u32, leg: &Leg<N>) -> bool
-    ensures { IsTrue result ↔ ((task.now.status ≡ Running core) × (task.now.core ≡ leg.now.from)) }
-{
-    task.status == Status::Running { core } && leg.begins_at(&task.core)
-}
-
-/// The task that takes a leg on a core of a tile; None exactly where none does.
-fn taker<N: Naming>(state: &State<N>, tile: u32, core: u32, leg: &Leg<N>) -> Option<TaskId>
-    requires tile { tile < state.now.view.settings.tiles }
-    requires core { core < state.now.view.settings.cores }
-    ensures some { let view = state.now.view in
-        IfSome result (λ id. (task : Task) × TakesLeg view tile core leg.now id.0 task) }
-    ensures none { IsNone result → IsStale state.now.view tile core leg.now }
-{
-    state.is_stored();
-    let id = state.on_core(tile, core)?;
-    if takes(state.task(id), core, leg) {
-        Some(id)
-    } else {
-        None
     }
 }
 

@@ -28,7 +28,8 @@ fn before_of(task: &Task) -> Before
     }
 }
 
-fn remembered<N: Naming>(state: &State<N>, id: usize) -> Option<Before>
+/// What is remembered of the task of an id, where there is one.
+pub(crate) fn remembered<N: Naming>(state: &State<N>, id: usize) -> Option<Before>
     ensures { result ≡ remembered state.now.view id }
 {
     match state.find(TaskId(id)) {

@@ -1,21 +1,25 @@
 //! What an event changed.
 
-ghost use Rattle.std.specs.Prelude.{◌≡◌, ◌<◌, ◌++◌, ℕ, OnOk, codes, decimal, length, option_map};
+ghost use Rattle.std.specs.Prelude.{◌≡◌, ◌<◌, ◌++◌, ℕ, IfSome, IsTrue, OnOk, Some, codes, decimal, length};
+ghost use Rattle.std.specs.Prelude.{option_map};
 ghost use Rattle.std.specs.String.{string_bytes};
 ghost use Rattle.rv_core.specs.LegValue.{LegValue};
 ghost use Rattle.spec_state.specs.Fronts.{name_given};
 ghost use Rattle.spec_state.specs.View.{queue_at};
 ghost use Rattle.watch_text.specs.Asking.{AskedIsInRange, asks_of};
-ghost use Rattle.watch_text.specs.Changes.{aborted_text, arrived_in, back_text, child_at, child_in, done_in, has_child};
-ghost use Rattle.watch_text.specs.Changes.{last_child, last_item, named_text, spilled_text, taken_text, used_by};
-ghost use Rattle.watch_text.specs.Changes.{work_of};
+ghost use Rattle.watch_text.specs.Changes.{IsOneChild, IsOneIn, IsOneLast, LeavesOthers, TakesBackNone};
+ghost use Rattle.watch_text.specs.Changes.{aborted_text};
+ghost use Rattle.watch_text.specs.Changes.{arrived_in, back_text, child_at, child_in};
+ghost use Rattle.watch_text.specs.Changes.{done_in, has_child, last_child, last_item, lists_text, named_text};
+ghost use Rattle.watch_text.specs.Changes.{spilled_text, taken_text, used_by, work_of};
 ghost use Rattle.watch_text.specs.Fields.{items_field, more_items};
 ghost use Rattle.watch_text.specs.Moments.{task_of};
-ghost use Rattle.watch_text.specs.Taking.{ids_back, ids_gone, ids_spilled};
+ghost use Rattle.watch_text.specs.Taking.{TookBackNone, TookNone, ids_back, ids_gone, ids_spilled};
 
-use crate::about::About;
+use crate::about::{About, task_of};
 use crate::asking::Asked;
 use crate::before::{Before, id_count};
+use crate::effect::Effect;
 use crate::fields::{put_list, put_number};
 use crate::taking::{ids_back, ids_gone, ids_spilled, was_at};
 use conflict_book::Legless;
@@ -173,6 +177,22 @@ fn put_aborted(line: &mut String, aborted: u32) -> Result<(), AllocError>
     put_number(line, "aborted", u64::from(aborted))
 }
 
+/// Which tasks an event took back, which of these are gone, and which it spilled.
+fn put_lists<N: Naming>(
+    line: &mut String,
+    state: &State<N>,
+    table: &[Option<Before>],
+    arrived: Option<usize>,
+    done: Option<usize>,
+) -> Result<(), AllocError>
+    ensures { OnOk result (string_bytes line.new ≡ string_bytes line.old
+        ++ lists_text table.now state.now.view arrived done) }
+{
+    put_backs(line, state, table, arrived, done)?;
+    put_gone(line, state, table, arrived)?;
+    put_spills(line, state, table, arrived, done)
+}
+
 /// What an event did to other tasks: how many were taken back, which, which of these are gone, and which were spilled.
 #[tactic(auto, unfolding(crate::specs::Changes::taken_text))]
 fn put_taken<N: Naming>(
@@ -181,15 +201,21 @@ fn put_taken<N: Naming>(
     table: &[Option<Before>],
     arrived: Option<usize>,
     done: Option<usize>,
-    aborted: u32,
+    effect: Effect,
 ) -> Result<(), AllocError>
+    requires quiet { IsTrue effect.quiet → TookNone table.now state.now.view arrived done }
+    requires kept { effect.aborted ≡ 0 → TookBackNone table.now state.now.view arrived done }
     ensures { OnOk result (string_bytes line.new ≡ string_bytes line.old
-        ++ taken_text table.now state.now.view arrived done aborted) }
+        ++ taken_text table.now state.now.view arrived done effect.aborted) }
 {
-    put_aborted(line, aborted)?;
-    put_backs(line, state, table, arrived, done)?;
-    put_gone(line, state, table, arrived)?;
-    put_spills(line, state, table, arrived, done)
+    put_aborted(line, effect.aborted)?;
+    if effect.quiet {
+        return Ok(());
+    }
+    if effect.aborted == 0 {
+        return put_spills(line, state, table, arrived, done);
+    }
+    put_lists(line, state, table, arrived, done)
 }
 
 fn put_backs<N: Naming>(
@@ -247,6 +273,22 @@ fn has_child<N: Naming>(state: &State<N>, parent: usize, index: usize, id: usize
     }
 }
 
+/// The same child, where it stands last in a task queue.
+fn child_queued<N: Naming>(state: &State<N>, parent: usize, index: usize) -> Option<usize>
+    requires { IsOneChild state.now.view parent index }
+    ensures { IfSome result (λ id. child_at state.now.view parent index ≡ Some id) }
+{
+    let count = id_count(state);
+    for tile in 0..state.settings().tiles {
+        if let Some(id) = last_queued(state, tile) {
+            if id < count && has_child(state, parent, index, id) {
+                return Some(id);
+            }
+        }
+    }
+    None
+}
+
 /// The id of a task's child of this place.
 #[tactic(auto, using(crate::proofs::Ranged::find_none))]
 fn child_at<N: Naming>(state: &State<N>, parent: usize, index: usize) -> Option<usize>
@@ -260,13 +302,25 @@ fn child_at<N: Naming>(state: &State<N>, parent: usize, index: usize) -> Option<
     None
 }
 
+/// The same, which is looked for among the last tasks of the queues first, as a task that comes stands there.
+fn child_of<N: Naming>(state: &State<N>, parent: usize, index: usize) -> Option<usize>
+    requires { IsOneChild state.now.view parent index }
+    ensures { result ≡ child_at state.now.view parent index }
+{
+    match child_queued(state, parent, index) {
+        None => child_at(state, parent, index),
+        Some(id) => Some(id),
+    }
+}
+
 /// The child that a task made last.
-pub(crate) fn last_child<N: Naming>(state: &State<N>, parent: usize) -> Option<usize>
+fn last_child<N: Naming>(state: &State<N>, parent: usize) -> Option<usize>
+    requires { IsOneLast state.now.view parent }
     ensures { result ≡ last_child state.now.view parent }
 {
     match state.find(TaskId(parent)) {
         None => None,
-        Some(task) => child_at(
+        Some(task) => child_of(
             state,
             parent,
             task.spawns.as_slice().len().saturating_sub(1),
@@ -274,7 +328,7 @@ pub(crate) fn last_child<N: Naming>(state: &State<N>, parent: usize) -> Option<u
     }
 }
 
-pub(crate) fn last_queued<N: Naming>(state: &State<N>, tile: u32) -> Option<usize>
+fn last_queued<N: Naming>(state: &State<N>, tile: u32) -> Option<usize>
     requires { tile < state.now.view.settings.tiles }
     ensures { result ≡ last_item (queue_at state.now.view tile) }
 {
@@ -287,6 +341,7 @@ fn child_in<N: Naming>(
     task: Option<TaskId>,
     request: Option<Request>,
 ) -> Option<usize>
+    requires { IsOneIn state.now.view request (option_map (λ id. id.0) task) }
     ensures { result ≡ child_in state.now.view (option_map (λ id. id.0) task) request }
 {
     match request {
@@ -306,8 +361,9 @@ fn child_in<N: Naming>(
 }
 
 /// The task that came: the child of an enqueue, or the one that a split brought back.
-fn arrived_in<N: Naming>(state: &State<N>, asked: &Asked, about: &About) -> Option<usize>
-    requires { AskedIsInRange N state.now.view.settings asked.now }
+pub fn arrived_in<N: Naming>(state: &State<N>, asked: &Asked, about: &About) -> Option<usize>
+    requires within { AskedIsInRange N state.now.view.settings asked.now }
+    requires one { IsOneIn state.now.view about.now.request (task_of about.now) }
     ensures { (leg : LegValue) → result
         ≡ arrived_in state.now.view (asks_of {N = N} asked.now leg) (task_of about.now) about.now.request }
 {
@@ -323,16 +379,13 @@ fn arrived_in<N: Naming>(state: &State<N>, asked: &Asked, about: &About) -> Opti
 }
 
 /// The task that committed.
-fn done_in<N: Naming>(asked: &Asked, about: &About) -> Option<usize>
+pub(crate) fn done_in<N: Naming>(asked: &Asked, about: &About) -> Option<usize>
     ensures { (leg : LegValue) → result ≡ done_in (asks_of {N = N} asked.now leg) (task_of about.now) }
 {
     match *asked {
         Asked::Legless(Legless::Dispatch { .. }) => None,
         Asked::Legless(Legless::Abort { .. }) => None,
-        Asked::Legless(Legless::Commit) => match about.task {
-            None => None,
-            Some(id) => Some(id.0),
-        },
+        Asked::Legless(Legless::Commit) => task_of(about),
         Asked::Legless(Legless::Coalesce { .. }) => None,
         Asked::Legless(Legless::Split { .. }) => None,
         Asked::Ready { .. } => None,
@@ -347,15 +400,19 @@ pub(crate) fn put_taken_by<N: Naming>(
     table: &[Option<Before>],
     asked: &Asked,
     about: &About,
-    aborted: u32,
+    effect: Effect,
 ) -> Result<(), AllocError>
-    requires { AskedIsInRange N state.now.view.settings asked.now }
+    requires came { (leg : LegValue) → effect.arrived
+        ≡ arrived_in state.now.view (asks_of {N = N} asked.now leg) (task_of about.now) about.now.request }
+    requires kept { effect.aborted ≡ 0 → (leg : LegValue) → TakesBackNone {N = N} table.now state.now.view
+        (asks_of asked.now leg) (task_of about.now) about.now.request }
+    requires quiet { IsTrue effect.quiet → (leg : LegValue)
+        → LeavesOthers {N = N} table.now state.now.view (asks_of asked.now leg) (task_of about.now) about.now.request }
     ensures { (leg : LegValue) → let asks = asks_of {N = N} asked.now leg in
         OnOk result (string_bytes line.new ≡ string_bytes line.old ++ taken_text table.now state.now.view
         (arrived_in state.now.view asks (task_of about.now) about.now.request) (done_in asks (task_of about.now))
-        aborted) }
+        effect.aborted) }
 {
-    let arrived = arrived_in(state, asked, about);
     let done = done_in::<N>(asked, about);
-    put_taken(line, state, table, arrived, done, aborted)
+    put_taken(line, state, table, effect.arrived, done, effect)
 }

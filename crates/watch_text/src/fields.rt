@@ -1,23 +1,110 @@
 //! Fields of a line.
 
-ghost use Rattle.std.specs.Prelude.{◌≡◌, ◌++◌, OnOk, decimal};
+ghost use Rattle.std.specs.Prelude.{◌≡◌, ◌<◌, ◌≤◌, ◌++◌, OnOk, codes, decimal};
 ghost use Rattle.std.specs.List.{flat_map};
 ghost use Rattle.std.specs.String.{string_bytes};
 ghost use Rattle.report_text.specs.Hex.{byte_hex};
 ghost use Rattle.watch_text.specs.Fields.{args_field, comma_before, items_field, items_text, more_items, name_field};
 ghost use Rattle.watch_text.specs.Fields.{number_field, some_field, start_text, word_field};
 
+use itoa::Buffer;
 use std::alloc::AllocError;
 use std::fmt::Write;
 
+/// A text as it stands.
+#[inline(always)]
+pub(crate) fn put_text(line: &mut String, text: &str) -> Result<(), AllocError>
+    ensures { OnOk result (string_bytes line.new ≡ string_bytes line.old ++ text.now) }
+{
+    line.push_str(text)
+}
+
+/// A digit.
+#[inline(always)]
+#[tactic(auto, using(std::proofs::lemmas::Fmt::decimal_digit))]
+fn put_digit(line: &mut String, digit: u64) -> Result<(), AllocError>
+    requires { digit < 10 }
+    ensures { OnOk result (string_bytes line.new ≡ string_bytes line.old ++ decimal digit) }
+{
+    line.push(char::from(b'0' + digit as u8))
+}
+
+/// Two digits.
+#[inline(always)]
+fn put_two(line: &mut String, number: u64) -> Result<(), AllocError>
+    requires { (10 ≤ number) × (number < 100) }
+    ensures { OnOk result (string_bytes line.new ≡ string_bytes line.old ++ decimal number) }
+{
+    put_digit(line, number / 10)?;
+    put_digit(line, number % 10)
+}
+
+/// Three digits.
+#[inline(always)]
+fn put_three(line: &mut String, number: u64) -> Result<(), AllocError>
+    requires { (100 ≤ number) × (number < 1000) }
+    ensures { OnOk result (string_bytes line.new ≡ string_bytes line.old ++ decimal number) }
+{
+    put_two(line, number / 10)?;
+    put_digit(line, number % 10)
+}
+
+/// Any digits.
+fn put_many(line: &mut String, number: u64) -> Result<(), AllocError>
+    ensures { OnOk result (string_bytes line.new ≡ string_bytes line.old ++ decimal number) }
+{
+    let mut buffer = Buffer::new();
+    line.push_str(buffer.format(number))
+}
+
+/// More digits than one.
+fn put_long(line: &mut String, number: u64) -> Result<(), AllocError>
+    requires { 10 ≤ number }
+    ensures { OnOk result (string_bytes line.new ≡ string_bytes line.old ++ decimal number) }
+{
+    if number < 100 {
+        put_two(line, number)
+    } else if number < 1000 {
+        put_three(line, number)
+    } else {
+        put_many(line, number)
+    }
+}
+
+/// The digits of a number: most have one.
+#[inline(always)]
+pub(crate) fn put_digits(line: &mut String, number: u64) -> Result<(), AllocError>
+    ensures { OnOk result (string_bytes line.new ≡ string_bytes line.old ++ decimal number) }
+{
+    if number < 10 {
+        put_digit(line, number)
+    } else {
+        put_long(line, number)
+    }
+}
+
+/// A number behind its key, as `,"tile":`, which is one text.
+#[inline(always)]
+pub(crate) fn put_keyed(line: &mut String, key: &str, number: u64) -> Result<(), AllocError>
+    ensures { OnOk result (string_bytes line.new ≡ string_bytes line.old ++ (key.now ++ decimal number)) }
+{
+    put_text(line, key)?;
+    put_digits(line, number)
+}
+
 /// A number under a name.
+#[inline(always)]
 pub(crate) fn put_number(line: &mut String, name: &str, number: u64) -> Result<(), AllocError>
     ensures { OnOk result (string_bytes line.new ≡ string_bytes line.old ++ number_field name.now number) }
 {
-    write!(line, ",\"{name}\":{number}")
+    put_text(line, ",\"")?;
+    put_text(line, name)?;
+    put_text(line, "\":")?;
+    put_digits(line, number)
 }
 
 /// The same where there is one.
+#[inline(always)]
 pub(crate) fn put_some(line: &mut String, name: &str, number: Option<u64>) -> Result<(), AllocError>
     ensures { OnOk result (string_bytes line.new ≡ string_bytes line.old ++ some_field name.now number) }
 {
@@ -28,25 +115,60 @@ pub(crate) fn put_some(line: &mut String, name: &str, number: Option<u64>) -> Re
 }
 
 /// A word under a name.
+#[inline(always)]
 pub(crate) fn put_word(line: &mut String, name: &str, word: &str) -> Result<(), AllocError>
     ensures { OnOk result (string_bytes line.new ≡ string_bytes line.old ++ word_field name.now word.now) }
 {
-    write!(line, ",\"{name}\":\"{word}\"")
+    put_text(line, ",\"")?;
+    put_text(line, name)?;
+    put_text(line, "\":\"")?;
+    put_text(line, word)?;
+    put_text(line, "\"")
+}
+
+/// A word behind its key, as `,"do":"`, which is one text.
+#[inline(always)]
+pub(crate) fn put_keyed_word(line: &mut String, key: &str, word: &str) -> Result<(), AllocError>
+    ensures { OnOk result (string_bytes line.new ≡ string_bytes line.old ++ (key.now ++ word.now ++ codes "\"")) }
+{
+    put_text(line, key)?;
+    put_text(line, word)?;
+    put_text(line, "\"")
+}
+
+/// The core, where there is one.
+#[inline(always)]
+pub(crate) fn put_core(line: &mut String, core: Option<u64>) -> Result<(), AllocError>
+    ensures { OnOk result (string_bytes line.new ≡ string_bytes line.old ++ some_field (codes "core") core) }
+{
+    match core {
+        None => Ok(()),
+        Some(core) => put_keyed(line, ",\"core\":", core),
+    }
 }
 
 /// A task's name: the commit number of its creator, and its place among the children.
 pub(crate) fn put_name(line: &mut String, creator: u64, index: u32) -> Result<(), AllocError>
     ensures { OnOk result (string_bytes line.new ≡ string_bytes line.old ++ name_field creator index) }
 {
-    write!(line, ",\"name\":[{creator},{index}]")
+    put_text(line, ",\"name\":[")?;
+    put_digits(line, creator)?;
+    put_text(line, ",")?;
+    put_digits(line, u64::from(index))?;
+    put_text(line, "]")
 }
 
 /// Three arguments.
 fn put_args(line: &mut String, args: &[u32; 3]) -> Result<(), AllocError>
     ensures { OnOk result (string_bytes line.new ≡ string_bytes line.old ++ args_field args.now) }
 {
-    let (one, two, three) = (args[0], args[1], args[2]);
-    write!(line, ",\"args\":[{one},{two},{three}]")
+    put_text(line, ",\"args\":[")?;
+    put_digits(line, u64::from(args[0]))?;
+    put_text(line, ",")?;
+    put_digits(line, u64::from(args[1]))?;
+    put_text(line, ",")?;
+    put_digits(line, u64::from(args[2]))?;
+    put_text(line, "]")
 }
 
 /// What a task starts with: its entry, its timestamp, its arguments and its hint.
@@ -60,10 +182,10 @@ pub(crate) fn put_start(
 ) -> Result<(), AllocError>
     ensures { OnOk result (string_bytes line.new ≡ string_bytes line.old ++ start_text entry ts args.now hint) }
 {
-    put_number(line, "entry", u64::from(entry))?;
-    put_number(line, "ts", u64::from(ts))?;
+    put_keyed(line, ",\"entry\":", u64::from(entry))?;
+    put_keyed(line, ",\"ts\":", u64::from(ts))?;
     put_args(line, args)?;
-    put_number(line, "hint", u64::from(hint))
+    put_keyed(line, ",\"hint\":", u64::from(hint))
 }
 
 /// The comma before an item of this place, unless it is the first.
@@ -73,7 +195,7 @@ pub(crate) fn put_comma(line: &mut String, place: u32) -> Result<(), AllocError>
     if place == 0 {
         Ok(())
     } else {
-        write!(line, ",")
+        put_text(line, ",")
     }
 }
 
@@ -82,7 +204,8 @@ fn put_more(line: &mut String, ids: &[usize]) -> Result<(), AllocError>
     ensures { OnOk result (string_bytes line.new ≡ string_bytes line.old ++ more_items decimal ids.now) }
 {
     for id in ids {
-        write!(line, ",{id}")?;
+        put_text(line, ",")?;
+        put_digits(line, *id as u64)?;
     }
     Ok(())
 }
@@ -94,7 +217,7 @@ pub(crate) fn put_ids(line: &mut String, ids: &[usize]) -> Result<(), AllocError
     let Some((first, rest)) = ids.split_first() else {
         return Ok(());
     };
-    write!(line, "{first}")?;
+    put_digits(line, *first as u64)?;
     put_more(line, rest)
 }
 
@@ -105,9 +228,11 @@ pub(crate) fn put_list(line: &mut String, name: &str, ids: &[usize]) -> Result<(
     if ids.is_empty() {
         return Ok(());
     }
-    write!(line, ",\"{name}\":[")?;
+    put_text(line, ",\"")?;
+    put_text(line, name)?;
+    put_text(line, "\":[")?;
     put_ids(line, ids)?;
-    write!(line, "]")
+    put_text(line, "]")
 }
 
 /// The two hex digits of a byte.

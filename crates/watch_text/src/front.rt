@@ -4,7 +4,7 @@ ghost use Rattle.std.specs.Prelude.{◌≡◌, ◌+◌, ◌++◌, ◌<◌, OnOk,
 ghost use Rattle.std.specs.String.{string_bytes};
 ghost use Rattle.rv_core.specs.LegValue.{LegValue};
 ghost use Rattle.watch_text.specs.Asking.{asks_of};
-ghost use Rattle.watch_text.specs.Fields.{number_field, word_field};
+ghost use Rattle.watch_text.specs.Fields.{number_field, some_field, word_field};
 ghost use Rattle.watch_text.specs.Moments.{task_of};
 ghost use Rattle.watch_text.specs.Requests.{access_text, act_spot, do_spot, enqueue_fields, front_text, in_tile};
 ghost use Rattle.watch_text.specs.Requests.{leg_text, load_fields, nowhere, asks_with_number, spot_on_core, asks_field};
@@ -12,13 +12,14 @@ ghost use Rattle.watch_text.specs.Requests.{request_text, spawn_text, spot_text,
 
 use crate::about::About;
 use crate::asking::Asked;
-use crate::fields::{put_number, put_some, put_start, put_word};
+use crate::fields::{
+    put_core, put_digits, put_keyed, put_keyed_word, put_number, put_start, put_text,
+};
 use crate::words::{do_word, kind_word, place_word};
 use conflict_book::Legless;
 use guest_image::DATA_START;
 use rv_core::{Leg, Naming, width_of_load};
 use std::alloc::AllocError;
-use std::fmt::Write;
 use step_script::Act;
 use task_desc::Spawn;
 use task_request::Request;
@@ -89,11 +90,33 @@ fn do_spot<N: Naming>(act: Act, asked: &Asked) -> Spot
     }
 }
 
+/// The tile, where there is one.
+#[inline(always)]
+fn put_tile(line: &mut String, tile: Option<u64>) -> Result<(), AllocError>
+    ensures { OnOk result (string_bytes line.new ≡ string_bytes line.old ++ some_field (codes "tile") tile) }
+{
+    match tile {
+        None => Ok(()),
+        Some(tile) => put_keyed(line, ",\"tile\":", tile),
+    }
+}
+
+/// The task, where there is one.
+#[inline(always)]
+fn put_task(line: &mut String, task: Option<u64>) -> Result<(), AllocError>
+    ensures { OnOk result (string_bytes line.new ≡ string_bytes line.old ++ some_field (codes "task") task) }
+{
+    match task {
+        None => Ok(()),
+        Some(task) => put_keyed(line, ",\"task\":", task),
+    }
+}
+
 fn put_spot(line: &mut String, spot: Spot) -> Result<(), AllocError>
     ensures { OnOk result (string_bytes line.new ≡ string_bytes line.old ++ spot_text spot) }
 {
-    put_some(line, "tile", spot.tile)?;
-    put_some(line, "core", spot.core)
+    put_tile(line, spot.tile)?;
+    put_core(line, spot.core)
 }
 
 /// An access of the data.
@@ -101,8 +124,12 @@ fn put_spot(line: &mut String, spot: Spot) -> Result<(), AllocError>
 fn put_access(line: &mut String, offset: u32, width: u8) -> Result<(), AllocError>
     ensures { OnOk result (string_bytes line.new ≡ string_bytes line.old ++ access_text offset width) }
 {
-    put_number(line, "addr", u64::from(DATA_START) + u64::from(offset))?;
-    put_number(line, "bytes", u64::from(width))
+    put_keyed(
+        line,
+        ",\"addr\":",
+        u64::from(DATA_START) + u64::from(offset),
+    )?;
+    put_keyed(line, ",\"bytes\":", u64::from(width))
 }
 
 /// A child.
@@ -110,7 +137,7 @@ fn put_access(line: &mut String, offset: u32, width: u8) -> Result<(), AllocErro
 fn put_spawn(line: &mut String, spawn: &Spawn) -> Result<(), AllocError>
     ensures { OnOk result (string_bytes line.new ≡ string_bytes line.old ++ spawn_text spawn.now) }
 {
-    put_word(line, "to", place_word(spawn.place))?;
+    put_keyed_word(line, ",\"to\":\"", place_word(spawn.place))?;
     put_start(line, spawn.entry, spawn.ts, &spawn.args, spawn.hint)
 }
 
@@ -119,7 +146,7 @@ fn put_spawn(line: &mut String, spawn: &Spawn) -> Result<(), AllocError>
 fn put_asks(line: &mut String, word: &str) -> Result<(), AllocError>
     ensures { OnOk result (string_bytes line.new ≡ string_bytes line.old ++ asks_field word.now) }
 {
-    put_word(line, "asks", word)
+    put_keyed_word(line, ",\"asks\":\"", word)
 }
 
 /// A request by its word and a number.
@@ -150,7 +177,7 @@ fn put_store(line: &mut String, offset: u32, width: u8, value: u32) -> Result<()
 {
     put_asks(line, "store")?;
     put_access(line, offset, width)?;
-    put_number(line, "value", u64::from(value))
+    put_keyed(line, ",\"value\":", u64::from(value))
 }
 
 #[tactic(auto, unfolding(crate::specs::Requests::enqueue_fields))]
@@ -188,8 +215,8 @@ fn put_leg<N: Naming>(line: &mut String, leg: &Leg<N>, request: &Request) -> Res
         ++ (number_field (codes "leg") leg.now.steps ++ number_field (codes "pc") leg.now.to.pc
         ++ request_text request.now)) }
 {
-    put_number(line, "leg", u64::from(leg.steps()))?;
-    put_number(line, "pc", u64::from(leg.to().pc))?;
+    put_keyed(line, ",\"leg\":", u64::from(leg.steps()))?;
+    put_keyed(line, ",\"pc\":", u64::from(leg.to().pc))?;
     put_request(line, request)
 }
 
@@ -222,7 +249,9 @@ fn put_do(line: &mut String, at: u64, word: &str) -> Result<(), AllocError>
     ensures { OnOk result (string_bytes line.new ≡ string_bytes line.old
         ++ (codes "{\"at\":" ++ decimal at ++ word_field (codes "do") word.now)) }
 {
-    write!(line, "{{\"at\":{at},\"do\":\"{word}\"")
+    put_text(line, "{\"at\":")?;
+    put_digits(line, at)?;
+    put_keyed_word(line, ",\"do\":\"", word)
 }
 
 fn task_number(about: &About) -> Option<u64>
@@ -249,6 +278,6 @@ pub fn put_front<N: Naming>(
 {
     put_do(line, at, do_word::<N>(act, asked))?;
     put_spot(line, do_spot::<N>(act, asked))?;
-    put_some(line, "task", task_number(about))?;
+    put_task(line, task_number(about))?;
     put_asked(line, asked, leg, about.request)
 }

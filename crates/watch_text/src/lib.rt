@@ -3,21 +3,24 @@
 //! end.
 //!
 //! A line is put together in one text, from readers of the state alone: what an event took back is found by holding
-//! the state behind it against a table of the tasks before it. That costs a look at each place of the task queues for
-//! an event, and a look at the tasks that moved. It stands on scripts and on the readers of the machine; `watch_play`
-//! calls it, and `fractal_watch` for the last line.
+//! the state behind it against a table of the tasks before it. That costs a look at each place of the task queues, and
+//! none where it is known that the event left the other tasks alone; only a commit looks at each place of the table
+//! then. It stands on scripts and on the readers of the machine; `watch_play` calls it, and `fractal_watch` for the
+//! last line.
 #![tactic(auto)]
 
 mod about;
 mod asking;
 mod before;
 mod change;
+mod effect;
 mod end;
 mod fields;
 mod front;
 mod head;
 mod own;
 mod placed;
+mod remembering;
 mod rest;
 mod taking;
 mod view;
@@ -26,9 +29,12 @@ mod words;
 pub use about::{About, about_of};
 pub use asking::Asked;
 pub use before::{Before, remember};
+pub use change::arrived_in;
+pub use effect::Effect;
 pub use end::put_end;
 pub use front::put_front;
 pub use head::{CourseWord, put_head};
 pub use placed::put_placed;
+pub use remembering::remember_behind;
 pub use rest::put_rest;
 pub use view::put_view;

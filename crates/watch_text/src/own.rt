@@ -3,23 +3,24 @@
 ghost use Rattle.std.specs.Prelude.{◌≡◌, ◌<◌, ◌++◌, OnOk, Some, drop, option_copied};
 ghost use Rattle.std.specs.String.{string_bytes};
 ghost use Rattle.rv_core.specs.LegValue.{LegValue};
-ghost use Rattle.watch_text.specs.Asking.{AskedIsInRange, asks_of};
-ghost use Rattle.watch_text.specs.Changes.{arrived_text, commit_text, core_of_status, dispatched_text, emitted_text};
+ghost use Rattle.watch_text.specs.Asking.{asks_of};
+ghost use Rattle.watch_text.specs.Changes.{arrived_in, arrived_text, child_in, commit_text, core_of_status};
+ghost use Rattle.watch_text.specs.Changes.{dispatched_text, emitted_text};
 ghost use Rattle.watch_text.specs.Changes.{entry_text};
-ghost use Rattle.watch_text.specs.Changes.{last_child, old_in, old_text, own_text, some_entry_text, split_name_text};
+ghost use Rattle.watch_text.specs.Changes.{old_in, old_text, own_text, some_entry_text, split_name_text};
 ghost use Rattle.watch_text.specs.Changes.{split_text, step_text, task_if, tile_in};
 ghost use Rattle.watch_text.specs.Moments.{task_of};
 
-use crate::about::About;
+use crate::about::{About, task_of};
 use crate::asking::Asked;
-use crate::change::{last_child, last_queued, name_creator, name_index};
-use crate::fields::{put_hex, put_name, put_number, put_some};
+use crate::change::{name_creator, name_index};
+use crate::effect::Effect;
+use crate::fields::{put_core, put_hex, put_keyed, put_name, put_some, put_text};
 use conflict_book::Legless;
 use rv_core::Naming;
 use serial_machine::Entry;
 use spec_state::{State, Status, Task, TaskId};
 use std::alloc::AllocError;
-use std::fmt::Write;
 use task_request::Request;
 
 /// The core that a status names.
@@ -52,7 +53,7 @@ fn put_dispatched(line: &mut String, task: Option<&Task>) -> Result<(), AllocErr
     match task {
         None => Ok(()),
         Some(task) => {
-            put_some(line, "core", core_of_status(task.status))?;
+            put_core(line, core_of_status(task.status))?;
             put_some(line, "number", task.key.tb)
         }
     }
@@ -99,7 +100,7 @@ fn put_arrived<N: Naming>(
     match arrived {
         None => Ok(()),
         Some(id) => {
-            put_number(line, "new", id as u64)?;
+            put_keyed(line, ",\"new\":", id as u64)?;
             put_some(line, "in", tile_of(state, id))
         }
     }
@@ -142,8 +143,8 @@ fn put_entry(line: &mut String, entry: Option<&Entry>) -> Result<(), AllocError>
         None => Ok(()),
         Some(entry) => {
             put_name(line, u64::from(entry.name.creator), entry.name.index)?;
-            put_number(line, "depth", u64::from(entry.depth))?;
-            put_number(line, "ts", u64::from(entry.ts))
+            put_keyed(line, ",\"depth\":", u64::from(entry.depth))?;
+            put_keyed(line, ",\"ts\":", u64::from(entry.ts))
         }
     }
 }
@@ -155,9 +156,9 @@ fn put_emitted(line: &mut String, bytes: &[u8]) -> Result<(), AllocError>
     if bytes.is_empty() {
         return Ok(());
     }
-    write!(line, ",\"output\":\"")?;
+    put_text(line, ",\"output\":\"")?;
     put_hex(line, bytes)?;
-    write!(line, "\"")
+    put_text(line, "\"")
 }
 
 /// The bytes of a list behind so many.
@@ -187,18 +188,20 @@ fn put_commit<N: Naming>(
 fn put_step<N: Naming>(
     line: &mut String,
     state: &State<N>,
-    task: Option<usize>,
-    request: Option<Request>,
+    about: &About,
+    arrived: Option<usize>,
 ) -> Result<(), AllocError>
-    ensures { OnOk result (string_bytes line.new ≡ string_bytes line.old ++ step_text state.now.view task request) }
+    requires { arrived ≡ child_in state.now.view (task_of about.now) about.now.request }
+    ensures { OnOk result (string_bytes line.new ≡ string_bytes line.old
+        ++ step_text state.now.view (task_of about.now) about.now.request) }
 {
-    match request {
+    match about.request {
         None => Ok(()),
-        Some(Request::Load { .. }) => put_old(line, task_if(state, task)),
-        Some(Request::Store { .. }) => put_old(line, task_if(state, task)),
-        Some(Request::Enqueue(_)) => match task {
+        Some(Request::Load { .. }) => put_old(line, task_if(state, task_of(about))),
+        Some(Request::Store { .. }) => put_old(line, task_if(state, task_of(about))),
+        Some(Request::Enqueue(_)) => match about.task {
             None => Ok(()),
-            Some(parent) => put_arrived(line, state, last_child(state, parent)),
+            Some(_) => put_arrived(line, state, arrived),
         },
         Some(Request::Continue) => Ok(()),
         Some(Request::MakeSub(_)) => Ok(()),
@@ -208,36 +211,29 @@ fn put_step<N: Naming>(
     }
 }
 
-fn task_id(about: &About) -> Option<usize>
-    ensures { result ≡ task_of about.now }
-{
-    match about.task {
-        None => None,
-        Some(id) => Some(id.0),
-    }
-}
-
-/// What each event changed; `output` is how many bytes there were before it.
+/// What each event changed.
 pub(crate) fn put_own<N: Naming>(
     line: &mut String,
     state: &State<N>,
-    output: usize,
     asked: &Asked,
     about: &About,
+    effect: Effect,
 ) -> Result<(), AllocError>
-    requires { AskedIsInRange N state.now.view.settings asked.now }
+    requires { (leg : LegValue) → effect.arrived
+        ≡ arrived_in state.now.view (asks_of {N = N} asked.now leg) (task_of about.now) about.now.request }
     ensures { (leg : LegValue) → OnOk result (string_bytes line.new ≡ string_bytes line.old
-        ++ own_text state.now.view output (asks_of {N = N} asked.now leg) (task_of about.now) about.now.request) }
+        ++ own_text state.now.view effect.output (asks_of {N = N} asked.now leg) (task_of about.now)
+        about.now.request) }
 {
     match *asked {
         Asked::Legless(Legless::Dispatch { .. }) => {
-            put_dispatched(line, task_if(state, task_id(about)))
+            put_dispatched(line, task_if(state, task_of(about)))
         }
-        Asked::Legless(Legless::Commit) => put_commit(line, state, output),
-        Asked::Legless(Legless::Split { tile }) => put_split(line, state, last_queued(state, tile)),
+        Asked::Legless(Legless::Commit) => put_commit(line, state, effect.output),
+        Asked::Legless(Legless::Split { .. }) => put_split(line, state, effect.arrived),
         Asked::Legless(Legless::Abort { .. }) => Ok(()),
         Asked::Legless(Legless::Coalesce { .. }) => Ok(()),
-        Asked::Ready { .. } => put_step(line, state, task_id(about), about.request),
+        Asked::Ready { .. } => put_step(line, state, about, effect.arrived),
         Asked::Says(_) => Ok(()),
     }
 }

@@ -1,0 +1,13 @@
+use Rattle.std.proofs.Common.{◌∙◌, ap}
+use Rattle.watch_text.specs.declared.asking.Asked.{Asked}
+use Rattle.watch_text.specs.Asking.{asks_of}
+use Rattle.watch_text.specs.Changes.{arrived_in}
+use Rattle.watch_text.specs.Moments.{task_of}
+use Rattle.watch_text.proofs.Quiet.{some_leg}
+use Rattle.watch_text.proofs.own.put_own.Goals as goal
+
+pub put_step-requires : goal.put_step-requires
+put_step-requires g c =
+    c.requires some_leg
+    ∙ ap (λ (asked : Asked). arrived_in c.args.state.now.view (asks_of {N = g.row.N.Denot} asked some_leg)
+    (task_of c.args.about.now) c.args.about.now.request) c.in-Ready.is
