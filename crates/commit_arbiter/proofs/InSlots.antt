@@ -2,17 +2,17 @@
 use Rattle.std.proofs.Common.{◌≡◌, ◌≢◌, ℕ, ◌-◌, ◌<◌, ◌≤◌, false, nat_eq, List, [], ◌∷◌, ◌++◌, length, get_or, set, take, refl, sym, ap, subst, ◌∙◌, arith}
 use Rattle.std.specs.List.{All, IsDistinct, AllByRecursion, insert}
 use Rattle.std.specs.List.Sorted.{IsPermutation}
-use Rattle.std.proofs.lemmas.List.{append_assoc, map-append, get_or-set_same, get_or-set_other, length-set, length-map, length-append}
-use Rattle.std.proofs.lemmas.List.Edits.{length-insert, insert-append_left, insert_end}
+use Rattle.std.proofs.lemmas.List.{map-append, get_or-set_same, get_or-set_other, length-set, length-map, length-append}
+use Rattle.std.proofs.lemmas.List.Edits.{length-insert, insert_end}
 use Rattle.std.proofs.Math.Seq.{take-append_seam}
 use Rattle.std.proofs.lemmas.List.Elements.{All-head}
-use Rattle.std.proofs.lemmas.List.Sorted.{IsPermutation-insert, IsPermutation-to_front, IsPermutation-trans, IsPermutation-sym, IsPermutation-append_left, All-permutation}
+use Rattle.std.proofs.lemmas.List.Sorted.{IsPermutation-to_front, IsPermutation-trans, IsPermutation-sym, IsPermutation-append_left, All-permutation}
 use Rattle.std.proofs.lemmas.Map.Keys.{IsDistinct-IsPermutation, IsDistinct-head}
 use Rattle.std.proofs.lemmas.Cmp.{nat_eq_equiv}
 use Rattle.std.proofs.lemmas.Bool.Decides.{nat_tests}
 use Rattle.commit_arbiter.specs.declared.candidate.Candidate.{Candidate}
 use Rattle.commit_arbiter.specs.Slots.{blank_candidate, in_slots, IsSlotted}
-use Rattle.fractal_vt.proofs.Proved.{map-insert, All-front}
+use Rattle.fractal_vt.proofs.Proved.{map-insert, All-front, inserted_front, last_front}
 
 -- a write to a slot that is not among them changes no candidate
 pub in_slots-set : (table : List Candidate) (slot : ℕ) (e : Candidate) (slots : List ℕ) → AllByRecursion (λ other. nat_eq slot other ≡ false) slots → in_slots (set table slot e) slots ≡ in_slots table slots
@@ -24,24 +24,12 @@ in_slots-set table slot e (s ∷ slots) other =
     differ : (s : ℕ) → s ≡ slot → nat_eq slot s ≡ false → ⊥
     differ s same not = grind (arith, nat_tests)
 
--- the last free slot comes into the order
-slots_pushed : (order free : List ℕ) (slot place : ℕ) → place ≤ length order → IsPermutation (slot ∷ (order ++ free)) (insert order place slot ++ free)
-slots_pushed order free slot place inside =
-    subst (IsPermutation (slot ∷ (order ++ free))) (insert-append_left order free place slot inside) (IsPermutation-insert (order ++ free) place slot)
-
-slots_front : (order free : List ℕ) (slot : ℕ) → IsPermutation (order ++ (free ++ slot ∷ [])) (slot ∷ (order ++ free))
-slots_front order free slot =
-    subst (λ xs. IsPermutation xs (slot ∷ (order ++ free))) (append_assoc order free (slot ∷ [])) (IsPermutation-to_front (order ++ free) slot)
-
-nat_eq_flips : (x y : ℕ) → nat_eq x y ≡ nat_eq y x
-nat_eq_flips x y = nat_eq_equiv.symm x y
-
 module _ (table : List Candidate) (order free : List ℕ) (slot : ℕ) (order_room free_room : ℕ) (is : IsSlotted table order (free ++ slot ∷ []) order_room free_room) where
   front : IsDistinct nat_eq (slot ∷ (order ++ free))
-  front = IsDistinct-IsPermutation nat_eq nat_eq_flips (order ++ (free ++ slot ∷ [])) (slot ∷ (order ++ free)) (slots_front order free slot) is.distinct
+  front = IsDistinct-IsPermutation nat_eq nat_eq_equiv.symm (order ++ (free ++ slot ∷ [])) (slot ∷ (order ++ free)) (last_front order free slot) is.distinct
 
   inside_all : All (λ s. s < length table) (slot ∷ (order ++ free))
-  inside_all = All-permutation (λ s. s < length table) (order ++ (free ++ slot ∷ [])) (slot ∷ (order ++ free)) (slots_front order free slot) is.within
+  inside_all = All-permutation (λ s. s < length table) (order ++ (free ++ slot ∷ [])) (slot ∷ (order ++ free)) (last_front order free slot) is.within
 
   pub slot_inside : slot < length table
   slot_inside = All-head (λ s. s < length table) slot (order ++ free) inside_all
@@ -69,8 +57,8 @@ module _ (table : List Candidate) (order free : List ℕ) (slot : ℕ) (order_ro
       let one_less = length-append free (slot ∷ []) in
       let all = is.all in
       record {
-        distinct = IsDistinct-IsPermutation nat_eq nat_eq_flips (slot ∷ (order ++ free)) (insert order place slot ++ free) (slots_pushed order free slot place upto) front;
-        within = subst (λ n. All (λ s. s < n) (insert order place slot ++ free)) (sym long) (All-permutation (λ s. s < length table) (slot ∷ (order ++ free)) (insert order place slot ++ free) (slots_pushed order free slot place upto) inside_all);
+        distinct = IsDistinct-IsPermutation nat_eq nat_eq_equiv.symm (slot ∷ (order ++ free)) (insert order place slot ++ free) (inserted_front order free slot place upto) front;
+        within = subst (λ n. All (λ s. s < n) (insert order place slot ++ free)) (sym long) (All-permutation (λ s. s < length table) (slot ∷ (order ++ free)) (insert order place slot ++ free) (inserted_front order free slot place upto) inside_all);
         all = omega arith;
         order_holds = (let holds = is.order_holds in omega arith);
         free_holds = (let holds = is.free_holds in omega arith);
@@ -87,7 +75,7 @@ module _ (table : List Candidate) (front free : List ℕ) (slot : ℕ) (order_ro
   slots_moved =
       IsPermutation-trans ((front ++ slot ∷ []) ++ free) (slot ∷ (front ++ free)) (front ++ (free ++ slot ∷ []))
       (IsPermutation-append_left free (front ++ slot ∷ []) (slot ∷ front) (IsPermutation-to_front front slot))
-      (IsPermutation-sym (front ++ (free ++ slot ∷ [])) (slot ∷ (front ++ free)) (slots_front front free slot))
+      (IsPermutation-sym (front ++ (free ++ slot ∷ [])) (slot ∷ (front ++ free)) (last_front front free slot))
 
   pub slotted_popped : (more_room less_room : ℕ) → order_room ≤ more_room → free_room ≤ less_room → IsSlotted table front (free ++ slot ∷ []) more_room less_room
   slotted_popped more_room less_room more less =
@@ -95,7 +83,7 @@ module _ (table : List Candidate) (front free : List ℕ) (slot : ℕ) (order_ro
       let one_more = length-append free (slot ∷ []) in
       let all = is.all in
       record {
-        distinct = IsDistinct-IsPermutation nat_eq nat_eq_flips ((front ++ slot ∷ []) ++ free) (front ++ (free ++ slot ∷ [])) slots_moved is.distinct;
+        distinct = IsDistinct-IsPermutation nat_eq nat_eq_equiv.symm ((front ++ slot ∷ []) ++ free) (front ++ (free ++ slot ∷ [])) slots_moved is.distinct;
         within = All-permutation (λ s. s < length table) ((front ++ slot ∷ []) ++ free) (front ++ (free ++ slot ∷ [])) slots_moved is.within;
         all = omega arith;
         order_holds = (let holds = is.order_holds in omega arith);

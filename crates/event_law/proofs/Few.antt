@@ -1,29 +1,16 @@
 -- So many events for the least tasks are few for the commits among them.
-use Rattle.std.proofs.Common.{ℕ, zero, suc, ◌+◌, ◌*◌, ◌≡◌, ◌≤◌, ◌<◌, List, [], ◌∷◌, ◌++◌, length, refl, sym, ap, subst, ◌∙◌, arith}
+use Rattle.std.proofs.Common.{ℕ, zero, suc, ◌+◌, ◌*◌, ◌≡◌, ◌≤◌, ◌<◌, length, refl, sym, ap, subst, ◌∙◌, arith}
 use Rattle.std.proofs.Math.Nat.{one-mul, suc-mul}
 use Rattle.std.proofs.lemmas.List.{length-append}
 use Rattle.guest_image.specs.ImageValue.{ImageValue}
-use Rattle.place_policy.specs.Policy.{Policy}
-use Rattle.run_journal.specs.declared.journal.Entry.{Entry}
-use Rattle.rv_core.specs.LegValue.{LegValue}
-use Rattle.task_request.specs.declared.request.Request.{Request}
-use Rattle.task_request.specs.declared.request.Request.TheVariants.{Continue, Load, Store, Enqueue, MakeSub, Emit, End, Trap}
 use Rattle.task_law.specs.Advance as standing
-use Rattle.spec_state.specs.declared.task.Task.{Task}
 use Rattle.spec_state.specs.View.{View}
-use Rattle.spec_state.specs.Aborts.{Aborts}
-use Rattle.spec_state.specs.Changes.{request_of, Commits}
-use Rattle.spec_state.specs.Numbers as numbers
-use Rattle.spec_state.specs.Room.{Asker, MakesRoom, Coalesces}
-use Rattle.spec_state.specs.Room as room
 use Rattle.spec_law.specs.Sound.{Sound}
 use Rattle.event_def.specs.declared.event.Event.{Event}
 use Rattle.event_def.specs.declared.event.Event.TheVariants as event
 use Rattle.event_def.specs.declared.event.Reply.TheVariants as reply
 use Rattle.event_def.specs.Book.{BookView}
-use Rattle.event_def.specs.Advancing.{AdvancesBy, HasRest, IsNextEvent, IsNoCommit}
-use Rattle.event_def.specs.Events.{ComesTo, DispatchEvent, FreesCommit, FreesCore, Makes, SplitEvent, StepEvent}
-use Rattle.event_def.specs.Events as events
+use Rattle.event_def.specs.Advancing.{HasRest, IsNextEvent, IsNoCommit}
 use Rattle.event_def.specs.Happens.{IsMade}
 use Rattle.event_law.specs.Laws.{AreFew, LeastEventsAreFew}
 use Rattle.event_law.proofs.Rests.Rest.{rest_is_bounded}
@@ -32,57 +19,7 @@ use Rattle.event_law.proofs.Given.{next_event_is_given}
 use Rattle.event_law.proofs.Keeps.Events.{happens_keeps}
 use Rattle.event_law.proofs.Keeps.Forced.{Follows}
 use Rattle.event_law.proofs.Rests.RestThere.{rest_is_there}
-
--- ---- only a commit makes the history longer
-
-history_back : {firsts : ℕ → Type 0} (old : View) (aborted : ℕ) (new : View) → Aborts firsts old aborted new → new.history ≡ old.history
-history_back old aborted new aborts = ap (λ (v : View). v.history) aborts.frame
-
-room_history : (tile : ℕ) (asker : Asker) (old : View) {aborted : ℕ} {new : View} → MakesRoom tile asker old aborted new → new.history ≡ old.history
-room_history tile asker old (room.queue_has_room free) = refl
-room_history tile asker old (room.coalesces new full moved) = ap (λ (v : View). v.history) moved.frame
-room_history tile asker old (room.aborts_victim aborted v task mid new full none least victim firm aborts moved) =
-    ap (λ (v : View). v.history) moved.frame ∙ history_back old aborted mid aborts
-room_history tile asker old (room.aborts_creator aborted v creator task new full none least victim not_firm made aborts) = history_back old aborted new aborts
-
-core_history : (tile : ℕ) (old : View) {aborted : ℕ} {new : View} → FreesCore tile old aborted new → new.history ≡ old.history
-core_history tile old (events.has_free core free) = refl
-core_history tile old (events.aborts_latest aborted v task new held latest aborts) = history_back old aborted new aborts
-
-commit_history : (tile : ℕ) (task : Task) (old : View) {aborted : ℕ} {new : View} → FreesCommit tile task old aborted new → new.history ≡ old.history
-commit_history tile task old (events.has_free free) = refl
-commit_history tile task old (events.aborts_latest aborted v x new full latest later aborts) = history_back old aborted new aborts
-
-number_history : (old : View) {new : View} → numbers.FreesNumber old new → new.history ≡ old.history
-number_history old (numbers.has_free free) = refl
-number_history old (numbers.renumbers new spent renumbered) = ap (λ (v : View). v.history) renumbered.frame
-
-module _ (book : BookView) (aborted : ℕ) (new : View) (placers : List Policy) where
-  request_history : (tile core : ℕ) (leg : LegValue) (id : ℕ) (task : Task) (request : Request)
-      → ComesTo tile core leg id task request book aborted new placers → new.history ≡ book.view.history
-  request_history tile core leg id task Continue made = ap (λ (v : View). v.history) made.0.frame
-  request_history tile core leg id task (Load width rd offset) made =
-      ap (λ (v : View). v.history) made.0.change.frame ∙ ap (λ (v : View). v.history) made.0.forced.frame
-  request_history tile core leg id task (Store offset bytes value) made =
-      ap (λ (v : View). v.history) made.0.change.frame ∙ ap (λ (v : View). v.history) made.0.forced.frame
-  request_history tile core leg id task (Enqueue spawn) made =
-      ap (λ (v : View). v.history) made.change.frame ∙ room_history _ _ book.view made.forced
-  request_history tile core leg id task (MakeSub kind) made = ap (λ (v : View). v.history) made.0.frame
-  request_history tile core leg id task (Emit byte) made = ap (λ (v : View). v.history) made.0.frame
-  request_history tile core leg id task End made =
-      ap (λ (v : View). v.history) made.0.change.frame ∙ commit_history tile task book.view made.0.forced
-  request_history tile core leg id task (Trap cause) made = ap (λ (v : View). v.history) made.0.frame
-
-  event_history : (N : Type 0) (e : Event N) → IsNoCommit e → Makes book e aborted new placers → new.history ≡ book.view.history
-  event_history N (event.Dispatch tile) other made =
-      ap (λ (v : View). v.history) made.0.change.frame ∙ number_history made.0.mid made.0.number ∙ core_history tile book.view made.0.forced
-  event_history N (event.Step tile core leg) other made = request_history tile core leg made.id made.task (request_of book.view made.task leg) made.comes
-  event_history N (event.Abort tile) other made = history_back book.view aborted new made.0.aborts
-  event_history N event.Commit other made = absurd other
-  event_history N (event.Coalesce tile) other made = ap (λ (v : View). v.history) made.0.frame
-  event_history N (event.Split tile) other made = ap (λ (v : View). v.history) made.0.change.frame ∙ room_history _ _ book.view made.0.forced
-
--- ---- the count
+use Rattle.event_law.proofs.Stays.{event_stays}
 
 one_less : (n had left bound : ℕ) → n + had ≤ bound → left < had → suc n + left ≤ bound
 one_less n had left bound before less = omega (arith, before, less)
@@ -102,7 +39,7 @@ module _ (N : Type 0) (image : ImageValue) (n : ℕ) (old mid : View) (few : Are
       → IsMade before e aborted after → Follows image before.view after.view → AreFew image old (suc n) after.view
   another before after e aborted same next other made follows =
       let sound : Sound image before.view = subst (Sound image) (sym same) few.sound in
-      let stays = event_history before aborted after.view after.placers N e other made.makes in
+      let stays = ap (λ p. p.0) (event_stays before aborted after.view after.placers N e other made.makes) in
       record {
         sound = follows.now;
         settings = follows.settings ∙ ap (λ (v : View). v.settings) same ∙ few.settings;

@@ -24,6 +24,7 @@ use Rattle.spec_state.specs.View.{View, task_at, cores_at}
 use Rattle.spec_state.specs.Tasks.{start_context}
 use Rattle.spec_state.specs.Least.{IsLeastTask, IsLeastSpilled}
 use Rattle.spec_state.specs.Stored.{HasCore}
+use Rattle.spec_state.proofs.Proved.{at_within}
 use Rattle.spec_law.specs.Sound.{Sound, StandsAs}
 use Rattle.event_def.specs.declared.event.Event.{Event}
 use Rattle.event_def.specs.declared.event.Event.TheVariants as event
@@ -31,7 +32,6 @@ use Rattle.event_def.specs.Advancing.{IsLeastEvent, IsLeastLeg}
 use Rattle.event_def.specs.Events.{IsGiven}
 use Rattle.event_law.specs.Laws.{NextEventIsGiven}
 use Rattle.event_law.proofs.Falls.Legs.{counted, stands}
-use Rattle.event_law.proofs.Rests.LeastSpot.{within}
 
 module _ (image : ImageValue) (budget size : ℕ) (ctx : Ctx) where
   -- a task that asks for something else than a trap has not used up its budget
@@ -64,7 +64,7 @@ module _ (image : ImageValue) (budget size : ℕ) (ctx : Ctx) where
       let below = asks_within task (Store access.offset access.width value) asks (λ cause e. cc) in
       omega (arith, below)
 
--- a leg from within the budget is a run
+-- a leg from at_within the budget is a run
 pub leg_is_run : (image : ImageValue) (budget quantum : ℕ) (leg : LegValue)
     → IsLeg image image.data_size budget quantum leg.from leg.to leg.steps leg.stop → leg.from.used ≤ budget
     → IsLegOfImage image budget leg
@@ -85,12 +85,12 @@ leg_is_run image budget quantum leg is low = record {
 module _ (image : ImageValue) (view : View) (sound : Sound image view) where
   -- the tile of the least task is there
   tile_is_there : (id : ℕ) (task : Task) → IsLeastTask view id task → task.tile < view.settings.tiles
-  tile_is_there id task least = subst (λ n. task.tile < n) sound.sizes.queues (within view.queues task.tile least.place id least.queued_at.queued)
+  tile_is_there id task least = subst (λ n. task.tile < n) sound.sizes.queues (at_within view.queues task.tile least.place id least.queued_at.queued)
 
   -- so is that of the least spilled one
   block_is_there : (tile : ℕ) → IsLeastSpilled view tile → tile < view.settings.tiles
   block_is_there tile least =
-      subst (λ n. tile < n) sound.sizes.blocks (within view.blocks tile least.place least.least.has.0 least.least.has.1)
+      subst (λ n. tile < n) sound.sizes.blocks (at_within view.blocks tile least.place least.least.has.0 least.least.has.1)
 
   -- a running task has used its budget at most
   pub running_within : (id core : ℕ) (task : Task) → task_at view id ≡ Some task → task.status ≡ Running core → task.core.used ≤ view.settings.budget

@@ -12,3 +12,4 @@ pub mod Search
 pub mod Given
 pub mod Few
 pub mod Proved
+pub mod Stays

@@ -16,10 +16,12 @@ pub use Rattle.event_law.proofs.Lists.{at_each_place}
 pub use Rattle.event_law.proofs.Openings.Opened.{opening_is_sound}
 pub use Rattle.event_law.proofs.Openings.Queued.{kept_at, kept_fewer}
 pub use Rattle.event_law.proofs.Openings.Rooted.{coalesced_was}
-pub use Rattle.event_law.proofs.Openings.Sized.{FitsQueue, none_fit}
+pub use Rattle.event_law.proofs.Openings.Sized.{FitsQueue, none_fit, there_of}
 pub use Rattle.event_law.proofs.Openings.Untouched.{all_kept, IsUntouched, none_touched}
 pub use Rattle.event_law.proofs.Rests.Rest.{rest_is_bounded}
 pub use Rattle.event_law.proofs.Rests.RestThere.{goes_on, rest_is_there}
 pub use Rattle.event_law.proofs.Serials.Ends.{end_is_serial}
 pub use Rattle.event_law.proofs.Serials.Free.{all_committed}
 pub use Rattle.event_law.proofs.Rests.RestOne.{some_rest}
+pub use Rattle.event_law.proofs.Openings.Sizes.{none_held}
+pub use Rattle.event_law.proofs.Stays.{Stays, event_stays}

@@ -18,7 +18,7 @@ use Rattle.spec_state.specs.Queries.{IsDispatched, IsFinished, IsIdle, IsLater, 
 use Rattle.spec_state.specs.Room.{Enqueuer, QueueHasRoom, IsMovable, Stalls}
 use Rattle.spec_state.specs.Changes.{TakesLeg, request_of}
 use Rattle.spec_law.specs.Sound.{Sound}
-use Rattle.spec_law.proofs.Proved.{below_others}
+use Rattle.spec_law.proofs.Proved.{below_others, one_least_idle}
 use Rattle.event_def.specs.declared.event.Event.TheVariants as event
 use Rattle.event_def.specs.declared.event.Event.{Event}
 use Rattle.event_def.specs.declared.event.Reply.{Reply}
@@ -26,13 +26,12 @@ use Rattle.event_def.specs.declared.event.Reply.TheVariants as reply
 use Rattle.event_def.specs.Book.{BookView, picked_tile}
 use Rattle.event_def.specs.Causes.{Cause, IsBusy, IsGranted, IsRefused, IsStale, LatestIsLeast, StallsAtEnd, StallsAtEnqueue, StallsAtSplit, refusal_rank}
 use Rattle.event_def.specs.End.{IsOver}
-use Rattle.event_lemma.proofs.Leasts.{least_idle_is_one}
 
 -- nor is one whose least idle task is the least task
 pub least_is_not_busy : (view : View) (tile id : ℕ) (task : Task) → IsLeastIdle view tile id task → IsTheLeast view id
     → IsBusy view tile → ⊥
 least_is_not_busy view tile id task idle least busy =
-    busy.not_least (subst (IsTheLeast view) (least_idle_is_one view tile id busy.id task busy.task idle busy.idle) least)
+    busy.not_least (subst (IsTheLeast view) (one_least_idle view tile id busy.id task busy.task idle busy.idle) least)
 
 -- the task that takes a leg on a core is one
 pub taker_is_one : (view : View) (tile core a b : ℕ) (leg : LegValue) (x y : Task) → TakesLeg view tile core leg a x

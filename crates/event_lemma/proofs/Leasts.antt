@@ -1,9 +1,7 @@
 -- The least idle task of a tile.
-use Rattle.std.proofs.Common.{ℕ, ◌≡◌, ◌≢◌, inl, inr, Some, refl, sym, ap, subst, ◌∙◌}
+use Rattle.std.proofs.Common.{ℕ, ◌≡◌, ◌≢◌, Some, refl, sym, ap, subst, ◌∙◌}
 use Rattle.std.specs.Prelude.{slice_get}
-use Rattle.std.specs.Ordering.{ordering_reverse}
 use Rattle.std.specs.declared.cmp.Ordering.TheVariants.{Less, Greater}
-use Rattle.std.proofs.lemmas.Bool.{cases_eq}
 use Rattle.fractal_vt.specs.Keys.{key_cmp}
 use Rattle.fractal_vt.proofs.Proved.{less_of, then_equal}
 use Rattle.guest_image.specs.ImageValue.{ImageValue}
@@ -13,7 +11,7 @@ use Rattle.spec_state.specs.View.{View, queue_at}
 use Rattle.spec_state.specs.Least.{Queued, IsQueuedAt, IsLeastTask, ranked_cmp, spot_cmp}
 use Rattle.spec_state.specs.Queries.{IsLeastIdle}
 use Rattle.spec_law.specs.Sound.{Sound, SoundSizes}
-use Rattle.spec_law.proofs.Proved.{contains_get, distinct_at, least_key, ranked_turned, same_spot}
+use Rattle.spec_law.proofs.Proved.{distinct_at, least_key, same_spot}
 use Rattle.event_law.proofs.Proved.{is_idle}
 use Rattle.tile_queues.proofs.Proved.{one_place}
 
@@ -56,19 +54,3 @@ pub least_idle : (image : ImageValue) (view : View) (id : ℕ) (task : Task) →
     → IsLeastTask view id task → task.status ≡ Idle
     → IsLeastIdle view task.tile id task
 least_idle image view id task sound least idle = least_is_least_idle view sound.sizes task.tile id task least refl idle
-
--- a tile has one least idle task at most
-pub least_idle_is_one : (view : View) (tile a b : ℕ) (x y : Task) → IsLeastIdle view tile a x
-    → IsLeastIdle view tile b y → a ≡ b
-least_idle_is_one view tile a b x y one two = elim (cases_eq a b) [
-  | inl same ↦ same
-  | inr other ↦
-      let p = contains_get (queue_at view tile) a one.idle.queued in
-      let q = contains_get (queue_at view tile) b two.idle.queued in
-      let first : IsQueuedAt view tile p.0 a x = record { queued = p.1; there = one.idle.there } in
-      let second : IsQueuedAt view tile q.0 b y = record { queued = q.1; there = two.idle.there } in
-      let less = one.least b y (λ e. other (sym e)) two.idle p.0 q.0 x y first second in
-      let less_too = two.least a x other one.idle q.0 p.0 y x second first in
-      let turned = ranked_turned x.key (Queued tile p.0) y.key (Queued tile q.0) ∙ ap ordering_reverse less_too in
-      absurd (cc (sym less ∙ turned))
-]

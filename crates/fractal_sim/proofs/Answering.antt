@@ -1,11 +1,10 @@
 -- What was found and is told is an answer.
-use Rattle.std.proofs.Common.{◌≡◌, ◌≢◌, ◌⊎◌, inl, inr, refl, sym, ap, ◌∙◌, subst, ℕ, List, length, arith, ◌==◌, Bool, true, false, Some, None}
+use Rattle.std.proofs.Common.{◌≡◌, ◌≢◌, ◌⊎◌, inl, inr, refl, sym, ap, ◌∙◌, subst, ℕ, List, length, Some, None}
 use Rattle.std.specs.declared.option.Option.{Option}
 use Rattle.std.specs.Prelude.{IfSome, IsSomeAnd, option_map}
 use Rattle.std.specs.declared.marker.Brand.{Brand}
-use Rattle.std.proofs.lemmas.Bool.Decides.{nat_tests}
-use Rattle.std.proofs.lemmas.Grind.{common_steps}
 use Rattle.std.proofs.lemmas.Option.{same_Some}
+use Rattle.std.proofs.lemmas.Bool.{cases_eq}
 use Rattle.sim_io.specs.Parts.{TakesFront}
 use Rattle.sim_io.specs.Streams.{SinkState}
 use Rattle.guest_image.specs.ImageValue.{ImageValue}
@@ -225,12 +224,6 @@ answers input (finding.Traced t) o text found kept is = go t.ran.end refl is whe
 
 -- ---- what is told
 
-is_seven : (n : ℕ) → (n ≡ 7) ⊎ (n ≢ 7)
-is_seven n = go (n == 7) refl where
-  go : (b : Bool) → (n == 7) ≡ b → (n ≡ 7) ⊎ (n ≢ 7)
-  go true e = inl (grind (arith, nat_tests, common_steps))
-  go false e = inr (λ h. grind (arith, nat_tests, common_steps))
-
 -- a finding with a text that was written
 took : (call : Call) (f : Finding) (o : Outcome) (text : List ℕ) → IsFound call.input f → OutcomeKeeps f o → text_of f ≡ Some text
     → o.status ≡ status_of f → TakesText call.sink_before call.sink_after (text_of f) → TellsOutcome call o
@@ -325,7 +318,7 @@ front_of old new (Some whole_text) h = record { whole_text = whole_text; is = re
 
 -- what was found is told
 pub told : (call : Call) (f : Finding) (o : Outcome) → IsFound call.input f → TellsFinding f call.sink_before call.sink_after o → TellsOutcome call o
-told call f o found tells = go (is_seven o.status) where
+told call f o found tells = go (cases_eq o.status 7) where
   go : (o.status ≡ 7) ⊎ (o.status ≢ 7) → TellsOutcome call o
   go (inl seven) =
       let failed = tells.failed seven in

@@ -60,3 +60,11 @@ less_number a b less = grind (arith, nat_tests)
 -- and the higher one is greater
 pub greater_number : (a b : ℕ) → b < a → nat_cmp a b ≡ Greater
 greater_number a b less = grind (arith, nat_tests)
+
+-- a number ties with itself
+pub same_number : (n : ℕ) → nat_cmp n n ≡ Equal
+same_number n = grind (arith, nat_tests)
+
+-- of two numbers of which the first is less, the first is the lower one
+pub below_from : (a b : ℕ) → nat_cmp a b ≡ Less → a < b
+below_from a b less = grind (arith, nat_tests)

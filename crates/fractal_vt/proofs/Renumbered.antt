@@ -13,7 +13,6 @@ use Rattle.std.specs.List.Sorted.{IsStrictlyIncreasing}
 use Rattle.std.specs.Option.{IfSome, option_map}
 use Rattle.std.specs.Ordering.{nat_cmp, ordering_then}
 use Rattle.std.specs.FinMap.{nat_cmp-IsAntisymmetric}
-use Rattle.std.specs.declared.cmp.Ordering.TheVariants.{Equal}
 use Rattle.std.proofs.lemmas.Bool.Decides.{nat_tests}
 use Rattle.std.proofs.lemmas.Cmp.{tied_itself}
 use Rattle.std.proofs.lemmas.List.Elements.{All-nil, All-cons, All-head, All-tail}
@@ -24,6 +23,7 @@ use Rattle.fractal_vt.specs.Paths.{Begins}
 use Rattle.fractal_vt.specs.Renumbered.{place_in, with_number, renumbered_level, renumbered_levels, renumbered_key, IsHeld, HoldsDomain, RenumberingKeepsKeyOrder, RenumberingKeepsPrefixes, RenumberingKeepsDomains, NumbersStayApart, PlacesAreWhereNumbersStand}
 use Rattle.fractal_vt.proofs.Total.{level_cmp_total}
 use Rattle.fractal_vt.proofs.KeyLaws.{level_cmp-same, closed_level-same}
+use Rattle.fractal_vt.proofs.Orderings.{same_number}
 
 -- what one number of a table adds to the places of others
 abbrev one : ℕ → ℕ → ℕ
@@ -129,9 +129,6 @@ keeps_order table a b in_a in_b =
     ∙ levels_kept table (levels a) (levels b) in_a in_b
 
 -- numbers and levels stay apart
-
-same_number : (n : ℕ) → nat_cmp n n ≡ Equal
-same_number n = grind (arith, nat_tests)
 
 pub stay_apart : NumbersStayApart
 stay_apart table m n in_m in_n = (

@@ -21,7 +21,7 @@ AllPairs-head S x xs all k d inside = all 0 (suc k) d (omega arith) (omega arith
 pub AllPairs-tail : {X : Type 0} (S : X → X → Type 0) (x : X) (xs : List X) → AllPairs S (x ∷ xs) → AllPairs S xs
 AllPairs-tail S x xs all i j d before inside = all (suc i) (suc j) d (omega arith) (omega arith)
 
-less_then : {X : Type 0} {R : X → X → Ordering} (total : IsTotalOrder R) (x y z : X) → R x y ≡ Less → R y z ≢ Greater → R x z ≡ Less
+pub less_then : {X : Type 0} {R : X → X → Ordering} (total : IsTotalOrder R) (x y z : X) → R x y ≡ Less → R y z ≢ Greater → R x z ≡ Less
 less_then {X} {R} total x y z less upto = by_case (R y z) refl upto
   where
     by_case : (o : Ordering) → R y z ≡ o → o ≢ Greater → R x z ≡ Less

@@ -23,7 +23,7 @@ pub enum Load {
 }
 
 /// An image of values that are within the limits.
-#[tactic(auto, using(crate::proofs::Made::made_is))]
+#[tactic(auto, using(guest_image::proofs::Proved::made_is))]
 pub(crate) fn image_of(
     kind: Kind,
     text: Vec<u32>,

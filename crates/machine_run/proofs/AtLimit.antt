@@ -1,5 +1,5 @@
 -- A run that met its commit limit leaves the tasks that pend.
-use Rattle.std.proofs.Common.{◌≡◌, ◌<◌, ◌==◌, refl, sym, ap, ◌∙◌, subst, zero, suc, ℕ, true, List, [], ◌∷◌, length, map, Option, Some, None, unwrap_or, if◌then◌else◌, arith}
+use Rattle.std.proofs.Common.{◌≡◌, ◌<◌, ◌==◌, refl, ap, ◌∙◌, subst, zero, suc, ℕ, true, List, [], ◌∷◌, length, map, Option, Some, None, if◌then◌else◌, arith}
 use Rattle.std.specs.Prelude.{IfSome}
 use Rattle.std.proofs.lemmas.Bool.Decides.{nat_tests}
 use Rattle.std.proofs.lemmas.Grind.{common_steps}
@@ -11,9 +11,8 @@ use Rattle.trace_tap.specs.TapValue.{TapValue}
 use Rattle.run_journal.specs.declared.closed.Closed.{Closed}
 use Rattle.run_journal.specs.declared.end.End.{End}
 use Rattle.run_journal.specs.declared.end.End.TheVariants as ends
-use Rattle.run_journal.specs.declared.journal.Entry.{Entry}
 use Rattle.serial_machine.specs.BagValue.{BagValue}
-use Rattle.serial_machine.specs.Run.{opening, Runs}
+use Rattle.serial_machine.specs.Run.{opening}
 use Rattle.serial_machine.specs.State.{SerialState}
 use Rattle.serial_machine.specs.Turn.{inner}
 use Rattle.serial_machine.specs.WholeRun.{IsRunOf}
@@ -25,14 +24,7 @@ use Rattle.spec_state.specs.View.{View}
 use Rattle.machine_run.specs.declared.left.Ran.{Ran}
 use Rattle.machine_run.specs.Least.{IsLeastRun, run_of_closed}
 use Rattle.machine_run.specs.Stopping.{IsStoppedWith}
-
--- a journal's runs from a state lead to one state
-runs_one : (image : ImageValue) (budget : ℕ) (s : SerialState) (es : List Entry) (a b : SerialState) → Runs image budget s es a → Runs image budget s es b → a ≡ b
-runs_one image budget s [] a b first second = sym first ∙ second
-runs_one image budget s (e ∷ es) a b (mid, at, rest) (other, there, more) =
-    let both : Some (mid, e) ≡ Some (other, e) = sym at ∙ there in
-    let same : mid ≡ other = ap (λ (o : Option (SerialState × Entry)). (unwrap_or o (mid, e)).0) both in
-    runs_one image budget other es a b (subst (λ m. Runs image budget m es a) same rest) more
+use Rattle.run_law.proofs.Proved.{Runs-same}
 
 -- where no task pends no bag is left
 none_left : (stack : List BagValue) → length (all_pending stack) ≡ 0 → inner stack ≡ []
@@ -55,7 +47,7 @@ pub some_pend : (image : ImageValue) (commits budget : ℕ) (closed : Closed) (p
     → RunLeaves image budget closed.journal closed.memory closed.output pendings → 0 < length pendings
 some_pend image commits budget closed pendings run left =
     some_left (length pendings) (λ none.
-    let same = runs_one image budget (opening image) closed.journal left.state run.state left.run run.is_run in
+    let same = Runs-same image budget closed.journal (opening image) left.state run.state left.run run.is_run in
     let as_long = length_permutation pendings (all_pending left.state.stack) left.pending.held in
     let empty = none_left left.state.stack (as_long ∙ none) in
     run.end_is.0 (subst (λ (s : SerialState). inner s.stack ≡ []) same empty))

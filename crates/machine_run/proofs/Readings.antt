@@ -1,12 +1,9 @@
 -- Lists of taps that are read number by number.
 use Rattle.std.proofs.Common.{ℕ, ◌+◌, ◌≡◌, ◌<◌, ◌∙◌, List, [], ◌∷◌, ◌++◌, length, map, take, sym, ap, refl, Option, Some, None, option_map, option_and_then, slice_get, arith}
-use Rattle.std.proofs.lemmas.List.{map-append, take_all, take_more}
-use Rattle.std.proofs.lemmas.Option.{slice_get-map, slice_get-get_or, slice_get_within, get_or_from_slice_get}
+use Rattle.std.proofs.lemmas.List.{map-append, take_all}
+use Rattle.std.proofs.lemmas.Option.{slice_get-map, slice_get-get_or}
 use Rattle.trace_tap.specs.TapValue.{TapValue}
-
--- a list up to one place more
-next_taken : {X : Type 0} (xs : List X) (i : ℕ) (x : X) → slice_get xs i ≡ Some x → take (i + 1) xs ≡ take i xs ++ x ∷ []
-next_taken xs i x at = take_more xs i x (slice_get_within xs i x at) ∙ ap (λ e. take i xs ++ e ∷ []) (get_or_from_slice_get xs i x x at)
+use Rattle.fractal_vt.proofs.Proved.{take_one_more}
 
 -- the lists of these taps
 abbrev lists_of : List TapValue → List (List ℕ)
@@ -41,7 +38,7 @@ module _ (taps : List TapValue) (tap : ℕ) where
   pub next_read : (list : List ℕ) (place number : ℕ) (before after : List ℕ) → slice_get (lists_of taps) tap ≡ Some list → before ≡ take place list
       → Some number ≡ option_and_then (λ reading. slice_get reading.list place) (slice_get taps tap) → after ≡ before ++ number ∷ [] → after ≡ take (place + 1) list
   next_read list place number before after at is read more =
-      more ∙ ap (λ l. l ++ number ∷ []) is ∙ sym (next_taken list place number (by_tap (slice_get taps tap) (sym mapped ∙ at) read))
+      more ∙ ap (λ l. l ++ number ∷ []) is ∙ sym (take_one_more list place number (by_tap (slice_get taps tap) (sym mapped ∙ at) read))
     where
       by_tap : (found : Option TapValue) → option_map (λ reading. reading.list) found ≡ Some list
           → Some number ≡ option_and_then (λ reading. slice_get reading.list place) found → slice_get list place ≡ Some number
@@ -67,4 +64,4 @@ module _ (taps : List TapValue) (tap : ℕ) where
 pub next_told : {X : Type 0} (see : X → List ℕ) (lists : List (List ℕ)) (tap : ℕ) (before after : List X) (list : X) → map see before ≡ take tap lists
     → Some (see list) ≡ slice_get lists tap → after ≡ before ++ list ∷ [] → map see after ≡ take (tap + 1) lists
 next_told see lists tap before after list is at more =
-    ap (map see) more ∙ map-append see before (list ∷ []) ∙ ap (λ l. l ++ see list ∷ []) is ∙ sym (next_taken lists tap (see list) (sym at))
+    ap (map see) more ∙ map-append see before (list ∷ []) ∙ ap (λ l. l ++ see list ∷ []) is ∙ sym (take_one_more lists tap (see list) (sym at))

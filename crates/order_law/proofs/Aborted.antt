@@ -1,7 +1,6 @@
 -- An abort keeps the order.
-use Rattle.std.proofs.Common.{◌≡◌, ◌⊎◌, ℕ, Bool, true, false, List, [], ◌∷◌, ◌++◌, Option, Some, None, refl, sym, ap, subst, ◌∙◌, inl, inr, arith}
-use Rattle.std.proofs.lemmas.Bool.Decides.{nat_tests}
-use Rattle.std.specs.Ordering.{nat_cmp, ordering_then}
+use Rattle.std.proofs.Common.{◌≡◌, ◌⊎◌, ℕ, Bool, true, false, List, [], ◌∷◌, ◌++◌, Option, Some, None, refl, sym, ap, subst, ◌∙◌, inl, inr}
+use Rattle.std.specs.Ordering.{ordering_then}
 use Rattle.std.specs.declared.cmp.Ordering.TheVariants.{Less, Equal}
 use Rattle.std.specs.Cmp.Lexicographic.{slice_cmp}
 use Rattle.fractal_vt.specs.Levels.{Open, tie_cmp, level_cmp, levels_cmp}
@@ -9,10 +8,7 @@ use Rattle.fractal_vt.specs.Paths.{OnPath}
 use Rattle.order_law.specs.Tasks.{Keyed, levels_of, HasNumber}
 use Rattle.order_law.specs.Ordered.{LevelsBelow, HasCreator, IsShaped, IsOrdered}
 use Rattle.order_law.specs.Events.{with_open_level, AbortsInKeys}
-use Rattle.fractal_vt.proofs.Proved.{level_cmp_total, levels_cmp_total, same_front}
-
-pub nat_self : (n : ℕ) → nat_cmp n n ≡ Equal
-nat_self n = grind (arith, nat_tests)
+use Rattle.fractal_vt.proofs.Proved.{level_cmp_total, levels_cmp_total, same_front, same_number}
 
 -- a key is below the same key with an open tiebreaker
 pub rises : (ds : List Open) (l : Open) (n : ℕ) → l.tb ≡ Some n → slice_cmp level_cmp (ds ++ l ∷ []) (ds ++ record { ts = l.ts; tb = None } ∷ []) ≡ Less
@@ -21,7 +17,7 @@ rises ds l n closed =
     ∙ ap (λ o. ordering_then o Equal) (last ∙ refl)
   where
     last : level_cmp l (record { ts = l.ts; tb = None }) ≡ Less
-    last = ap (λ o. ordering_then o (tie_cmp l.tb None)) (nat_self l.ts) ∙ ap (λ t. tie_cmp t None) closed
+    last = ap (λ o. ordering_then o (tie_cmp l.tb None)) (same_number l.ts) ∙ ap (λ t. tie_cmp t None) closed
 
 -- what is below a task is below it once it is open again
 pub below_reopened : (xs : List Open) (task : Keyed) → levels_cmp xs (levels_of task) ≡ Less → levels_cmp xs (levels_of (with_open_level task)) ≡ Less
@@ -37,7 +33,7 @@ path_reopened (p ∷ path) [] l on = by_tie l.tb refl
   where
     by_tie : (t : Option ℕ) → l.tb ≡ t → level_cmp p (record { ts = l.ts; tb = None }) ≡ Less
     by_tie None open' = sym (ap (λ t. level_cmp p (record { ts = l.ts; tb = t })) open') ∙ on
-    by_tie (Some n) closed = level_cmp_total.trans p l (record { ts = l.ts; tb = None }) on (ap (λ o. ordering_then o (tie_cmp l.tb None)) (nat_self l.ts) ∙ ap (λ t. tie_cmp t None) closed)
+    by_tie (Some n) closed = level_cmp_total.trans p l (record { ts = l.ts; tb = None }) on (ap (λ o. ordering_then o (tie_cmp l.tb None)) (same_number l.ts) ∙ ap (λ t. tie_cmp t None) closed)
 path_reopened [] (d ∷ ds) l on = absurd on
 path_reopened (p ∷ path) (d ∷ ds) l on = (on.0, path_reopened path ds l on.1)
 

@@ -9,12 +9,9 @@ use Rattle.order_law.specs.Tasks.{Keyed, levels_of, HasNumber, Kin}
 use Rattle.order_law.specs.Ordered.{TieBelow, LevelsBelow, IsNumberOf, HasCreator, IsShaped, IsOrdered}
 use Rattle.order_law.specs.Events.{without_creator, CommitsInKeys, IsLeastInKeys}
 use Rattle.fractal_vt.proofs.Proved.{level_cmp_total, not_both, same_child_on_path, stays_on_path, sub_child_on_path, super_child_on_path}
+use Rattle.fractal_vt.proofs.Proved.{cases_some}
 use Rattle.order_law.proofs.Least.{IsBelowAll, least_is_below}
 use Rattle.order_law.proofs.Numbers.{LevelsBelow-append, number_in, differ_more, domain_in_path, domain_differs}
-
-same_option : (a : Option ℕ) (b : ℕ) → (a ≡ Some b) ⊎ (a ≢ Some b)
-same_option None b = inr (λ e. absurd (cc))
-same_option (Some a) b = elim (cases_eq a b) [ inl e ↦ inl (ap Some e) | inr differs ↦ inr (λ e. differs (cc)) ]
 
 module _ (old new : ℕ → Option Keyed) (path : List Open) (next id n : ℕ) (task : Keyed) (there : old id ≡ Some task) (number : HasNumber task n) (least : IsBelowAll old id task) (commits : CommitsInKeys old new id) (ordered : IsOrdered old path next) where
   -- what a task is now, it was before, or it was a child
@@ -26,7 +23,7 @@ module _ (old new : ℕ → Option Keyed) (path : List Open) (next id n : ℕ) (
     where
       by_old : (o : Option Keyed) → old k ≡ o → k ≢ id → ((k ≢ id) × (old k ≡ Some x) × (x.creator ≢ Some id)) ⊎ ((y : Keyed) × (k ≢ id) × (old k ≡ Some y) × (y.creator ≡ Some id) × (x ≡ without_creator y))
       by_old None was other = absurd (cc (commits.none k was, at))
-      by_old (Some y) was other = elim (same_option y.creator id) [
+      by_old (Some y) was other = elim (cases_some y.creator id) [
         | inl child ↦ let same : Some (without_creator y) ≡ Some x = sym (commits.children k y other was child) ∙ at in inr (y, other, was, child, cc)
         | inr free ↦
             let same : Some y ≡ Some x = sym (commits.others k y other was free) ∙ at in
@@ -52,7 +49,7 @@ module _ (old new : ℕ → Option Keyed) (path : List Open) (next id n : ℕ) (
           ]
 
   kept_creator : (creator : ℕ) (child : Keyed) → creator ≢ id → HasCreator old creator child → HasCreator new creator child
-  kept_creator creator child other has = elim (same_option has.task.creator id) [
+  kept_creator creator child other has = elim (cases_some has.task.creator id) [
     | inl parent ↦ record { task = without_creator has.task; there = commits.children creator has.task other has.there parent; number = has.number; dispatched = has.dispatched; below = has.below; kin = has.kin }
     | inr free ↦ record { task = has.task; there = commits.others creator has.task other has.there free; number = has.number; dispatched = has.dispatched; below = has.below; kin = has.kin }
   ]

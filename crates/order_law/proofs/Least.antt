@@ -6,19 +6,14 @@ use Rattle.std.specs.declared.cmp.Ordering.{Ordering}
 use Rattle.std.specs.declared.cmp.Ordering.TheVariants.{Less, Equal, Greater}
 use Rattle.std.specs.Cmp.Lexicographic.{slice_cmp}
 use Rattle.fractal_vt.specs.Levels.{Open, tie_cmp, level_cmp, levels_cmp}
-use Rattle.fractal_vt.proofs.Proved.{less_of, then_equal}
+use Rattle.fractal_vt.proofs.Proved.{both_equal, less_of, then_equal}
 use Rattle.order_law.specs.Tasks.{Keyed, levels_of, HasNumber}
 use Rattle.order_law.specs.Ordered.{IsOrdered}
 use Rattle.order_law.specs.Events.{IsLeastInKeys}
 
-then_equal_first : (o p : Ordering) → ordering_then o p ≡ Equal → o ≡ Equal
-then_equal_first Less p e = absurd (cc)
-then_equal_first Equal p e = refl
-then_equal_first Greater p e = absurd (cc)
-
 -- lists that tie have last elements that tie
 pub last_ties : {X : Type 0} (R : X → X → Ordering) (ds es : List X) (l m : X) → slice_cmp R (ds ++ l ∷ []) (es ++ m ∷ []) ≡ Equal → R l m ≡ Equal
-last_ties R [] [] l m e = then_equal_first (R l m) Equal e
+last_ties R [] [] l m e = (both_equal (R l m) Equal e).0
 last_ties R [] (x ∷ []) l m e = let no_way : Less ≡ Equal = then_equal (R l x) Less e in absurd (cc)
 last_ties R [] (x ∷ y ∷ es) l m e = let no_way : Less ≡ Equal = then_equal (R l x) Less e in absurd (cc)
 last_ties R (x ∷ []) [] l m e = let no_way : Greater ≡ Equal = then_equal (R x m) Greater e in absurd (cc)
@@ -31,6 +26,7 @@ ties_same None (Some n) e = absurd (cc)
 ties_same (Some m) None e = absurd (cc)
 ties_same (Some m) (Some n) e = ap Some (nat_cmp-IsAntisymmetric m n e)
 
+-- two tasks that tie are both idle, or have one number
 same_tie : (x y : Keyed) → levels_cmp (levels_of x) (levels_of y) ≡ Equal → x.last.tb ≡ y.last.tb
 same_tie x y e = ties_same x.last.tb y.last.tb (then_equal (nat_cmp x.last.ts y.last.ts) (tie_cmp x.last.tb y.last.tb) (last_ties level_cmp x.domain y.domain x.last y.last e))
 
@@ -39,7 +35,7 @@ abbrev pub IsBelowAll : (ℕ → Option Keyed) → ℕ → Keyed → Type 0
 IsBelowAll tasks id task = (k : ℕ) (x : Keyed) → k ≢ id → tasks k ≡ Some x
     → levels_cmp (levels_of task) (levels_of x) ≡ Less
 
--- two tasks that tie are both idle, or have one number
+-- a dispatched least task is below each other one, since those that tie have one number
 pub least_is_below : (tasks : ℕ → Option Keyed) (path : List Open) (next id n : ℕ) (task : Keyed) → IsOrdered tasks path next → IsLeastInKeys tasks id task → HasNumber task n → IsBelowAll tasks id task
 least_is_below tasks path next id n task ordered least number k x other there =
     less_of (levels_cmp (levels_of task) (levels_of x)) (least.least k x there)

@@ -1,26 +1,26 @@
 -- What is taken back with some tasks is one set, in views that are alike.
-use Rattle.std.proofs.Common.{◌≡◌, ◌≢◌, ◌≤◌, ◌<◌, ℕ, Bool, true, false, List, [], ◌∷◌, map, length, Option, Some, None, option_map, is_some, refl, sym, ap, subst, ◌∙◌, inl, inr, ◌⊎◌, arith, cond}
-use Rattle.std.specs.Prelude.{slice_get, slice_index_or, Contains, filter, not, count_by, if◌then◌else◌}
-use Rattle.abort_cascade.specs.Cascade.{Reached, start, step, IsLeastClosed, OnlyNode}
+use Rattle.std.proofs.Common.{◌≡◌, ◌<◌, ℕ, Bool, true, false, List, [], ◌∷◌, map, length, Option, Some, None, option_map, is_some, refl, sym, ap, subst, ◌∙◌, inl, inr, arith, cond}
+use Rattle.std.specs.Prelude.{filter, not, count_by, if◌then◌else◌}
+use Rattle.abort_cascade.specs.Cascade.{Reached, start, step}
 use Rattle.line_table.specs.Note.{Meet}
 use Rattle.fractal_vt.specs.Keys.{levels}
-use Rattle.memory_law.specs.Tasks.{Logged, In, Ascends, IsByKey, Earlier, log_of, undone_set}
+use Rattle.memory_law.specs.Tasks.{Logged, In, Ascends, IsByKey, log_of, undone_set}
 use Rattle.memory_law.proofs.Orders.{one_order}
-use Rattle.task_law.specs.Room.{RoomTask, queue_after}
+use Rattle.task_law.specs.Room.{queue_after}
 use Rattle.undo_log.specs.Undo.{undone}
 use Rattle.spec_state.specs.declared.task.Creator.{Creator}
 use Rattle.spec_state.specs.declared.task.Creator.TheVariants.{Committed, Live}
 use Rattle.spec_state.specs.declared.task.Task.{Task}
-use Rattle.spec_state.specs.View.{View, task_at, queue_at, finished_at, cores_at}
+use Rattle.spec_state.specs.View.{View, task_at}
 use Rattle.spec_state.specs.Tasks.{is_dispatched, idle_again}
 use Rattle.spec_state.specs.Filters.{has_touched, has_written}
 use Rattle.spec_state.specs.Groups.{logged_tasks, logged_task, room_tasks, room_task, live_creator}
 use Rattle.spec_state.specs.Aborts.{IsChildOf, ReadsFrom, PullsInView, is_marked, IsCascade, IsUndone, is_marked_creator, taken_back, freed_core, Aborts}
-use Rattle.spec_law.proofs.Proved.{id_below}
+use Rattle.spec_law.proofs.Proved.{id_below, pulled_there}
 use Rattle.outcome_law.specs.Alike.{Renaming, inverse_of, renamed_creator, IsAlikeTask, IsAlikeAt, AreAlike}
-use Rattle.outcome_law.proofs.Alike.{Partner, partner, none_there, alike_turned}
+use Rattle.outcome_law.proofs.Alike.{partner, alike_turned}
 use Rattle.outcome_law.proofs.Lists.{map_same, filter_mapped, left_mapped, same_bool, count_upto}
-use Rattle.outcome_law.proofs.Queries.{Too, later_too}
+use Rattle.outcome_law.proofs.Queries.{later_too}
 
 -- the creator of the partner
 pub live_renamed : (to : ℕ → ℕ) (c : Creator) → live_creator (renamed_creator to c) ≡ option_map to (live_creator c)
@@ -53,11 +53,6 @@ module _ (r : Renaming) (a b : View) (alike : AreAlike r a b) where
   pub pulls_too : (k j : ℕ) → PullsInView a k j → PullsInView b (r.to k) (r.to j)
   pulls_too k j (inl is) = inl (child_too k j is)
   pulls_too k j (inr is) = inr (reads_too k j is)
-
--- what is pulled is a task
-pulled_there : (view : View) (k j : ℕ) → PullsInView view k j → (x : Task) × (task_at view j ≡ Some x)
-pulled_there view k j (inl child) = (child.child, child.there)
-pulled_there view k j (inr reads) = (reads.reader, reads.later.there)
 
 -- some tasks, and their partners
 pub record AreFirsts (r : Renaming) (a : View) (firsts firsts' : ℕ → Type 0) : Type 0 where

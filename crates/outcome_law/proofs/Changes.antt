@@ -18,8 +18,9 @@ use Rattle.outcome_law.specs.Alike.{Renaming, IsAlikeTask, IsAlikeAt, AreAlike}
 use Rattle.outcome_law.proofs.Alike.{partner}
 use Rattle.outcome_law.proofs.Leasts.{cores_too}
 use Rattle.outcome_law.proofs.Queries.{least_idle_too, lowest_free_too}
-use Rattle.outcome_law.proofs.Picks.{least_idle_one, lowest_free_one, task_one}
+use Rattle.outcome_law.proofs.Picks.{lowest_free_one, task_one}
 use Rattle.outcome_law.proofs.Aborts.{one_to}
+use Rattle.spec_law.proofs.Proved.{one_least_idle}
 
 -- one task changes, and its partner changes alike
 pub changed_alike : (r : Renaming) (a b a' b' : View) → AreAlike r a b → (id : ℕ) (s t : Option Task) → IsAlikeAt r.to s t
@@ -62,7 +63,7 @@ module _ (r : Renaming) (a b : View) (alike : AreAlike r a b) where
   pub dispatches_alike : (tile : ℕ) (a' b' : View) → Dispatches tile a a' → Dispatches tile b b' → AreAlike r a' b'
   dispatches_alike tile a' b' one two =
       let least = least_idle_too r a b alike tile one.id one.task one.least in
-      let ids : two.id ≡ r.to one.id = least_idle_one b tile two.id (r.to one.id) two.task least.y two.least least.is in
+      let ids : two.id ≡ r.to one.id = one_least_idle b tile two.id (r.to one.id) two.task least.y two.least least.is in
       let tasks : two.task ≡ least.y = task_one b two.id (r.to one.id) two.task least.y ids two.least.idle.there least.is.idle.there in
       let core : two.core ≡ one.core = lowest_free_one b tile two.core one.core two.free (lowest_free_too r a b alike tile one.core one.free) in
       let next : b.next ≡ a.next = ap (λ v. v.next) alike.frame in

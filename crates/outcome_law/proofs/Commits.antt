@@ -1,33 +1,21 @@
 -- A commit leaves views that are alike.
-use Rattle.std.proofs.Common.{◌≡◌, ◌≢◌, ◌≤◌, ◌<◌, ◌+◌, ◌++◌, ◌==◌, zero, suc, ℕ, Bool, true, false, List, [], ◌∷◌, map, length, Option, Some, None, option_map, nat_eq, refl, sym, ap, subst, ◌∙◌, inl, inr, ◌⊎◌, arith}
-use Rattle.std.specs.Prelude.{slice_get, slice_index_or, not, filter, if◌then◌else◌}
+use Rattle.std.proofs.Common.{◌≡◌, ◌≢◌, ◌+◌, ◌++◌, ◌==◌, ℕ, Bool, true, false, List, [], ◌∷◌, map, length, Option, Some, None, option_map, refl, sym, ap, subst, ◌∙◌, inl, inr, arith}
+use Rattle.std.specs.Prelude.{not, if◌then◌else◌}
 use Rattle.std.proofs.lemmas.Bool.{cases_eq}
 use Rattle.std.proofs.lemmas.Bool.Decides.{nat_tests}
-use Rattle.run_journal.specs.declared.journal.Entry.{Entry}
 use Rattle.tile_queues.specs.Queue.{ids_but}
 use Rattle.spec_state.specs.declared.task.Creator.{Creator}
 use Rattle.spec_state.specs.declared.task.Creator.TheVariants.{Committed, Live}
 use Rattle.spec_state.specs.declared.task.Task.{Task}
-use Rattle.spec_state.specs.View.{View, task_at, queue_at}
+use Rattle.spec_state.specs.View.{View, task_at}
 use Rattle.spec_state.specs.Tasks.{depth_of, own_level}
-use Rattle.spec_state.specs.Least.{Spot, Queued, IsLeastSpot, IsLeastTask}
 use Rattle.spec_state.specs.Changes.{creator_after, after_commit, Commits}
-use Rattle.spec_law.proofs.Tasks.Ranked.{least_is_one}
-use Rattle.outcome_law.specs.Alike.{Renaming, inverse_of, renamed_creator, IsAlikeTask, IsAlikeAt, AreAlike}
-use Rattle.outcome_law.proofs.Alike.{Partner, partner, none_there, alike_turned}
+use Rattle.spec_state.proofs.Proved.{one_least}
+use Rattle.outcome_law.specs.Alike.{Renaming, renamed_creator, IsAlikeTask, IsAlikeAt, AreAlike}
 use Rattle.outcome_law.proofs.Aborts.{one_to}
 use Rattle.outcome_law.proofs.Leasts.{least_too, history_too}
 use Rattle.outcome_law.proofs.Lists.{filter_mapped, map_same}
 use Rattle.outcome_law.proofs.Picks.{task_one}
-
--- the least task is one
-pub least_one : (view : View) (k j : ℕ) (x y : Task) → IsLeastTask view k x → IsLeastTask view j y → k ≡ j
-least_one view k j x y one two =
-    let spots = least_is_one view (Queued x.tile one.place) (Queued y.tile two.place) one.least two.least in
-    let tiles : x.tile ≡ y.tile = cc in
-    let places : one.place ≡ two.place = cc in
-    let ids : Some k ≡ Some j = sym one.queued_at.queued ∙ ((λ i. slice_get (queue_at view (tiles i)) (places i)) ∙ two.queued_at.queued) in
-    cc
 
 -- names are tested as ids are
 pub same_tested : (r : Renaming) (k j : ℕ) → (r.to k == r.to j) ≡ (k == j)
@@ -76,7 +64,7 @@ module _ (r : Renaming) (a b : View) (alike : AreAlike r a b) where
   pub commits_alike : (a' b' : View) → Commits a a' → Commits b b' → AreAlike r a' b'
   commits_alike a' b' one two =
       let least = least_too r a b alike one.id one.task one.least in
-      let ids : two.id ≡ r.to one.id = least_one b two.id (r.to one.id) two.task least.y two.least least.least in
+      let ids : two.id ≡ r.to one.id = one_least b two.id (r.to one.id) two.task least.y two.least least.least in
       let task : two.task ≡ least.y = task_one b two.id (r.to one.id) two.task least.y ids two.least.queued_at.there least.least.queued_at.there in
       let like : two.task ≡ record one.task { creator = renamed_creator r.to one.task.creator; lines = least.y.lines } = task ∙ least.alike.other_is in
       let made : Committed two.turn two.index ≡ Committed one.turn one.index = sym two.creator ∙ (ap (λ (t : Task). t.creator) like ∙ ap (renamed_creator r.to) one.creator) in

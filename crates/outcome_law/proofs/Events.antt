@@ -1,6 +1,5 @@
 -- An event that is made of books that are alike leaves views that are alike, and takes as many tasks back.
-use Rattle.std.proofs.Common.{◌≡◌, ◌≢◌, ◌≤◌, ◌<◌, ◌+◌, ◌++◌, ◌/◌, zero, suc, ℕ, Bool, true, false, List, [], ◌∷◌, map, length, Option, Some, None, option_map, is_some, refl, sym, ap, subst, ◌∙◌, inl, inr, ◌⊎◌, arith}
-use Rattle.std.specs.Prelude.{slice_get, slice_index_or, Contains}
+use Rattle.std.proofs.Common.{◌≡◌, ◌+◌, ◌++◌, ◌/◌, ℕ, Bool, true, false, List, [], ◌∷◌, map, length, Some, refl, sym, ap, subst, ◌∙◌}
 use Rattle.fractal_vt.specs.declared.key.Key.{Key}
 use Rattle.guest_image.specs.ImageValue.{ImageValue}
 use Rattle.place_policy.specs.Policy.{Policy}
@@ -18,11 +17,11 @@ use Rattle.spec_state.specs.declared.task.Status.{Status}
 use Rattle.spec_state.specs.declared.task.Status.TheVariants as status
 use Rattle.spec_state.specs.declared.task.Status.TheVariants.{Idle, Running, Trapped, Finished}
 use Rattle.spec_state.specs.declared.task.Task.{Task}
-use Rattle.spec_state.specs.View.{View, task_at, queue_at, finished_at, cores_at, loads}
+use Rattle.spec_state.specs.View.{View, task_at, loads}
 use Rattle.spec_state.specs.Tasks.{is_dispatched, context_of}
-use Rattle.spec_state.specs.Least.{IsLeastTask, IsTheLeast, IsLeastSpilled}
-use Rattle.spec_state.specs.Queries.{IsOnCore, IsRunning, IsFinished, IsDispatched, Conflicts}
-use Rattle.spec_state.specs.Aborts.{Aborts, OnlyNode}
+use Rattle.spec_state.specs.Least.{IsLeastTask, IsTheLeast}
+use Rattle.spec_state.specs.Queries.{IsOnCore, IsFinished, IsDispatched, Conflicts}
+use Rattle.spec_state.specs.Aborts.{Aborts}
 use Rattle.spec_state.specs.Changes.{TakesLeg, request_of, task_past_leg, Enqueues}
 use Rattle.std.proofs.lemmas.List.{length-map}
 use Rattle.rv_table.specs.declared.instr.LoadWidth.{LoadWidth}
@@ -35,17 +34,18 @@ use Rattle.event_def.specs.declared.event.Event.{Event}
 use Rattle.event_def.specs.declared.event.Event.TheVariants as event
 use Rattle.event_def.specs.Events.{DispatchEvent, LoadEvent, StoreEvent, EnqueueEvent, EndEvent, ComesTo, StepEvent, AbortEvent, SplitEvent, Makes}
 use Rattle.event_law.proofs.Proved.{running_is_dispatched, least_is_heir, room_follows, asker_is_there, spilled_asks, spilled_no_heir}
-use Rattle.outcome_law.specs.Alike.{Renaming, inverse_of, renamed_creator, IsAlikeTask, IsAlikeAt, AreAlike}
+use Rattle.event_law.proofs.Proved.{running_is_busy}
+use Rattle.outcome_law.specs.Alike.{Renaming, inverse_of, IsAlikeTask, AreAlike}
 use Rattle.outcome_law.specs.Alike.{AreAlikeBooks}
-use Rattle.outcome_law.proofs.Alike.{Partner, partner, none_there, alike_turned, task_turned}
-use Rattle.outcome_law.proofs.Aborts.{AreFirsts, AbortAlike, aborts_alike, one_to}
-use Rattle.outcome_law.proofs.Anew.{HoldsTasks, holds_tasks}
+use Rattle.outcome_law.proofs.Alike.{alike_turned, task_turned}
+use Rattle.outcome_law.proofs.Aborts.{AreFirsts, AbortAlike, aborts_alike}
+use Rattle.outcome_law.proofs.Anew.{holds_tasks}
 use Rattle.outcome_law.proofs.Changes.{dispatches_alike, keeps_alike, accesses_alike, finishes_alike, version_same, memory_same, settings_same}
 use Rattle.outcome_law.proofs.Commits.{commits_alike}
 use Rattle.outcome_law.proofs.Moves.{coalesces_alike}
 use Rattle.outcome_law.proofs.News.{AlikeSomehow, splits_alike, enqueues_alike}
 use Rattle.outcome_law.proofs.Picks.{task_one}
-use Rattle.outcome_law.proofs.Queries.{Too, running_too, dispatched_too, conflicts_too}
+use Rattle.outcome_law.proofs.Queries.{running_too, dispatched_too, conflicts_too}
 use Rattle.outcome_law.proofs.Renumbers.{frees_number_alike}
 use Rattle.outcome_law.proofs.Rooms.{cores_alike, commit_alike, latest_taken, rooms_alike}
 
@@ -73,9 +73,6 @@ module _ (image : ImageValue) (view : View) (sound : Sound image view) where
       let stands : StandsAs image view.version view.settings.budget x Finished = subst (StandsAs image view.version view.settings.budget x) done (sound.tasks.stands k x is.there) in stands.0
 
 -- ---- a task that asks for room
-
-running_is_busy : (core : ℕ) (s : Status) → s ≡ Running core → s ≢ Idle
-running_is_busy core s runs idle = (let no_way : Running core ≡ Idle = sym runs ∙ idle in absurd (cc (no_way)))
 
 module _ (image : ImageValue) (view : View) (sound : Sound image view) (tile core id : ℕ) (leg : LegValue) (task : Task) (takes : TakesLeg view tile core leg id task) where
   least_runs : (x : Task) → IsLeastTask view id x → is_dispatched x ≡ true

@@ -21,6 +21,7 @@ use Rattle.spec_state.specs.Tasks.{Descriptor, idle_task, spilled_descriptor, ch
 use Rattle.spec_state.specs.Changes.{Enqueues, task_past_leg}
 use Rattle.spec_state.specs.Least.{IsHeir, HasName}
 use Rattle.spec_state.specs.Room.{Splits}
+use Rattle.spec_state.proofs.Proved.{one_least}
 use Rattle.spec_law.proofs.Tasks.Places.{get_contains}
 use Rattle.outcome_law.specs.Alike.{Renaming, inverse_of, renamed_creator, IsAlikeTask, IsAlikeAt, AreAlike}
 use Rattle.outcome_law.proofs.Alike.{Partner, partner, none_there, alike_turned}
@@ -28,7 +29,6 @@ use Rattle.outcome_law.proofs.Aborts.{one_to}
 use Rattle.outcome_law.proofs.Anew.{with_new, named_so, HoldsTasks, alike_anew, keeps_name}
 use Rattle.outcome_law.proofs.Leasts.{block_too, name_too}
 use Rattle.outcome_law.proofs.Changes.{changed_alike, ended_alike, version_same}
-use Rattle.outcome_law.proofs.Commits.{least_one}
 use Rattle.outcome_law.proofs.Picks.{task_one}
 
 -- ---- the least spilled task is one
@@ -66,7 +66,7 @@ creator_one view (Live task index) (Committed turn index') name one two =
     let upto = two.0 in
     absurd (omega arith)
 creator_one view (Live task index) (Live other index') name one two =
-    let ids : task.0 ≡ other.0 = least_one view task.0 other.0 one.0.0 two.0.0 one.0.1 two.0.1 in
+    let ids : task.0 ≡ other.0 = one_least view task.0 other.0 one.0.0 two.0.0 one.0.1 two.0.1 in
     (λ i. Live (record { 0 = ids i }) (ap (λ (n : Name). n.index) (sym one.1 ∙ two.1) i))
 
 -- ---- a task that comes to be

@@ -12,13 +12,13 @@ use Rattle.spec_state.specs.declared.task.Status.TheVariants.{Idle, Running, Tra
 use Rattle.spec_state.specs.declared.task.Task.{Task}
 use Rattle.spec_state.specs.View.{View, task_at}
 use Rattle.spec_state.specs.Least.{Spot, Queued, Spilled_at, IsLeastTask, IsLeastSpilled}
+use Rattle.spec_state.proofs.Proved.{one_least}
 use Rattle.spec_law.proofs.Tasks.Ranked.{least_is_one}
 use Rattle.event_def.specs.declared.event.Event.{Event}
 use Rattle.event_def.specs.declared.event.Event.TheVariants as event
 use Rattle.event_def.specs.Advancing.{IsLegFrom, IsLeastLeg, IsLeastEvent}
 use Rattle.outcome_law.specs.Alike.{Renaming, inverse_of, IsAlikeTask, AreAlike}
 use Rattle.outcome_law.proofs.Alike.{alike_turned}
-use Rattle.outcome_law.proofs.Commits.{least_one}
 use Rattle.outcome_law.proofs.Leasts.{least_too, spilled_too}
 use Rattle.outcome_law.proofs.Picks.{task_one}
 
@@ -70,7 +70,7 @@ module _ (r : Renaming) (a b : View) (alike : AreAlike r a b) where
   pub leasts_alike : (k j : ℕ) (x y : Task) → IsLeastTask a k x → IsLeastTask b j y → IsAlikeTask r.to x y
   leasts_alike k j x y one two =
       let l = least_too r a b alike k x one in
-      subst (λ z. IsAlikeTask r.to x z) (sym (task_one b j (r.to k) y l.y (least_one b j (r.to k) y l.y two l.least) two.queued_at.there l.least.queued_at.there)) l.alike
+      subst (λ z. IsAlikeTask r.to x z) (sym (task_one b j (r.to k) y l.y (one_least b j (r.to k) y l.y two l.least) two.queued_at.there l.least.queued_at.there)) l.alike
 
   status_same : (k j : ℕ) (x y : Task) → IsLeastTask a k x → IsLeastTask b j y → y.status ≡ x.status
   status_same k j x y one two = ap (λ t. t.status) (leasts_alike k j x y one two).other_is

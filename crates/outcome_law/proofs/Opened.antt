@@ -1,5 +1,5 @@
 -- Two openings are alike.
-use Rattle.std.proofs.Common.{◌≡◌, ◌<◌, zero, suc, ℕ, true, List, [], ◌∷◌, map, length, Option, Some, None, option_map, is_some, refl, sym, ap, subst, ◌∙◌, inl, inr, ◌⊎◌, arith}
+use Rattle.std.proofs.Common.{◌≡◌, ◌<◌, zero, suc, ℕ, List, [], ◌∷◌, map, length, Option, Some, None, option_map, is_some, refl, sym, ap, subst, ◌∙◌, inl, inr, ◌⊎◌, arith}
 use Rattle.std.specs.Prelude.{slice_get, slice_index_or, Contains, replicate}
 use Rattle.std.specs.List.{enumerate_from}
 use Rattle.std.proofs.lemmas.Bool.{cases_eq}
@@ -13,7 +13,7 @@ use Rattle.spec_state.specs.declared.task.Creator.TheVariants.{Committed}
 use Rattle.spec_state.specs.declared.task.Task.{Task}
 use Rattle.spec_state.specs.View.{View, task_at, queue_at, finished_at, cores_at, queued_last, ChangesTask}
 use Rattle.spec_state.specs.Tasks.{idle_task}
-use Rattle.spec_state.specs.Groups.{room_tasks, room_task, live_creator}
+use Rattle.spec_state.specs.Groups.{room_tasks, live_creator}
 use Rattle.spec_state.specs.Opening.{IsEmptyView}
 use Rattle.spec_state.specs.Room.{QueueHasRoom, IsFull, Coalesces}
 use Rattle.spec_law.proofs.Tasks.Filtered.{queue_filtered, filter_is}
@@ -23,6 +23,7 @@ use Rattle.event_def.specs.Opening.{PlacesImageTask, PlacesAll, opening_book, im
 use Rattle.event_law.proofs.Openings.Queued.{kept_at, last_was}
 use Rattle.outcome_law.specs.Alike.{Renaming, IsAlikeAt, AreAlike, AreAlikeBooks}
 use Rattle.event_law.proofs.Openings.Opened.{opening_is_sound}
+use Rattle.event_law.proofs.Proved.{there_of, none_held}
 use Rattle.outcome_law.specs.Laws.{AreSameBooks, OpeningIsOne, ScriptIsOne}
 use Rattle.outcome_law.proofs.Closes.{close_is_one}
 use Rattle.outcome_law.proofs.Leasts.{end_is_alike}
@@ -56,16 +57,6 @@ none_stands : {X : Type 0} (n tile : ℕ) → slice_index_or {A = List X} (repli
 none_stands zero tile = refl
 none_stands (suc n) zero = refl
 none_stands (suc n) (suc tile) = none_stands n tile
-
-none_of : (c core k : ℕ) → slice_get (replicate c None) core ≡ Some (Some k) → ⊥
-none_of zero core k at = absurd (cc (at))
-none_of (suc c) zero k at = absurd (cc (at))
-none_of (suc c) (suc core) k at = none_of c core k at
-
-none_held : (n c tile core k : ℕ) → slice_get (slice_index_or (replicate n (replicate c None)) tile []) core ≡ Some (Some k) → ⊥
-none_held zero c tile core k at = absurd (cc (at))
-none_held (suc n) c zero core k at = none_of c core k at
-none_held (suc n) c (suc tile) core k at = none_held n c tile core k at
 
 not_in_none : (ids : List ℕ) (k : ℕ) → ids ≡ [] → Contains ids k → ⊥
 not_in_none ids k none has = absurd (let low : has.0 < length ids = has.1 in let size : length ids ≡ 0 = ap length none in omega arith)
@@ -101,16 +92,12 @@ module _ (image : ImageValue) (settings : Settings) (a b : View) (one : IsEmptyV
 
 -- ---- placing
 
-is_there : (s : Option Task) → is_some (option_map room_task s) ≡ true → (x : Task) × (s ≡ Some x)
-is_there None some = absurd (cc (some))
-is_there (Some x) some = (x, refl)
-
 coalesced_fresh : (tile : ℕ) (old new : View) → IsFresh old → Coalesces tile old new → IsFresh new
 coalesced_fresh tile old new is c = record {
   queued = λ t k has.
       (let at : queue_at new t ≡ queue_after (room_tasks new) (queue_at old t) = ap (λ (qs : List (List ℕ)). slice_index_or qs t []) c.queues ∙ kept_at (room_tasks new) old.queues t in
       let left = subst (λ (q : List ℕ). Contains q k) (at ∙ queue_filtered (room_tasks new) (queue_at old t)) has in
-      is_there (task_at new k) (filter_is (λ j. is_some (room_tasks new j)) (queue_at old t) k left));
+      there_of (task_at new k) (filter_is (λ j. is_some (room_tasks new j)) (queue_at old t) k left));
   ended = λ t k has. is.ended t k (subst (λ v. Contains (finished_at v t) k) c.frame has);
   held = λ t core k at. is.held t core k (sym (ap (λ v. slice_get (cores_at v t) core) c.frame) ∙ at);
   rooted = λ k x there. elim (in_or_not k c.ids) [

@@ -7,6 +7,7 @@ use Rattle.trace_tap.specs.TapValue.{after_note}
 use Rattle.spec_state.specs.declared.task.Task.{Task}
 use Rattle.spec_state.specs.View.{View, task_at}
 use Rattle.spec_state.specs.Changes.{TakesLeg, request_of}
+use Rattle.spec_state.proofs.Proved.{one_least}
 use Rattle.spec_law.specs.Sound.{Sound}
 use Rattle.event_def.specs.declared.event.Event.{Event}
 use Rattle.event_def.specs.declared.event.Event.TheVariants as event
@@ -22,7 +23,6 @@ use Rattle.outcome_law.specs.Laws.{AreSameBooks, IsSameOutcome, OutcomeIsOne}
 use Rattle.outcome_law.proofs.Alike.{alike_turned}
 use Rattle.outcome_law.proofs.Causes.{books_turned, refused_too}
 use Rattle.outcome_law.proofs.Changes.{settings_same}
-use Rattle.outcome_law.proofs.Commits.{least_one}
 use Rattle.outcome_law.proofs.Events.{OneMade, makes_one, takers, request_same}
 use Rattle.outcome_law.proofs.Leasts.{least_too}
 use Rattle.outcome_law.proofs.Picks.{task_one}
@@ -39,7 +39,7 @@ module _ {N : Type 0} (image : ImageValue) (r : Renaming) (a b : View) (sound : 
   record_one (event.Abort tile) n m new new' seen seen' count commits one two = two ∙ ((λ i. record { deed = deed.Abort; tile = tile; line = None; aborted = count i; commits = commits i }) ∙ sym one)
   record_one event.Commit n m new new' seen seen' count commits one two =
       let l = least_too r a b alike one.0 one.1 one.2 in
-      let task : two.1 ≡ l.y = task_one b two.0 (r.to one.0) two.1 l.y (least_one b two.0 (r.to one.0) two.1 l.y two.2 l.least) two.2.queued_at.there l.least.queued_at.there in
+      let task : two.1 ≡ l.y = task_one b two.0 (r.to one.0) two.1 l.y (one_least b two.0 (r.to one.0) two.1 l.y two.2 l.least) two.2.queued_at.there l.least.queued_at.there in
       let tile : two.1.tile
       ≡ one.1.tile = ap (λ (t : Task). t.tile) task ∙ ap (λ (t : Task). t.tile) l.alike.other_is in
       two.3 ∙ ((λ i. record { deed = deed.Commit; tile = tile i; line = None; aborted = count i; commits = commits i }) ∙ sym one.3)

@@ -6,18 +6,10 @@ use Rattle.fractal_vt.proofs.Proved.{key_cmp_total}
 use Rattle.spec_state.specs.declared.task.Task.{Task}
 use Rattle.spec_state.specs.View.{View, task_at}
 use Rattle.spec_state.specs.Tasks.{is_dispatched}
-use Rattle.spec_state.specs.Queries.{IsLeastIdle, IsLatest, IsLowestFree}
+use Rattle.spec_state.specs.Queries.{IsLatest, IsLowestFree}
 use Rattle.spec_law.specs.Sound.{SoundOrder}
 use Rattle.spec_law.proofs.Dispatches.Below.{no_tie}
 use Rattle.spec_law.proofs.Tasks.Ranked.{not_greater_ties}
-use Rattle.spec_law.proofs.Proved.{not_both_ways}
-
-pub least_idle_one : (view : View) (tile k j : ℕ) (x y : Task) → IsLeastIdle view tile k x → IsLeastIdle view tile j y → k ≡ j
-least_idle_one view tile k j x y one two = elim (cases_eq k j) [
-  | inl same ↦ same
-  | inr other ↦ absurd (not_both_ways view tile k j x y one.idle.queued one.idle.there two.idle.queued two.idle.there
-      (one.least j y (λ e. other (sym e)) two.idle) (two.least k x other one.idle))
-]
 
 pub lowest_free_one : (view : View) (tile p q : ℕ) → IsLowestFree view tile p → IsLowestFree view tile q → p ≡ q
 lowest_free_one view tile p q one two =

@@ -1,21 +1,17 @@
 -- The pending tasks of a sound view, sorted by their names, are those of the serial machine's bags.
-use Rattle.std.proofs.Common.{◌≡◌, sym, subst, ℕ, ◌≤◌, nat_le, Bool, true, false, List, length, is_some, unwrap_or, arith}
+use Rattle.std.proofs.Common.{sym, subst, ℕ, nat_le, List, is_some, unwrap_or, arith}
 use Rattle.std.specs.Prelude.{IsPermutation}
 use Rattle.std.specs.List.Sorted.{IsSortedBy}
 use Rattle.std.proofs.lemmas.List.Sorted.{IsPermutation-sym, IsPermutation-trans}
 use Rattle.guest_image.specs.ImageValue.{ImageValue}
-use Rattle.serial_machine.specs.Names.{one, times_in}
 use Rattle.run_law.proofs.Counted.{AreNamed-run}
+use Rattle.run_law.proofs.Proved.{at_most_one}
 use Rattle.spec_state.specs.declared.pending.Pending.{Pending}
 use Rattle.spec_state.specs.View.{View}
 use Rattle.spec_state.specs.Pendings.{all_pending, pending_before, pendings_in, ArePendings}
 use Rattle.spec_law.specs.Sound.{Sound}
 use Rattle.pending_law.proofs.Counts.{AreApart, count, count-permutation, Holds, permuted, strictly}
 use Rattle.pending_law.proofs.Listed.{count_all, free_is_held, held_is_free, held_stands, pendings_apart, stands_is_held}
-
-at_most_one : (b : Bool) → one b ≤ 1
-at_most_one true = omega arith
-at_most_one false = omega arith
 
 module _ (image : ImageValue) (view : View) (sound : Sound image view) where
   abbrev stack : List Rattle.serial_machine.specs.BagValue.BagValue

@@ -11,7 +11,7 @@ use Rattle.progress_cell.specs.Steps.{PassStores, PassSees, PassConfirms, new_re
 use Rattle.progress_cell.specs.declared.reading.Reading.{Reading}
 use Rattle.progress_cell.specs.declared.view.PassView.{PassView}
 use Rattle.progress_cell.specs.declared.view.PassView.TheVariants.{Writes, Reads, Spent}
-use Rattle.progress_cell.proofs.Places.{IsAtMost-refl, IsAtMost-trans, last_of-push, last_place, NeverFalls-push, StandsIn-longer, StandsIn-last, StandsIn-one, StandsIn-last_seen}
+use Rattle.progress_cell.proofs.Places.{IsAtMost-refl, IsAtMost-trans, last_pushed, last_place, NeverFalls-push, StandsIn-longer, StandsIn-last, StandsIn-one, StandsIn-last_seen}
 
 -- one pass knows something else, and what the others know fits still
 AllFit-set : (old new : Telling) (before after : List ℕ) (views : List PassView) (pass : ℕ) (w : PassView) → ((other : ℕ) (u : PassView) → other ≢ pass → PassFits old before other u → PassFits new after other u) → PassFits new after pass w → AllFit old before views → AllFit new after (set views pass w)
@@ -71,7 +71,7 @@ stores pass v reading writes narrow above x views kept at =
         telling = new;
         told = record {
           some = omega (arith, length_push old.told reading);
-          last = sym (last_of-push old.told reading);
+          last = sym (last_pushed old.told reading);
           narrow = narrow;
           never_falls = NeverFalls-push old.told reading kept.told.never_falls over;
           joined_stand = All-weaker (λ seen. StandsIn seen old.told) (λ seen. StandsIn seen new.told) (λ seen. StandsIn-longer seen old.told reading) old.joined kept.told.joined_stand;
@@ -100,7 +100,7 @@ sees pass v reads x views kept at =
         told = kept.told;
         fit = AllFit-set kept.telling kept.telling x x views pass w (λ other u apart fits. fits) (
           subst (λ r. StandsIn (readings_of v ++ r ∷ []) told) (sym kept.told.last) (StandsIn-last (readings_of v) told kept.told.some mine.0),
-          subst (λ r. IsAtMost r (reading_of x)) (sym (last_of-push (readings_of v) (reading_of x))) (IsAtMost-refl _),
+          subst (λ r. IsAtMost r (reading_of x)) (sym (last_pushed (readings_of v) (reading_of x))) (IsAtMost-refl _),
         )
             kept.fit;
       },

@@ -1,2 +1,3 @@
 mod Keeps
 mod Places
+pub mod Proved

@@ -14,10 +14,10 @@ pub IsAtMost-trans : (one other third : Reading) → IsAtMost one other → IsAt
 IsAtMost-trans one other third p q = (le_trans p.0 q.0, le_trans p.1 q.1)
 
 -- one more reading is the last
-pub last_of-push : (readings : List Reading) (reading : Reading) → last_of (readings ++ reading ∷ []) ≡ reading
-last_of-push [] reading = refl
-last_of-push (x ∷ []) reading = refl
-last_of-push (x ∷ y ∷ ys) reading = last_of-push (y ∷ ys) reading
+pub last_pushed : (readings : List Reading) (reading : Reading) → last_of (readings ++ reading ∷ []) ≡ reading
+last_pushed [] reading = refl
+last_pushed (x ∷ []) reading = refl
+last_pushed (x ∷ y ∷ ys) reading = last_pushed (y ∷ ys) reading
 
 -- the last reading stands at the last place
 last_after : (x : Reading) (rest : List Reading) → IsAtPlace (x ∷ rest) (length rest) (last_of (x ∷ rest))

@@ -1,5 +1,6 @@
 use Rattle.std.proofs.Common.{◌≡◌, ℕ, zero, suc, ◌+◌, ◌*◌, ◌^◌, ◌<◌, List, [], ◌∷◌, ◌++◌, Some, None, refl, ap, sym, ◌∙◌, arith, option_map, append_assoc}
 use Rattle.std.specs.declared.option.Option.{Option}
+use Rattle.std.proofs.lemmas.List.{append-nil}
 use Rattle.report_text.specs.Hex.{hex_value, hex_bytes}
 
 on_front : (front : List ℕ) (v : ℕ) (o : Option (List ℕ)) → option_map (λ r. (front ++ v ∷ []) ++ r) o ≡ option_map (λ r. front ++ r) (option_map (λ r. v ∷ r) o)
@@ -24,12 +25,8 @@ hex_wrong_first front rest tail after a b e f g = none_of front (hex_bytes rest)
 pub hex_wrong_second : (front rest tail after : List ℕ) (a b x : ℕ) → rest ≡ a ∷ tail → tail ≡ b ∷ after → hex_value a ≡ Some x → hex_value b ≡ None → option_map (λ r. front ++ r) (hex_bytes rest) ≡ None
 hex_wrong_second front rest tail after a b x e f g h = none_of front (hex_bytes rest) (ap hex_bytes (e ∙ ap (λ t. a ∷ t) f) ∙ rw (g, h) refl)
 
-append_nil : (xs : List ℕ) → xs ++ [] ≡ xs
-append_nil [] = refl
-append_nil (x ∷ xs) = ap (λ r. x ∷ r) (append_nil xs)
-
 pub hex_end : (front rest : List ℕ) → rest ≡ [] → option_map (λ r. front ++ r) (hex_bytes rest) ≡ Some front
-hex_end front rest e = ap (λ t. option_map (λ r. front ++ r) (hex_bytes t)) e ∙ ap Some (append_nil front)
+hex_end front rest e = ap (λ t. option_map (λ r. front ++ r) (hex_bytes t)) e ∙ ap Some (append-nil front)
 
 pub hex_start : (o : Option (List ℕ)) → option_map (λ r. [] ++ r) o ≡ o
 hex_start None = refl

@@ -1,5 +1,5 @@
 -- Decimal numbers that are written are read again, and where a line ends.
-use Rattle.std.proofs.Common.{◌≡◌, ◌≢◌, ℕ, ◌/◌, ◌%◌, ◌<◌, ◌≤◌, ◌^◌, ◌==◌, ◌&&◌, nat_le, option_map, List, [], ◌∷◌, ◌++◌, length, get_or, Some, None, refl, ap, arith, rules, true, false, Bool, suc, eq-eqb, subst, length-append}
+use Rattle.std.proofs.Common.{◌≡◌, ◌≢◌, ℕ, ◌/◌, ◌%◌, ◌<◌, ◌≤◌, ◌^◌, ◌==◌, nat_le, option_map, List, [], ◌∷◌, ◌++◌, length, get_or, Some, None, refl, ap, arith, rules, true, false, Bool, suc, eq-eqb, subst, length-append}
 use Rattle.std.specs.Fmt.{decimal}
 use Rattle.std.specs.List.{list_all, flat_map}
 use Rattle.std.specs.Char.{is_ascii_digit}
@@ -14,10 +14,7 @@ use Rattle.text_lines.specs.Numerals.{field}
 use Rattle.text_lines.proofs.Proved.{lines_cut, own, all_digits, number_back, Free, free_both}
 use Rattle.text_lines.proofs.Proved.{cut_free}
 use Rattle.report_text.proofs.HexBack.{digit-free}
-
-pub and_false : (a : Bool) → (a && false) ≡ false
-and_false true = refl
-and_false false = refl
+use Rattle.fractal_vt.proofs.Proved.{and_false}
 
 -- a list that has no c is cut off whole before a c
 cut_before : (c : ℕ) (xs rest : List ℕ) → ((k : ℕ) → k < length xs → get_or xs k 0 ≢ c) → cut c (xs ++ c ∷ rest) ≡ Some (xs, rest)

@@ -1,5 +1,5 @@
 -- How a turn is refused.
-use Rattle.std.proofs.Common.{◌≡◌, ◌≢◌, ℕ, zero, suc, ◌+◌, ◌<◌, List, [], ◌∷◌, ◌++◌, length, take, get_or, Some, None, Bool, true, false, refl, sym, ap, ◌∙◌, arith, MatchBool}
+use Rattle.std.proofs.Common.{◌≡◌, ◌≢◌, ℕ, zero, suc, ◌<◌, List, [], ◌∷◌, length, take, get_or, Some, None, Bool, true, false, refl, sym, ap, ◌∙◌, arith, MatchBool}
 use Rattle.std.specs.List.{slice_get}
 use Rattle.std.proofs.lemmas.Option.{slice_get-get_or, same_Some}
 use Rattle.std.proofs.Math.Seq.{take-length}
@@ -19,11 +19,6 @@ found_at es i d e lt is = slice_get-get_or es i d lt ∙ ap Some (sym is)
 
 pub none-other : {A : Type 0} (a : A) → None ≡ Some a → ⊥
 none-other a h = cc
-
-pub take-more : {X : Type 0} (es : List X) (i : ℕ) (e : X) → slice_get es i ≡ Some e → take (i + 1) es ≡ take i es ++ e ∷ []
-take-more [] i e h = absurd (none-other e h)
-take-more (x ∷ es) zero e h = ap (λ y. y ∷ []) (same_Some x e h)
-take-more (x ∷ es) (suc i) e h = let k : suc i + 1 ≡ suc (i + 1) = omega arith in rw k (ap (λ r. x ∷ r) (take-more es i e h))
 
 -- ---- windows
 

@@ -24,7 +24,8 @@ use Rattle.report_text.specs.ReadBack.{IsName, EntryFits, TrapFits, EndFits, Rep
 use Rattle.undo_log.specs.Number.{AreBytes}
 use Rattle.report_text.proofs.Steps.{onto_journal_both, onto_journal_none, entry_step, output_step, onto_window_both, onto_window_none, word_step}
 use Rattle.report_text.proofs.HexBack.{word-back, bytes-back}
-use Rattle.report_text.proofs.NumberBack.{and_false, field_back, space, dot, number_free, bytes_free, word_free, lines_on, behind_front, behind_other}
+use Rattle.report_text.proofs.NumberBack.{field_back, space, dot, number_free, bytes_free, word_free, lines_on, behind_front, behind_other}
+use Rattle.fractal_vt.proofs.Proved.{and_false}
 
 -- ---- entries
 

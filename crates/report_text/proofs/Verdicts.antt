@@ -21,6 +21,7 @@ use Rattle.report_text.specs.declared.verdict.Verdict.TheVariants as verdicts
 use Rattle.report_text.specs.Report.{window_of}
 use Rattle.report_text.specs.Check.{IsReplayed, IsNoTurn, IsWrongEntry, IsWrongOutput, DifferFirst, IsWrongWord, IsWrongEnd, IsReportOf, AgreeOnTheLine}
 use Rattle.report_text.proofs.Replays.{none-other, trap-none}
+use Rattle.run_law.proofs.Proved.{Runs-same}
 
 -- ---- runs
 
@@ -31,14 +32,6 @@ state-same a b e f h = ap (λ o. (unwrap_or {T = SerialState × Entry} o (a, e))
 entry-same : (a b : SerialState) (e f : Entry)
     → ◌≡◌ {A = Option (SerialState × Entry)} (Some (a, e)) (Some (b, f)) → e ≡ f
 entry-same a b e f h = ap (λ o. (unwrap_or {T = SerialState × Entry} o (a, e)).1) h
-
--- a journal leads to one state
-runs-same : (image : ImageValue) (budget : ℕ) (s : SerialState) (es : List Entry) (a b : SerialState) → Runs image budget s es a → Runs image budget s es b → a ≡ b
-runs-same image budget s [] a b h g = sym h ∙ g
-runs-same image budget s (e ∷ es) a b (m, t, r) (n, u, q) =
-    let same : m ≡ n = state-same m n e e (sym t ∙ u) in
-    let P : SerialState → Type 0 = λ z. Runs image budget z es a in
-    runs-same image budget n es a b (subst P same r) q
 
 -- an entry is that of a turn from this state
 record IsTurn (image : ImageValue) (budget : ℕ) (s : SerialState) (e : Entry) : Type 0 where
@@ -169,7 +162,7 @@ differ-once xs ys p q v w = go (order p q) where
 
 -- the states that a replayed journal leads to are one
 replayed-same : (image : ImageValue) (commits budget : ℕ) (journal : List Entry) (a b : SerialState) → IsReplayed image commits budget journal a → IsReplayed image commits budget journal b → a ≡ b
-replayed-same image commits budget journal a b h g = runs-same image budget (opening image) journal a b h.run g.run
+replayed-same image commits budget journal a b h g = Runs-same image budget journal (opening image) a b h.run g.run
 
 -- the output isn't at once the run's and not
 output-clash : (image : ImageValue) (commits budget : ℕ) (report : Report) (line : ℕ) (why : Option TurnFault) (s : SerialState)

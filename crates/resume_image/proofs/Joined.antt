@@ -1,8 +1,6 @@
 -- A run and one that went on from its saved image are one run.
-use Rattle.std.proofs.Common.{◌≡◌, refl, sym, ap, ◌∙◌, subst, ℕ, ◌<◌, ◌||◌, Bool, true, false, List, [], ◌∷◌, ◌++◌, length, map, All, arith}
+use Rattle.std.proofs.Common.{◌≡◌, refl, sym, ap, ◌∙◌, subst, ℕ, ◌<◌, ◌||◌, Bool, true, false, List, [], ◌∷◌, ◌++◌, length, map, All}
 use Rattle.std.specs.List.{list_any}
-use Rattle.std.proofs.lemmas.Bool.Decides.{nat_tests}
-use Rattle.std.proofs.lemmas.Grind.{common_steps}
 use Rattle.guest_image.specs.ImageValue.{ImageValue, IsImage}
 use Rattle.task_desc.specs.declared.desc.Name.{Name}
 use Rattle.pending_list.specs.declared.task.PendingTask.{PendingTask}
@@ -19,24 +17,12 @@ use Rattle.resume_image.specs.Joined.{IsJoinedRun, shifted_name, shifted_entry}
 use Rattle.resume_image.proofs.Followed.{runs_followed}
 use Rattle.resume_image.proofs.Opened.{saved_opens}
 use Rattle.resume_image.proofs.Shifted.{AreShifted, shifted_task}
+use Rattle.task_law.proofs.Proved.{named_same, same_named}
 
 runs_more : (image : ImageValue) (budget : ℕ) (es more : List Entry) (s mid after : SerialState) → Runs image budget s es mid → Runs image budget mid more after
     → Runs image budget s (es ++ more) after
 runs_more image budget [] more s mid after done on = subst (λ st. Runs image budget st more after) (sym done) on
 runs_more image budget (e ∷ es) more s mid after (next, turned, rest) on = (next, turned, runs_more image budget es more next mid after rest on)
-
--- a task has the name under which it is found
-own_name : (name : Name) (t : PendingTask) → is_named name t ≡ true → t.name ≡ name
-own_name name t is =
-    let creator : t.name.creator ≡ name.creator = grind (arith, nat_tests, common_steps) in
-    let index : t.name.index ≡ name.index = grind (arith, nat_tests, common_steps) in
-    λ i. record { creator = creator i; index = index i }
-
-named_own : (name : Name) (t : PendingTask) → t.name ≡ name → is_named name t ≡ true
-named_own name t same =
-    let creator : t.name.creator ≡ name.creator = ap (λ (n : Name). n.creator) same in
-    let index : t.name.index ≡ name.index = ap (λ (n : Name). n.index) same in
-    grind (arith, nat_tests, common_steps)
 
 module _ (turns : ℕ) (pendings : List Pending) where
   -- a name that pends in the second state, and its shifted name
@@ -60,7 +46,7 @@ module _ (turns : ℕ) (pendings : List Pending) where
   bag_back name (t ∷ ts) is =
       either (is_named name (shifted_task turns pendings t)) (list_any (is_named name) (map (shifted_task turns pendings) ts)) is
       (Pends (λ own. list_any (is_named own) (t ∷ ts)) name)
-      (λ here. (t.name, left_holds (is_named t.name t) (list_any (is_named t.name) ts) (named_own t.name t refl), sym (own_name name (shifted_task turns pendings t) here)))
+      (λ here. (t.name, left_holds (is_named t.name t) (list_any (is_named t.name) ts) (same_named t.name t refl), sym (named_same name (shifted_task turns pendings t) here)))
       (λ there. (let rest = bag_back name ts there in
       (rest.0, right_holds (is_named rest.0 t) (list_any (is_named rest.0) ts) rest.1, rest.2)))
 
@@ -70,7 +56,7 @@ module _ (turns : ℕ) (pendings : List Pending) where
   bag_there own (t ∷ ts) is =
       either (is_named own t) (list_any (is_named own) ts) is
       (list_any (is_named (shifted_name turns pendings own)) (map (shifted_task turns pendings) (t ∷ ts)) ≡ true)
-      (λ here. left_holds _ _ (named_own (shifted_name turns pendings own) (shifted_task turns pendings t) (ap (shifted_name turns pendings) (own_name own t here))))
+      (λ here. left_holds _ _ (same_named (shifted_name turns pendings own) (shifted_task turns pendings t) (ap (shifted_name turns pendings) (named_same own t here))))
       (λ there. right_holds (is_named (shifted_name turns pendings own) (shifted_task turns pendings t)) _ (bag_there own ts there))
 
   stack_back : (name : Name) (xs ys : List BagValue) → AreShifted turns pendings xs ys → is_pending name xs ≡ true → Pends (λ own. is_pending own ys) name

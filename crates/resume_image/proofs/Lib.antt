@@ -11,4 +11,3 @@ pub mod Opened
 pub mod Joined
 pub mod Creators
 pub mod Remains
-pub mod Made

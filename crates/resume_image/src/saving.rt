@@ -98,7 +98,7 @@ fn at_version(image: Image, version: u16) -> Image
 }
 
 /// An image of version 1 of values that are within the limits.
-#[tactic(auto, using(crate::proofs::Made::made_is))]
+#[tactic(auto, using(guest_image::proofs::Proved::made_is))]
 fn first_of(
     kind: Kind,
     text: Vec<u32>,

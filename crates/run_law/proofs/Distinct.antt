@@ -70,12 +70,12 @@ turns-fit x image budget s (e ∷ es) after k (mid, t, rest) h =
     let ih = turns-fit x image budget mid es after (k + one (is_same e.name x)) rest (omega (arith, h, step, more)) in
     omega (arith, ih)
 
-at-most : (b : Bool) → one b ≤ 1
-at-most true = omega arith
-at-most false = omega arith
+pub at_most_one : (b : Bool) → one b ≤ 1
+at_most_one true = omega arith
+at_most_one false = omega arith
 
 pub distinct : (image : ImageValue) → (budget : ℕ) → (journal : List Entry) → (state : SerialState) → IsRun image budget journal state → TurnsAreDistinct journal
 distinct image budget journal state run name =
     let base = AreNamed-opening image.kind image.tasks _ refl name in
     let all = turns-fit name image budget (opening image) journal state 0 run (omega (arith, base)) in
-    omega (arith, all, at-most (nat_le name.creator state.count))
+    omega (arith, all, at_most_one (nat_le name.creator state.count))

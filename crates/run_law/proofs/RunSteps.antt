@@ -6,7 +6,7 @@ use Rattle.run_journal.specs.declared.journal.Entry.{Entry}
 use Rattle.serial_machine.specs.State.{SerialState}
 use Rattle.serial_machine.specs.Turn.{turn}
 use Rattle.serial_machine.specs.Run.{Runs, IsRun, opening}
-pub use Rattle.serial_machine.proofs.WholeRuns.{Runs-more}
+pub use Rattle.serial_machine.proofs.Proved.{Runs-more}
 use Rattle.run_law.specs.Laws.{IsTurnOf}
 
 -- a run is a run of its first entries and then one of the others

@@ -2,7 +2,7 @@
 use Rattle.std.proofs.Common.{◌≡◌, ◌≢◌, ◌<◌, ◌≤◌, ◌+◌, ◌∷◌, ◌++◌, ℕ, zero, suc, Bool, true, false, cond, not, eqb, List, [], length, map, take, Option, Some, None, option_map, refl, sym, ap, subst, ◌∙◌, inl, inr, arith, slice_get, slice_index_or}
 use Rattle.std.specs.Prelude.{Contains, is_some, slice_set}
 use Rattle.std.specs.List.{AllZip}
-use Rattle.std.proofs.lemmas.Bool.{cases_eq, ne_eqb}
+use Rattle.std.proofs.lemmas.Bool.{cases_eq}
 use Rattle.std.proofs.lemmas.Bool.Decides.{nat_tests}
 use Rattle.std.proofs.lemmas.List.{set-get_or, take_more, take_all}
 use Rattle.std.proofs.lemmas.List.Elements.{Contains-append_left, Contains-append_right, Contains-append_cases}
@@ -11,13 +11,13 @@ use Rattle.std.specs.Ordering.{nat_cmp, ordering_then}
 use Rattle.std.specs.declared.cmp.Ordering.TheVariants.{Less, Equal}
 use Rattle.std.proofs.lemmas.Cmp.{tied_itself}
 use Rattle.fractal_vt.specs.declared.key.Key.{Key}
-use Rattle.fractal_vt.proofs.Proved.{key_cmp_total}
+use Rattle.fractal_vt.proofs.Proved.{key_cmp_total, same_number}
 use Rattle.run_journal.specs.declared.journal.Entry.{Entry}
-use Rattle.spec_state.proofs.Proved.{all_same, freed_other, has_head, head_or_tail, held_at, held_place, in_tail, keeps_none, same_tile}
+use Rattle.spec_state.proofs.Proved.{all_same, freed_other, has_head, head_or_tail, held_at, held_place, in_tail, keeps_none}
 use Rattle.spill_store.specs.SpilledTasks.{Spilled, after_push}
 use Rattle.spill_store.specs.Pushing.{after_pushes}
 use Rattle.tile_queues.specs.Queue.{ids_but}
-use Rattle.tile_queues.proofs.Proved.{ids_but-absent}
+use Rattle.tile_queues.proofs.Proved.{ids_but-absent, ids_but-cons_other}
 use Rattle.task_law.specs.Room.{RoomTask, queue_after, kept_by}
 use Rattle.spec_state.specs.declared.task.Status.TheVariants.{Idle, Finished}
 use Rattle.spec_state.specs.declared.task.Status.{Status}
@@ -101,10 +101,6 @@ all_stay tasks [] live = refl
 all_stay tasks (k ∷ ids) live =
     ap (λ b. kept_by b k (queue_after tasks ids)) (live k (has_head k ids)) ∙ ap (λ rest. k ∷ rest) (all_stay tasks ids (λ j has. live j (in_tail k ids j has)))
 
--- without the id of one more task that has gone
-without_other : (id k : ℕ) (ids : List ℕ) → k ≢ id → ids_but id (k ∷ ids) ≡ k ∷ ids_but id ids
-without_other id k ids other = ap (λ test. cond (not test) (k ∷ ids_but id ids) (ids_but id ids)) (ne_eqb k id other)
-
 without_own : (id k : ℕ) (ids : List ℕ) → k ≡ id → ids_but id (k ∷ ids) ≡ ids_but id ids
 without_own id k ids same = (let is : eqb k id ≡ true = grind (arith, nat_tests) in ap (λ test. cond (not test) (k ∷ ids_but id ids) (ids_but id ids)) is)
 
@@ -124,7 +120,7 @@ without_after id was now gone others (k ∷ ids) = elim (cases_eq k id) [
     own false same more = more
 
     rest : (b : Bool) → k ≢ id → ids_but id (queue_after was ids) ≡ queue_after now ids → ids_but id (kept_by b k (queue_after was ids)) ≡ kept_by b k (queue_after now ids)
-    rest true other more = without_other id k (queue_after was ids) other ∙ ap (λ xs. k ∷ xs) more
+    rest true other more = ids_but-cons_other id k (queue_after was ids) other ∙ ap (λ xs. k ∷ xs) more
     rest false other more = more
 
 queues_after : (id : ℕ) (was now : ℕ → Option RoomTask) → now id ≡ None → ((k : ℕ) → k ≢ id → now k ≡ was k) → (queues : List (List ℕ))
@@ -193,7 +189,7 @@ module _ (size tile : ℕ) (ids : List ℕ) (old : View) (stored : IsStored size
 
   same_rank : (key : Key) (p : ℕ) → ranked_cmp key (Queued tile p) key (Queued tile p) ≡ Equal
   same_rank key p = ap (λ o. ordering_then o (ordering_then (nat_cmp tile tile) (nat_cmp p p))) (tied_itself key_cmp_total key)
-      ∙ ap (λ o. ordering_then o (nat_cmp p p)) (same_tile tile) ∙ same_tile p
+      ∙ ap (λ o. ordering_then o (nat_cmp p p)) (same_number tile) ∙ same_number p
 
   not_self : (k : ℕ) → IsMovable old tile k → Precedes old tile k k → ⊥
   not_self k moves before =

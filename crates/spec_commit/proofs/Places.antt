@@ -3,28 +3,23 @@ use Rattle.std.proofs.Common.{◌≡◌, ◌≢◌, ◌⊎◌, ◌<◌, ℕ, Som
 use Rattle.std.specs.Ordering.{nat_cmp, ordering_then, ordering_reverse}
 use Rattle.std.specs.declared.cmp.Ordering.{Ordering}
 use Rattle.std.specs.declared.cmp.Ordering.TheVariants.{Less, Equal, Greater}
-use Rattle.std.proofs.lemmas.Bool.Decides.{nat_tests}
 use Rattle.fractal_vt.specs.declared.key.Key.{Key}
 use Rattle.fractal_vt.specs.Keys.{key_cmp}
-use Rattle.fractal_vt.proofs.Proved.{key_cmp_total, less_number}
+use Rattle.fractal_vt.proofs.Proved.{key_cmp_total, less_number, same_number, below_from, less_then}
 use Rattle.tile_queues.specs.Queue.{AreDistinct}
 use Rattle.tile_queues.proofs.Proved.{one_place}
 use Rattle.spec_state.specs.declared.task.Task.{Task}
 use Rattle.spec_state.specs.View.{View, queue_at}
 use Rattle.spec_state.specs.Least.{Queued, ranked_cmp, IsQueuedAt, Precedes}
-use Rattle.spec_state.proofs.Proved.{less_then, same_tile}
 use Rattle.spec_commit.specs.Latest.{HasLessKey}
-
-less_is_below : (a b : ℕ) → nat_cmp a b ≡ Less → a < b
-less_is_below a b less = grind (arith, nat_tests)
 
 -- in one tile an order by key and place is one by key, or by place where keys tie
 ranked : (o : Ordering) (tile p q : ℕ) → ordering_then o (ordering_then (nat_cmp tile tile) (nat_cmp p q)) ≡ ordering_then o (nat_cmp p q)
-ranked o tile p q = ap (λ r. ordering_then o (ordering_then r (nat_cmp p q))) (same_tile tile)
+ranked o tile p q = ap (λ r. ordering_then o (ordering_then r (nat_cmp p q))) (same_number tile)
 
 by_parts : (o : Ordering) (p q : ℕ) → ordering_then o (nat_cmp p q) ≡ Less → (o ≡ Less) ⊎ ((o ≡ Equal) × (p < q))
 by_parts Less p q less = inl refl
-by_parts Equal p q less = inr (refl, less_is_below p q less)
+by_parts Equal p q less = inr (refl, below_from p q less)
 by_parts Greater p q less = absurd (cc (less))
 
 parts : (o : Ordering) (tile p q : ℕ) → ordering_then o (ordering_then (nat_cmp tile tile) (nat_cmp p q)) ≡ Less → (o ≡ Less) ⊎ ((o ≡ Equal) × (p < q))

@@ -5,7 +5,7 @@ pub use Rattle.spec_law.proofs.Aborted.KeptSound.{abort_for_room_is_sound, abort
 pub use Rattle.spec_law.proofs.Aborted.KeptSound.{abort_of_one_is_sound}
 pub use Rattle.spec_law.proofs.Aborted.KeptTasks.{each_now}
 pub use Rattle.spec_law.proofs.Aborted.Spared.{cascade_spares_heir, conflicts_spare_heir, least_key, not_below_least, queued_at}
-pub use Rattle.spec_law.proofs.Aborted.Taken.{abort_takes, marked_is_back, unmarked_stays}
+pub use Rattle.spec_law.proofs.Aborted.Taken.{abort_takes, marked_is_back, unmarked_stays, pulled_there}
 pub use Rattle.spec_law.proofs.Aborted.Undone.{undo_all_is_serial}
 pub use Rattle.spec_law.proofs.Accesses.Kept.{load_stays_sound, store_stays_sound}
 pub use Rattle.spec_law.proofs.Accesses.Noted.{none_noted}
@@ -39,7 +39,7 @@ pub use Rattle.spec_law.proofs.Steps.Laws.{byte_stays_sound, end_stays_sound, qu
 pub use Rattle.spec_law.proofs.Steps.One.{StepsOne, worked}
 pub use Rattle.spec_law.proofs.Steps.Sound.{keeps_steps}
 pub use Rattle.spec_law.proofs.Tasks.Beside.{id_below, mapped_some, queued_stands, spilled_key, spilled_stands, which}
-pub use Rattle.spec_law.proofs.Tasks.Contained.{some_first}
+pub use Rattle.spec_law.proofs.Tasks.Contained.{some_first, decided}
 pub use Rattle.spec_law.proofs.Tasks.Distinct.{distinct_at}
 pub use Rattle.spec_law.proofs.Tasks.Filtered.{filter_leaves, list_mapped}
 pub use Rattle.spec_law.proofs.Tasks.Firm.{spilled_are_firm}
@@ -49,7 +49,6 @@ pub use Rattle.spec_law.proofs.Tasks.Lowest.{lowest}
 pub use Rattle.spec_law.proofs.Tasks.Next.{firm_is_committed, in_spilled, least_is_next, none_is_committed, spot_of}
 pub use Rattle.spec_law.proofs.Tasks.Places.{contains_get, get_contains, place_in_all}
 pub use Rattle.spec_law.proofs.Tasks.Ranked.{first_not_greater, least_is_one, ranked_turned, same_spot}
-pub use Rattle.spec_law.proofs.Tasks.Turned.{not_both_ways}
+pub use Rattle.spec_law.proofs.Tasks.Turned.{not_both_ways, one_least_idle}
 pub use Rattle.spec_law.proofs.Tasks.Rebound.{below_all}
-pub use Rattle.spec_law.proofs.Tasks.Returned.{other_test, same_test}
 pub use Rattle.spec_law.proofs.Tasks.Stacked.{run_stack}

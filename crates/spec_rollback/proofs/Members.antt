@@ -10,10 +10,11 @@ use Rattle.abort_cascade.specs.Cascade.{Marked}
 use Rattle.spec_state.specs.StateValue.{Scratch}
 use Rattle.spec_state.specs.View.{View, task_at}
 use Rattle.spec_state.specs.Aborts.{is_marked}
+use Rattle.spec_state.proofs.Proved.{other_test}
 use Rattle.spec_rollback.specs.Pulled.{ListsMarked}
 use Rattle.spec_rollback.specs.TakenBack.{TakesOne, TakesThese}
 use Rattle.spec_rollback.proofs.Undone.{among, among_is, is_among, not_among}
-use Rattle.spec_rollback.proofs.TakenBack.{more, same_id, other_id, untaken, one_more}
+use Rattle.spec_rollback.proofs.TakenBack.{more, same_id, untaken, one_more}
 
 -- what a list has at a place below a bound is among its first
 at_place : (xs : List ℕ) (n place id : ℕ) → place < n → n ≤ length xs → slice_get xs place ≡ Some id → (d : ℕ)
@@ -100,7 +101,7 @@ module _ (scratch : Scratch) (found : ℕ) (listed : ListsMarked scratch found) 
       | inl same ↦ in_longer k (inl same)
       | inr other ↦ in_longer k
           (inr (among_is (take place members) k
-          (sym (ap (λ b. if b then true else among (take place members) k) (other_id k id other)) ∙ is)))
+          (sym (ap (λ b. if b then true else among (take place members) k) (other_test k id other)) ∙ is)))
     ]
 
     more_is : (k : ℕ) → Contains (take (place + 1) members) k → more (among (take place members)) id k ≡ true

@@ -11,10 +11,11 @@ use Rattle.spec_state.specs.StateValue.{Scratch}
 use Rattle.spec_state.specs.View.{View, task_at}
 use Rattle.spec_state.specs.Aborts.{is_marked}
 use Rattle.spec_state.specs.Leaving.{freed_of, TaskLeaves}
+use Rattle.spec_state.proofs.Proved.{other_test}
 use Rattle.spec_rollback.specs.Pulled.{ListsMarked}
 use Rattle.spec_rollback.specs.Removed.{RemovesThese}
 use Rattle.spec_rollback.proofs.Undone.{among}
-use Rattle.spec_rollback.proofs.TakenBack.{more, same_id, other_id, maps_same}
+use Rattle.spec_rollback.proofs.TakenBack.{more, same_id, maps_same}
 use Rattle.spec_rollback.proofs.Members.{member_marked, fresh, longer_is, all_among}
 
 -- a change of each core leaves as many
@@ -48,7 +49,7 @@ module _ (these : ℕ → Bool) (old mid : View) (removes : RemovesThese these o
             ∙ ap (λ b. if (if b then true else these k) then None else task_at old k) (sym (same_id k id same))
         | inr other ↦
             leaves.changes.others k other ∙ removes.each k
-            ∙ ap (λ b. if (if b then true else these k) then None else task_at old k) (sym (other_id k id other))
+            ∙ ap (λ b. if (if b then true else these k) then None else task_at old k) (sym (other_test k id other))
       ]
 
 -- at first none is gone

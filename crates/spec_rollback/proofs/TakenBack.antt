@@ -14,7 +14,7 @@ use Rattle.spec_state.specs.Tasks.{idle_again}
 use Rattle.spec_state.specs.Aborts.{is_marked, is_marked_creator, taken_back}
 use Rattle.spec_state.specs.Leaving.{freed_of, TaskLeaves, SetsBack}
 use Rattle.spec_state.specs.Stored.{IsStored}
-use Rattle.spec_state.proofs.Proved.{has_head, in_tail}
+use Rattle.spec_state.proofs.Proved.{has_head, in_tail, other_test}
 use Rattle.spec_rollback.specs.TakenBack.{freed_of_these, TakesOne, TakesThese}
 
 -- these, and one more
@@ -23,9 +23,6 @@ more these id k = if k == id then true else these k
 
 pub same_id : (k id : ℕ) → k ≡ id → (k == id) ≡ true
 same_id k id same = grind (arith, nat_tests)
-
-pub other_id : (k id : ℕ) → k ≢ id → (k == id) ≡ false
-other_id k id other = grind (arith, nat_tests)
 
 -- two changes of each list that agree
 pub maps_same : {X Y : Type 0} (f g : X → Y) (xs : List X) → ((x : X) → f x ≡ g x) → map f xs ≡ map g xs
@@ -127,7 +124,7 @@ module _ (marks : List Bool) (these : ℕ → Bool) (old mid new : View) (back :
     | inr other ↦
         others k other ∙ back.each k
         ∙ ap (λ b. if (if b then true else these k) then taken_back old.version marks k (task_at old k) else task_at
-        old k) (sym (other_id k id other))
+        old k) (sym (other_test k id other))
   ]
 
   finished_more : map (ids_but id) mid.finished ≡ map (filter (λ k. not (more these id k))) old.finished
@@ -166,7 +163,7 @@ module _ (marks : List Bool) (these : ℕ → Bool) (old mid new : View) (back :
             ∙ ap (λ b. if b then false else is_some (room_tasks mid k)) (sym (same_id k id same))
         | inr other ↦
             ap (λ o. is_some (option_map room_task o)) (leaves.changes.others k other)
-            ∙ ap (λ b. if b then false else is_some (room_tasks mid k)) (sym (other_id k id other))
+            ∙ ap (λ b. if b then false else is_some (room_tasks mid k)) (sym (other_test k id other))
       ]
 
   by_setting_back : (task : Task) → task_at mid id ≡ Some task

@@ -5,7 +5,6 @@ use Rattle.std.specs.Prelude.{◌==◌, ◌↔◌, AllPairs, Contains}
 use Rattle.std.specs.Ordering.{is_lt}
 use Rattle.std.specs.Cmp.{both_ways}
 use Rattle.std.proofs.lemmas.Bool.{cases_eq}
-use Rattle.std.proofs.lemmas.Bool.Decides.{nat_tests}
 use Rattle.memory_law.specs.Events.{IsLatestInLogs, without_one}
 use Rattle.memory_law.specs.Tasks.{Logged, log_of, In, Earlier, Ascends, IsByKey, undone_set}
 use Rattle.memory_law.proofs.Proved.{latest_first, member_runs, not_self}
@@ -18,29 +17,24 @@ use Rattle.spec_state.specs.StateValue.{Scratch}
 use Rattle.spec_state.specs.Aborts.{is_marked}
 use Rattle.spec_rollback.specs.Pulled.{ListsMarked}
 use Rattle.spec_state.specs.Tasks.{is_dispatched}
-use Rattle.spec_state.proofs.Proved.{head_or_tail, has_head, in_tail}
+use Rattle.spec_state.proofs.Proved.{head_or_tail, has_head, in_tail, other_test}
 use Rattle.std.specs.Option.{option_cmp}
 use Rattle.fractal_vt.specs.Keys.{key_cmp}
 use Rattle.spec_rollback.specs.Undone.{key_in, ids_cmp, Falls, undone_one, undone_down}
 use Rattle.spec_rollback.proofs.Marked.{members_once}
+use Rattle.spec_rollback.proofs.TakenBack.{same_id}
 
 -- the id is one of these
 abbrev pub among : List ℕ → ℕ → Bool
 among [] k = false
 among (x ∷ xs) k = if k == x then true else among xs k
 
-same_id : (k x : ℕ) → k ≡ x → (k == x) ≡ true
-same_id k x same = grind (arith, nat_tests)
-
-other_id : (k x : ℕ) → k ≢ x → (k == x) ≡ false
-other_id k x other = grind (arith, nat_tests)
-
 pub among_is : (xs : List ℕ) (k : ℕ) → among xs k ≡ true → Contains xs k
 among_is [] k is = absurd (cc)
 among_is (x ∷ xs) k is = elim (cases_eq k x) [
   | inl same ↦ subst (Contains (x ∷ xs)) (sym same) (has_head x xs)
   | inr other ↦ in_tail x xs k
-      (among_is xs k (sym (ap (λ b. if b then true else among xs k) (other_id k x other)) ∙ is))
+      (among_is xs k (sym (ap (λ b. if b then true else among xs k) (other_test k x other)) ∙ is))
 ]
 
 pub is_among : (xs : List ℕ) (k : ℕ) → Contains xs k → among xs k ≡ true
@@ -127,11 +121,11 @@ module _ (tasks : List (Option Task)) where
         | inl same ↦
             ap (λ b. if b then false else (if b then true else among list k)) (same_id k x same)
             ∙ sym (not_among list k (λ has. first_of_pairs (λ a b. a ≢ b) x list once k has (sym same)))
-        | inr other ↦ ap (λ b. if b then false else (if b then true else among list k)) (other_id k x other)
+        | inr other ↦ ap (λ b. if b then false else (if b then true else among list k)) (other_test k x other)
       ]
 
       without_other : (k : ℕ) → k ≢ x → among (x ∷ list) k ≡ among list k
-      without_other k other = ap (λ b. if b then true else among list k) (other_id k x other)
+      without_other k other = ap (λ b. if b then true else among list k) (other_test k x other)
 
       skipped : (memory : List ℕ) → ((task : Logged) → read x ≡ Some task → task.dispatched ≡ true → ⊥)
           → undone_set (among list) read ids memory ≡ undone_set (among (x ∷ list)) read ids memory

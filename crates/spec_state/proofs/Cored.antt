@@ -23,15 +23,15 @@ set_there (y ∷ xs) (suc i) zero x other = refl
 set_there (y ∷ xs) (suc i) (suc j) x other = set_there xs i j x (λ same. other (ap suc same))
 
 -- a list with something at a place stands within all
-list_within : {X : Type 0} (lists : List (List X)) (k i : ℕ) (x : X) → slice_get (slice_index_or lists k []) i ≡ Some x → k < length lists
-list_within [] k i x has = absurd (cc (has))
-list_within (xs ∷ lists) zero i x has = omega arith
-list_within (xs ∷ lists) (suc k) i x has = let rest = list_within lists k i x has in omega (arith, rest)
+pub at_within : {X : Type 0} (lists : List (List X)) (k i : ℕ) (x : X) → slice_get (slice_index_or lists k []) i ≡ Some x → k < length lists
+at_within [] k i x has = absurd (cc (has))
+at_within (xs ∷ lists) zero i x has = omega arith
+at_within (xs ∷ lists) (suc k) i x has = let rest = at_within lists k i x has in omega (arith, rest)
 
 module _ (view : View) (tile core : ℕ) (was holder : Option ℕ) (there : slice_get (cores_at view tile) core ≡ Some was) where
   -- the tile has cores
   tile_below : tile < length view.cores
-  tile_below = list_within view.cores tile core was there
+  tile_below = at_within view.cores tile core was there
 
   -- the cores of the tile are those with the holder
   tile_cores : slice_index_or (with_core view tile core holder) tile [] ≡ slice_set (cores_at view tile) core holder

@@ -6,32 +6,22 @@ use Rattle.std.specs.declared.cmp.Ordering.{Ordering}
 use Rattle.std.specs.declared.cmp.Ordering.TheVariants.{Less, Equal, Greater}
 use Rattle.std.proofs.lemmas.Bool.{cases_eq, cases_lt}
 use Rattle.std.proofs.lemmas.Bool.Decides.{nat_tests}
-use Rattle.std.proofs.lemmas.Cmp.{upto, alike_right}
+use Rattle.std.proofs.lemmas.Cmp.{upto}
 use Rattle.std.proofs.lemmas.List.{get_or-take}
 use Rattle.std.proofs.lemmas.Option.{slice_get_within, slice_get-map, get_or_from_slice_get}
 use Rattle.std.proofs.Common.{option_map, length-take-le}
 use Rattle.fractal_vt.specs.declared.key.Key.{Key}
 use Rattle.fractal_vt.specs.Keys.{key_cmp}
 use Rattle.fractal_vt.proofs.Proved.{key_cmp_total, least_at, not_greater, greater_not, less_from, less_number}
+use Rattle.fractal_vt.proofs.Proved.{same_number, less_then}
 use Rattle.spill_store.specs.SpilledTasks.{Spilled, first_key, open_key, IsLeastKey}
 use Rattle.spill_store.specs.Fronts.{IsFirstOfAll}
 use Rattle.spec_state.specs.Least.{Spilled_at, ranked_cmp, place_cmp}
 use Rattle.spec_state.specs.Fronts.{IsFirstSpilled, HoldNone}
 
-pub less_then : {K : Type 0} {R : K → K → Ordering} (total : IsTotalOrder R) (x y z : K) → R x y ≡ Less → R y z ≢ Greater → R x z ≡ Less
-less_then {K} {R} total x y z less upto = by_case (R y z) refl upto
-  where
-    by_case : (o : Ordering) → R y z ≡ o → o ≢ Greater → R x z ≡ Less
-    by_case Less e not = total.trans x y z less e
-    by_case Equal e not = sym (alike_right total y z x e) ∙ less
-    by_case Greater e not = absurd (not refl)
-
 -- not above is transitive
 pub not_above : {K : Type 0} {R : K → K → Ordering} (total : IsTotalOrder R) (x y z : K) → R x y ≢ Greater → R y z ≢ Greater → R x z ≢ Greater
 not_above {K} {R} total x y z a b = greater_not (R x z) (upto total x y z (not_greater (R x y) a) (not_greater (R y z) b))
-
-pub same_tile : (a : ℕ) → nat_cmp a a ≡ Equal
-same_tile a = grind (arith, nat_tests)
 
 pub upto_place : (a b : ℕ) → a ≤ b → nat_cmp a b ≢ Greater
 upto_place a b upto same = absurd (grind (arith, nat_tests))
@@ -42,7 +32,7 @@ in_tile key other tile place p not upto = go (key_cmp key other) not
   where
     go : (o : Ordering) → o ≢ Greater → ordering_then o (ordering_then (nat_cmp tile tile) (nat_cmp place p)) ≢ Greater
     go Less fine = λ same. cc
-    go Equal fine = subst (λ o. ordering_then o (nat_cmp place p) ≢ Greater) (sym (same_tile tile)) (upto_place place p upto)
+    go Equal fine = subst (λ o. ordering_then o (nat_cmp place p) ≢ Greater) (sym (same_number tile)) (upto_place place p upto)
     go Greater fine = absurd (fine refl)
 
 -- a key that isn't above, and a lower tile

@@ -11,7 +11,7 @@ use Rattle.std.proofs.lemmas.List.{take_all}
 use Rattle.std.proofs.lemmas.List.Elements.{Contains-get_or}
 use Rattle.std.proofs.lemmas.Option.{slice_get-get_or, slice_get_within, get_or_from_slice_get}
 use Rattle.fractal_vt.specs.Keys.{key_cmp}
-use Rattle.fractal_vt.proofs.Proved.{key_cmp_total, less_from}
+use Rattle.fractal_vt.proofs.Proved.{key_cmp_total, less_from, same_number, less_then}
 use Rattle.tile_queues.specs.Queue.{AreDistinct}
 use Rattle.spec_state.specs.declared.task.Status.TheVariants.{Idle}
 use Rattle.spec_state.specs.declared.task.Task.{Task}
@@ -22,7 +22,6 @@ use Rattle.spec_state.specs.Queries.{IsIdle, IsLeastIdle, IsIdleFirm}
 use Rattle.spec_state.specs.Picks.{IsIdleAt, IsFirstIdle, IsIdlePick, IsIdleFirmBy}
 use Rattle.spec_state.specs.Stored.{IsStored}
 use Rattle.spec_state.proofs.Entered.{held_at}
-use Rattle.spec_state.proofs.Fronts.{less_then, same_tile}
 use Rattle.spec_state.proofs.Heirs.{firm_by, by_firm}
 use Rattle.spec_state.proofs.Picks.{one_task, by_key, seen_cases}
 use Rattle.spec_state.proofs.Leasts.{upto_turned}
@@ -139,7 +138,7 @@ module _ (view : View) (tile : ℕ) (ids : List ℕ) (are : ids ≡ queue_at vie
   ranks : (o : Ordering) (p q : ℕ) → p < q → o ≢ Greater
       → ordering_then o (ordering_then (nat_cmp tile tile) (nat_cmp p q)) ≡ Less
   ranks Less p q before not = refl
-  ranks Equal p q before not = ap (λ o. ordering_then o (nat_cmp p q)) (same_tile tile) ∙ (grind (arith, nat_tests))
+  ranks Equal p q before not = ap (λ o. ordering_then o (nat_cmp p q)) (same_number tile) ∙ (grind (arith, nat_tests))
   ranks Greater p q before not = absurd (not refl)
 
   -- it comes before each other idle task of the tile

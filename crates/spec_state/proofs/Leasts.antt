@@ -17,7 +17,7 @@ use Rattle.commit_arbiter.proofs.Proved.{entry_cmp_total}
 use Rattle.fractal_vt.specs.declared.key.Key.{Key}
 use Rattle.fractal_vt.specs.Keys.{key_cmp}
 use Rattle.fractal_vt.specs.Sorted.{IsInOrder}
-use Rattle.fractal_vt.proofs.Proved.{AllPairs-head, key_cmp_total, less_from, then_less, greater_number}
+use Rattle.fractal_vt.proofs.Proved.{AllPairs-head, key_cmp_total, less_from, then_less, greater_number, less_then}
 use Rattle.spill_store.specs.SpilledTasks.{Spilled, open_key}
 use Rattle.spec_state.specs.declared.task.Task.{Task}
 use Rattle.spec_state.specs.declared.task.TaskId.{TaskId}
@@ -29,7 +29,7 @@ use Rattle.spec_state.specs.Queries.{IsQueued}
 use Rattle.spec_state.specs.Stored.{IsStored, IsIndexed, candidate_of}
 use Rattle.spec_state.specs.Fronts.{IsFirstQueued, IsFirstSpilled, HoldNone, IsStanding}
 use Rattle.spec_state.proofs.Entered.{head_or_tail, has_head, held_at}
-use Rattle.spec_state.proofs.Fronts.{not_above, less_then, upto_place}
+use Rattle.spec_state.proofs.Fronts.{not_above, upto_place}
 
 -- the head of a list in order comes before all of it
 head_upto : (e : Candidate) (es : List Candidate) → IsInOrder candidate_cmp (e ∷ es) → (x : Candidate) → Contains (e ∷ es) x → candidate_cmp e x ≢ Greater

@@ -1,8 +1,7 @@
 -- What the crates above may cite of these proofs.
 pub use Rattle.spec_state.proofs.Cored.{counts_now, holder_now, others_now, set_here, set_there, this_or_other}
 pub use Rattle.spec_state.proofs.Entered.{has_head, head_or_tail, held_at, in_tail}
-pub use Rattle.spec_state.proofs.Fronts.{less_then, same_tile}
-pub use Rattle.spec_state.proofs.Heirs.{by_firm, firm_by, tied_place}
+pub use Rattle.spec_state.proofs.Heirs.{by_firm, firm_by, tied_place, one_least}
 pub use Rattle.spec_state.proofs.HeldNumbers.{table_holds_path, table_holds_spilled, table_holds_task}
 pub use Rattle.spec_state.proofs.Joined.{is_new, other_queue, own_queue, queued, still_there, was_there, within_lists}
 pub use Rattle.spec_state.proofs.Kept.{AreKept, formed_kept, formed_later, indexed_kept, indexed_set, KeepsKey, KeepsPlace, keeps_some, kept_all}
@@ -12,5 +11,7 @@ pub use Rattle.spec_state.proofs.Noted.{noted_back, noted_but_one, noted_set, sa
 pub use Rattle.spec_state.proofs.Put.{few_indexed}
 pub use Rattle.spec_state.proofs.Renumbered.{below_slots}
 pub use Rattle.spec_state.proofs.Reserved.{same_entries, spare_at, spare_before, spare_grows}
-pub use Rattle.spec_state.proofs.Without.{all_same, freed_other, held_place, keeps_none, map_at, seen_at}
+pub use Rattle.spec_state.proofs.Without.{all_same, freed_other, held_place, keeps_none, map_at, seen_at, same_test}
 pub use Rattle.spec_state.proofs.Counted.{few_tasks}
+pub use Rattle.spec_state.proofs.Cored.{at_within}
+pub use Rattle.spec_state.proofs.Without.{other_test}

@@ -18,8 +18,13 @@ use Rattle.spec_state.specs.Stored.{HasCore}
 use Rattle.spec_state.specs.View.{core_ids}
 use Rattle.spec_state.proofs.Entered.{head_or_tail, has_head, in_tail}
 
-same_test : (id : ℕ) → (id == id) ≡ true
-same_test id = grind (arith, nat_tests)
+-- a number passes the test for itself
+pub same_test : (n : ℕ) → (n == n) ≡ true
+same_test n = grind (arith, nat_tests)
+
+-- any other number fails it
+pub other_test : (k n : ℕ) → k ≢ n → (k == n) ≡ false
+other_test k n other = grind (arith, nat_tests)
 
 -- distinct ids are one fewer without one of them
 pub one_fewer : (id : ℕ) (ids : List ℕ) → AreDistinct ids → Contains ids id → length (ids_but id ids) + 1 ≡ length ids

@@ -40,7 +40,7 @@ pub record Notes (creator place id : ℕ) (old new : ChildrenValue) : Type 0 whe
   pub own : NotesAt place id (noted_of old creator) (noted_of new creator)
   pub others : (k : ℕ) → k ≢ creator → noted_of new k ≡ noted_of old k
 
--- no other child than the one of this id stands where the child at this place of this task was noted
+-- the child at this place of this task doesn't stand where it was noted, unless that is under this id
 abbrev pub IsFree : List (Option Task) → ℕ → ℕ → ℕ → ChildrenValue → Type 0
 IsFree tasks id creator place children = (k : ℕ) → slice_get (noted_of children creator) place ≡ Some k → k ≢ id
     → IsChildAt creator place (slice_index_or tasks k None) → ⊥

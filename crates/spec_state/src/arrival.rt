@@ -74,7 +74,7 @@ fn renumber_queue(
     }
 }
 
-/// The next arrival number, which is never the last one of its type: where the counter is at its end the entries of
+/// The next arrival number, which is never the last one of its type: where the counter is at its end the tasks of
 /// all queues are first renumbered, those of each queue by their places, of which there are at most `longest`.
 pub(crate) fn fresh_arrival(
     index: &mut Index,

@@ -141,7 +141,7 @@ impl Children {
         }
     }
 
-    /// Whether no other child than the one of this id stands where the child at this place of this creator was noted.
+    /// Whether the child at this place of this creator doesn't stand where it was noted, unless that is under this id.
     fn is_free(&self, tasks: &KeptSlab<Task>, id: usize, creator: usize, place: usize) -> bool
         ensures { IsTrue result ↔ IsFree tasks.now.slots id creator place self.now }
     {

@@ -2,16 +2,16 @@
 use Rattle.std.proofs.Common.{◌≡◌, ◌≢◌, ℕ, zero, suc, ◌+◌, ◌<◌, ◌≤◌, false, nat_eq, List, [], ◌∷◌, ◌++◌, length, get_or, set, map, refl, sym, ap, subst, ◌∙◌, arith}
 use Rattle.std.specs.List.{All, IsDistinct, AllByRecursion, insert}
 use Rattle.std.specs.List.Sorted.{IsPermutation}
-use Rattle.std.proofs.lemmas.List.{append-nil, append_assoc, get_or-set_same, get_or-set_other, length-set, length-map, length-append}
-use Rattle.std.proofs.lemmas.List.Edits.{length-insert, insert-append_left}
+use Rattle.std.proofs.lemmas.List.{append-nil, get_or-set_same, get_or-set_other, length-set, length-map, length-append}
+use Rattle.std.proofs.lemmas.List.Edits.{length-insert}
 use Rattle.std.proofs.lemmas.List.Elements.{All-head, All-tail}
-use Rattle.std.proofs.lemmas.List.Sorted.{IsPermutation-insert, IsPermutation-to_front, IsPermutation-sym, All-permutation}
+use Rattle.std.proofs.lemmas.List.Sorted.{IsPermutation-insert, IsPermutation-sym, All-permutation}
 use Rattle.std.proofs.lemmas.Map.Keys.{IsDistinct-IsPermutation, IsDistinct-head, IsDistinct-cons}
 use Rattle.std.proofs.lemmas.Cmp.{nat_eq_equiv}
 use Rattle.std.proofs.lemmas.Bool.Decides.{nat_tests}
 use Rattle.spill_store.specs.SpilledTasks.{Spilled, renumbered_spilled}
 use Rattle.spill_store.specs.Shelved.{blank_spilled, at_places, IsShelved}
-use Rattle.fractal_vt.proofs.Proved.{map-insert, All-front}
+use Rattle.fractal_vt.proofs.Proved.{map-insert, All-front, inserted_front, last_front}
 
 -- a write to a place that is not among them changes no task
 places-set : (kept : List Spilled) (place : ℕ) (e : Spilled) (places : List ℕ) → AllByRecursion (λ other. nat_eq place other ≡ false) places → at_places (set kept place e) places ≡ at_places kept places
@@ -46,17 +46,6 @@ above_all n (x ∷ xs) all = (differ x (All-head (λ y. y < n) x xs all), above_
     differ : (x : ℕ) → x < n → nat_eq n x ≡ false
     differ x less = grind (arith, nat_tests)
 
-place_in : (order free : List ℕ) (place at : ℕ) → at ≤ length order → IsPermutation (place ∷ (order ++ free)) (insert order at place ++ free)
-place_in order free place at inside =
-    subst (IsPermutation (place ∷ (order ++ free))) (insert-append_left order free at place inside) (IsPermutation-insert (order ++ free) at place)
-
-place_front : (order free : List ℕ) (place : ℕ) → IsPermutation (order ++ (free ++ place ∷ [])) (place ∷ (order ++ free))
-place_front order free place =
-    subst (λ xs. IsPermutation xs (place ∷ (order ++ free))) (append_assoc order free (place ∷ [])) (IsPermutation-to_front (order ++ free) place)
-
-flips : (x y : ℕ) → nat_eq x y ≡ nat_eq y x
-flips x y = nat_eq_equiv.symm x y
-
 abbrev Below : List Spilled → ℕ → Type 0
 Below kept p = p < length kept
 
@@ -77,10 +66,10 @@ none_shelved order_room kept_room free_room = record {
 -- the last free place comes into the order
 module _ (kept : List Spilled) (order free : List ℕ) (place room order_room kept_room free_room : ℕ) (is : IsShelved kept order (free ++ place ∷ []) room order_room kept_room free_room) where
   front : IsDistinct nat_eq (place ∷ (order ++ free))
-  front = IsDistinct-IsPermutation nat_eq flips (order ++ (free ++ place ∷ [])) (place ∷ (order ++ free)) (place_front order free place) is.distinct
+  front = IsDistinct-IsPermutation nat_eq nat_eq_equiv.symm (order ++ (free ++ place ∷ [])) (place ∷ (order ++ free)) (last_front order free place) is.distinct
 
   inside_all : All (Below kept) (place ∷ (order ++ free))
-  inside_all = All-permutation (Below kept) (order ++ (free ++ place ∷ [])) (place ∷ (order ++ free)) (place_front order free place) is.within
+  inside_all = All-permutation (Below kept) (order ++ (free ++ place ∷ [])) (place ∷ (order ++ free)) (last_front order free place) is.within
 
   pub place_inside : place < length kept
   place_inside = All-head (Below kept) place (order ++ free) inside_all
@@ -99,8 +88,8 @@ module _ (kept : List Spilled) (order free : List ℕ) (place room order_room ke
       let one_less = length-append free (place ∷ []) in
       let all = is.all in
       record {
-        distinct = IsDistinct-IsPermutation nat_eq flips (place ∷ (order ++ free)) (insert order at place ++ free) (place_in order free place at upto) front;
-        within = subst (λ n. All (λ p. p < n) (insert order at place ++ free)) (sym long) (All-permutation (Below kept) (place ∷ (order ++ free)) (insert order at place ++ free) (place_in order free place at upto) inside_all);
+        distinct = IsDistinct-IsPermutation nat_eq nat_eq_equiv.symm (place ∷ (order ++ free)) (insert order at place ++ free) (inserted_front order free place at upto) front;
+        within = subst (λ n. All (λ p. p < n) (insert order at place ++ free)) (sym long) (All-permutation (Below kept) (place ∷ (order ++ free)) (insert order at place ++ free) (inserted_front order free place at upto) inside_all);
         all = omega arith;
         holds = (let holds = is.holds in omega arith);
         few = is.few;
@@ -129,7 +118,7 @@ module _ (kept : List Spilled) (order : List ℕ) (room order_room kept_room fre
       let front : IsDistinct nat_eq (new ∷ order) = IsDistinct-cons nat_eq new order (above_all new order used) (subst (IsDistinct nat_eq) (append-nil order) is.distinct) in
       let moved : IsPermutation (new ∷ order) (insert order at new ++ []) = subst (IsPermutation (new ∷ order)) (sym (append-nil (insert order at new))) (IsPermutation-insert order at new) in
       record {
-        distinct = IsDistinct-IsPermutation nat_eq flips (new ∷ order) (insert order at new ++ []) moved front;
+        distinct = IsDistinct-IsPermutation nat_eq nat_eq_equiv.symm (new ∷ order) (insert order at new ++ []) moved front;
         within = subst (λ n. All (λ p. p < n) (insert order at new ++ [])) (sym long) (All-permutation (λ p. p < new + 1) (new ∷ order) (insert order at new ++ []) moved below);
         all = omega arith;
         holds = omega arith;
@@ -145,11 +134,11 @@ module _ (kept : List Spilled) (order : List ℕ) (room order_room kept_room fre
 -- the order's first place goes to the free ones
 pub first_shelved : (kept : List Spilled) (order free : List ℕ) (place room order_room kept_room free_room more_order more_free : ℕ) → IsShelved kept (place ∷ order) free room order_room kept_room free_room → order_room ≤ more_order → free_room ≤ more_free → IsShelved kept order (free ++ place ∷ []) room more_order kept_room more_free
 first_shelved kept order free place room order_room kept_room free_room more_order more_free is one two =
-    let back : IsPermutation (place ∷ (order ++ free)) (order ++ (free ++ place ∷ [])) = IsPermutation-sym (order ++ (free ++ place ∷ [])) (place ∷ (order ++ free)) (place_front order free place) in
+    let back : IsPermutation (place ∷ (order ++ free)) (order ++ (free ++ place ∷ [])) = IsPermutation-sym (order ++ (free ++ place ∷ [])) (place ∷ (order ++ free)) (last_front order free place) in
     let long = length-append free (place ∷ []) in
     let all = is.all in
     record {
-      distinct = IsDistinct-IsPermutation nat_eq flips (place ∷ (order ++ free)) (order ++ (free ++ place ∷ [])) back is.distinct;
+      distinct = IsDistinct-IsPermutation nat_eq nat_eq_equiv.symm (place ∷ (order ++ free)) (order ++ (free ++ place ∷ [])) back is.distinct;
       within = All-permutation (Below kept) (place ∷ (order ++ free)) (order ++ (free ++ place ∷ [])) back is.within;
       all = omega arith;
       holds = is.holds;

@@ -1,26 +1,22 @@
 -- A queue of two tasks or more has a victim, so at each queue with room for two some rule applies; and a coalescing
 -- makes a queue in which something moves shorter.
 use Rattle.std.proofs.Common.{◌≡◌, ◌≢◌, ◌⊎◌, ℕ, ◌≤◌, Bool, true, false, List, [], ◌∷◌, length, Option, Some, None, refl, sym, ap, subst, ◌∙◌, inl, inr, arith}
-use Rattle.std.proofs.lemmas.Bool.{cases_eq, cases_lt}
+use Rattle.std.proofs.lemmas.Bool.{cases_lt}
 use Rattle.std.specs.Ordering.{is_gt, ordering_reverse}
 use Rattle.std.specs.declared.cmp.Ordering.{Ordering}
 use Rattle.std.specs.declared.cmp.Ordering.TheVariants.{Less, Equal, Greater}
 use Rattle.std.proofs.lemmas.Cmp.{upto, tied_itself}
 use Rattle.fractal_vt.specs.Levels.{levels_cmp}
-use Rattle.fractal_vt.proofs.Proved.{levels_cmp_total, not_greater, greater_not}
+use Rattle.fractal_vt.proofs.Proved.{levels_cmp_total, not_greater, greater_not, cases_some}
 use Rattle.task_law.specs.Tasks.{In}
 use Rattle.task_law.specs.Room.{RoomTask, IsFirmInQueue, IsMovableInQueue, NoneMovesInQueue, IsVictimInQueue, IsFirst, Rule, Free, Coalesces, Stalls, Takes, IdsAreApart, SomeRuleApplies, IsChosenInQueue, CoalesceShortensQueue}
 use Rattle.task_law.proofs.Rooms.{shorter}
-
-same_asker : (asker : Option ℕ) (k : ℕ) → (asker ≡ Some k) ⊎ (asker ≢ Some k)
-same_asker None k = inr (λ e. absurd (cc (e)))
-same_asker (Some a) k = elim (cases_eq a k) [ inl e ↦ inl (ap Some e) | inr differs ↦ inr (λ e. differs (cc)) ]
 
 -- of a queue of two ids or more one is not the asker's
 pub someone_else : (asker : Option ℕ) (queue : List ℕ) → IdsAreApart queue → 2 ≤ length queue → (v : ℕ) × In v queue × (asker ≢ Some v)
 someone_else asker [] distinct many = absurd (omega (arith, many))
 someone_else asker (k ∷ []) distinct many = absurd (omega (arith, many))
-someone_else asker (k ∷ j ∷ rest) distinct many = elim (same_asker asker k) [
+someone_else asker (k ∷ j ∷ rest) distinct many = elim (cases_some asker k) [
   | inl mine ↦ (j, inr (inl refl), λ e. (let both : Some k ≡ Some j = sym mine ∙ e in let eq : k ≡ j = cc in distinct.0 (inl eq)))
   | inr other ↦ (k, inl refl, other)
 ]
@@ -85,7 +81,7 @@ module _ (tasks : ℕ → Option RoomTask) (asker : Option ℕ) where
 
   search_all : (queue : List ℕ) → ((k : ℕ) → In k queue → (x : RoomTask) × (tasks k ≡ Some x)) → NoneIn queue ⊎ Found queue
   search_all [] there = inl (λ k is other. is)
-  search_all (k ∷ rest) there = by_rest (search_all rest (λ j is. there j (inr is))) (there k (inl refl)) (same_asker asker k)
+  search_all (k ∷ rest) there = by_rest (search_all rest (λ j is. there j (inr is))) (there k (inl refl)) (cases_some asker k)
     where
       by_cmp : (x : RoomTask) → tasks k ≡ Some x → asker ≢ Some k → (f : Found rest) → (o : Ordering) → levels_cmp x.levels f.1.levels ≡ o → Found (k ∷ rest)
       by_cmp x at other f Less is = keeps_found k x rest at f (λ e. absurd (cc (is, e)))
@@ -132,7 +128,7 @@ firm_or_not heir task = by_creator task.creator refl
   where
     by_creator : (c : Option ℕ) → task.creator ≡ c → IsFirmInQueue heir task ⊎ (IsFirmInQueue heir task → ⊥)
     by_creator None e = inl (inl e)
-    by_creator (Some c) e = elim (same_asker heir c) [
+    by_creator (Some c) e = elim (cases_some heir c) [
       | inl mine ↦ inl (inr (c, e, mine))
       | inr other ↦ inr (λ firm. elim firm [
         | inl free ↦ absurd (cc (free, e))

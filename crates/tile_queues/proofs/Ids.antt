@@ -8,7 +8,7 @@ use Rattle.std.proofs.lemmas.List.Kept.{AllPairs-filter}
 use Rattle.tile_queues.specs.Queue.{AreDistinct, ids_but, unmarked_ids}
 
 -- one more id in front
-ids_but-cons_other : (id x : ℕ) (ids : List ℕ) → x ≢ id → ids_but id (x ∷ ids) ≡ x ∷ ids_but id ids
+pub ids_but-cons_other : (id x : ℕ) (ids : List ℕ) → x ≢ id → ids_but id (x ∷ ids) ≡ x ∷ ids_but id ids
 ids_but-cons_other id x ids other = ap (λ test. cond (not test) (x ∷ ids_but id ids) (ids_but id ids)) (ne_eqb x id other)
 
 ids_but-cons_same : (id x : ℕ) (ids : List ℕ) → eqb x id ≡ true → ids_but id (x ∷ ids) ≡ ids_but id ids

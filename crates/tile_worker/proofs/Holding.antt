@@ -93,7 +93,7 @@ rests N old new same = holds.rests same
 -- after a hold the run has gone on
 pub holds_grow : (N : Type 0) (old new : BookView) → HoldsOnce N old new → Grows old.view new.view
 holds_grow N old new (holds.rests same) = subst (λ (b : BookView). Grows old.view b.view) (sym same) (grows_refl old.view)
-holds_grow N old new (holds.makes one) = event_grows old one.aborted new.view new.placers N one.event one.made.makes
+holds_grow N old new (holds.makes one) = event_grows N old one.aborted new.view new.placers one.event one.made.makes
 holds_grow N old new (holds.stops out) = subst (λ (b : BookView). Grows old.view b.view) (sym out.stopped) (grows_refl old.view)
 
 -- the count has risen by one at most

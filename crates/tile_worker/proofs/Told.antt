@@ -7,7 +7,7 @@ use Rattle.std.proofs.lemmas.List.{length-append, length-take, take-append-le, t
 use Rattle.std.proofs.lemmas.List.Elements.{All-cons, All-nil, All-push, All-weaker}
 use Rattle.std.proofs.lemmas.Option.{slice_get_within, get_or_from_slice_get}
 use Rattle.guest_image.specs.ImageValue.{ImageValue}
-use Rattle.progress_cell.specs.Readings.{IsAtMost, IsAtPlace, last_of}
+use Rattle.progress_cell.specs.Readings.{IsAtMost, IsAtPlace}
 use Rattle.progress_cell.specs.declared.reading.Reading.{Reading}
 use Rattle.run_journal.specs.declared.journal.Entry.{Entry}
 use Rattle.serial_machine.specs.Run as run
@@ -78,12 +78,6 @@ pub readings_told : (image : ImageValue) (budget : ℕ) (view : View) (told : Li
 readings_told image budget view told sound same are =
     let P : Reading → Type 0 = λ reading. ∥ IsReading image budget view.history reading ∥₁ in
     All-push P told (counts_of view) are ∣ counts_are_reading image budget view sound same ∣₁
-
--- one more reading is the last
-pub last_told : (told : List Reading) (reading : Reading) → last_of (told ++ reading ∷ []) ≡ reading
-last_told [] reading = refl
-last_told (x ∷ []) reading = refl
-last_told (x ∷ y ∷ ys) reading = last_told (y ∷ ys) reading
 
 -- and what was told before stands in front of it
 pub goes_on : (before told more : List Reading) → take (length before) told ≡ before → take (length before) (told ++ more) ≡ before

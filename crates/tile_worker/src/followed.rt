@@ -56,7 +56,7 @@ pub(crate) struct Followed<N: Naming, L: Followable, P: Placer, T: Tap> {
 }
 
 /// Tells how far a book has come.
-#[tactic(auto, using(crate::proofs::Told::goes_on, crate::proofs::Told::readings_told, crate::proofs::Told::last_told),)]
+#[tactic(auto, using(crate::proofs::Told::goes_on, crate::proofs::Told::readings_told, progress_cell::proofs::Proved::last_pushed),)]
 pub(crate) fn tell<N: Naming, P: Placer, T: Tap, R: Wait>(
     rt: &R,
     board: &Board,

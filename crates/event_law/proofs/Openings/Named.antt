@@ -26,9 +26,9 @@ use Rattle.spec_state.specs.Least.{HasName, IsHeir}
 use Rattle.spec_state.specs.Room.{Coalesces, QueueHasRoom, IsFull}
 use Rattle.event_def.specs.Book.{BookView, picked_tile}
 use Rattle.spec_state.specs.Opening.{IsEmptyView}
+use Rattle.spec_state.proofs.Proved.{within_lists}
 use Rattle.event_def.specs.Opening.{image_descriptor, PlacesImageTask, PlacesAll}
 use Rattle.event_law.proofs.Lists.{all_of_lists, from_option}
-use Rattle.event_law.proofs.Openings.Queued.{queue_within}
 use Rattle.event_law.proofs.Openings.Rooted.{IsImageSpilled, AreImageTasks, coalesces_keeps, places_keeps, none_are}
 use Rattle.event_law.proofs.Openings.Sized.{IsSized, coalesced_sized, room_sized, placed_sized, none_sized}
 use Rattle.spec_law.proofs.Proved.{coalesced_bags, some_first}
@@ -93,7 +93,7 @@ module _ (kind : Kind) where
     coalesced tile new c =
         let first = some_first c.ids c.some in
         let queued = (c.chosen.movable first.0 first.1).1.idle.queued in
-        let within : tile < length view.queues = queue_within view.queues tile first.0 queued in
+        let within : tile < length view.queues = within_lists view.queues tile first.0 queued in
         let inside : tile < length view.blocks = omega (arith, within, named.sized.queues, named.sized.blocks) in
         let both = coalesced_bags 0 0 false tile view new c inside (λ id task there status. none_runs id task there) bag_names bag_heirs in (
           record {

@@ -3,7 +3,7 @@ use Rattle.std.proofs.Common.{ℕ, zero, suc, ◌≡◌, ◌≢◌, ◌<◌, ◌
 use Rattle.std.specs.Prelude.{length, slice_index_or, slice_set, map, is_some, Contains}
 use Rattle.std.specs.List.{filter, AllPairs}
 use Rattle.std.proofs.lemmas.Bool.{cases_eq, cases_lt}
-use Rattle.std.proofs.lemmas.List.{get_or_past, get_or-set_same, get_or-set_other, set_past}
+use Rattle.std.proofs.lemmas.List.{get_or-set_same, get_or-set_other, set_past}
 use Rattle.std.proofs.lemmas.List.Elements.{Contains-push, Contains-push_cases, Contains-append_left}
 use Rattle.std.proofs.lemmas.List.Kept.{AllPairs-filter}
 use Rattle.task_law.specs.Room.{RoomTask, kept_by, queue_after}
@@ -124,13 +124,3 @@ module _ (queues : List (List ℕ)) (at id : ℕ) where
           (Contains-append_left (slice_index_or queues at []) (id ∷ []) k (subst (λ t. Contains (slice_index_or queues t []) k) same c))
       by_tile (inl same) (inr past) = subst (λ (qs : List (List ℕ)). Contains (slice_index_or qs tile []) k) (sym (set_past queues at (slice_index_or queues at [] ++ id ∷ []) past)) c
       by_tile (inr other) either = subst (λ (q : List ℕ). Contains q k) (sym (get_or-set_other queues at tile (slice_index_or queues at [] ++ id ∷ []) [] other)) c
-
--- a tile whose queue holds a task is there
-pub queue_within : (queues : List (List ℕ)) (tile id : ℕ) → Contains (slice_index_or queues tile []) id → tile < length queues
-queue_within queues tile id c = by_case (cases_lt tile (length queues))
-  where
-    by_case : (tile < length queues) ⊎ (length queues ≤ tile) → tile < length queues
-    by_case (inl within) = within
-    by_case (inr past) =
-        let none : Contains [] id = subst (λ (q : List ℕ). Contains q id) (get_or_past queues tile [] past) c in
-        absurd (omega (arith, none.1))

@@ -48,7 +48,7 @@ pub none_fit : (capacity : ℕ) → FitsQueue capacity []
 none_fit capacity = (omega arith, λ i j d before below. absurd (omega (arith, below)))
 
 -- a task that waits is there
-there_of : (o : Option Task) → is_some (option_map room_task o) ≡ true → (task : Task) × (o ≡ Some task)
+pub there_of : (o : Option Task) → is_some (option_map room_task o) ≡ true → (task : Task) × (o ≡ Some task)
 there_of None is = absurd (cc (is))
 there_of (Some task) is = (task, refl)
 

@@ -36,7 +36,7 @@ one_bit Unordered = omega arith
 one_bit Ordered = omega arith
 
 -- free cores hold no task
-none_held : (tiles cores tile core id : ℕ) → slice_get (slice_index_or (replicate tiles (replicate cores None)) tile []) core ≡ Some (Some id) → ⊥
+pub none_held : (tiles cores tile core id : ℕ) → slice_get (slice_index_or (replicate tiles (replicate cores None)) tile []) core ≡ Some (Some id) → ⊥
 none_held tiles cores tile core id held =
     let free : (list : List (Option ℕ)) → All (λ (o : Option ℕ). o ≡ None) list → slice_get list core ≡ Some (Some id) → ⊥ =
     λ list all at. none-some id (sym (all_get (λ (o : Option ℕ). o ≡ None) list core (Some id) all at)) in

@@ -1,5 +1,5 @@
 -- Each view has a spot whose task is the least uncommitted one, or no task is uncommitted.
-use Rattle.std.proofs.Common.{ℕ, zero, suc, ◌≡◌, ◌<◌, ◌⊎◌, inl, inr, List, [], ◌∷◌, length, Option, Some, None, refl, sym, ap, subst, ◌∙◌, arith, slice_get, slice_index_or}
+use Rattle.std.proofs.Common.{ℕ, ◌≡◌, ◌⊎◌, inl, inr, length, Option, Some, None, refl, sym, ap, subst, ◌∙◌, slice_get}
 use Rattle.std.proofs.lemmas.Cmp.{nat_cmp_total, on_total, then_total}
 use Rattle.std.proofs.lemmas.Option.{slice_get_within}
 use Rattle.std.specs.Cmp.{IsTotalOrder}
@@ -11,6 +11,7 @@ use Rattle.spill_store.specs.SpilledTasks.{Spilled, open_key}
 use Rattle.spec_state.specs.declared.task.Task.{Task}
 use Rattle.spec_state.specs.View.{View, task_at, queue_at, block_at}
 use Rattle.spec_state.specs.Least.{Spot, Queued, Spilled_at, HasKey, IsAllCommitted, IsLeastSpot, ranked_cmp, spot_cmp}
+use Rattle.spec_state.proofs.Proved.{at_within}
 use Rattle.event_law.proofs.Search.{HasLeast, IsBelow, only_one, either_least, search}
 
 -- the kind of a spot: queued ones come first
@@ -57,12 +58,6 @@ spots_cmp x y = ranked_cmp x.key x.spot y.key y.spot
 -- and their order is total
 pub spots_cmp_total : IsTotalOrder spots_cmp
 spots_cmp_total = then_total (on_total (λ (x : Keyed_spot). x.key) key_cmp_total) (on_total (λ (x : Keyed_spot). x.spot) spot_cmp_total)
-
--- what stands in one of the lists stands in a list below their number
-pub within : {X : Type 0} (lists : List (List X)) (i place : ℕ) (x : X) → slice_get (slice_index_or lists i []) place ≡ Some x → i < length lists
-within [] i place x at = absurd (cc (at))
-within (xs ∷ lists) zero place x at = omega arith
-within (xs ∷ lists) (suc i) place x at = let below = within lists i place x at in omega (arith, below)
 
 module _ (view : View) where
   -- it is this spot, with the key of the task there
@@ -122,9 +117,9 @@ module _ (view : View) where
   -- each task stands there
   among : (spot : Spot) (key : Key) → HasKey view spot key → IsThere (record { spot = spot; key = key })
   among (Queued tile place) key has =
-      inl (tile, within view.queues tile place has.0 has.2.queued, (place, slice_get_within (queue_at view tile) place has.0 has.2.queued, (has, refl)))
+      inl (tile, at_within view.queues tile place has.0 has.2.queued, (place, slice_get_within (queue_at view tile) place has.0 has.2.queued, (has, refl)))
   among (Spilled_at tile place) key has =
-      inr (tile, within view.blocks tile place has.0 has.1, (place, slice_get_within (block_at view tile) place has.0 has.1, (has, refl)))
+      inr (tile, at_within view.blocks tile place has.0 has.1, (place, slice_get_within (block_at view tile) place has.0 has.1, (has, refl)))
 
   -- and what stands there is a task
   of : (x : Keyed_spot) → IsThere x → HasKey view x.spot x.key

@@ -25,7 +25,8 @@ use Rattle.spec_state.specs.Least.{IsLeastTask}
 use Rattle.spec_law.specs.Sound.{Sound, StandsAs, TrapsNext, done_so_far}
 use Rattle.spec_state.specs.Tasks.{depth_of, start_context}
 use Rattle.spec_state.specs.View.{View, task_at}
-use Rattle.spec_law.proofs.Proved.{least_is_next, least_of_all, mapped_some, number_of, other_test, queued_stands, run_stack, same_test, starts_so}
+use Rattle.spec_state.proofs.Proved.{same_test, other_test}
+use Rattle.spec_law.proofs.Proved.{least_is_next, least_of_all, mapped_some, number_of, queued_stands, run_stack, starts_so}
 use Rattle.event_def.specs.End.{LeastIsTrapped}
 
 -- the tasks without the one of this id

@@ -28,7 +28,7 @@ none_of f None is = refl
 none_of f (Some x) is = absurd (cc)
 
 -- what is taken back with a task is there
-pulled_there : (view : View) (a b : ℕ) → PullsInView view a b → (x : Task) × (task_at view b ≡ Some x)
+pub pulled_there : (view : View) (a b : ℕ) → PullsInView view a b → (x : Task) × (task_at view b ≡ Some x)
 pulled_there view a b (inl child) = (child.child, child.there)
 pulled_there view a b (inr reads) = (reads.reader, reads.later.there)
 

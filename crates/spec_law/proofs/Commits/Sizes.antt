@@ -10,10 +10,10 @@ use Rattle.spec_state.specs.View.{View, task_at, cores_at}
 use Rattle.spec_state.specs.Tasks.{depth_of}
 use Rattle.spec_state.specs.Changes.{Commits}
 use Rattle.spec_state.specs.Stored.{HasCore, HasTask}
+use Rattle.spec_state.proofs.Proved.{same_test, other_test}
 use Rattle.spec_law.specs.Sound.{SoundSizes}
 use Rattle.spec_law.proofs.Tasks.Filtered.{filter_was, filter_is, filter_leaves, list_mapped}
 use Rattle.spec_law.proofs.Aborted.KeptSizes.{bounded_filtered}
-use Rattle.spec_law.proofs.Tasks.Returned.{same_test, other_test}
 use Rattle.spec_law.proofs.Commits.Taken.{left, stays, was_there, each_left}
 
 -- what passes the test for another id is another one

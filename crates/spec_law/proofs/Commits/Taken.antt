@@ -12,7 +12,7 @@ use Rattle.spec_state.specs.declared.task.TaskId.{TaskId}
 use Rattle.spec_state.specs.View.{View, task_at}
 use Rattle.spec_state.specs.Groups.{keyed_tasks, keyed_task, logged_tasks, logged_task, bag_tasks, bag_task, bag_creator, live_creator}
 use Rattle.spec_state.specs.Changes.{Commits, creator_after, after_commit}
-use Rattle.spec_law.proofs.Tasks.Returned.{same_test, other_test}
+use Rattle.spec_state.proofs.Proved.{same_test, other_test}
 use Rattle.spec_law.proofs.Aborted.Taken.{none_of}
 use Rattle.spec_law.proofs.Tasks.Beside.{mapped_some}
 

@@ -11,8 +11,9 @@ use Rattle.spec_state.specs.View.{View, task_at}
 use Rattle.spec_state.specs.Tasks.{idle_again, is_dispatched}
 use Rattle.spec_state.specs.Groups.{all_spilled}
 use Rattle.spec_state.specs.Room.{IsSpilledAs, Coalesces}
+use Rattle.spec_state.proofs.Proved.{within_lists}
 use Rattle.spec_law.specs.Sound.{StandsAs, SoundTasks, SoundSizes}
-use Rattle.spec_law.proofs.Tasks.Contained.{decided, list_within, some_first}
+use Rattle.spec_law.proofs.Tasks.Contained.{decided, some_first}
 use Rattle.spec_law.proofs.Moves.Moving.{IsSpillOf, IsSpilledIn, IsQueuedIn, Moves}
 use Rattle.spec_law.proofs.Moves.Added.{AddsEach, pushed_in_one, added_now, added_was, added_is}
 
@@ -40,7 +41,7 @@ module _ (image : ImageValue) (old new : View) (heir : Option ℕ) (serial : Ser
   inside =
       let first = some_first c.ids c.some in
       let movable = c.chosen.movable first.0 first.1 in
-      let below = list_within old.queues tile first.0 movable.1.idle.queued in
+      let below = within_lists old.queues tile first.0 movable.1.idle.queued in
       let queues = sizes.queues in
       let blocks = sizes.blocks in
       omega (arith, below, queues, blocks)

@@ -1,18 +1,18 @@
 -- Tasks that move between the queues and the blocks, either way: what such a change is, and what it leaves.
-use Rattle.std.proofs.Common.{◌≡◌, ◌⊎◌, ◌≤◌, nat_le, ℕ, true, length, Option, Some, None, sym, ap, subst, ◌∙◌, inl, inr, arith, is_some}
-use Rattle.std.specs.Prelude.{Contains, slice_get}
+use Rattle.std.proofs.Common.{◌≡◌, ◌⊎◌, ◌≤◌, nat_le, ℕ, true, length, Option, Some, sym, ap, subst, ◌∙◌, inl, inr, is_some}
+use Rattle.std.specs.Prelude.{Contains}
 use Rattle.std.proofs.lemmas.Bool.{le-leb}
 use Rattle.task_desc.specs.declared.desc.Name.{Name}
 use Rattle.spill_store.specs.SpilledTasks.{Spilled, open_key}
 use Rattle.spec_state.specs.declared.task.Creator.{Creator}
 use Rattle.spec_state.specs.declared.task.Creator.TheVariants.{Committed, Live}
 use Rattle.spec_state.specs.declared.task.Task.{Task}
-use Rattle.spec_state.specs.View.{View, task_at, queue_at}
+use Rattle.spec_state.specs.View.{View, task_at}
 use Rattle.spec_state.specs.Tasks.{idle_again, is_dispatched, descriptor_of, spilled_as}
 use Rattle.spec_state.specs.Groups.{all_spilled, heir_unless, keyed_task, keyed_spilled, live_creator}
-use Rattle.spec_state.specs.Least.{Queued, IsHeir, HasName}
-use Rattle.spec_law.proofs.Tasks.Ranked.{least_is_one}
+use Rattle.spec_state.specs.Least.{IsHeir, HasName}
 use Rattle.spec_law.proofs.Tasks.Next.{above_test}
+use Rattle.spec_law.proofs.Rooms.Fit.{heirs_are_one}
 
 -- the idle task and the spilled one are the same task, under its name
 pub record IsSpillOf (view : View) (t : Task) (s : Spilled) : Type 0 where
@@ -63,15 +63,6 @@ pub spill_key : (view : View) (t : Task) (s : Spilled) → IsSpillOf view t s �
 spill_key view t s spill =
     ap open_key spill.is ∙ (λ i. record { domain = t.key.domain; ts = t.key.ts; tb = ap (λ x. x.key.tb) (sym spill.idle) i })
 
--- there is one heir at most
-pub one_heir : (view : View) (heir : Option ℕ) (h : ℕ) → IsHeir view heir → IsHeir view (Some h) → heir ≡ Some h
-one_heir view None h none is = absurd (none h is.0 is.1 is.2)
-one_heir view (Some k) h one is =
-    let same : Queued one.0.tile one.1.place ≡ Queued is.0.tile is.1.place = least_is_one view _ _ one.1.least is.1.least in
-    let tile : one.0.tile ≡ is.0.tile = cc in
-    let place : one.1.place ≡ is.1.place = cc in
-    sym one.1.queued_at.queued ∙ (λ i. slice_get (queue_at view (tile i)) (place i)) ∙ is.1.queued_at.queued
-
 -- by its name a firm task has the creator that the order of tasks reads
 named_creator : (view : View) (heir : Option ℕ) (c : Creator) (name : Name) → IsHeir view heir → HasName view c name
     → heir_unless (nat_le name.creator (length view.history)) heir ≡ live_creator c
@@ -80,7 +71,7 @@ named_creator view heir (Committed turn index) name is named =
     ap (λ b. heir_unless b heir) (le-leb name.creator (length view.history) low)
 named_creator view heir (Live task index) name is named =
     ap (λ b. heir_unless b heir) (above_test name.creator (length view.history) (ap (λ n. n.creator) named.1))
-    ∙ one_heir view heir task.0 is named.0
+    ∙ heirs_are_one view heir task.0 is named.0
 
 -- the order of tasks reads the same of both
 pub spill_keyed : (view : View) (heir : Option ℕ) (t : Task) (s : Spilled) → IsHeir view heir → IsSpillOf view t s

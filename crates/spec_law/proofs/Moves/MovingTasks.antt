@@ -16,7 +16,8 @@ use Rattle.spec_state.specs.Tasks.{Descriptor, descriptor_of, spilled_descriptor
 use Rattle.spec_state.specs.Groups.{all_spilled, bag_tasks, bags_spilled, domains_of}
 use Rattle.spec_state.specs.Least.{IsHeir, HasName}
 use Rattle.spec_law.specs.Sound.{StandsAs, IsMadeBy, SoundTasks}
-use Rattle.spec_law.proofs.Moves.Moving.{IsSpillOf, Moves, moved_to, one_heir}
+use Rattle.spec_law.proofs.Moves.Moving.{IsSpillOf, Moves, moved_to}
+use Rattle.spec_law.proofs.Rooms.Fit.{heirs_are_one}
 
 module _ (image : ImageValue) (old new : View) (heir : Option ℕ) (serial : SerialState) (moves : Moves old new) (is_heir : IsHeir old heir) (sound : SoundTasks image old heir serial) where
   -- a creator has made a child, and so is not idle: it stays
@@ -82,7 +83,7 @@ module _ (image : ImageValue) (old new : View) (heir : Option ℕ) (serial : Ser
         let next : spilled.0.desc.name.creator ≡ length old.history + 1 = ap (λ s. s.desc.name.creator) spilled.2.is ∙ ap (λ n. n.creator) named.1 in
         let place : spilled.0.desc.name.index ≡ index = ap (λ s. s.desc.name.index) spilled.2.is ∙ ap (λ n. n.index) named.1 in
         let from = sound.spilled_children spilled.0 spilled.1 next in
-        let both : Some from.0 ≡ Some creator.0 = sym from.1 ∙ one_heir old heir creator.0 is_heir named.0 in
+        let both : Some from.0 ≡ Some creator.0 = sym from.1 ∙ heirs_are_one old heir creator.0 is_heir named.0 in
         let same : from.0 ≡ creator.0 = cc in
         let is : spilled_descriptor spilled.0 ≡ descriptor_of t = ap spilled_descriptor spilled.2.is in
         subst (λ d. IsMadeBy old creator.0 index d) is
@@ -109,7 +110,7 @@ module _ (image : ImageValue) (old new : View) (heir : Option ℕ) (serial : Ser
           let place : s.desc.name.index ≡ index = ap (λ s. s.desc.name.index) spill.is ∙ ap (λ n. n.index) named.1 in
           let is : spilled_descriptor s ≡ descriptor_of t = ap spilled_descriptor spill.is in (
             creator.0,
-            one_heir old heir creator.0 is_heir named.0,
+            heirs_are_one old heir creator.0 is_heir named.0,
             subst (λ d. IsMadeBy (moved_to old new) creator.0 s.desc.name.index d) (sym is)
                 (subst (λ i. IsMadeBy (moved_to old new) creator.0 i (descriptor_of t)) (sym place)
                 (made_still creator.0 index (descriptor_of t) (sound.children k t creator index there made))),

@@ -1,8 +1,8 @@
 -- The least task that comes back by a split is the least one still: it stands last of all queued tasks, none of which has its key.
 use Rattle.std.proofs.Common.{◌≡◌, ◌≢◌, ◌⊎◌, ℕ, zero, suc, ◌<◌, List, [], ◌∷◌, ◌++◌, length, remove, Some, refl, sym, ap, subst, ◌∙◌, inl, inr, arith, slice_get, slice_index_or}
-use Rattle.std.proofs.lemmas.Bool.{cases_eq, cases_lt}
+use Rattle.std.proofs.lemmas.Bool.{cases_eq}
 use Rattle.std.proofs.lemmas.Cmp.{nat_cmp_total, tied_itself}
-use Rattle.std.proofs.lemmas.List.{get_or_past, get_or-set_same, get_or-set_other}
+use Rattle.std.proofs.lemmas.List.{get_or-set_same, get_or-set_other}
 use Rattle.std.specs.Ordering.{nat_cmp, ordering_then}
 use Rattle.std.specs.declared.cmp.Ordering.TheVariants.{Less, Equal, Greater}
 use Rattle.fractal_vt.proofs.Proved.{key_cmp_total, then_less, then_greater, get_end}
@@ -14,6 +14,7 @@ use Rattle.spec_state.specs.View.{View, task_at, queue_at, block_at}
 use Rattle.spec_state.specs.Tasks.{idle_task, spilled_descriptor}
 use Rattle.spec_state.specs.Least.{Spot, Queued, Spilled_at, HasKey, spot_cmp, place_cmp, ranked_cmp, IsLeastSpilled}
 use Rattle.spec_state.specs.Room.{Splits}
+use Rattle.spec_state.proofs.Proved.{at_within}
 use Rattle.spec_law.specs.RoomLaws.{SplitKeepsLeast}
 use Rattle.spec_law.specs.Sound.{SoundSizes}
 use Rattle.spec_law.proofs.Tasks.Places.{get_contains}
@@ -44,13 +45,6 @@ itself_upto key spot tie e =
 queued_ties : (tile place : ℕ) → place_cmp tile place tile place ≡ Equal
 queued_ties tile place = ap (λ o. ordering_then o (nat_cmp place place)) (tied_itself nat_cmp_total tile) ∙ tied_itself nat_cmp_total place
 
--- where something is found in the block of a tile, the tile is one
-tile_within : {X : Type 0} (blocks : List (List X)) (tile place : ℕ) (x : X) → slice_get (slice_index_or blocks tile []) place ≡ Some x → tile < length blocks
-tile_within blocks tile place x at = elim (cases_lt tile (length blocks)) [
-  | inl within ↦ within
-  | inr past ↦ absurd (cc (ap (λ block. slice_get block place) (get_or_past blocks tile [] past), at))
-]
-
 module _ (tile : ℕ) (old new : View) (sizes : SoundSizes old) (least : IsLeastSpilled old tile) (splits : Splits tile old new) where
   -- the task that came back
   abbrev back : Task
@@ -62,7 +56,7 @@ module _ (tile : ℕ) (old new : View) (sizes : SoundSizes old) (least : IsLeast
 
   within : tile < length old.queues
   within =
-      let inside = tile_within old.blocks tile least.place least.least.has.0 least.least.has.1 in
+      let inside = at_within old.blocks tile least.place least.least.has.0 least.least.has.1 in
       omega (arith, inside, sizes.blocks, sizes.queues)
 
   -- the tile's queue has it behind all others
@@ -103,7 +97,7 @@ module _ (tile : ℕ) (old new : View) (sizes : SoundSizes old) (least : IsLeast
   spilled_was : (t p : ℕ) (s : Spilled) → slice_get (block_at new t) p ≡ Some s → (j : ℕ) × (slice_get (block_at old t) j ≡ Some s)
   spilled_was t p s at = elim (cases_eq t tile) [
     | inl here ↦
-        let inside : tile < length old.blocks = tile_within old.blocks tile least.place least.least.has.0 least.least.has.1 in
+        let inside : tile < length old.blocks = at_within old.blocks tile least.place least.least.has.0 least.least.has.1 in
         let now : block_at new t ≡ remove (block_at old tile) splits.least.place =
         ap (block_at new) here ∙ ap (λ blocks. slice_index_or blocks tile []) splits.blocks
         ∙ get_or-set_same old.blocks tile splits.block [] inside ∙ splits.least.others in

@@ -13,10 +13,11 @@ use Rattle.spec_state.specs.View.{View, task_at, finished_at, cores_at}
 use Rattle.spec_state.specs.Queries.{IsRunning}
 use Rattle.spec_state.specs.Changes.{Finishes}
 use Rattle.spec_state.specs.Stored.{HasCore, HasTask}
+use Rattle.spec_state.proofs.Proved.{set_there}
 use Rattle.spec_law.specs.Sound.{SoundSizes}
 use Rattle.spec_law.proofs.Steps.One.{StepsOne, each_stepped, stepped_to}
 use Rattle.spec_law.proofs.Steps.Sizes.{FitsLists, has_forth}
-use Rattle.spec_law.proofs.Steps.Lists.{distinct_more, get_beside, get_put, only_one}
+use Rattle.spec_law.proofs.Steps.Lists.{distinct_more, get_put, only_one}
 
 module _ (old new : View) (sizes : SoundSizes old) (tile core id : ℕ) (task : Task) (leg : LegValue) (runs : IsRunning old tile core id task) (few : length (finished_at old tile) < old.settings.commit_queue) (ends : Finishes tile core id task leg old new) where
   -- the task at its end
@@ -81,7 +82,7 @@ module _ (old new : View) (sizes : SoundSizes old) (tile core id : ℕ) (task : 
   cores_beside other c beside = elim (cases_eq other tile) [
     | inl same ↦
         ap (λ n. slice_get (cores_at now n) c) same ∙ ap (λ held. slice_get held c) cores_here
-        ∙ get_beside (cores_at old tile) core c None (beside same) ∙ ap (λ n. slice_get (cores_at old n) c) (sym same)
+        ∙ set_there (cores_at old tile) core c None (beside same) ∙ ap (λ n. slice_get (cores_at old n) c) (sym same)
     | inr is_other ↦
         ap (λ lists. slice_get (slice_index_or lists other []) c) ends.cores
         ∙ ap (λ held. slice_get held c) (get_or-set_other old.cores tile other (slice_set (cores_at old tile) core None) [] is_other)

@@ -12,14 +12,6 @@ get_put [] k x y at = absurd (cc)
 get_put (z ∷ xs) zero x y at = refl
 get_put (z ∷ xs) (suc k) x y at = get_put xs k x y at
 
--- and all else as before
-pub get_beside : {X : Type 0} (xs : List X) (k j : ℕ) (x : X) → j ≢ k → slice_get (slice_set xs k x) j ≡ slice_get xs j
-get_beside [] k j x other = refl
-get_beside (z ∷ xs) zero zero x other = absurd (other refl)
-get_beside (z ∷ xs) zero (suc j) x other = refl
-get_beside (z ∷ xs) (suc k) zero x other = refl
-get_beside (z ∷ xs) (suc k) (suc j) x other = get_beside xs k j x (λ same. other (ap suc same))
-
 -- a list of one element contains no other
 pub only_one : {X : Type 0} (x y : X) → Contains (x ∷ []) y → y ≡ x
 only_one x y (zero, low, at) = sym at

@@ -1,5 +1,5 @@
 -- What a list contains: at its head or behind it, decided for ids, and one element fewer.
-use Rattle.std.proofs.Common.{◌≡◌, ◌≢◌, ◌⊎◌, ◌<◌, ◌∷◌, ◌++◌, ℕ, zero, suc, List, [], length, Some, refl, sym, ap, ◌∙◌, inl, inr, arith, drop, take, slice_index_or, slice_get, append_assoc}
+use Rattle.std.proofs.Common.{◌≡◌, ◌≢◌, ◌⊎◌, ◌∷◌, ◌++◌, ℕ, zero, suc, List, [], Some, refl, sym, ap, ◌∙◌, inl, inr, arith, drop, take, slice_index_or, slice_get, append_assoc}
 use Rattle.std.specs.Prelude.{Contains, flat_map, remove, slice_set}
 use Rattle.std.proofs.lemmas.Bool.{cases_eq}
 use Rattle.spec_state.proofs.Proved.{head_or_tail}
@@ -14,12 +14,6 @@ decided (id ∷ ids) k = elim (cases_eq id k) [
     | inr none ↦ inr (λ c. elim (head_or_tail id ids k c) [ inl same ↦ other same | inr behind ↦ none behind ])
   ]
 ]
-
--- a list with an element stands at a place within all
-pub list_within : {X : Type 0} (lists : List (List X)) (k : ℕ) (x : X) → Contains (slice_index_or lists k []) x → k < length lists
-list_within [] k x has = absurd (omega (arith, has.1))
-list_within (xs ∷ lists) zero x has = omega arith
-list_within (xs ∷ lists) (suc k) x has = let rest = list_within lists k x has in omega (arith, rest)
 
 -- a list that is not empty has an id
 pub some_first : (ids : List ℕ) → ids ≢ [] → (id : ℕ) × Contains ids id

@@ -1,7 +1,6 @@
 -- A spilled task that is free and foremost may take the serial machine's next turn: it may once it has come back to a queue, and its return
 -- changes no free task.
-use Rattle.std.proofs.Common.{◌≡◌, ◌≢◌, ◌==◌, ℕ, ◌≤◌, Bool, true, false, List, [], ◌∷◌, ◌++◌, Option, Some, None, refl, sym, ap, arith, if◌then◌else◌}
-use Rattle.std.proofs.lemmas.Bool.Decides.{nat_tests}
+use Rattle.std.proofs.Common.{◌≡◌, ◌==◌, ℕ, ◌≤◌, Bool, false, List, [], ◌∷◌, ◌++◌, Option, Some, None, refl, sym, ap, if◌then◌else◌}
 use Rattle.pending_list.specs.declared.task.PendingTask.{PendingTask}
 use Rattle.serial_machine.specs.BagValue.{BagValue}
 use Rattle.serial_machine.specs.State.{IsStack}
@@ -10,14 +9,7 @@ use Rattle.task_law.specs.Moves.{SpillsOneInBags}
 use Rattle.task_law.specs.Sound.{AreSound, SameFree}
 use Rattle.task_law.specs.Tasks.{BagTask, Committed, IsFree, IsSpilled, SpilledBagTask}
 use Rattle.task_law.proofs.Proved.{least_has_turn, splits_keep}
-
--- a number passes the test for itself
-pub same_test : (n : ℕ) → (n == n) ≡ true
-same_test n = grind (arith, nat_tests)
-
--- any other number fails it
-pub other_test : (k n : ℕ) → k ≢ n → (k == n) ≡ false
-other_test k n other = grind (arith, nat_tests)
+use Rattle.spec_state.proofs.Proved.{same_test, other_test}
 
 -- the spilled task as a queued one, idle
 abbrev back_again : SpilledBagTask → BagTask

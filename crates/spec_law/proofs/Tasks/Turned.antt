@@ -1,10 +1,11 @@
 -- Of two queued tasks only one comes before the other.
-use Rattle.std.proofs.Common.{◌≡◌, ℕ, Some, ap, ◌∙◌}
+use Rattle.std.proofs.Common.{◌≡◌, ℕ, Some, inl, inr, ap, sym, ◌∙◌}
+use Rattle.std.proofs.lemmas.Bool.{cases_eq}
 use Rattle.std.specs.Ordering.{ordering_reverse}
 use Rattle.std.specs.declared.cmp.Ordering.TheVariants.{Less, Greater}
 use Rattle.spec_state.specs.declared.task.Task.{Task}
 use Rattle.spec_state.specs.Least.{IsQueuedAt, Precedes, Queued, ranked_cmp}
-use Rattle.spec_state.specs.Queries.{IsQueued}
+use Rattle.spec_state.specs.Queries.{IsLeastIdle, IsQueued}
 use Rattle.spec_state.specs.View.{View, queue_at, task_at}
 use Rattle.spec_law.proofs.Tasks.Places.{contains_get}
 use Rattle.spec_law.proofs.Tasks.Ranked.{ranked_turned}
@@ -20,3 +21,12 @@ not_both_ways view tile k j x y in_k there in_j there' before behind =
     let more : ranked_cmp x.key (Queued tile p.0) y.key (Queued tile q.0) ≡ Greater =
     ranked_turned x.key (Queued tile p.0) y.key (Queued tile q.0) ∙ ap ordering_reverse (behind q.0 p.0 y x two one) in
     absurd (cc (less, more))
+
+-- a tile has one least idle task at most
+pub one_least_idle : (view : View) (tile k j : ℕ) (x y : Task) → IsLeastIdle view tile k x
+    → IsLeastIdle view tile j y → k ≡ j
+one_least_idle view tile k j x y one two = elim (cases_eq k j) [
+  | inl same ↦ same
+  | inr other ↦ absurd (not_both_ways view tile k j x y one.idle.queued one.idle.there two.idle.queued two.idle.there
+      (one.least j y (λ e. other (sym e)) two.idle) (two.least k x other one.idle))
+]

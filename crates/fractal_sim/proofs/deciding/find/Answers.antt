@@ -5,13 +5,14 @@ use Rattle.command_line.specs.Requests.{request_of_words, IsLimited}
 use Rattle.sim_io.specs.Parts.{ReadsAll}
 use Rattle.program_call.specs.Call.{input_limit, input_of}
 use Rattle.fractal_sim.specs.Given.{Reads, ReadsImage}
-use Rattle.fractal_sim.proofs.Found.{found_given, size-within}
+use Rattle.fractal_sim.proofs.Found.{found_given}
+use Rattle.guest_image.proofs.Proved.{size_within}
 use Rattle.fractal_sim.proofs.deciding.find.Goals as goal
 
 pub split_at-requires : goal.split_at-requires
 split_at-requires g c =
     let read : image_of c.in-Ok-read_all.bytes.items ≡ Ok (c.in-Ok-read_image.read.0, c.in-Ok-read_image.read.1) = search rules in
-    let within : c.in-Ok-read_image.read.1 ≤ length c.in-Ok-read_all.bytes.items = size-within c.in-Ok-read_all.bytes.items c.in-Ok-read_image.read.0 c.in-Ok-read_image.read.1 read in
+    let within : c.in-Ok-read_image.read.1 ≤ length c.in-Ok-read_all.bytes.items = size_within c.in-Ok-read_all.bytes.items c.in-Ok-read_image.read.0 c.in-Ok-read_image.read.1 read in
     search (rules, within)
 
 pub returns : goal.returns

@@ -2,9 +2,9 @@ use Rattle.std.proofs.Common.{◌≡◌, ◌+◌, ◌∙◌, Some, refl, sym, ap
 use Rattle.serial_machine.specs.Turn.{turn}
 use Rattle.serial_machine.specs.Run.{IsRun, opening}
 use Rattle.run_law.proofs.Proved.{length-opening, Runs-more}
-use Rattle.report_text.proofs.Replays.{take-more}
 use Rattle.report_text.proofs.Sizes.{turn-keeps}
 use Rattle.report_text.proofs.checking.replay.Goals as goal
+use Rattle.fractal_vt.proofs.Proved.{take_one_more}
 
 pub loop-index-init : goal.loop-index-init
 loop-index-init c = record {
@@ -45,7 +45,7 @@ loop-index-preserved c =
     (subst (λ e. turn image c.loop-index.serial.budget before entry.name ≡ Some (after, e)) c.if-not-is_same.ensures c.in-Ok-turn.ensures.ok) in
     let keeps = turn-keeps image c.args.budget before after entry.name entry turned in
     record {
-      run = subst (λ js. IsRun image c.args.budget js after) (sym (take-more c.args.journal.now c.loop-index.index entry c.entry_at-entry.ensures))
+      run = subst (λ js. IsRun image c.args.budget js after) (sym (take_one_more c.args.journal.now c.loop-index.index entry c.entry_at-entry.ensures))
           (Runs-more image c.args.budget (take c.loop-index.index c.args.journal.now) (opening image) before after entry c.loop-index.invariant.run turned);
       kept = search rules;
       count = keeps.count ∙ ap (λ k. k + 1) c.loop-index.invariant.count;

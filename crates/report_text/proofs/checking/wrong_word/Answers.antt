@@ -1,8 +1,9 @@
 use Rattle.std.proofs.Common.{◌≡◌, ◌<◌, ◌∙◌, ◌++◌, ◌∷◌, [], sym, ap, length, take, rules}
 use Rattle.report_text.specs.Report.{window_of, window_word}
-use Rattle.report_text.proofs.Replays.{take-more, last_other, last_same}
+use Rattle.report_text.proofs.Replays.{last_other, last_same}
 use Rattle.report_text.proofs.Written.{length-window_of, slice_get-window_of}
 use Rattle.report_text.proofs.checking.wrong_word.Goals as goal
+use Rattle.fractal_vt.proofs.Proved.{take_one_more}
 
 pub returns-then-not-is_word_at-clause-place : goal.returns-then-not-is_word_at-clause-place
 returns-then-not-is_word_at-clause-place c =
@@ -16,9 +17,9 @@ pub loop-place-preserved : goal.loop-place-preserved
 loop-place-preserved c =
     let lt : c.loop-place.place < c.args.image.now.window_words = search rules in
     let word = window_word c.args.image.now c.args.memory.now c.loop-place.place in
-    take-more c.args.window.now c.loop-place.place word (rw c.word_of.ensures at c.if-not-is_word_at.ensures)
+    take_one_more c.args.window.now c.loop-place.place word (rw c.word_of.ensures at c.if-not-is_word_at.ensures)
     ∙ ap (λ front. front ++ word ∷ []) c.loop-place.invariant
-    ∙ sym (take-more _ c.loop-place.place word (slice_get-window_of c.args.image.now c.args.memory.now c.loop-place.place lt))
+    ∙ sym (take_one_more _ c.loop-place.place word (slice_get-window_of c.args.image.now c.args.memory.now c.loop-place.place lt))
 
 pub returns-then-window-words-clause-place : goal.returns-then-window-words-clause-place
 returns-then-window-words-clause-place c =

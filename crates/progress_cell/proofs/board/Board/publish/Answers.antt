@@ -3,7 +3,7 @@ use Rattle.crossbeam_utils.specs.Seq.{cell_view}
 use Rattle.progress_cell.specs.Board.{IsWriter}
 use Rattle.progress_cell.specs.Rule.{readings_of}
 use Rattle.progress_cell.proofs.Keeps.{stores}
-use Rattle.progress_cell.proofs.Places.{last_of-push}
+use Rattle.progress_cell.proofs.Places.{last_pushed}
 use Rattle.progress_cell.proofs.board.Board.publish.Goals as goal
 
 pub swap_as-requires : goal.swap_as-requires
@@ -13,5 +13,5 @@ pub invariant_of-writer : goal.invariant_of-writer
 invariant_of-writer g c =
     subst (λ v. IsWriter v c.args.reading) (sym c.swap_as.ensures.rule) (record {
       writes = refl;
-      last_told = sym (last_of-push (readings_of (cell_view c.writer.inside.pass)) c.args.reading);
+      last_told = sym (last_pushed (readings_of (cell_view c.writer.inside.pass)) c.args.reading);
     })
