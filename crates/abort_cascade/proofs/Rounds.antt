@@ -39,7 +39,7 @@ module _ (count : ℕ) (pull : ℕ → ℕ → Bool) where
         size = length-set marks b true;
       }
 
-  -- a round over the nodes that one node pulls has come to a place
+  -- what one node pulls is marked, up to a place, and it is told whether a mark is new
   pub record RoundOf (a upto : ℕ) (old new : List Bool) (grown : Bool) : Type 0 where
     pub spreads : Spreads count pull old new
     pub all : (b : ℕ) → b < upto → pull a b ≡ true → Marked new b

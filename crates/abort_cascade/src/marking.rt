@@ -9,8 +9,8 @@ use crate::Pulls;
 /// Marks exactly the least set that holds the first node and with each node all that it pulls.
 ///
 /// What the marks were before does not matter. It goes over the marked nodes until a round marks nothing new: at
-/// most as many rounds as the set has nodes, each of at most as many calls of `pulls` as `close` makes. Who has
-/// memory for the members calls `close`.
+/// most as many rounds as the set has nodes, each of at most one call of `pulls` for each of these and each node.
+/// Who has memory for the members calls `close`.
 pub fn mark<P: Pulls>(relation: &P, first: usize, marks: &mut [bool])
     requires len { length marks.old ≡ P.count relation.now }
     requires node { first < P.count relation.now }

@@ -21,8 +21,8 @@ pub(crate) fn by_id(alloc: Global, size: u32, rounds: u32) -> Result<u64, AllocE
     Ok(first_of(&index))
 }
 
-/// Fills an index, and then takes out the first task and puts in a later one, so many times. Gives the id that is
-/// first at the end.
+/// Fills an index, and then takes out the first task and puts one in with its id, so many times. Gives the id that
+/// is first at the end.
 pub(crate) fn by_first(alloc: Global, size: u32, rounds: u32) -> Result<u64, AllocError>
     requires { 1 ≤ size }
 {

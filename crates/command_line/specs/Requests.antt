@@ -125,7 +125,7 @@ HasSize commands.Trace = Unit {0}
 HasSize commands.Check = Unit {0}
 HasSize (commands.Load load drawn_from large) = (1 ≤ large) × (large ≤ greatest_size load)
 
--- all numbers of a request are in their ranges
+-- the settings are in their ranges, and so is the size of a generated image
 pub record IsLimited (request : Request) : Type 0 where
   pub settings : IsValid request.settings
   pub size : HasSize request.command

@@ -1,4 +1,4 @@
--- Entries in the slots of a table: what an edit of the slots' order leaves.
+-- Candidates in the slots of a table: what an edit of the slots' order leaves.
 use Rattle.std.proofs.Common.{◌≡◌, ◌≢◌, ℕ, ◌-◌, ◌<◌, ◌≤◌, false, nat_eq, List, [], ◌∷◌, ◌++◌, length, get_or, set, take, refl, sym, ap, subst, ◌∙◌, arith}
 use Rattle.std.specs.List.{All, IsDistinct, AllByRecursion, insert}
 use Rattle.std.specs.List.Sorted.{IsPermutation}

@@ -1,4 +1,4 @@
--- The numbers from one on: all slots, before any is in use.
+-- The numbers from some number on; those from 0 are all slots, before any is in use.
 use Rattle.std.proofs.Common.{◌≡◌, ℕ, zero, suc, ◌+◌, ◌<◌, ◌≤◌, false, nat_eq, List, [], ◌∷◌, ◌++◌, length, get_or, replicate, sym, ap, subst, ◌∙◌, arith}
 use Rattle.std.specs.List.{All, IsDistinct, AllByRecursion, range_with_len}
 use Rattle.std.proofs.lemmas.List.{length-replicate}

@@ -1,4 +1,4 @@
--- Where a candidate goes, and where the one with an id is.
+-- The order of candidates, what is left without those of an id, and where the one with an id is.
 use Rattle.std.proofs.Common.{◌≡◌, ◌≢◌, ℕ, suc, ◌<◌, ◌≤◌, Bool, true, false, not, cond, ◌==◌, List, [], ◌∷◌, length, get_or, Some, refl, sym, ap, subst, ◌∙◌, arith, slice_get}
 use Rattle.std.specs.List.{All, filter}
 use Rattle.std.specs.Cmp.{IsTotalOrder}

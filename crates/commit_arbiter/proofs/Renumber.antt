@@ -1,4 +1,4 @@
--- Entries whose keys are renumbered, in slots and in a heap.
+-- Candidates whose keys are renumbered, in slots and in a heap.
 use Rattle.std.proofs.Common.{◌≡◌, ◌≢◌, ℕ, zero, suc, List, [], ◌∷◌, map, get_or, refl, sym, ap, subst, ◌∙◌, ◌<◌, Bool, true, false, nat_eq, length, arith}
 use Rattle.std.specs.List.{All, AllByRecursion, IsDistinct}
 use Rattle.std.specs.Ordering.{nat_cmp, ordering_then, is_lt}

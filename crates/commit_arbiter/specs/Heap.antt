@@ -1,4 +1,4 @@
--- Heaps of candidates, and lists that want one exchange to be one.
+-- Heaps of candidates, and lists that are heaps but for one place.
 use Rattle.std.specs.Prelude.{◌≡◌, ◌≢◌, ℕ, ◌-◌, ◌<◌, ◌/◌, List, [], ◌∷◌, length, Bool, true, false, nat_eq}
 use Rattle.std.specs.List.{IsDistinct}
 use Rattle.std.specs.List.Sorted.{IsPermutation}

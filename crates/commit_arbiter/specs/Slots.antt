@@ -1,4 +1,4 @@
--- Entries in the slots of a table.
+-- Candidates in the slots of a table.
 use Rattle.std.specs.Prelude.{◌≡◌, ◌≢◌, ℕ, ◌+◌, ◌<◌, ◌≤◌, None, List, [], ◌++◌, Some, All, map, slice_get, length}
 use Rattle.std.specs.Prelude.{nat_eq, slice_index_or}
 use Rattle.std.specs.List.{IsDistinct}

@@ -48,7 +48,7 @@ fn run_leg_of<N: Naming>(leg: &mut Leg<N>, state: &State<N>, image: &Image, id: 
     );
 }
 
-/// A leg of the least task, which runs.
+/// The step of the least task, which runs.
 fn step_least<N: Naming, P: Placer>(
     state: &mut State<N>,
     leg: &mut Leg<N>,
@@ -223,7 +223,7 @@ impl<N: Naming, P: Placer, T: Tap> Book<N, P, T> {
         }
     }
 
-    /// Makes the event for the least task: a split where it is spilled, a dispatch where it is idle, a leg where it
+    /// Makes the event for the least task: a split where it is spilled, a dispatch where it is idle, a step where it
     /// runs, and its commit where it is finished. `Ended` where the run is over, and `Memory` where memory runs
     /// out or the book was stopped; nothing changes then. Less is left up to the next commit after each event
     /// but that, and never more than the task budget and 4.

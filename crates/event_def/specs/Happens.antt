@@ -11,7 +11,7 @@ use Rattle.event_def.specs.Causes.{IsRefused, IsGranted, TakesMemory}
 use Rattle.event_def.specs.Events.{Makes}
 use Rattle.event_def.specs.Trace.{IsRecord}
 
--- the event is made: no cause to refuse it stands, each tap notes it, and the count of events rises
+-- the event is made: no cause to refuse it stands, each tap notes it, and the count of events rises, up to 2^64 - 1
 pub record IsMade {N : Type 0} (old : BookView) (event : Event N) (aborted : ℕ) (new : BookView) : Type 0 where
   pub goes_on : old.stopped ≡ false
   pub granted : IsGranted old event

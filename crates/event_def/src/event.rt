@@ -95,7 +95,7 @@ pub enum Advance {
     Committed,
     /// The run is over.
     Ended(End),
-    /// Out of memory.
+    /// Out of memory, or the book was stopped.
     Memory,
 }
 
@@ -104,6 +104,6 @@ pub enum Advance {
 pub enum Halt {
     /// It is over.
     Ended(End),
-    /// Out of memory.
+    /// Out of memory, or the book was stopped.
     Memory,
 }

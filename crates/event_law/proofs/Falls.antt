@@ -1,4 +1,4 @@
--- Each event for the least task brings it nearer to its commit.
+-- Each event for the least task but its commit brings it nearer to that, or to the end of the run.
 pub mod Heir
 pub mod Rest
 pub mod Spilled

@@ -64,7 +64,7 @@ module _ (image : ImageValue) (budget size : ℕ) (ctx : Ctx) where
       let below = asks_within task (Store access.offset access.width value) asks (λ cause e. cc) in
       omega (arith, below)
 
--- a leg from at_within the budget is a run
+-- a leg that starts within the budget is a run
 pub leg_is_run : (image : ImageValue) (budget quantum : ℕ) (leg : LegValue)
     → IsLeg image image.data_size budget quantum leg.from leg.to leg.steps leg.stop → leg.from.used ≤ budget
     → IsLegOfImage image budget leg

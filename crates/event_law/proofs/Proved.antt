@@ -1,4 +1,5 @@
--- What the crates above may cite of these proofs.
+-- What the crates above may cite of these proofs, but for what three name by its file: `machine_run`, `outcome_law`
+-- and `watch_play`.
 pub use Rattle.event_law.proofs.Ends.{not_all, one_least}
 pub use Rattle.event_law.proofs.Falls.Falls.{advances_fall}
 pub use Rattle.event_law.proofs.Falls.Heir.{abort_leaves_heir}

@@ -1,4 +1,4 @@
--- Of finitely many candidates in a total order there is one that is above none, or there is none at all.
+-- Of finitely many values in a total order there is one that is above none, or there is none at all.
 use Rattle.std.proofs.Common.{ℕ, zero, suc, ◌≡◌, ◌<◌, ◌⊎◌, inl, inr, false, refl, sym, ap, subst, ◌∙◌, arith}
 use Rattle.std.proofs.lemmas.Bool.{cases_eq}
 use Rattle.std.proofs.lemmas.Cmp.{tied_itself, upto}
@@ -7,13 +7,13 @@ use Rattle.std.specs.Ordering.{is_gt, ordering_reverse}
 use Rattle.std.specs.declared.cmp.Ordering.{Ordering}
 use Rattle.std.specs.declared.cmp.Ordering.TheVariants.{Less, Equal, Greater}
 
--- one of the candidates, which is above none of them
+-- one of the values, which is above none of them
 pub record IsLeastOf {X : Type 0} (order : X → X → Ordering) (among : X → Type 0) : Type 0 where
   pub one : X
   pub is : among one
   pub low : (other : X) → among other → is_gt (order one other) ≡ false
 
--- there is no candidate, or one that is above none
+-- there is no value, or one that is above none
 abbrev pub HasLeast : {X : Type 0} → (X → X → Ordering) → (X → Type 0) → Type 0
 HasLeast {X} order among = ((x : X) → among x → ⊥) ⊎ IsLeastOf order among
 
@@ -22,7 +22,7 @@ abbrev pub IsBelow : {X : Type 0} → (ℕ → X → Type 0) → ℕ → X → T
 IsBelow {X} at bound x = (k : ℕ) × (k < bound) × at k x
 
 module _ {X : Type 0} (order : X → X → Ordering) (total : IsTotalOrder order) where
-  -- a candidate beside which there is no other is the least
+  -- a value beside which there is no other is the least
   pub only_one : (among : X → Type 0) (x : X) → among x → ((y : X) → among y → y ≡ x) → HasLeast order among
   only_one among x is same =
       inr (record {
@@ -31,7 +31,7 @@ module _ {X : Type 0} (order : X → X → Ordering) (total : IsTotalOrder order
         low = λ y other. subst (λ z. is_gt (order x z) ≡ false) (sym (same y other)) (ap is_gt (tied_itself total x));
       })
 
-  -- candidates of two kinds have a least one where both kinds have
+  -- values of two kinds have a least one where both kinds have
   pub either_least : (first second : X → Type 0) → HasLeast order first → HasLeast order second → HasLeast order (λ x. first x ⊎ second x)
   either_least first second (inl none) (inl nor) = inl (λ x is. elim is [ inl one ↦ none x one | inr two ↦ nor x two ])
   either_least first second (inl none) (inr low) =
@@ -61,12 +61,12 @@ module _ {X : Type 0} (order : X → X → Ordering) (total : IsTotalOrder order
       by_order Equal tie = stays (ap is_gt tie)
       by_order Greater greater = gives_way (ap is_gt (total.antisymm other.one low.one ∙ ap ordering_reverse greater))
 
-  -- candidates that are the same have the same least one
+  -- values that are the same have the same least one
   pub same_least : (first second : X → Type 0) → ((x : X) → first x → second x) → ((x : X) → second x → first x) → HasLeast order first → HasLeast order second
   same_least first second to from (inl none) = inl (λ x is. none x (from x is))
   same_least first second to from (inr low) = inr (record { one = low.one; is = to low.one low.is; low = λ y is. low.low y (from y is) })
 
-  -- where each place has a least candidate or none, all places below a bound have together
+  -- where each place has a least value or none, all places below a bound have together
   pub search : (at : ℕ → X → Type 0) → ((k : ℕ) → HasLeast order (at k)) → (bound : ℕ) → HasLeast order (IsBelow at bound)
   search at each zero = inl (λ x is. absurd (omega (arith, is.1)))
   search at each (suc bound) =

@@ -145,8 +145,8 @@ NextEventIsGiven N =
     (image : ImageValue) (view : View) (event : Event N) → Sound image view → IsNextEvent image view event
     → IsGiven image view.settings event
 
--- so many events for the least tasks leave a sound view with a longer history, and there are not many of them: with
--- what is left up to the next commit, at most the budget and 4 for each commit and one more
+-- so many events for the least tasks leave a sound view with a history longer by the commits among them, and they are
+-- not many: with what is left up to the next commit, at most the budget and 4 for each commit and one more
 pub record AreFew (image : ImageValue) (old : View) (n : ℕ) (new : View) : Type 0 where
   pub sound : Sound image new
   pub settings : new.settings ≡ old.settings

@@ -1,7 +1,8 @@
 //! The laws of events: whatever happens keeps a book sound, and so every history is a run of the serial machine.
 //!
 //! Each law is the contract of a function that does nothing and costs nothing. The book, `event_lemma`,
-//! `outcome_law` and runs stand on them. It stands on the words of events and on the laws of states.
+//! `outcome_law`, workers, runs and `watch_play` stand on them. It stands on the words of events and on the laws of
+//! states.
 #![tactic(auto)]
 
 mod laws;

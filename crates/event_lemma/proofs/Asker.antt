@@ -63,7 +63,7 @@ module _ (image : ImageValue) (old : View) (sound : Sound image old) (tile core 
       let above = cascade_is_later image old v x aborts.marks sound later.there aborts.cascade id marked apart in
       above_is_other x above.0 later.later above.1 above.2)
 
-  -- an entry of its tile's commit queue is freed for it
+  -- a place of its tile's commit queue is freed for it
   commit_spares : {aborted : ℕ} {mid : View} → FreesCommit tile task old aborted mid
       → Sound image mid × (task_at mid id ≡ Some task)
   commit_spares (events.has_free free) = (sound, there)
@@ -93,7 +93,7 @@ pub conflicts_leave_asker : (image : ImageValue) (old : View) (tile core id : �
 conflicts_leave_asker image old tile core id leg task offset write aborted mid sound takes forced =
     conflicts_spare image old sound tile core id leg task takes offset write aborted mid forced
 
--- where an entry of the commit queue is freed for its end call, likewise
+-- where a place of the commit queue is freed for its end call, likewise
 pub commit_leaves_asker : (image : ImageValue) (old : View) (tile core id : ℕ) (leg : LegValue) (task : Task) (aborted : ℕ) (mid : View)
     → Sound image old → TakesLeg old tile core leg id task → FreesCommit tile task old aborted mid
     → TakesStill image tile core leg id task old mid
@@ -102,7 +102,7 @@ commit_leaves_asker image old tile core id leg task aborted mid sound takes forc
     takes_still image old mid tile core id leg task sound takes spared.0 (commit_like tile task old forced) spared.1
 
 -- and the commit queue has a free place
-pub commit_leaves_entry : (image : ImageValue) (old : View) (tile core id : ℕ) (leg : LegValue) (task : Task) (aborted : ℕ) (mid : View)
+pub commit_leaves_place : (image : ImageValue) (old : View) (tile core id : ℕ) (leg : LegValue) (task : Task) (aborted : ℕ) (mid : View)
     → Sound image old → TakesLeg old tile core leg id task → FreesCommit tile task old aborted mid
     → length (finished_at mid tile) < mid.settings.commit_queue
-commit_leaves_entry image old tile core id leg task aborted mid sound takes forced = commit_is_free image old sound tile core id leg task takes forced
+commit_leaves_place image old tile core id leg task aborted mid sound takes forced = commit_is_free image old sound tile core id leg task takes forced

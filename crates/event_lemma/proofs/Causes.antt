@@ -27,7 +27,7 @@ use Rattle.event_def.specs.Book.{BookView, picked_tile}
 use Rattle.event_def.specs.Causes.{Cause, IsBusy, IsGranted, IsRefused, IsStale, LatestIsLeast, StallsAtEnd, StallsAtEnqueue, StallsAtSplit, refusal_rank}
 use Rattle.event_def.specs.End.{IsOver}
 
--- nor is one whose least idle task is the least task
+-- a tile whose least idle task is the least task isn't busy
 pub least_is_not_busy : (view : View) (tile id : ℕ) (task : Task) → IsLeastIdle view tile id task → IsTheLeast view id
     → IsBusy view tile → ⊥
 least_is_not_busy view tile id task idle least busy =

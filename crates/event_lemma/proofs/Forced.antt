@@ -65,7 +65,7 @@ room_like tile asker old (aborts_victim aborted v task mid new full none least v
     like_on old mid new (abort_like (OnlyNode v) old mid aborted aborts) (coalesce_like tile mid new moves)
 room_like tile asker old (aborts_creator aborted v creator task new full none least victim loose made_by aborts) = abort_like (OnlyNode creator) old new aborted aborts
 
--- an entry of a commit queue
+-- a place in a commit queue
 pub commit_like : (tile : ℕ) (task : Task) (old : View) {aborted : ℕ} {mid : View}
     → FreesCommit tile task old aborted mid → IsLike old mid
 commit_like tile task old (events.has_free free) = like_itself old

@@ -95,7 +95,7 @@ module _ (image : ImageValue) (view : View) (sound : Sound image view) where
           absurd (omega (arith, count, some, none))
       by_cores (o ∷ cores) is = by_first o (ap (λ held. slice_get held zero) is)
 
--- what is above a key that is no greater is above it
+-- a key below one that is no greater than a third is below that
 less_upto : (a b c : Key) (o : Ordering) → key_cmp b c ≡ o → key_cmp a b ≡ Less → o ≢ Greater → key_cmp a c ≡ Less
 less_upto a b c Less is less upto = key_cmp_total.trans a b c less is
 less_upto a b c Equal is less upto = subst (λ key. key_cmp a key ≡ Less) ((equal_keys_tie b c).0 is) less

@@ -1,4 +1,4 @@
--- What the reading of the least task says: which task it is, whether it commits, and how the run ended or that it
+-- What it says where the least task stands: which task it is, whether it commits, and how the run ended or that it
 -- goes on.
 use Rattle.std.proofs.Common.{ℕ, ◌≡◌, ◌≢◌, ◌<◌, ◌⊎◌, inl, inr, Some, sym, ap, subst, ◌∙◌, arith}
 use Rattle.std.proofs.lemmas.Bool.{cases_eq}
@@ -45,7 +45,7 @@ one_least_tile view tile other one two =
     cc
 
 module _ (view : View) where
-  -- the least task is the one that is read, with its status
+  -- the least task is the one that is read, where that is queued
   read_is : (w : Where) → IsLeast view w → (id : ℕ) → queued_in w ≡ Some id → IsTheLeast view id
   read_is (where_.Idle k) is id same = let one : k.0 ≡ id = cc in subst (IsTheLeast view) one (is.0, is.1)
   read_is (where_.Running k) is id same = let one : k.0 ≡ id = cc in subst (IsTheLeast view) one (is.0, is.2)
@@ -72,7 +72,7 @@ module _ (view : View) where
   spilled_is_read (where_.Finished k) is tile least = absurd (not_both view k.0 tile is.0 is.1 least)
   spilled_is_read (where_.Spilled other) is tile least = ap Some (one_least_tile view other tile is least)
 
-  -- two readings of the least task have one status
+  -- two tasks that are the least one have one status
   one_status : (a b : ℕ) (x y : Task) (status : Status) → IsLeastTask view a x → x.status ≡ status
       → IsLeastTask view b y → y.status ≡ status
   one_status a b x y status one stands two = ap (λ (t : Task). t.status) (sym (one_least view (least_is_one view) a b x y one two)) ∙ stands

@@ -84,7 +84,7 @@ asker_stays image old tile core id leg task aborted mid sound takes (frees_place
 asker_stays image old tile core id leg task aborted mid sound takes (room to forced) =
     room_leaves_asker image tile core id to leg task old aborted mid sound takes forced
 
--- where an entry is free, nothing is changed for another
+-- where a place is free, nothing is changed for another
 pub free_is_same : (tile : ℕ) (asker : Asker) (old : View) {aborted : ℕ} {mid : View} → QueueHasRoom old tile
     → MakesRoom tile asker old aborted mid → mid ≡ old
 free_is_same tile asker old free (queue_has_room also) = refl

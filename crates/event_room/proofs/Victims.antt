@@ -34,7 +34,7 @@ pub aborted_one : (image : ImageValue) (old new : View) (id aborted : ℕ) → S
 aborted_one image old new id aborted sound aborts =
     let by_key = sound_by_key image old sound in aborts by_key.0 by_key.1
 
--- where nothing moves in a full queue, whoever it gives an entry to asks as the least task
+-- where nothing moves in a full queue, whoever it gives a place to asks as the least task
 pub asks_as_least : (view : View) (tile : ℕ) (asker : Asker) → IsFull view tile → NoneMoves view tile
     → MayEnter view tile asker → IsLeastAsker view tile asker
 asks_as_least view tile asker full none (inl free) = absurd (omega (arith, full, free))

@@ -1,4 +1,4 @@
--- What is forced for an access leaves its room, and what its task asks for.
+-- What is forced for an access or an enqueue leaves its room, and for an access what its task asks for.
 use Rattle.std.proofs.Common.{ℕ, ◌≡◌, ◌<◌, ◌/◌, Bool, List, Some, Result, Ok, Err, sym, subst, ◌∙◌, length}
 use Rattle.std.specs.Prelude.{IsOk, OnOk, IfSome, Option}
 use Rattle.guest_image.specs.ImageValue.{ImageValue}

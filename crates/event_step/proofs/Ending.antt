@@ -30,7 +30,7 @@ use Rattle.event_def.specs.Events as events
 use Rattle.event_def.specs.Trace.{record_of}
 use Rattle.event_def.specs.Book.{book_of}
 use Rattle.event_lemma.specs.Forcing.{TakesStill}
-use Rattle.event_lemma.proofs.Proved.{commit_leaves_asker, commit_leaves_entry, finished_is_later, no_child_no_stall, none_is_later, sound_by_key, stall_is_refused}
+use Rattle.event_lemma.proofs.Proved.{commit_leaves_asker, commit_leaves_place, finished_is_later, no_child_no_stall, none_is_later, sound_by_key, stall_is_refused}
 use Rattle.event_step.specs.Ending.{HasLater, HasNoLater, SaysLater}
 use Rattle.event_step.proofs.Stepping.{asks_same, granted, made_granted}
 
@@ -73,7 +73,7 @@ module _ (image : ImageValue) (old : View) (tile core id : ℕ) (leg : LegValue)
     (takes : TakesLeg old tile core leg id task) (v aborted : ℕ) (mid : View) (full : IsCommitFull old tile)
     (later : HasLater old tile v task)
     (aborts : (ids : List ℕ) → IsByKey (logged_tasks old) ids → Aborts (OnlyNode v) old aborted mid) where
-  -- an entry is freed by the latest task of the queue, which is later
+  -- a place is freed by the latest task of the queue, which is later
   pub frees : FreesCommit tile task old aborted mid
   frees =
       let by_key = sound_by_key image old sound in
@@ -83,14 +83,14 @@ module _ (image : ImageValue) (old : View) (tile core id : ℕ) (leg : LegValue)
   pub stays : TakesStill image tile core leg id task old mid
   stays = commit_leaves_asker image old tile core id leg task aborted mid sound takes frees
 
-  -- and has the entry
-  pub has_entry : CommitQueueHasRoom mid id
-  has_entry = (
+  -- and has the place
+  pub has_place : CommitQueueHasRoom mid id
+  has_place = (
     tile,
     core,
     task,
     stays.takes.runs.on,
-    commit_leaves_entry image old tile core id leg task
+    commit_leaves_place image old tile core id leg task
         aborted mid sound takes frees,
   )
 

@@ -43,8 +43,8 @@ module _ (image : ImageValue) (old : View) (tile core id to : ℕ) (leg : LegVal
   leaves = room_leaves image to (Enqueuer id) old aborted mid sound (taker_asks old tile core id leg task
       takes) makes
 
-  pub free_entry : QueueHasRoom mid to
-  free_entry = leaves.free
+  pub free_place : QueueHasRoom mid to
+  free_place = leaves.free
 
   pub still_inside : to < old.settings.tiles → to < mid.settings.tiles
   still_inside inside = subst (λ (s : Settings). to < s.tiles) (sym leaves.like.settings) inside
@@ -58,7 +58,7 @@ module _ (N : Type 0) (old : View) (placers : List Policy) (taps : List TapValue
   asked : request_of old task leg ≡ Enqueue spawn
   asked = asks_same old tile core id leg task (Enqueue spawn) asks takes
 
-  -- the step is granted where that tile gives an entry
+  -- the step is granted where that tile gives a place
   pub granted_enqueue : (Stalls old target (Enqueuer id) → ⊥)
       → IsGranted {N = N} (book_of old placers taps steps) (event.Step tile core leg)
   granted_enqueue free =

@@ -51,8 +51,8 @@ fn later_finished<N: Naming>(state: &State<N>, tile: u32, id: TaskId) -> Option<
     }
 }
 
-/// Ends a task where a place of its tile's commit queue is free, or else takes back the latest
-/// task there, which is later; tells how many tasks were taken back.
+/// Takes the latest task of the full commit queue back, which is later than this one, and then ends this one; tells how
+/// many tasks were taken back.
 fn finish_after<N: Naming>(
     state: &mut State<N>,
     tile: u32,

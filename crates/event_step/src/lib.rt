@@ -1,10 +1,11 @@
 //! The event of a running task: a leg of it, and what it asks for at the end of that.
 //!
-//! Each function is over a state and answers what came of the event; its contract is that of the event in a book of
-//! that state, whatever else the book has. A step finds the causes to refuse it, takes its memory, forces what
-//! stands in its way and makes one change. It takes memory first, so that nothing has changed where memory runs
-//! out, and never needs any afterwards. It stands on `spec_access`, `spec_rollback` and `event_room`; the book
-//! calls it. A step costs a look at each dispatched task where it is an access, and what it takes back.
+//! `step` and `make_step` are over a state and answer what came of the event; their contract is that of the event in a
+//! book of that state, whatever else the book has. `taker` tells which task takes a leg. A step finds the causes to
+//! refuse it, takes its memory, forces what stands in its way and makes one change. It takes memory first, so that
+//! nothing has changed where memory runs out, and never needs any afterwards. It stands on `spec_access`,
+//! `spec_rollback` and `event_room`; the book calls it. A step costs a look at each dispatched task where it is an
+//! access, and what it takes back.
 #![tactic(auto)]
 
 mod accesses;

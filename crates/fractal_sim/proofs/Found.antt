@@ -1,4 +1,4 @@
--- What is found behind an image, or with a generated one, is found.
+-- What is found behind an image is found, and what was taken of the source.
 use Rattle.std.proofs.Common.{◌≡◌, ℕ, ◌≤◌, List, length, refl, sym, ap, subst, arith, Result, Ok, Err, Bool, true, false, nat_lt, if◌then◌else◌, [], Some, None}
 use Rattle.std.proofs.lemmas.Bool.Decides.{nat_tests}
 use Rattle.std.proofs.lemmas.Grind.{common_steps}

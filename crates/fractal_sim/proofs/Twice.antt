@@ -1,4 +1,4 @@
--- Two calls that play a script, and are given the same, answer the same.
+-- Two calls that play a script, are given the same and both end well, answer the same.
 use Rattle.std.proofs.Common.{◌≡◌, ◌⊎◌, inl, inr, refl, sym, ap, ◌∙◌, subst, ℕ, ◌<◌, ◌≤◌, List, length, drop, codes}
 use Rattle.std.proofs.Common.{arith, Some, None, Result, Ok, Err}
 use Rattle.std.specs.declared.marker.Brand.{Brand}
@@ -165,7 +165,7 @@ record Says (input : Input) (bytes : List ℕ) (request : Request) (o : Outcome)
   is_of : IsOf request bytes verdict
   tells : Tells input.placers input.taps request o n text verdict
 
--- a command that plays a script runs no image, and its runs are told by no report
+-- a command that plays a script is none whose run is told by its report alone
 not_reported : (command : Command) (end : End) → PlaysScript command → IsReported command end → ⊥
 not_reported commands.Run end plays told = plays
 not_reported commands.Save end plays told = plays

@@ -14,7 +14,7 @@ use Rattle.script_text.specs.Replies.{reply_lines}
 
 -- ---- statuses
 
--- the status of a run to its end; one that isn't over has none
+-- the status of a run to its end; the 5 of one that isn't over stands for none, as no such run is told by it
 abbrev pub end_status : End → ℕ
 end_status ends.Normal = 0
 end_status (ends.Trap name cause pc) = 3

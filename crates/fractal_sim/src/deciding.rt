@@ -24,7 +24,7 @@ use std::thread::Threads;
 use tile_worker::Gate;
 use trace_tap::Tap;
 
-/// How many bytes are read at most: 64 MiB.
+/// How many bytes an input has at most: 64 MiB.
 const INPUT_LIMIT: usize = 67_108_864;
 
 /// Reads the words and the input, and does what they ask for.

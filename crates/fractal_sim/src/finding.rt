@@ -32,7 +32,7 @@ pub(crate) enum Saving {
 pub(crate) enum Finding {
     /// The words are refused.
     Usage,
-    /// Out of memory before a run began.
+    /// Memory ran out before a run was made, or before a report was accepted or refused.
     Memory,
     /// The source failed.
     Unread,

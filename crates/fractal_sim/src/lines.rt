@@ -1,4 +1,4 @@
-//! The lines that the program writes besides reports, replies and traces.
+//! The lines that tell a fault by its numbers, that accept a report, and that begin the report of a generated image.
 
 ghost use Rattle.std.specs.Prelude.{◌≡◌, ◌++◌, ◌<◌, ◌≤◌, ◌-◌, ◌^◌, codes, decimal, length};
 ghost use Rattle.fractal_sim.specs.Texts.{accepted_line, commits_line, image_fault_line, journal_fault_line};

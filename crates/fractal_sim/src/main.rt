@@ -1,7 +1,8 @@
 //! Runs a guest program on the speculative machine, plays a script on it, saves a run that is to go on later, or checks
-//! the report of a run: the image comes from standard input or is generated, and the report, the saved image, or a line
-//! that says what is wrong, goes to standard output. Everything is found before anything is written; a run takes memory
-//! for its tasks, its journal and its output, and one copy of the data memory.
+//! the report of a run: the image comes from standard input or is generated. The report, behind the replies where a
+//! script is played, goes to standard output; so does what stands in its place: the lists of the taps, the saved image,
+//! the verdict on a report, or a line that says what is wrong. Everything is found before anything is written; a run
+//! takes memory for its tasks, its journal and its output, and one copy of the data memory.
 //!
 //! It stands on `machine_run`, on the readers of words, images and scripts, and on the writers of texts. A person, the
 //! launcher or a script calls it. It costs what the run does, and a look at each byte of the input and of the text.

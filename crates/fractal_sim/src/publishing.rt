@@ -1,4 +1,4 @@
-//! A run is published: its text is written, and it is handed out with the status that tells its end.
+//! A run is published: its text is written, and it is handed out with the status that tells what was found of it.
 
 ghost use Rattle.std.specs.Prelude.{◌≡◌, ◌≢◌, ◌++◌, Some, None, length, map, OnOk};
 ghost use Rattle.sim_io.specs.Parts.{Writes};

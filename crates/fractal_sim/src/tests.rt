@@ -80,7 +80,7 @@ fn sink_of(alloc: Global, streams: Streams) -> Result<MemSink, Fail> {
     Ok(MemSink::new(alloc, streams.room, streams.takes.max(1), fails)?)
 }
 
-/// The word of an end, as reports have it.
+/// The word of an end, as reports have it, or "none".
 fn word_of(end: &Option<End>) -> &'static str {
     match end {
         None => "none",

@@ -1,4 +1,4 @@
--- What the crates above cite of these proofs, but for what `commit_arbiter` and `spill_store` name by its file.
+-- What the crates above may cite of these proofs, but for what `commit_arbiter` and `spill_store` name by its file.
 pub use Rattle.fractal_vt.proofs.InTurn.{in_turn-permutation}
 pub use Rattle.fractal_vt.proofs.KeyLaws.{deeper_less, equal_keys_tie, key_cmp_total, last_levels_decide}
 pub use Rattle.fractal_vt.proofs.Renumbered.{keeps_order, place_cmp, place_within}

@@ -98,7 +98,7 @@ tie_kept table None (Some n) in_a in_b = refl
 tie_kept table (Some m) None in_a in_b = refl
 tie_kept table (Some m) (Some n) in_a in_b = place_cmp table m n in_a in_b
 
--- a level whose tiebreaker may be open
+-- a level with its tiebreaker's place for its tiebreaker; an open one stays open
 abbrev open_placed : List ℕ → Open → Open
 open_placed table = with_number (place_in table)
 
@@ -183,7 +183,7 @@ keeps_prefixes table a b in_a in_b =
     (level_apart table (closed_level x) (closed_level y) in_x in_y (ap closed_level same)))
     a b (held_each table a in_a) (held_each table b in_b)
 
--- a number of the table has a place in it
+-- one number of a table adds at most 1 to a place
 one_most : (t n : ℕ) → one t n ≤ 1
 one_most t n = grind (arith, nat_tests)
 
@@ -205,6 +205,7 @@ below_within (t ∷ ts) n (suc k) inside at = sums (one_most t n) (below_within 
     sums : {a p q : ℕ} → a ≤ 1 → p < q → a + p < suc q
     sums one more = omega arith
 
+-- a number of the table has a place in it
 pub place_within : (table : List ℕ) (number : ℕ) → Contains table number → place_in table number < length table
 place_within table number held = subst (λ p. p < length table) (sym (place_is table number)) (below_within table number held.0 held.1 held.2)
 

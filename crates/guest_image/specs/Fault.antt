@@ -4,7 +4,7 @@ use Rattle.guest_image.specs.declared.fault.ImageFault.{ImageFault}
 use Rattle.guest_image.specs.declared.fault.ImageFault.TheVariants.{Short, Magic, Version, RootKind, Limit, Window}
 use Rattle.guest_image.specs.declared.fault.ImageFault.TheVariants.{NoTask, Memory}
 
--- the faults are numbered from 1 in the order of the header's fields; want of memory is no fault of the bytes
+-- the faults are numbered from 1 in the order of the variants; want of memory is no fault of the bytes
 abbrev pub fault_number : ImageFault → ℕ
 fault_number (Short need have) = 1
 fault_number Magic = 2

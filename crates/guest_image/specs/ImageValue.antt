@@ -36,7 +36,7 @@ in_version version image = record image { version = version }
 abbrev pub IsVersion : ℕ → Type 0
 IsVersion version = (version ≡ 1) ⊎ (version ≡ 2)
 
--- a task of words: an entry, a timestamp and three arguments of 4 bytes each
+-- a task of words: an entry address, a timestamp and three arguments of 4 bytes each
 pub record IsTask (task : ImageTask) : Type 0 where
   pub entry : task.entry < 2 ^ 32
   pub ts : task.ts < 2 ^ 32

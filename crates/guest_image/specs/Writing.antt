@@ -25,7 +25,7 @@ header_bytes image =
     word_bytes 0x43415246 ++ half_bytes image.version ++ half_bytes (kind_number image.kind)
     ++ flat_map word_bytes (header_numbers image)
 
--- the 20 bytes of a task: its entry, its timestamp and its arguments
+-- the 20 bytes of a task: its entry address, its timestamp and its arguments
 abbrev pub task_bytes : ImageTask → List ℕ
 task_bytes task = flat_map word_bytes (task.entry ∷ task.ts ∷ task.args)
 

@@ -1,4 +1,4 @@
-//! Where the parts of an image stand in its bytes.
+//! What an image's bytes begin with, and how many of them its header and each of its tasks have.
 
 /// The bytes `FRAC`, read as a number.
 pub(crate) const MAGIC: u32 = 0x4341_5246;

@@ -1,4 +1,4 @@
-//! Where a program's text and data lie among the addresses of its tasks.
+//! Where a program's text and data and a task's stack lie among the addresses of its tasks.
 
 /// The address of the first word of the text.
 pub const TEXT_START: u32 = 0x0001_0000;

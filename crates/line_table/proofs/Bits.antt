@@ -1,4 +1,4 @@
--- One bit of a row of words.
+-- One bit of a row of words, and a bit that two rows share.
 use Rattle.std.proofs.Common.{◌≡◌, ◌≢◌, ◌==◌, ◌||◌, ◌↔◌, ℕ, ◌+◌, ◌*◌, ◌/◌, ◌%◌, ◌^◌, ◌<◌, Bool, true, not, List, length, get_or, set, bit_and, bit_or, sym, ap, ◌∙◌, inl, inr, arith, w64}
 use Rattle.std.specs.Int.{bit_at, trailing_zeros}
 use Rattle.std.specs.List.{list_any, zip}

@@ -12,7 +12,7 @@ use Rattle.std.proofs.lemmas.Map.Keys.{any_passes_from_place}
 use Rattle.line_table.specs.Exact.{written_at, touched_of, wrote_of}
 use Rattle.line_table.specs.Note.{Meet}
 
--- the entry is of a line that was written, and that the other map has
+-- the pair is of a line that was written, and that the other map has
 abbrev pub meets_entry : List (ℕ × Bool) → ℕ × Bool → Bool
 meets_entry later entry = entry.1 && touched_of later entry.0
 
@@ -38,6 +38,6 @@ module _ (lines later : List (ℕ × Bool)) where
           any_passes_from_place (meets_entry later) lines place.0 (place.1, true) place.2
           (subst (λ key. touched_of later key ≡ true) (same_key line place.1 place.3) touched)
 
-  -- the maps meet exactly where some entry of the first does
+  -- the maps meet exactly where some pair of the first does
   pub entries-meet : All (λ e. written_at lines e.0 ≡ Some e.1) lines → (r : Bool) → r ≡ list_any (meets_entry later) lines → (r ≡ true) ↔ Meet (wrote_of lines) (touched_of later)
   entries-meet found r is = (λ yes. from_entry found (sym is ∙ yes), λ meet. is ∙ to_entry meet.0 meet.1 meet.2)

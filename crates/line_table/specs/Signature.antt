@@ -31,7 +31,7 @@ pub record IsSignature (signature : Signature) (notes : List Note) : Type 0 wher
 unfoldable pub no_lines : Signature
 no_lines = record { touched = no_bits; wrote = no_bits }
 
--- the first signature wrote some line below 1,024 that the second touched; all other lines are told apart from none
--- of these
+-- the first signature wrote some line below 1,024 that the second touched; each other line has the bit of one of
+-- these
 unfoldable pub meets_of : Signature → Signature → Bool
 meets_of earlier later = list_any (λ line. wrote_of earlier line && touched_of later line) (range_with_len 0 1024)

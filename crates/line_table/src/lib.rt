@@ -1,6 +1,6 @@
 //! Which memory lines a task touched, and which of them it wrote.
 //!
-//! A `Filter` may say too much, but never too little, and its laws are all that the layers above rest on. `Exact`
+//! A `Filter` may say too much, but never too little, and its laws are all that the laws of memory rest on. `Exact`
 //! says neither: it is an ordered map from each line to whether it was written, so a note or an answer costs one
 //! search in it, and only a new line takes memory. `Signature` tells lines apart by their number modulo 1,024
 //! alone: it is two rows of that many bits, so a note or an answer looks at one word or two, two signatures are

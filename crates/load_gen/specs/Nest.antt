@@ -11,7 +11,7 @@ use Rattle.load_gen.specs.Programs.{nest_words}
 abbrev pub cell : ℕ → ℕ
 cell place = DATA_START + 4 * (place % 8)
 
--- a root task: its amount and its two cells
+-- an initial task: its amount and its two cells
 abbrev pub nest_task : ℕ → ℕ → ImageTask
 nest_task seed place = record {
   entry = TEXT_START;

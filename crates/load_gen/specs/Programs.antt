@@ -1,4 +1,5 @@
--- The programs of the generated images, as instructions of RV32I 2.1 (RISC-V Unprivileged ISA 20191213, chapter 2).
+-- The programs of the generated images, as instructions of RV32I 2.1 (RISC-V Unprivileged ISA 20191213, chapter 2)
+-- and as words.
 use Rattle.std.specs.Prelude.{ℕ, ℤ, pos, negsuc, List, [], ◌∷◌}
 use Rattle.rv_table.specs.declared.instr.Instr.{Instr}
 use Rattle.rv_table.specs.declared.instr.Instr.TheVariants.{Lui, Branch, Load, Store, OpImm, Op, Ecall}
@@ -62,7 +63,7 @@ walk_words =
     ∷ 0x100003b7 ∷ 0x007282b3 ∷ 0x00300493 ∷ 0x00058693 ∷ 0x00040593 ∷ 0x00100893 ∷ 0x00010537 ∷ 0x0002a603
     ∷ 0x00064663 ∷ 0x00060793 ∷ 0x00000073 ∷ 0x00428293 ∷ 0xfff48493 ∷ 0xfe0494e3 ∷ 0x00000893 ∷ 0x00000073 ∷ []
 
--- nested additions: the root task has an amount (x10) and the addresses of two cells (x11 and x12); it makes an
+-- nested additions: the initial task has an amount (x10) and the addresses of two cells (x11 and x12); it makes an
 -- ordered subdomain with two tasks, which add the amount to the second cell at timestamp 1 and to the first at
 -- timestamp 0
 unfoldable pub nested_additions : List Instr

@@ -90,7 +90,7 @@ pub(crate) fn sw(rs2: u8, rs1: u8) -> u32
     })
 }
 
-/// A branch by an offset in bytes: `bne` or `blt rs1, rs2, imm`.
+/// A branch on a condition by an offset in bytes, such as `bne rs1, rs2, imm`.
 pub(crate) fn branch(cond: Cond, rs1: u8, rs2: u8, imm: i32) -> u32
     requires registers { (rs1 < 32) × (rs2 < 32) }
     requires imm { IsTrue (is_branch_offset imm) }

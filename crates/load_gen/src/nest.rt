@@ -11,7 +11,7 @@ use crate::making::image_of;
 use guest_image::{DATA_START, Image, ImageTask, Kind, TEXT_START};
 use std::alloc::{AllocError, Global};
 
-/// Nested additions. In a task of the root x10 is its amount, and x11 and x12 are the addresses of its cells.
+/// Nested additions. At the start of an initial task x10 is its amount, and x11 and x12 are the addresses of its cells.
 #[tactic(auto, unfolding(crate::specs::Programs::nested_additions))]
 fn nested_words() -> [u32; 23]
     ensures decodes { map instr_of_word result ≡ map Some nested_additions }
@@ -64,7 +64,7 @@ fn cell(place: u32) -> u32
     DATA_START + 4 * (place % 8)
 }
 
-/// A task of the root.
+/// An initial task.
 fn nest_task(seed: u32, place: u32) -> ImageTask
     requires { place < 10000 }
     ensures { result ≡ nest_task_lem seed place }
@@ -76,7 +76,7 @@ fn nest_task(seed: u32, place: u32) -> ImageTask
     }
 }
 
-/// The tasks of the root.
+/// The initial tasks.
 fn nest_tasks(alloc: Global, seed: u32, size: u32) -> Result<Vec<ImageTask>, AllocError>
     requires { size ≤ 10000 }
     ensures tasks { IfOk result (λ v. v.items ≡ map (nest_task_lem seed) (range_with_len 0 size)) }

@@ -17,7 +17,8 @@ use std::alloc::{AllocError, Global};
 /// A missing edge.
 const NO_EDGE: u32 = 0xffff_ffff;
 
-/// A breadth-first walk. In a task x10 is its node, x11 the address of the distance table and x13 its timestamp.
+/// A breadth-first walk. At the start of a task x10 is its node, x11 the address of the distance table and x13 its
+/// timestamp.
 #[tactic(auto, unfolding(crate::specs::Programs::breadth_first_walk))]
 fn breadth_first_words() -> [u32; 24]
     ensures decodes { map instr_of_word result ≡ map Some breadth_first_walk }

@@ -67,7 +67,7 @@ pub told_has : (view : View) (end told : Option End) → IfSome end (HasEnd view
 told_has view end None has same = tt
 told_has view end (Some e) has same = subst (λ o. IfSome o (HasEnd view)) same has
 
--- a run by events of the least tasks is one with another end, or none, where the book has that
+-- a run by events of the least tasks is one too where the same end is told of it, or none
 pub with_end : (N : Type 0) (image : ImageValue) (settings : Settings) (placers : List Policy) (taps : List TapValue)
     (closed : Closed) (end told : Option End) → IfSome told (λ e. end ≡ Some e)
     → IsLeastRun N image settings placers taps closed.steps (run_of_closed closed end)

@@ -42,7 +42,7 @@ pub over_stands_if : (view : View) (end : Option End) → IfSome end (HasEnd vie
 over_stands_if view None has = tt
 over_stands_if view (Some end) has = over_stands view end has
 
--- and is closed
+-- and none that is told is Unfinished
 pub over_is_closed : (view : View) (end : Option End) → IfSome end (HasEnd view) → end ≢ Some ends.Unfinished
 over_is_closed view None has unfinished = cc
 over_is_closed view (Some ends.Normal) has unfinished = cc

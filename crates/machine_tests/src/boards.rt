@@ -105,7 +105,7 @@ fn tell<R: Wait>(rt: &R, board: &Board, mut writer: Writer) -> Writer
     writer
 }
 
-/// Takes as many readings as there are rounds, and says whether none was below the one before it.
+/// Takes as many readings as there are rounds, and says whether none had fewer commits than the one before it.
 fn follow<R: Wait>(rt: &R, board: &Board, mut reader: Reader) -> (Reader, bool)
     requires { reader.board ≡ board.now }
     ensures { result.0.board ≡ board.now }

@@ -89,7 +89,7 @@ fn has_nothing<N: Naming>(rt: &impl Abort, state: &State<N>) {
     assert!(rt; state.path().levels().is_empty() && state.next == 0);
 }
 
-/// Nothing stands in the last tile, on its last core nor in its queues.
+/// Nothing stands in the last tile on its last core, in its commit queue or in its block.
 fn has_nothing_last<N: Naming>(rt: &impl Abort, state: &State<N>)
     requires tile { 3 < state.now.view.settings.tiles }
     requires core { 1 < state.now.view.settings.cores }
@@ -195,7 +195,7 @@ fn tells_one<N: Naming>(rt: &impl Abort, state: &State<N>, task: TaskId)
     tells_idle(rt, state, task);
 }
 
-/// Room is made for what the task does, and it stands as before.
+/// Memory is taken for what one event of the task adds, and the task stands as before.
 fn has_room<N: Naming>(
     rt: &impl Abort,
     state: &mut State<N>,

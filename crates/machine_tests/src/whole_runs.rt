@@ -75,7 +75,8 @@ fn an_image_runs_by_two_workers(rt: HostRuntime) -> Result<(), Fail> {
     Ok(())
 }
 
-/// The reader is stepped three times on the first tile, and then the writer, which comes first, on the second.
+/// The reader is stepped twice on the first tile, a commit finds nothing, and then the writer, which comes first, is
+/// stepped on the second.
 static SCRIPT: [Act; 6] = [
     Act::Dispatch(0),
     Act::Step(0, 0),

@@ -87,7 +87,7 @@ bytes-of_replay m (a ∷ log) k bytes chain =
         )
     by_cover false e rest after = subst (λ b. IsByteChain b (byte_events k log) (get_or (after_accesses (after_access m a) log) k 0)) after rest
 
--- the accesses of a replay have room
+-- the accesses of a replay lie in the memory, and each old value is a number of its width
 pub room-of_replay : (m : List ℕ) (log : List Access) → AreBytes m → Replays m log → AllLieIn (length m) log
 room-of_replay m [] bytes replays = tt
 room-of_replay m (a ∷ log) bytes replays = (

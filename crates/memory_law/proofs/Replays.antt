@@ -1,4 +1,4 @@
--- Logs that chain, and what stays of a chain when an access joins it or a log leaves it.
+-- Logs that chain: what a write or a read apart from them meets, two logs one after the other, and a log that leaves.
 use Rattle.std.proofs.Common.{◌≡◌, ℕ, List, [], ◌∷◌, ◌++◌, length, Option, Some, None, refl, sym, ap, ◌∙◌, arith}
 use Rattle.undo_log.specs.declared.access.Access.{Access}
 use Rattle.undo_log.specs.Number.{number_at, after_write, AreBytes}
@@ -50,7 +50,7 @@ Replays_comm m o w v (a ∷ log) clear chain = (
   rw (accessed_comm m o w v a clear.0) (Replays_comm (after_access m a) o w v log clear.1 chain.1),
 )
 
--- a word that no store of the log shares a byte with is as it was
+-- a number that no store of the log shares a byte with is as it was
 number_at-accessed_by : (m : List ℕ) (o w b u : ℕ) (n : Option ℕ) → ApartIfStore o w b u n → number_at (written_if m b u n) o w ≡ number_at m o w
 number_at-accessed_by m o w b u None apart = refl
 number_at-accessed_by m o w b u (Some y) apart = number_at-written_apart m b u y o w (grind arith)

@@ -15,7 +15,7 @@ pub record Logged : Type 0 where
   pub touched : ℕ → Bool
   pub wrote : ℕ → Bool
 
--- a number of bytes that a line may have: each multiple of 4, so that an access lies in one line
+-- a number of bytes that a line may have: each multiple of 4 above 0, so that an access lies in one line
 pub record IsLineSize (line : ℕ) : Type 0 where
   pub some : 0 < line
   pub fours : line % 4 ≡ 0

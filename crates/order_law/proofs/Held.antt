@@ -61,7 +61,7 @@ below_more low task less None is = is
 below_more low task less (Some x) is =
     ap is_lt (levels_cmp_total.trans (levels_of x) (levels_of low) (levels_of task) (less_from (levels_cmp (levels_of x) (levels_of low)) is) less)
 
--- the last level of a domain aside, its numbers are those of the domain
+-- the numbers of a domain without its last level are numbers of the domain
 number_in_front : (xs : List Open) (l : Open) (n : ℕ) → IsNumberOf n xs → IsNumberOf n (xs ++ l ∷ [])
 number_in_front [] l n is = absurd is
 number_in_front (x ∷ xs) l n (inl here) = inl here

@@ -11,7 +11,7 @@ use Rattle.order_law.specs.Ordered.{IsOrdered}
 use Rattle.order_law.specs.Events.{IsLeastInKeys}
 use Rattle.order_law.specs.Innermost.{IsInnermost}
 
--- what is less is not greater
+-- where one is less, the other one is greater
 turned : (a b : List Open) → levels_cmp b a ≡ Less → levels_cmp a b ≡ Greater
 turned a b less = levels_cmp_total.antisymm a b ∙ ap ordering_reverse less
 

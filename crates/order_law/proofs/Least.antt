@@ -1,4 +1,4 @@
--- A dispatched least task is below all others.
+-- A least task is below all others once it is dispatched, and below each dispatched one in any case.
 use Rattle.std.proofs.Common.{◌≡◌, ◌≢◌, ℕ, List, [], ◌∷◌, ◌++◌, Option, Some, None, refl, sym, ap, ◌∙◌}
 use Rattle.std.specs.Ordering.{nat_cmp, ordering_then}
 use Rattle.std.specs.FinMap.{nat_cmp-IsAntisymmetric}

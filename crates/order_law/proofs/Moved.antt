@@ -1,4 +1,4 @@
--- A spill and its return keep the order: tasks that are no creators only change their ids.
+-- A coalescing and a split keep the order: tasks that are no creators only change their ids.
 use Rattle.std.proofs.Common.{◌≡◌, ◌⊎◌, ℕ, ◌+◌, ◌-◌, ◌<◌, Bool, true, false, List, Option, Some, ap, ◌∙◌, inl, inr, arith, slice_get, if◌then◌else◌, nat_lt}
 use Rattle.std.proofs.lemmas.Bool.Decides.{nat_tests}
 use Rattle.std.proofs.lemmas.Bool.{lt-ltb}
@@ -32,7 +32,7 @@ rename_keeps_order old new path next renames ordered =
 pub high_test : (bound j : ℕ) → nat_lt (bound + j) bound ≡ false
 high_test bound j = grind (arith, nat_tests)
 
--- what is there is a task or an entry
+-- what is there is a queued task or a spilled one
 module _ (bound : ℕ) (tasks : ℕ → Option Keyed) (entries : List Keyed) where
   which : (k : ℕ) (x : Keyed) → beside bound tasks entries k ≡ Some x → (tasks k ≡ Some x) ⊎ IsAmongSpilled x entries
   which k x at = by_test (nat_lt k bound) at
@@ -49,7 +49,7 @@ module _ (bound : ℕ) (tasks : ℕ → Option Keyed) (entries : List Keyed) whe
       let same : bound + is.0 - bound ≡ is.0 = omega arith in
       (bound + is.0, ap (λ b. if b then tasks (bound + is.0) else slice_get entries (bound + is.0 - bound)) (high_test bound is.0) ∙ ap (slice_get entries) same ∙ is.1)
 
--- the tasks and the entries are the same ones, and the dispatched tasks have kept their ids
+-- each queued or spilled task was one before, and the dispatched tasks have kept their ids
 pub moved_renames : (bound : ℕ) (old new : ℕ → Option Keyed) (before after : List Keyed) → MovesInKeys bound old new before after → Renames (beside bound old before) (beside bound new after)
 moved_renames bound old new before after moves =
     record {

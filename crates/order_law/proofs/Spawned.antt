@@ -185,7 +185,7 @@ module _ (next n : ℕ) (creator child : Keyed) (number : HasNumber creator n) (
   stands (inr (inl sub)) = sub_stands sub.0 sub.1 sub.2
   stands (inr (inr super)) = super_stands super.0 super.1 super.2
 
--- a new child has its creator
+-- a new child has what a child has by its place
 pub spawned_creator : (old new : ℕ → Option Keyed) (path : List Open) (next : ℕ) (s : EnqueuesInKeys old new) → IsOrdered old path next → Stands next s.task s.child
 spawned_creator old new path next s ordered =
     stands next s.number s.task s.child s.dispatched (ordered.number_below s.creator s.task s.number s.there s.dispatched) (ordered.domain_numbers s.creator s.task s.there) (ordered.shaped s.creator s.task s.there) s.idle s.placed

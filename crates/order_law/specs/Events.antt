@@ -1,4 +1,4 @@
--- What each event does to the tasks, as their order reads them: dispatch, abort, enqueue, commit and spill are
+-- What each event does to the tasks, as their order reads them: dispatch, abort, enqueue, commit and coalescing are
 -- those of Swarm (Jeffrey et al. 2015), the three places of a child those of Fractal (Subramanian et al. 2017).
 use Rattle.std.specs.Prelude.{◌≡◌, ◌≢◌, ◌≤◌, ◌<◌, ◌⊎◌, ◌↔◌, ◌-◌, ℕ, nat_lt, Bool, true, false, List, length}
 use Rattle.std.specs.Prelude.{slice_get, Option, Some, None, if◌then◌else◌}
@@ -82,7 +82,7 @@ pub record CommitsInKeys (old new : ℕ → Option Keyed) (id : ℕ) : Type 0 wh
   pub none : (k : ℕ) → old k ≡ None → new k ≡ None
 
 -- the tasks of the queues by id, all below the bound, and behind them the spilled ones of all blocks in any order; a
--- child of the heir has that for its creator there, and any other entry has none
+-- child of the heir has that for its creator there, and any other spilled task has none
 abbrev pub beside : ℕ → (ℕ → Option Keyed) → List Keyed → ℕ → Option Keyed
 beside bound queued spilled k = if nat_lt k bound then queued k else slice_get spilled (k - bound)
 
@@ -90,12 +90,12 @@ beside bound queued spilled k = if nat_lt k bound then queued k else slice_get s
 abbrev pub IsAmongSpilled : Keyed → List Keyed → Type 0
 IsAmongSpilled task spilled = (place : ℕ) × (slice_get spilled place ≡ Some task)
 
--- a queue of tasks below the bound, and spilled ones that are all idle
+-- the ids of the queued tasks are below the bound, and the spilled ones are all idle
 pub record StandBeside (bound : ℕ) (queued : ℕ → Option Keyed) (spilled : List Keyed) : Type 0 where
   pub bounded : (k : ℕ) (x : Keyed) → queued k ≡ Some x → k < bound
   pub idle : (x : Keyed) → IsAmongSpilled x spilled → x.last.tb ≡ None
 
--- a spill or its return, of one task or of several: each task was queued or spilled before, and dispatched tasks stay
+-- a coalescing or a split, of one task or of several: each task was queued or spilled before, and dispatched ones stay
 pub record MovesInKeys (bound : ℕ) (old new : ℕ → Option Keyed) (before after : List Keyed) : Type 0 where
   pub kept_before : StandBeside bound old before
   pub kept_after : StandBeside bound new after

@@ -1,4 +1,4 @@
--- The laws: each event keeps the order of the tasks.
+-- The laws: what keeps the order of the tasks, the least task and the heir, and what a cascade lies above.
 use Rattle.std.specs.Prelude.{◌≡◌, ◌≢◌, ◌⊎◌, ◌<◌, ℕ, ◌+◌, Bool, false, List, [], length, map, Option, Some}
 use Rattle.std.specs.declared.cmp.Ordering.TheVariants.{Less}
 use Rattle.fractal_vt.specs.Levels.{Open, levels_cmp}
@@ -13,7 +13,7 @@ use Rattle.fractal_vt.specs.Renumbered.{place_in, with_number}
 use Rattle.order_law.specs.Renumber.{renumbered_keyed_tasks, IsTableOf}
 use Rattle.order_law.specs.Innermost.{IsInnermost}
 
--- before the first event, with idle tasks of the outermost domain alone, the order holds
+-- before the first event, with idle tasks of the root domain alone, the order holds
 abbrev pub OpeningIsOrdered : Type 0
 OpeningIsOrdered =
     (tasks : ℕ → Option Keyed) → ((id : ℕ) (task : Keyed) → tasks id ≡ Some task → IsRoot task) → IsOrdered tasks [] 0
@@ -43,7 +43,7 @@ CommitKeepsOrder =
     → IsLeastInKeys old id task → HasNumber task number → CommitsInKeys old new id → IsOrdered old path next
     → IsOrdered new (levels_of task) next
 
--- a spill and its return keep the order
+-- a coalescing and a split keep the order
 abbrev pub SpillKeepsOrder : Type 0
 SpillKeepsOrder =
     (bound : ℕ) (old new : ℕ → Option Keyed) (before after : List Keyed) (path : List Open) (next : ℕ)
@@ -111,7 +111,7 @@ AbortKeepsHeir =
     → AbortsInKeys set old new → set heir ≡ false → IsOrdered old path next → IsHeirInKeys old heir task
     → IsHeirInKeys new heir task
 
--- a spill and its return leave the heir the heir
+-- a coalescing and a split leave the heir the heir
 abbrev pub SpillKeepsHeir : Type 0
 SpillKeepsHeir =
     (bound : ℕ) (old new : ℕ → Option Keyed) (before after : List Keyed) (path : List Open) (next heir : ℕ)

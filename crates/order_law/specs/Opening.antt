@@ -2,7 +2,7 @@
 use Rattle.std.specs.Prelude.{◌≡◌, [], None}
 use Rattle.order_law.specs.Tasks.{Keyed, IsTimely}
 
--- an idle task of the outermost domain that no task made
+-- an idle task of the root domain that no task made
 pub record IsRoot (task : Keyed) : Type 0 where
   pub domain : task.domain ≡ []
   pub kinds : task.kinds ≡ []

@@ -32,7 +32,7 @@ pub fn commit_keeps_order()
     ensures { CommitKeepsOrder }
 {}
 
-/// Law: a spill and its return keep the order of the queued and the spilled tasks.
+/// Law: a coalescing and a split keep the order of the queued and the spilled tasks.
 pub fn spill_keeps_order()
     ensures { SpillKeepsOrder }
 {}
@@ -84,7 +84,7 @@ pub fn abort_keeps_heir()
     ensures { AbortKeepsHeir }
 {}
 
-/// Law: a spill and its return leave the heir below all others.
+/// Law: a coalescing and a split leave the heir below all others.
 pub fn spill_keeps_heir()
     ensures { SpillKeepsHeir }
 {}

@@ -211,7 +211,7 @@ module _ (r : Renaming) (ma mb : List Bool) (marks : AreMarkedAlike r ma mb) whe
   kept_too : (ids : List ℕ) → filter (λ id. not (is_marked mb id)) (map r.to ids) ≡ map r.to (filter (λ id. not (is_marked ma id)) ids)
   kept_too = filter_mapped r.to (λ id. not (is_marked ma id)) (λ id. not (is_marked mb id)) (λ id. ap not (marks.same id))
 
--- an id is that of a task in both
+-- an id is that of a task in both, or in neither
 pub waiting_same : (to : ℕ → ℕ) (s t : Option Task) → IsAlikeAt to s t → is_some (option_map room_task t) ≡ is_some (option_map room_task s)
 waiting_same to None None alike = refl
 waiting_same to (Some x) (Some y) alike = refl

@@ -15,7 +15,7 @@ use Rattle.spec_state.specs.View.{View, task_at, queue_at, finished_at, cores_at
 use Rattle.outcome_law.specs.Alike.{Renaming, inverse_of, renamed_creator, IsAlikeTask, IsAlikeAt, AreAlike}
 use Rattle.outcome_law.proofs.Alike.{Partner, partner, none_there, alike_turned}
 
--- ---- two names change places
+-- ---- two ids change places
 
 pub swapped : ℕ → ℕ → ℕ → ℕ
 swapped x y k = if k == x then y else if k == y then x else k
@@ -42,7 +42,7 @@ swapped_twice x y k = elim (cases_eq k x) [
     by_second other (inl here) = ap (swapped x y) (swapped_second x y k here) ∙ (swapped_first x y x refl ∙ sym here)
     by_second other (inr too) = ap (swapped x y) (swapped_other x y k other too) ∙ swapped_other x y k other too
 
--- this id has that name, and the one that had it gets the other
+-- this id has that other id, and the one that had it gets what this one had
 abbrev pub with_new : Renaming → ℕ → ℕ → Renaming
 with_new r id id' = record {
   to = λ k. swapped (r.to id) id' (r.to k);
@@ -73,7 +73,7 @@ holds_tasks image view sound = record {
   creators = λ k x task index there made. (let m = sound.tasks.children k x task index there made in (m.creator, m.there));
 }
 
--- what names alike maps alike
+-- functions that agree on the elements of a list map it alike
 maps_alike : {X Y : Type 0} (f g : X → Y) (xs : List X) → ((p : ℕ) (x : X) → slice_get xs p ≡ Some x → f x ≡ g x) → map f xs ≡ map g xs
 maps_alike f g [] same = refl
 maps_alike f g (x ∷ xs) same = λ i. same zero x refl i ∷ maps_alike f g xs (λ p. same (suc p)) i
@@ -82,7 +82,7 @@ module _ (r : Renaming) (a b : View) (alike : AreAlike r a b) (holds : HoldsTask
   abbrev pub anew : Renaming
   anew = with_new r id id'
 
-  -- a task has its old name
+  -- a task keeps its other id
   pub keeps_name : (k : ℕ) → IsThere a k → anew.to k ≡ r.to k
   keeps_name k there =
       let p = partner r a b alike k there.0 there.1 in
@@ -101,7 +101,7 @@ module _ (r : Renaming) (a b : View) (alike : AreAlike r a b) (holds : HoldsTask
     written = same.written;
   }
 
-  -- where a task stands, its partner stands under its old name; and elsewhere none does
+  -- where a task stands, its partner stands under the same other id as before; and elsewhere none does
   tasks_named : (k : ℕ) (s t : Option Task) → task_at a k ≡ s → task_at b (anew.to k) ≡ t → IsAlikeAt anew.to s t
   tasks_named k (Some x) t at at' =
       let p = partner r a b alike k x at in
@@ -126,7 +126,7 @@ module _ (r : Renaming) (a b : View) (alike : AreAlike r a b) (holds : HoldsTask
   held_named None there = refl
   held_named (Some k) there = ap Some (sym (keeps_name k (there k refl)))
 
-  -- the views are alike under the new names too
+  -- the views are alike under the new renaming too
   pub alike_anew : AreAlike anew a b
   alike_anew = record {
     tasks = λ k. tasks_named k (task_at a k) (task_at b (anew.to k)) refl refl;

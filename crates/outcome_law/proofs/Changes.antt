@@ -42,6 +42,7 @@ module _ (r : Renaming) (a b : View) (alike : AreAlike r a b) where
   pub memory_same : b.memory ≡ a.memory
   memory_same = ap (λ v. v.memory) alike.frame
 
+  -- a task that is another one in some of its fields, and its partner
   pub keeps_alike : (id : ℕ) (now now' : Task) → IsAlikeTask r.to now now' → (a' b' : View) → Keeps id now a a' → Keeps (r.to id) now' b b' → AreAlike r a' b'
   keeps_alike id now now' same a' b' one two = record {
     tasks = changed_alike r a b a' b' alike id (Some now) (Some now') same one.changes two.changes;
@@ -59,7 +60,7 @@ module _ (r : Renaming) (a b : View) (alike : AreAlike r a b) where
       ∙ (ap (slice_set (map (map (option_map r.to)) a.cores) tile) (sym (map-set (option_map r.to) (cores_at a tile) core holder))
       ∙ sym (map-set (map (option_map r.to)) a.cores tile (slice_set (cores_at a tile) core holder)))
 
-  -- a task that is another one in some of its fields, and its partner
+  -- a dispatch
   pub dispatches_alike : (tile : ℕ) (a' b' : View) → Dispatches tile a a' → Dispatches tile b b' → AreAlike r a' b'
   dispatches_alike tile a' b' one two =
       let least = least_idle_too r a b alike tile one.id one.task one.least in

@@ -11,7 +11,7 @@ use Rattle.spec_state.specs.View.{View}
 use Rattle.spec_state.specs.Least.{Precedes}
 use Rattle.spec_state.specs.Room.{IsMovable, AreChosen}
 
--- ---- the two words for an element
+-- ---- a number is in a list, or it isn't
 
 pub in_or_not : (x : ℕ) (xs : List ℕ) → In x xs ⊎ (In x xs → ⊥)
 in_or_not x [] = inr (λ at. at)

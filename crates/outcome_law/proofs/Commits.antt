@@ -17,7 +17,7 @@ use Rattle.outcome_law.proofs.Leasts.{least_too, history_too}
 use Rattle.outcome_law.proofs.Lists.{filter_mapped, map_same}
 use Rattle.outcome_law.proofs.Picks.{task_one}
 
--- names are tested as ids are
+-- two ids are equal exactly where they are under the renaming
 pub same_tested : (r : Renaming) (k j : ℕ) → (r.to k == r.to j) ≡ (k == j)
 same_tested r k j = elim (cases_eq k j) [
   | inl same ↦ (let too : r.to k ≡ r.to j = ap r.to same in grind (arith, nat_tests))

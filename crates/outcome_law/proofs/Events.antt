@@ -152,7 +152,7 @@ module _ (image : ImageValue) (r : Renaming) (a b : View) (sound : Sound image a
   pub request_same : (task task' : Task) → IsAlikeTask r.to task task' → (leg : LegValue) → request_of b task' leg ≡ request_of a task leg
   request_same task task' like leg = λ i. request_at (context_of (version_same r a b alike i) (like.other_is i)) leg.to leg.stop
 
--- the firsts of conflicts, both ways
+-- an abort of the tasks in conflict with an access takes as many back, and leaves views that are alike
 module _ (image : ImageValue) (r : Renaming) (a b : View) (sound : Sound image a) (sound' : Sound image b) (alike : AreAlike r a b) where
   conflicts_alike : (task task' : Task) → IsAlikeTask r.to task task' → (offset : ℕ) (write : Bool) (n m : ℕ) (a' b' : View)
       → Aborts (Conflicts a task (offset / a.settings.line) write) a n a' → Aborts (Conflicts b task' (offset / b.settings.line) write) b m b' → AbortAlike r n m a' b'

@@ -71,7 +71,7 @@ creator_one view (Live task index) (Live other index') name one two =
 
 -- ---- a task that comes to be
 
--- an idle task, and the one that its creator makes under the other name
+-- an idle task, and the one that its creator makes under the other id
 pub idle_alike : (to : ℕ → ℕ) (version : ℕ) (d : Descriptor) (c : Creator) (tile : ℕ) → IsAlikeTask to (idle_task version d c tile) (idle_task version d (renamed_creator to c) tile)
 idle_alike to version d c tile = record { other_is = refl; touched = λ line. refl; written = λ line. refl }
 

@@ -34,9 +34,9 @@ use Rattle.outcome_law.proofs.Chosen.{in_or_not}
 use Rattle.outcome_law.proofs.Events.{picked_alike}
 use Rattle.outcome_law.proofs.Moves.{coalesces_alike}
 use Rattle.outcome_law.proofs.News.{idle_alike}
-use Rattle.outcome_law.proofs.Rooms.{free_entry_too, full_too}
+use Rattle.outcome_law.proofs.Rooms.{has_room_too, full_too}
 
--- each queued id is that of a task of a committed creator, and nothing else stands anywhere
+-- each queued id is that of a task, none is finished or on a core, and each task has a committed creator
 record IsFresh (view : View) : Type 0 where
   queued : (tile k : ℕ) → Contains (queue_at view tile) k → IsThere view k
   ended : (tile k : ℕ) → Contains (finished_at view tile) k → ⊥
@@ -137,7 +137,7 @@ module _ (kind : Kind) (index : ℕ) (task : ImageTask) where
   room_alike : (r : Renaming) (a b mid mid' : View) (tile : ℕ) → AreAlike r a b → (QueueHasRoom a tile × (mid ≡ a)) ⊎ (IsFull a tile × Coalesces tile a mid)
       → (QueueHasRoom b tile × (mid' ≡ b)) ⊎ (IsFull b tile × Coalesces tile b mid') → AreAlike r mid mid'
   room_alike r a b mid mid' tile alike (inl free) (inl free') = subst (λ x. AreAlike r x mid') (sym free.1) (subst (λ y. AreAlike r a y) (sym free'.1) alike)
-  room_alike r a b mid mid' tile alike (inl free) (inr full) = absurd (let low = free_entry_too r a b alike tile free.0 in let high = full.0 in omega arith)
+  room_alike r a b mid mid' tile alike (inl free) (inr full) = absurd (let low = has_room_too r a b alike tile free.0 in let high = full.0 in omega arith)
   room_alike r a b mid mid' tile alike (inr full) (inl free) = absurd (let high = full_too r a b alike tile full.0 in let low = free.0 in omega arith)
   room_alike r a b mid mid' tile alike (inr full) (inr full') = coalesces_alike r a b alike tile mid mid' full.1 full'.1
 

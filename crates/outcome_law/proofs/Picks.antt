@@ -1,4 +1,4 @@
--- What is picked of a view is one task.
+-- What is picked of a view, a free core or a task, is one.
 use Rattle.std.proofs.Common.{◌≡◌, ◌<◌, ℕ, true, Option, Some, sym, ap, ◌∙◌, inl, inr, arith}
 use Rattle.std.proofs.lemmas.Bool.{cases_eq}
 use Rattle.fractal_vt.specs.Keys.{key_cmp}

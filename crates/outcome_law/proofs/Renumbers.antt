@@ -14,7 +14,7 @@ use Rattle.outcome_law.proofs.Alike.{partner, alike_turned}
 use Rattle.outcome_law.proofs.Chosen.{rises, one_order}
 use Rattle.spec_law.proofs.Proved.{contains_in, in_contains}
 
--- a number is not below itself
+-- no two numbers are each below the other
 both_below : (x y : ℕ) → Unit {0} → Unit {0} → x < y → y < x → ⊥
 both_below x y any also one two = omega arith
 

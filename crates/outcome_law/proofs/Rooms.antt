@@ -1,4 +1,4 @@
--- Room in a queue, on a core and in a commit queue is made alike.
+-- Room in a task queue is made alike, and a core and a place in a commit queue are freed alike.
 use Rattle.std.proofs.Common.{◌≡◌, ℕ, true, List, [], ◌∷◌, length, Option, Some, option_map, refl, sym, ap, subst, ◌∙◌, inl, inr, arith}
 use Rattle.std.specs.Prelude.{Contains}
 use Rattle.std.proofs.lemmas.Bool.{cases_eq}
@@ -56,8 +56,8 @@ module _ (r : Renaming) (a b : View) (alike : AreAlike r a b) where
   pub room_is : b.settings.task_queue ≡ a.settings.task_queue
   room_is = ap (λ v. v.settings.task_queue) alike.frame
 
-  pub free_entry_too : (tile : ℕ) → QueueHasRoom a tile → QueueHasRoom b tile
-  free_entry_too tile free = let n = queue_length tile in let m = room_is in omega arith
+  pub has_room_too : (tile : ℕ) → QueueHasRoom a tile → QueueHasRoom b tile
+  has_room_too tile free = let n = queue_length tile in let m = room_is in omega arith
 
   pub full_too : (tile : ℕ) → IsFull a tile → IsFull b tile
   full_too tile full = let n = queue_length tile in let m = room_is in omega arith
@@ -117,11 +117,12 @@ victim_one view tile asker v w x y one two = elim (cases_eq w v) [
   | inr other ↦ absurd (not_both_ways view tile v w x y one.queued one.there two.queued two.there (two.last v (λ e. other (sym e)) one.other one.queued) (one.last w other two.other two.queued))
 ]
 
--- an uncommitted creator is there
+-- a creator that is uncommitted is live, with this id
 live_is : (c : Creator) (k : ℕ) → live_creator c ≡ Some k → (t : TaskId) × (index : ℕ) × (c ≡ Live t index) × (t.0 ≡ k)
 live_is (Committed turn index) k is = absurd (cc (is))
 live_is (Live task index) k is = (task, index, refl, cc)
 
+-- an uncommitted creator is there
 creator_there : (view : View) → HoldsTasks view → (v : ℕ) (x : Task) (c : ℕ) → task_at view v ≡ Some x → live_creator x.creator ≡ Some c → IsThere view c
 creator_there view holds v x c there made =
     let l = live_is x.creator c made in
@@ -141,9 +142,9 @@ module _ (r : Renaming) (a b : View) (alike : AreAlike r a b) (tile : ℕ) (aske
 
   pub rooms_alike : HoldsTasks a → {n m : ℕ} {a' b' : View} → MakesRoom tile asker a n a' → MakesRoom tile (asker_too r.to asker) b m b' → AbortAlike r n m a' b'
   rooms_alike holds (queue_has_room free) (queue_has_room free') = none_alike r a b alike
-  rooms_alike holds (queue_has_room free) (coalesces new full moves) = absurd (let is = free_entry_too r a b alike tile free in omega arith)
-  rooms_alike holds (queue_has_room free) (aborts_victim m v y mid new full none least victim firm aborts moves) = absurd (let is = free_entry_too r a b alike tile free in omega arith)
-  rooms_alike holds (queue_has_room free) (aborts_creator m v c y new full none least victim loose made aborts) = absurd (let is = free_entry_too r a b alike tile free in omega arith)
+  rooms_alike holds (queue_has_room free) (coalesces new full moves) = absurd (let is = has_room_too r a b alike tile free in omega arith)
+  rooms_alike holds (queue_has_room free) (aborts_victim m v y mid new full none least victim firm aborts moves) = absurd (let is = has_room_too r a b alike tile free in omega arith)
+  rooms_alike holds (queue_has_room free) (aborts_creator m v c y new full none least victim loose made aborts) = absurd (let is = has_room_too r a b alike tile free in omega arith)
   rooms_alike holds (coalesces new full moves) (queue_has_room free) = absurd (let is = full_too r a b alike tile full in omega arith)
   rooms_alike holds (coalesces new full moves) (coalesces new' full' moves') = record { aborted = refl; alike = coalesces_alike r a b alike tile new new' moves moves' }
   rooms_alike holds (coalesces new full moves) (aborts_victim m v y mid new' full' none least victim firm aborts moves') =
@@ -212,7 +213,7 @@ module _ (r : Renaming) (a b : View) (alike : AreAlike r a b) (heir : Option ℕ
   finished_length : (tile : ℕ) → length (finished_at b tile) ≡ length (finished_at a tile)
   finished_length tile = ap length (finished_too r a b alike tile) ∙ length-map (finished_at a tile) r.to
 
-  -- an entry of a commit queue is freed alike
+  -- a place in a commit queue is freed alike
   pub commit_alike : (tile : ℕ) (task task' : Task) → ((k : ℕ) (x : Task) → IsFinished b tile k x → is_dispatched x ≡ true) → {n m : ℕ} {a' b' : View} → FreesCommit tile task a n a' → FreesCommit tile task' b m b' → AbortAlike r n m a' b'
   commit_alike tile task task' runs (ended.has_free free) (ended.has_free free') = none_alike r a b alike
   commit_alike tile task task' runs (ended.has_free free) (ended.aborts_latest m w y new full latest later aborts) =

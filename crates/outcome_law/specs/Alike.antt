@@ -8,15 +8,15 @@ use Rattle.spec_state.specs.Filters.{has_touched, has_written}
 use Rattle.spec_state.specs.View.{View, task_at}
 use Rattle.event_def.specs.Book.{BookView}
 
--- each id has another name, and no two have the same one: all ids, so that it maps lists of them, and a new task swaps
--- two names
+-- each id has another id, and no two have the same one: all ids, so that it maps lists of them, and a new task swaps
+-- two of them
 pub record Renaming : Type 0 where
   pub to : ℕ → ℕ
   pub from : ℕ → ℕ
   pub back : (k : ℕ) → from (to k) ≡ k
   pub forth : (k : ℕ) → to (from k) ≡ k
 
--- the names the other way round
+-- the ids the other way round
 abbrev pub inverse_of : Renaming → Renaming
 inverse_of r = record { to = r.from; from = r.to; back = r.forth; forth = r.back }
 

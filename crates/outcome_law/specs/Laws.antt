@@ -31,7 +31,7 @@ use Rattle.outcome_law.specs.Alike.{Renaming, AreAlike, AreAlikeBooks}
 abbrev pub EndIsAlike : Type 0
 EndIsAlike = (r : Renaming) (a b : View) (end : End) → AreAlike r a b → HasEnd a end → HasEnd b end
 
--- the books are alike under some names
+-- the books are alike under some renaming
 abbrev pub AreSameBooks : BookView → BookView → Type 0
 AreSameBooks a b = (r : Renaming) × AreAlikeBooks r a b
 

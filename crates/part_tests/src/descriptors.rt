@@ -7,7 +7,7 @@ use task_desc::{
     Ctx, Desc, Name, Place, RECORD_BYTES, Spawn, allow, allow_byte, allow_sub, get_desc, put_desc,
 };
 
-/// A task of the second domain on an ordered path.
+/// A task at depth 2, both of whose domains are ordered.
 const SHALLOW: Desc = Desc {
     name: Name {
         creator: 1,

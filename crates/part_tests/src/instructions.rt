@@ -7,8 +7,8 @@ use rv_table::{
 use std::alloc::{AllocError, Global};
 use std::test::Fail;
 
-/// Words of `riscv64-linux-gnu-as -march=rv32i -mabi=ilp32` with the lines that it read: each instruction, with its
-/// least and its greatest immediate. The three words of FENCE differ in the fields that are ignored.
+/// Words of `riscv64-linux-gnu-as -march=rv32i -mabi=ilp32` with the lines that it read: each instruction, and each
+/// form of immediate at its least and its greatest. The three words of FENCE differ in the fields that are ignored.
 static LISTING: [(u32, &str); 93] = [
     (0x0000_00b7, "lui x1,0x0"),
     (0xffff_ffb7, "lui x31,0xfffff"),

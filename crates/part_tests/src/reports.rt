@@ -58,7 +58,7 @@ static WINDOWED: [u32; 18] = [
     0, // task
 ];
 
-/// Two tasks at timestamp 5, which make an ordered subdomain of 3 and of 0 tasks.
+/// Two tasks at timestamp 5: the first makes an ordered subdomain with 3 tasks, the second makes none.
 static NESTING: [u32; 31] = [
     0x4341_5246,
     0x0001_0001,

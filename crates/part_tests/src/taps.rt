@@ -48,9 +48,9 @@ fn one_line(alloc: Global) -> Result<Box<LineProfile>, AllocError> {
 }
 
 /// The deed, the tile, the line, how many tasks were aborted, and how many commits there are.
-type Step = (Deed, u32, Option<u32>, u32, u32);
+type Noted = (Deed, u32, Option<u32>, u32, u32);
 
-static STEPS: [Step; 7] = [
+static NOTED: [Noted; 7] = [
     (Deed::Dispatch, 1, None, 3, 0),
     (Deed::Access, 1, Some(0), 2, 0),
     (Deed::Access, 0, Some(u32::MAX), 1, 0),
@@ -60,7 +60,7 @@ static STEPS: [Step; 7] = [
     (Deed::Commit, 0, None, 0, 2),
 ];
 
-fn record_of((deed, tile, line, aborted, commits): Step) -> Record {
+fn record_of((deed, tile, line, aborted, commits): Noted) -> Record {
     Record {
         deed,
         tile,
@@ -72,8 +72,8 @@ fn record_of((deed, tile, line, aborted, commits): Step) -> Record {
 
 /// The taps note all events.
 fn tell_all<T: Tap>(taps: &mut [T]) {
-    for step in &STEPS {
-        note_all(taps, &record_of(*step));
+    for noted in &NOTED {
+        note_all(taps, &record_of(*noted));
     }
 }
 

@@ -77,7 +77,7 @@ fn words_of(alloc: Global, line: &str) -> Result<Vec<&str>, AllocError> {
     Ok(words)
 }
 
-/// A line, with its command and its settings: options stand anywhere, in both spellings.
+/// A line, with its command and its settings: options stand anywhere behind the command, in both spellings.
 static ACCEPTED: [(&str, Command, Settings); 11] = [
     ("run", Command::Run, DEFAULTS),
     ("run --commits 2", Command::Run, TWO_COMMITS),
@@ -117,7 +117,7 @@ fn asks_for(read: &Result<Request, Refusal>, command: &Command, settings: &Setti
 }
 
 #[test]
-fn options_stand_anywhere_in_both_spellings(rt: HostRuntime) -> Result<(), Fail> {
+fn options_stand_behind_the_command_in_both_spellings(rt: HostRuntime) -> Result<(), Fail> {
     for (line, command, settings) in &ACCEPTED {
         let words = words_of(rt.alloc(), line)?;
         let read = read_words(rt.alloc(), &words);

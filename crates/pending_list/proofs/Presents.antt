@@ -119,7 +119,7 @@ leaves_there name (x ∷ xs) (suc at) left is gone = go x.here (is.others 0 (ome
       go true other same = rw other (ap (λ ts. x.task ∷ ts) same)
       go false other same = same
 
--- vacant slots at the end count for nothing
+-- where all slots are vacant no task is there
 pub present-vacant : (xs : List Slot) → ((k : ℕ) → (slot_at xs k).here ≡ false) → present xs ≡ []
 present-vacant [] gone = refl
 present-vacant (x ∷ xs) gone = let first : x.here ≡ false = gone 0 in rw first (present-vacant xs (λ k. gone (suc k)))

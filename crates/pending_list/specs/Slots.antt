@@ -34,7 +34,7 @@ pub record IsFirstNotBefore (name : Name) (slots : List Slot) (place : ℕ) : Ty
   pub before : (k : ℕ) → k < place → name_before (slot_at slots k).task.name name ≡ true
   pub behind : (k : ℕ) → place ≤ k → k < length slots → name_before (slot_at slots k).task.name name ≡ false
 
--- the task of a name is at this place, and no slot before it has the name
+-- the task of a name is at this place, and no other slot has the name
 pub record IsPlaceOfName (name : Name) (slots : List Slot) (place : ℕ) : Type 0 where
   pub within : place < length slots
   pub here : (slot_at slots place).here ≡ true

@@ -18,9 +18,9 @@ const SLOT_NUMBERS: u64 = 1 << 32;
 
 /// The pending tasks of a domain, in the order of their arrival, which is that of their names.
 ///
-/// Each task has a slot, and a slot that its task left stays vacant until the list moves. A look by name halves the
-/// slots, whose names rise; the first task of the least timestamp is that of the root of a tournament of ranks, a
-/// timestamp with a slot's number behind it.
+/// Each task has a slot. A slot that its task left stays vacant until no task is behind it, or until the list moves. A
+/// look by name halves the slots, whose names rise; the first task of the least timestamp is that of the root of a
+/// tournament of ranks, a timestamp with a slot's number behind it.
 #[derive(Drop)]
 pub struct PendingList {
     alloc: Global,
@@ -80,8 +80,9 @@ impl PendingList {
         self.slots.is_empty()
     }
 
-    /// Takes memory for so many more tasks. A list that is full moves into fresh slots, about twice as many as it has
-    /// tasks; more than 4,294,967,295 slots are refused as out of memory.
+    /// Takes memory for so many more tasks. Where there is too little the list moves into fresh slots: one for each
+    /// task, and as many again or so many more, whichever is greater; where these are more than 4,294,967,295, that is
+    /// refused as out of memory.
     pub fn reserve(&mut self, more: usize) -> Result<(), AllocError>
         ensures tasks { self.new.tasks ≡ self.old.tasks }
         ensures room { OnOk result (more ≤ self.new.room) }

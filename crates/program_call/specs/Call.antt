@@ -35,7 +35,7 @@ input_of words placers taps source_before source_after = record {
 abbrev pub call_on : Input → (sink_before sink_after : SinkState) → Call
 call_on input sink_before sink_after = record { input = input; sink_before = sink_before; sink_after = sink_after }
 
--- the greatest number of bytes that are read
+-- the greatest number of bytes that an input may have
 abbrev pub input_limit : ℕ
 input_limit = 67108864
 

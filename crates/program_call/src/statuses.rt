@@ -1,7 +1,8 @@
 //! The statuses that an outcome and the process of a program show. Answers for each stand in the `specs/Answers` of
 //! the program.
 
-/// A run ended with nothing pending, a report was accepted, or a script was played to where it may go on.
+/// A run ended with nothing pending, a report was accepted, acts were played to where the run may go on, or the lists
+/// of taps were written, whatever the run's end.
 pub const DONE: u8 = 0;
 
 /// The words are refused.

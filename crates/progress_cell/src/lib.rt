@@ -11,7 +11,8 @@
 //! (`run_watched`), for a library's caller that follows the run from a thread of its own; no command does. The book
 //! tells its counts as a `Reading`.
 //!
-//! `Board::new` alone takes memory. Where no other call comes between, a call makes 1 to 7 atomic steps on the words.
+//! `Board::new` alone takes memory. But for it and `Writer::last`, a call makes 1 to 7 atomic steps on the words where
+//! no other call comes between.
 //! `publish` takes the words' own lock for these steps, and so does a `read` or a `join` that was overtaken by it; they
 //! wait for each other's steps and for nothing else. After 2^63 readings were told, that lock is taken no more.
 #![tactic(auto)]

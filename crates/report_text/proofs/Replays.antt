@@ -1,4 +1,4 @@
--- How a turn is refused.
+-- What stands at a place of a journal, where two windows differ, and how a turn is refused.
 use Rattle.std.proofs.Common.{◌≡◌, ◌≢◌, ℕ, zero, suc, ◌<◌, List, [], ◌∷◌, length, take, get_or, Some, None, Bool, true, false, refl, sym, ap, ◌∙◌, arith, MatchBool}
 use Rattle.std.specs.List.{slice_get}
 use Rattle.std.proofs.lemmas.Option.{slice_get-get_or, same_Some}

@@ -65,11 +65,12 @@ entry_free n e small fits =
     let free_c = free_both 10 (b ++ decimal e.depth) (codes " ") (free_both 10 b (decimal e.depth) free_b (number_free e.depth (omega (arith, fits.greatest)))) refl in
     free_both 10 c (decimal e.ts) free_c (number_free e.ts fits.ts)
 
--- a line that begins with a digit has no output
+-- a digit is no o
 digit_other : (x : ℕ) (b : Bool) → (x == 111) ≡ b → is_ascii_digit x ≡ true → b ≡ false
 digit_other x false is digit = refl
 digit_other x true is digit = let bad : is_ascii_digit 111 ≡ true = subst (λ k. is_ascii_digit k ≡ true) (eqb-true x 111 is) digit in cc
 
+-- a line that begins with a digit has no output
 no_output : (digits rest : List ℕ) → list_all is_ascii_digit digits ≡ true → 0 < length digits → output_in (digits ++ rest) ≡ None
 unfolding output_in
 no_output [] rest all some = absurd (omega (arith, some))

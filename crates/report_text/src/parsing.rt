@@ -1,4 +1,4 @@
-//! The lines of a report, one function for each kind.
+//! The lines of a report behind its first, one function for each kind.
 
 ghost use Rattle.std.specs.Prelude.{◌≡◌, option_map, IfOk};
 ghost use Rattle.report_text.specs.Grammar.{end_in, entry_in, output_bytes, output_in, trap_in, window_in};

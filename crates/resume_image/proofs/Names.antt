@@ -41,7 +41,7 @@ one_itself a b same =
     let index : a.index ≡ b.index = ap (λ (n : Name). n.index) same in
     grind (arith, nat_tests, common_steps)
 
--- what a pending task is like
+-- any value of the type, for places past the end
 some_task : Pending
 some_task = record { name = record { creator = 0; index = 0 }; depth = 0; entry = 0; ts = 0; args = [] }
 

@@ -29,7 +29,7 @@ module _ (turns : ℕ) (pendings : List Pending) where
   AreShifted [] (b ∷ ys) = ⊥
   AreShifted (a ∷ xs) [] = ⊥
 
-  -- whatever its owner and whatever list its tasks are given xs
+  -- the bag with this owner and these tasks
   abbrev pub shifted_bag : ℕ → List PendingTask → BagValue → BagValue
   shifted_bag owner tasks b = record b { owner = owner; tasks = tasks }
 

@@ -36,7 +36,7 @@ turns_of-append : (x : Name) (es more : List Entry) → turns_of x (es ++ more) 
 turns_of-append x [] more = omega arith
 turns_of-append x (e ∷ es) more = omega (arith, turns_of-append x es more)
 
--- a name that takes a turn is pending now, or a later turn makes it
+-- of two counts that are not both zero, the first is at least one or the second is
 one-of : (a k : ℕ) (P : Type 0) → 1 ≤ a + k → (1 ≤ k → P) → (1 ≤ a) ⊎ P
 one-of zero k P h make = inr (make (omega (arith, h)))
 one-of (suc a) k P h make = inl (omega arith)
@@ -48,6 +48,7 @@ from-turn false a k m c P le h later make = go (later (omega (arith, h))) where
   go (inl pending) = one-of a k P (omega (arith, le, pending)) make
   go (inr made) = inr made
 
+-- a name that takes a turn is pending now, or a later turn makes it
 made-before : (x : Name) (image : ImageValue) (budget : ℕ) (front : List Entry) (s : SerialState) → IsRun image budget front s → (es : List Entry) (after : SerialState) → Runs image budget s es after
     → 1 ≤ turns_of x es → (1 ≤ times_in x s.stack) ⊎ IsChild image budget (front ++ es) x
 made-before x image budget front s run [] after on h = absurd (omega (arith, h))

@@ -1,4 +1,4 @@
--- What the crates above may cite of these proofs.
+-- What the crates above may cite of these proofs, but for what `pending_law` names by its file.
 pub use Rattle.run_law.proofs.Counted.{count-run}
 pub use Rattle.run_law.proofs.Lawful.{lawful}
 pub use Rattle.run_law.proofs.Placed.{done-placed, HasDomain, HaveDomains, IsPlaced, request-placed}

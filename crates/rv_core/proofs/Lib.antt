@@ -1,6 +1,5 @@
 pub mod Steps
 pub mod Runs
-pub mod Traps
 pub mod Unreached
 pub mod Ops
 pub mod Proved

@@ -182,7 +182,7 @@ abbrev pub cursor_reached : Option ℕ → List ℕ → Option Cursor
 cursor_reached None regs = None
 cursor_reached (Some index) regs = Some (cursor index regs)
 
--- a place with the bytes of the stack
+-- a cursor with the bytes of the stack
 pub record Point : Type 0 where
   pub cursor : Cursor
   pub stack : List ℕ
@@ -253,7 +253,7 @@ OpsLead version ops zero from to = from ≡ to
 OpsLead version ops (suc n) from to =
     (mid : Point) × OpsLead version ops n from mid × OpLeads version ops mid to
 
--- the core at a place, with so many more instructions used
+-- the core at a cursor, with so many more instructions used
 abbrev pub core_at : Core → Cursor → ℕ → Core
 core_at core to n = record core { pc = address to.index; regs = to.regs; used = core.used + n }
 

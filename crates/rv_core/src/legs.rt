@@ -196,7 +196,7 @@ fn obey(
 }
 
 /// Executes the plain instruction that stands at a core, or tells what stands there and leaves the core as it is.
-/// Inlined with `decode` and `effect`, so that no instruction or effect is built in memory.
+/// Inlined with `decode_at` and `effect`, so that no instruction or effect is built in memory.
 #[tactic(auto, unfolding(crate::specs::Legs::next_at))]
 pub(crate) fn execute<const CALLER: usize>(
     image: &Image,

@@ -1,4 +1,5 @@
-//! Cores that stay in their places, and note whether their stack is empty: an empty stack is never copied.
+//! Cores that stay in their places, and note whether their stack is known to be empty: of a core that is put in the
+//! place of another, the stack is copied only where one of both isn't.
 
 ghost use Rattle.std.specs.Prelude.{◌≡◌, ◌+◌, ◌^◌, ◌-◌, ◌<◌, ◌≤◌, ◌↔◌, true, IsTrue};
 ghost use Rattle.rv_core.specs.Legs.{IsLeg, StopIsInData, start_of, after_load_of, after_other_of};
@@ -14,8 +15,8 @@ use std::marker::Model;
 
 /// A core in its place, and whether its stack is known to be empty. Contracts see the core.
 ///
-/// A core has 1,160 bytes, of which 1,024 are its stack. A task of version 1 has none, and many of version 2 never
-/// touch theirs: where the stacks of both places are empty, 136 bytes are written.
+/// A core has 1,160 bytes, of which 1,024 are its stack. A task of version 1 has none. Where the stacks of both places
+/// are known to be empty, 136 bytes are written; behind a run in version 2 that of a core isn't known to be.
 #[derive(Drop)]
 pub struct NotedCore {
     core: Core,
@@ -34,7 +35,7 @@ impl Model for NotedCore {
     ghost invariant = { λ n. n.is_empty ≡ true → n.core.stack ≡ empty_stack };
 }
 
-/// Whether a stack that was empty is empty after a run of the image's instructions.
+/// Whether a stack that was known to be empty is known to be so after a run of the image's instructions.
 fn stays_empty(was_empty: bool, image: &Image) -> bool
     ensures { IsTrue result → (was_empty ≡ true) × (image.now.version ≡ 1) }
 {
@@ -79,7 +80,7 @@ impl NotedCore {
         &self.core
     }
 
-    /// Writes another stack over this one, where one of them isn't empty.
+    /// Writes another stack over this one, with what is known of it.
     fn put_stack(&mut self, from: &NotedCore)
         ensures { self.new ≡ record self.old { stack = from.now.stack } }
     {
@@ -141,7 +142,7 @@ impl NotedCore {
         self.core.used += 1;
     }
 
-    /// Whether it is the same core. No stack is looked at where both are empty.
+    /// Whether it is the same core. No stack is looked at where both are known to be empty.
     pub(crate) fn is(&self, other: &NotedCore) -> bool
         ensures { IsTrue result ↔ (self.now ≡ other.now) }
     {

@@ -31,7 +31,7 @@ pub record Row : Type 0 where
   pub pattern : Pattern
   pub instr : ℕ → Instr
 
--- the formats of section 2.2, with the fixed fields from the left to the right of a word
+-- the formats of sections 2.2 and 2.3, with the fixed fields from the left to the right of a word
 abbrev pub r_type : ℕ → ℕ → ℕ → (ℕ → ℕ → ℕ → Instr) → Row
 r_type f7 f3 op make = record { pattern = Funct7 f7 f3 op; instr = λ word. make (rd word) (rs1 word) (rs2 word) }
 

@@ -5,7 +5,7 @@ use Rattle.guest_image.specs.declared.image.ImageTask.{ImageTask}
 use Rattle.guest_image.specs.ImageValue.{ImageValue, image_value}
 use Rattle.sample_image.specs.declared.program.Program.{Program}
 
--- the task of this entry and timestamp, without arguments
+-- the task of this entry address and timestamp, without arguments
 abbrev pub first_task : ℕ × ℕ → ImageTask
 first_task entry = record { entry = entry.0; ts = entry.1; args = 0 ∷ 0 ∷ 0 ∷ [] }
 

@@ -9,7 +9,7 @@ use crate::program::Program;
 use guest_image::{Image, ImageFault, ImageTask, Kind};
 use std::alloc::{AllocError, Global};
 
-/// The task of this entry and timestamp, without arguments.
+/// The task of this entry address and timestamp, without arguments.
 fn first_task(entry: u32, ts: u32) -> ImageTask
     ensures { result ≡ first_task (entry, ts) }
 {

@@ -1,6 +1,6 @@
 //! Programs with their data and tasks.
 
-/// A program with its data and its tasks, each an entry and a timestamp.
+/// A program with its data and its tasks, each an entry address and a timestamp.
 #[derive(Clone, Copy)]
 pub struct Program {
     /// The words of the text.
@@ -9,7 +9,7 @@ pub struct Program {
     pub initial: &'static [u8],
     /// The size of the data in bytes.
     pub data_size: u32,
-    /// The entry and the timestamp of each task.
+    /// The entry address and the timestamp of each task.
     pub tasks: &'static [(u32, u32)],
 }
 

@@ -1,4 +1,4 @@
--- The lines of a list that are written one after another.
+-- The lines of the taps' lists, which are written one tap after another.
 use Rattle.std.proofs.Common.{◌≡◌, ℕ, ◌+◌, ◌<◌, List, length, map, take, get_or, Ok, Err, refl, ap, ◌∙◌, arith}
 use Rattle.std.specs.List.{flat_map, enumerate_from}
 use Rattle.std.proofs.lemmas.List.{get_or-map}

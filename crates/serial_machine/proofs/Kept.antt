@@ -1,4 +1,4 @@
--- What each step of a task keeps holds of a task that is done.
+-- What each instruction of a task keeps holds of a task that is done.
 use Rattle.std.proofs.Common.{◌≡◌, ℕ, zero, suc, List, length, refl, ◌∙◌}
 use Rattle.guest_image.specs.ImageValue.{ImageValue}
 use Rattle.rv_core.specs.declared.state.Core.{Core}
@@ -16,7 +16,7 @@ use Rattle.serial_machine.specs.Legs.{SubFits}
 use Rattle.serial_machine.specs.TaskRun.{context, task_at_start, after_next, after_instruction, task_end_after, after_instructions, task_run, Continuation, Continues, Ends, Traps, TaskEnd, Done, Trapped}
 
 module _ (Holds : TaskState → Type 0) where
-  -- where the step goes on or ends, this holds of the task
+  -- where the task goes on or ends behind an instruction, this holds of it
   abbrev pub StepHolds : Continuation → Type 0
   StepHolds (Continues task) = Holds task
   StepHolds (Ends task) = Holds task

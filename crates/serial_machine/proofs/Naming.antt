@@ -151,12 +151,13 @@ first (h ∷ ts) = go (first_least ts) (first ts) where
   go None z = rw z (first-here h [] refl)
   go (Some b) f = two b f (nat_lt b.ts h.ts) refl
 
--- no task has a smaller timestamp than the first of the least, whose own one is pending
+-- where there is no task, no task has a smaller timestamp
 pub first-none : (ts : ℕ) (tasks : List PendingTask) → first_least tasks ≡ None → is_least ts tasks ≡ true
 first-none ts tasks none =
     let is : tasks ≡ [] = subst (λ o. MatchOption o (tasks ≡ []) (IsFirst tasks)) none (first tasks) in
     ap (is_least ts) is
 
+-- no task has a smaller timestamp than the first of the least, whose own one is pending
 pub first-above : (ts : ℕ) (tasks : List PendingTask) (t : PendingTask) → first_least tasks ≡ Some t → ts ≤ t.ts → is_least ts tasks ≡ true
 first-above ts tasks t found above =
     let is : IsFirst tasks t = subst (λ o. MatchOption o (tasks ≡ []) (IsFirst tasks)) found (first tasks) in

@@ -1,4 +1,4 @@
--- The steps of a task that are left are the same behind a leg, and behind what stands at its end, as before them.
+-- The instructions of a task that are left come to the same behind a leg, and behind what stands at its end.
 use Rattle.std.proofs.Common.{◌≡◌, refl, sym, ◌∙◌, ap, ℕ, zero, suc, ◌+◌, ◌-◌, ◌^◌, ◌≤◌, ◌<◌, ◌≢◌, inl, inr, nat_lt, List, length, arith, false, subst}
 use Rattle.std.proofs.lemmas.Bool.{cases_lt}
 use Rattle.std.proofs.lemmas.Bool.Decides.{nat_tests}
@@ -28,7 +28,7 @@ pub spent_traps : (image : ImageValue) (size budget : ℕ) (core : Core) (s : St
 unfolding next_at
 spent_traps image size budget core s h ge = let e : nat_lt core.used budget ≡ false = grind (arith, nat_tests) in let k = rw e at h in cc
 
--- what a step leads to is how the run is over, or what is followed
+-- what an instruction leads to is how the run is over, or what is followed
 pub task_end_after-Continues : (rest : TaskState → TaskEnd) (x : Continuation) (new : TaskState) → Leads x flow.Continues new → task_end_after rest x ≡ rest new
 task_end_after-Continues rest (Continues t) new h = ap rest (sym h)
 task_end_after-Continues rest (Ends t) new h = absurd h
@@ -44,13 +44,13 @@ task_end_after-Trapped rest (Continues t) cause pc new h = absurd h
 task_end_after-Trapped rest (Ends t) cause pc new h = absurd h
 task_end_after-Trapped rest (Traps c p) cause pc new h = h
 
--- a step that goes on, to a task that has used so many instructions
+-- an instruction that goes on, to a task that has used so many
 Leads-used : (used : ℕ) (x : Continuation) (new : TaskState) → Leads x flow.Continues new → HasUsed used x → new.core.used ≡ used
 Leads-used used (Continues t) new leads has = ap (λ t. t.core.used) leads ∙ has
 Leads-used used (Ends t) new leads has = absurd leads
 Leads-used used (Traps cause pc) new leads has = absurd leads
 
--- a step that goes on, to a task with a memory of this size
+-- an instruction that goes on, to a task with a memory of this size
 Leads-size : (size : ℕ) (x : Continuation) (new : TaskState) → Leads x flow.Continues new → HasSize size x → length new.memory ≡ size
 Leads-size size (Continues t) new leads has = ap (λ t. length t.memory) leads ∙ has
 Leads-size size (Ends t) new leads has = absurd leads

@@ -9,7 +9,7 @@ use Rattle.serial_machine.specs.Turn.{is_named, without_name, is_pending}
 use Rattle.serial_machine.specs.Names.{times, one}
 use Rattle.serial_machine.specs.Stack.{bag_value, bags, HaveSpare}
 
--- the first bag's task of a name, found in what the code keeps
+-- whether some bag holds a task of a name, told from what the code keeps
 pub any_bag : (name : Name) (stack : List Bag) → list_any (λ b. list_any (is_named name) b.tasks.tasks) stack ≡ is_pending name (bags stack)
 any_bag name [] = refl
 any_bag name (bag ∷ stack) = ap (λ b. list_any (is_named name) bag.tasks.tasks || b) (any_bag name stack)

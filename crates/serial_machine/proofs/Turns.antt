@@ -72,7 +72,7 @@ pub finish-trapped : (o : TaskEnd) (cause pc : ℕ) (t : TaskState) → Finishes
 finish-trapped (Done u) cause pc t h = absurd h
 finish-trapped (Trapped c p) cause pc t h = rw (h.0, h.1) refl
 
--- the steps of a task that has done nothing are its run
+-- the instructions of a task that has done nothing are its run
 pub after_instructions-task_at_start : (image : ImageValue) (budget : ℕ) (ctx : Ctx) (entry ts : ℕ) (args memory before : List ℕ) (task : TaskState) → ctx.ts ≡ ts → before ≡ memory → task ≡ task_at_start image.version entry ts args before
     → after_instructions image budget ctx (budget - task.core.used) task ≡ task_run image budget ctx entry args memory
 unfolding task_run

@@ -79,7 +79,8 @@ FinishesRun (Trapped cause pc) ends.Done new = ⊥
 abbrev pub end_of_task : ImageValue → ℕ → Ctx → TaskState → TaskEnd
 end_of_task image budget ctx task = after_instructions image budget ctx (budget - task.core.used) task
 
--- the instructions that are left after a leg are those that were left before it
+-- the leg went on: the task's run ends as it would have from before it, more instructions are counted, within the
+-- budget, and the memory has the same size
 pub record LegAdvances (image : ImageValue) (budget : ℕ) (ctx : Ctx) (old new : TaskState) : Type 0 where
   pub same : end_of_task image budget ctx new ≡ end_of_task image budget ctx old
   pub used : old.core.used < new.core.used

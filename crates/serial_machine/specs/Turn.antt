@@ -118,7 +118,7 @@ turn_from_stack image budget s name [] = None
 turn_from_stack image budget s name (bag ∷ outer) =
     turn_of_task image budget s name bag outer (find_named name bag.tasks)
 
--- the state after the turn of a name, and its entry in the journal; none where the name may take no turn
+-- the state after the turn of a name, and its entry in the journal; none where the name takes no turn
 unfoldable pub turn : ImageValue → ℕ → SerialState → Name → Option (SerialState × Entry)
 turn image budget s name = turn_from_stack image budget s name (inner s.stack)
 
@@ -161,7 +161,7 @@ pub record TrapsSo (image : ImageValue) (budget : ℕ) (s : SerialState) (name :
   pub may : MayTurn s.stack name bag outer task
   pub run : run_in_bag image budget s bag outer task ≡ Trapped cause pc
 
--- why a name takes no turn; the cases exclude each other
+-- why a name takes no turn; the first four exclude each other, and memory may run out whatever else is so
 abbrev pub RefusesTurn : ImageValue → ℕ → SerialState → Name → TurnFault → Type 0
 RefusesTurn image budget s name faults.NotPending = is_pending name s.stack ≡ false
 RefusesTurn image budget s name (faults.NotTop depth) = IsNotTop s.stack name depth

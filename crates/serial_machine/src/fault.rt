@@ -5,7 +5,7 @@ ghost use Rattle.serial_machine.specs.declared.fault.TurnFault.TheVariants.{Memo
 
 use std::alloc::{AllocError, AllocFailed};
 
-/// Why a task takes no turn. They are tried in this order.
+/// Why a task takes no turn. The first four are tried in this order; `Memory` may come in place of another one.
 #[derive(Clone, Copy, Debug, PartialEq, Eq)]
 pub enum TurnFault {
     /// No bag holds a task of the name.

@@ -1,6 +1,6 @@
 //! The limits of a run.
 
-/// How many tasks may commit in one run, at most: no journal is longer.
+/// How many tasks may commit in one run, at most. A journal that is joined of two runs may be longer.
 pub const MAX_COMMITS: u32 = 1_000_000;
 
 /// How many instructions one task may execute, at most.

@@ -18,7 +18,7 @@ pub enum ReadEnd {
     Memory,
 }
 
-// How many bytes are asked for at once.
+// The most bytes that are asked for at once.
 const CHUNK: usize = 4096;
 
 /// All bytes that are left, of which there may be at most `limit`. What was taken is gone after
@@ -51,7 +51,7 @@ pub fn read_all<S: Source>(alloc: Global, source: &mut S, limit: usize) -> Resul
     }
 }
 
-// How many bytes to ask for where so many are still allowed: one more, so that a longer input shows.
+// How many bytes to ask for where so many are still allowed: one more, so that a longer input shows, or a chunk.
 fn chunk_len(free: usize) -> usize
     ensures some { 0 < result }
     ensures fits { result ≤ 4096 }

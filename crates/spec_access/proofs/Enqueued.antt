@@ -43,7 +43,7 @@ asks_made view seen leg id spawn task asks same there place =
     sub_made (context_of view.version task) asked.ts spawn.ts task.sub
     (ap (allowed_at (context_of view.version task) asked.ts) (sym at) ∙ allows.1)
 
--- the depth of a child, and the kinds on its path
+-- the depth of a child, and the kinds of its domains
 depth_at : (parent : Task) (place : Place) → depth_of parent ≤ MAX_DEPTH → (place ≡ Sub → depth_of parent < MAX_DEPTH)
     → length (child_domain parent place) + 1 ≤ MAX_DEPTH
 depth_at parent Same deep sub = deep

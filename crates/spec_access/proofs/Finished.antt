@@ -199,9 +199,9 @@ module _ (size : ℕ) (view : View) (id : ℕ) (task : Task) (stored : IsStored 
       let was = (stored.held_are tile core id).0 held in
       sym was.2 ∙ ap (λ x. x.tile) (same_Some was.0 task (sym was.1 ∙ there))
 
-  pub has_entry : (old : View) → view ≡ old → CommitQueueHasRoom old id
+  pub has_place : (old : View) → view ≡ old → CommitQueueHasRoom old id
       → length (finished_at view task.tile) < view.settings.commit_queue
-  has_entry old same free = at (subst (λ v. CommitQueueHasRoom v id) (sym same) free)
+  has_place old same free = at (subst (λ v. CommitQueueHasRoom v id) (sym same) free)
     where
       at : CommitQueueHasRoom view id → length (finished_at view task.tile) < view.settings.commit_queue
       at entry = subst (λ tile. length (finished_at view tile) < view.settings.commit_queue)

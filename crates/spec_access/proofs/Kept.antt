@@ -51,7 +51,7 @@ module _ (id : ℕ) (old new : View) (task now : Task) (there : task_at old id �
       | inr other ↦ stored.tasks k t (sym (changes.others k other) ∙ at)
     ]
 
--- a running task has a core, as a trapped one and a finished one have
+-- a running task keeps a core, as a trapped one and a finished one do
 pub running_has : (status : Status) (held : ℕ) (core : Core) → status ≡ Running held
     → true ≡ is_some (kept_core status core)
 running_has status held core runs = ap (λ s. is_some (kept_core s core)) (sym runs)

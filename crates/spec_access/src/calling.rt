@@ -48,8 +48,7 @@ pub fn end_quantum<N: Naming>(state: &mut State<N>, id: TaskId, leg: &Leg<N>)
     leg.put_end(&mut state.tasks[id.0].core);
 }
 
-/// A task that came to a trap, by an instruction or by a call that its rules refuse, keeps the
-/// cause, 1 to 17, and its core.
+/// A task that came to a trap keeps the cause, 1 to 17, and its core as it was at the end of the leg.
 pub fn call_trap<N: Naming>(state: &mut State<N>, id: TaskId, leg: &Leg<N>, cause: u8)
     requires asks { Asks state.old.view leg.now id.0 (Trap cause) }
     ensures traps { (tile core : ℕ) (task : Task)

@@ -49,7 +49,7 @@ fn bit_of(sub: Option<Kind>) -> u16
     }
 }
 
-/// The kinds of the domains on a child's path.
+/// The kinds of the domains that a child is in.
 fn kinds_of(parent: &Task, place: Place) -> u16
     requires formed { (size commits : ℕ) × IsWellFormed size commits parent.now }
     requires made { place ≡ Sub → IsSome parent.now.sub }

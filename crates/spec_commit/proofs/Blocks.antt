@@ -31,7 +31,7 @@ pub entries_set : (blocks : List BlockValue) (tile : ℕ) (after : BlockValue) �
 entries_set blocks tile after within =
     map-set (λ (b : BlockValue). b.entries) blocks tile after ∙ ap (slice_set (entries_in blocks) tile) (sym (entries_now blocks tile after within))
 
--- the least entry is taken out of that block
+-- the least spilled task is taken out of that block
 pub taken_seen : (blocks : List BlockValue) (tile : ℕ) (block after : BlockValue) (s : Spilled) → tile < length blocks → block ≡ slice_index_or blocks tile block → TakesLeast block.entries after.entries s
     → (lists : List (List Spilled)) → entries_in blocks ≡ lists → TakesLeast (slice_index_or lists tile []) (slice_index_or (entries_in (slice_set blocks tile after)) tile []) s
 taken_seen blocks tile block after s within is takes lists same =
@@ -50,7 +50,7 @@ block_seen version settings tasks memory history output next path queues finishe
     ≡ record view { blocks = slice_set view.blocks tile (slice_index_or (entries_in (slice_set blocks tile after)) tile []) }) same
     (ap (view_of_parts version settings tasks memory history output next path queues finished cores) (entries_set blocks tile after within))
 
--- no room is less where that block has no less
+-- nothing spare is less where that block has no less to spare
 pub room_seen : (log spawns output : ℕ) (blocks : List BlockValue) (tile : ℕ) (block after : BlockValue) → block ≡ slice_index_or blocks tile block → block.spare ≤ after.spare
     → (room : Spare) → record { log = log; spawns = spawns; output = output; blocks = map (λ b. b.spare) blocks } ≡ room
     → HasNoLessSpare room (record { log = log; spawns = spawns; output = output; blocks = map (λ b. b.spare) (slice_set blocks tile after) })
@@ -58,7 +58,7 @@ room_seen log spawns output blocks tile block after is more room same =
     subst (λ (room : Spare). HasNoLessSpare room (record { log = log; spawns = spawns; output = output; blocks = map (λ (b : BlockValue). b.spare) (slice_set blocks tile after) })) same
     (record { log = omega arith; spawns = omega arith; output = omega arith; blocks = spare_grows blocks tile block after is more })
 
--- an entry is pushed into that block
+-- a task is pushed into that block
 pub push_seen : (version : ℕ) (settings : Settings) (tasks : List (Option Task)) (memory : List ℕ) (history : List Entry) (output : List ℕ) (next : ℕ) (path : List Level)
     (queues finished : List QueueValue) (cores : List (List (Option ℕ))) (blocks : List BlockValue) (tile : ℕ) (block after : BlockValue) (s : Spilled) → tile < length blocks
     → block ≡ slice_index_or blocks tile block → after.entries ≡ after_push block.entries s
@@ -72,7 +72,7 @@ push_seen version settings tasks memory history output next path queues finished
     (map-set (λ (b : BlockValue). b.entries) blocks tile after
     ∙ ap (slice_set (entries_in blocks) tile) (pushes ∙ ap (λ entries. after_push entries s) (sym (entries_was blocks tile block within is)))))
 
--- its entries stay
+-- its tasks stay
 pub same_seen : (version : ℕ) (settings : Settings) (tasks : List (Option Task)) (memory : List ℕ) (history : List Entry) (output : List ℕ) (next : ℕ) (path : List Level)
     (queues finished : List QueueValue) (cores : List (List (Option ℕ))) (blocks : List BlockValue) (tile : ℕ) (block after : BlockValue)
     → block ≡ slice_index_or blocks tile block → after.entries ≡ block.entries
@@ -93,7 +93,7 @@ pub covers_seen : (spares : List ℕ) (tile spare : ℕ) → slice_index_or spar
 covers_seen spares tile spare is (Ok done) enough = omega (arith, is, enough)
 covers_seen spares tile spare is (Err error) enough = tt
 
--- the room of other tiles stays
+-- what is spare for other tiles stays
 pub other_room : (log spawns output : ℕ) (blocks : List BlockValue) (tile : ℕ) (after : BlockValue) (room : Spare)
     → record { log = log; spawns = spawns; output = output; blocks = map (λ (b : BlockValue). b.spare) blocks } ≡ room
     → KeepsOtherSpare tile room (record { log = log; spawns = spawns; output = output; blocks = map (λ (b : BlockValue). b.spare) (slice_set blocks tile after) })

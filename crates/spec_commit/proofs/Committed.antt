@@ -153,7 +153,7 @@ adopts_seen slots now view id n same turn adopts k =
     ∙ ap (λ t. after_adoption id t (slice_index_or slots k None)) turn
     ∙ ap (λ tasks. after_adoption id (length view.history) (slice_index_or tasks k None)) same
 
--- what stands under one more key is adopted
+-- what stands under one more id is adopted
 module _ (id n place key : ℕ) (keys : List ℕ) (old now new : ℕ → Option Task) (here : slice_get keys place ≡ Some key)
     (each : (k : ℕ) → IsAdoptedOrSame id n (old k) (now k))
     (noted : (p k : ℕ) → p < place → slice_get keys p ≡ Some k → now k ≡ after_adoption id n (old k))
@@ -219,7 +219,7 @@ stored_adopted size id n old now each upto stored =
       turn = λ turn index same. adopted_turn id n (length old.history) turn index x.creator upto is.turn same;
     }
 
--- slots and entries are as many as they should be
+-- slots and candidates are as many as they should be
 pub slots_adopted : (settings : Settings) (tasks now : List (Option Task)) (queues : List QueueValue)
     (counts : SlotCounts) (slots_now : ℕ) → HasSlots settings tasks queues counts
     → count_by is_some now ≡ count_by is_some tasks → slots_now ≡ counts.slots

@@ -297,7 +297,7 @@ all_moved tile ids old now count chosen some past moved = go (take count ids) (t
       same,
     )
 
--- as the view stays where room is made before
+-- as the view stays where memory is taken before
 pub coalesced : (tile : ℕ) (old mid new : View) (slice : List ℕ) (n : ℕ) → mid ≡ old → (c : Coalesces tile mid new) × (c.ids ≡ slice) → n ≡ length slice
     → (c : Coalesces tile old new) × (n ≡ length c.ids)
 coalesced tile old mid new slice n same moved count = subst (λ v. (c : Coalesces tile v new) × (n ≡ length c.ids)) same (moved.0, count ∙ ap length (sym moved.1))

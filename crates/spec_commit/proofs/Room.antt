@@ -1,4 +1,4 @@
--- The room of other tiles stays through several changes.
+-- What is spare for other tiles stays through several changes.
 use Rattle.std.proofs.Common.{ℕ, ap, ◌∙◌}
 use Rattle.spec_state.specs.StateValue.{Spare}
 use Rattle.spec_commit.specs.Spilling.{KeepsOtherSpare}

@@ -38,7 +38,7 @@ fn adopt_one(task: &mut Task, id: usize, turn: u32)
     }
 }
 
-/// The same for what stands under one key.
+/// The same for what stands under one id.
 fn adopt_at(tasks: &mut KeptSlab<Task>, key: usize, id: usize, turn: u32)
     ensures changed { get tasks.new key ≡ after_adoption id turn (get tasks.old key) }
     ensures others { (k : ℕ) → k ≢ key → get tasks.new k ≡ get tasks.old k }
@@ -61,7 +61,7 @@ fn adopt_all(tasks: &mut KeptSlab<Task>, id: usize, turn: u32)
     }
 }
 
-/// The same for what stands under each of these keys.
+/// The same for what stands under each of these ids.
 fn adopt_noted(tasks: &mut KeptSlab<Task>, keys: &[u32], id: usize, turn: u32)
     ensures each { (k : ℕ) → IsAdoptedOrSame id turn (get tasks.old k) (get tasks.new k) }
     ensures noted { (place k : ℕ) → slice_get keys.now place ≡ Some k
@@ -74,8 +74,8 @@ fn adopt_noted(tasks: &mut KeptSlab<Task>, keys: &[u32], id: usize, turn: u32)
     }
 }
 
-/// The same for all children of a task. It costs a look at each place among its children; and, where the notes
-/// aren't complete, at each slot.
+/// The same for all children of a task. It costs a look at each place among its children, or at each slot where the
+/// notes aren't complete.
 fn adopt(tasks: &mut KeptSlab<Task>, children: &Children, id: usize, turn: u32)
     requires noted { AreNoted tasks.old.slots children.now }
     ensures each { (k : ℕ) → get tasks.new k ≡ after_adoption id turn (get tasks.old k) }

@@ -76,7 +76,7 @@ open_here old view same size tile id task was least there stored =
     let one : was ≡ task = same_Some was task (sym there ∙ ap (λ (v : View). task_at v id) same ∙ least.idle.there) in
     no_number was size (length old.history) (stored.tasks id was there) (ap (λ (t : Task). t.status) one ∙ least.idle.idle)
 
--- it has its entry in the index, with its tiebreaker open
+-- it has its candidate in the index, with its tiebreaker open
 pub open_in : (tasks : List (Option Task)) (lists : List (List ℕ)) (arrivals : List ℕ) (next id : ℕ) (entries : List Candidate) (task : Task)
     → IsIndexed tasks lists arrivals next entries → slice_index_or tasks id None ≡ Some task → task.key.tb ≡ None → IsOpenIn id entries
 open_in tasks lists arrivals next id entries task is there none = record {

@@ -16,7 +16,7 @@ module _ (old new : View) (r : Renumbers old new) where
   same_queue : (tile : ℕ) → queue_at new tile ≡ queue_at old tile
   same_queue tile = ap (λ v. queue_at v tile) r.frame
 
-  -- where a task stood it stands, but for its numbers
+  -- where a task stands it stood, but for its numbers
   stood : (tile place id : ℕ) (x : Task) → IsQueuedAt new tile place id x → (w : Task) × IsQueuedAt old tile place id w × (x ≡ renumbered_task r.table w)
   stood tile place id x at =
       let one = was old new r id x at.there in

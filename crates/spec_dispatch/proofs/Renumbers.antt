@@ -68,7 +68,7 @@ pub is_table_here : (view now : View) (tasks : Slab Task) (table filled : List �
 is_table_here view now tasks table filled same slots is rising exact held =
     subst (IsNumberTable view) (sym is) (is_table view filled tasks slots rising exact (subst (λ v. (n : ℕ) → IsInUse v n → IsPathsOrTasks v n) (sym same) held))
 
--- slots and entries are as many as they should be
+-- slots and candidates are as many as they should be
 pub slots_renumbered : (settings : Settings) (tasks : List (Option Task)) (queues : List QueueValue)
     (counts : SlotCounts) → HasSlots settings tasks queues counts
     → (table : List ℕ) (now : List (Option Task)) (slots_now indexed_now capacity_now numbers_now : ℕ)

@@ -3,8 +3,9 @@
 //!
 //! It stands on the state of the machine, whose lists, index and tasks it changes. `dispatch` finds out which task
 //! goes; `dispatch_task` is told, by a caller that knows. `free_core` tells a free core. `event_move` and the book call
-//! it. A dispatch costs a look at each core of its tile and one change of the index; a renumbering costs a walk over
-//! all tasks. No call takes memory: the state keeps memory for the table of a renumbering.
+//! it. A dispatch costs a look at each core of its tile and one change of the index, and by `dispatch` also a look at
+//! each task of the tile's queue; a renumbering costs a walk over all tasks and a sort of the numbers in use. No call
+//! takes memory: the state keeps memory for the table of a renumbering.
 #![tactic(auto)]
 
 mod cores;

@@ -32,7 +32,7 @@ pub use Rattle.spec_law.proofs.Renumbers.Sound.{renumbering_leaves_numbers, renu
 pub use Rattle.spec_law.proofs.Rooms.Child.{child_is_above}
 pub use Rattle.spec_law.proofs.Rooms.Fit.{contains_in, heirs_are_one, in_contains}
 pub use Rattle.spec_law.proofs.Rooms.Later.{victim_is_later}
-pub use Rattle.spec_law.proofs.Rooms.Made.{leaves_entry}
+pub use Rattle.spec_law.proofs.Rooms.Made.{leaves_place}
 pub use Rattle.spec_law.proofs.Rooms.Returned.{split_keeps_least}
 pub use Rattle.spec_law.proofs.Steps.Heir.{step_keeps_heir}
 pub use Rattle.spec_law.proofs.Steps.Laws.{byte_stays_sound, end_stays_sound, quantum_stays_sound, sub_stays_sound, trap_stays_sound}

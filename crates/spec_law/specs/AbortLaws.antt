@@ -20,8 +20,8 @@ use Rattle.spec_law.specs.Sound.{Sound, SoundMemory, SoundOrder, SoundSizes, Sou
 abbrev pub HoldsPulled : View → List Bool → Type 0
 HoldsPulled view marks = (a b : ℕ) → PullsInView view a b → is_marked marks a ≡ true → is_marked marks b ≡ true
 
--- the marked tasks are taken back, with their stores, and leave queues and cores: what an abort does, whichever
--- tasks its cascades begin with
+-- the marked tasks are taken back, with their stores, and leave commit queues and cores, the discarded ones also task
+-- queues: what an abort does, whichever tasks its cascades begin with
 pub record TakesMarked (marks : List Bool) (old new : View) : Type 0 where
   pub holds : HoldsPulled old marks
   pub each : (id : ℕ) → task_at new id ≡ taken_back old.version marks id (task_at old id)

@@ -37,7 +37,7 @@ abbrev pub asking_task : Asker → Option ℕ
 asking_task (Enqueuer id) = Some id
 asking_task Splitter = None
 
--- the victim, which is the last task where places break ties, is one of the latest that the laws of room allow
+-- the victim, the last task but the asker where places break ties, is one of the latest that the laws of room allow
 abbrev pub VictimIsVictim : Type 0
 VictimIsVictim =
     (view : View) (tile : ℕ) (asker : Asker) (id : ℕ) (task : Task)

@@ -2,8 +2,8 @@
 
 ghost use Rattle.spec_law.specs.Keeping.{CommitIsSoundTurn};
 
-/// In a sound view the commit of a finished least task is the serial machine's next turn, and leaves a view that is
-/// sound against the state after it.
+/// In a sound view, while fewer tasks have committed than may, the commit of a finished least task is the serial
+/// machine's next turn, and leaves a view that is sound against the state after it.
 pub fn commit_is_sound_turn()
     ensures { CommitIsSoundTurn }
 {}

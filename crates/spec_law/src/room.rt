@@ -14,8 +14,8 @@ pub fn movable_is_movable()
     ensures { MovableIsMovable }
 {}
 
-/// The victim, the last task of a queue where places break ties, is one that the laws of room allow: none has a
-/// greater key.
+/// The victim, of a queue's tasks but the asker the last one where places break ties, is one that the laws of room
+/// allow: none of these has a greater key.
 pub fn victim_is_victim()
     ensures { VictimIsVictim }
 {}

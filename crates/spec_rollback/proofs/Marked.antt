@@ -1,5 +1,5 @@
--- Marked ids and lists of them: a list of them all is as long as they are many, and in any order it has none twice; and
--- lists that are written back.
+-- Marked ids and lists of them: a list of them all is no shorter than they are many, and one no longer has none
+-- twice, in any order; and lists that are written back.
 use Rattle.std.proofs.Common.{◌≡◌, ◌≢◌, ◌≤◌, ◌+◌, ◌∷◌, ◌++◌, ℕ, suc, Bool, true, false, List, []}
 use Rattle.std.proofs.Common.{length, take, drop, Option, Some, None, refl, sym, ap, subst, ◌∙◌, inl, inr, cond, arith}
 use Rattle.std.proofs.Common.{slice_index_or, slice_set}

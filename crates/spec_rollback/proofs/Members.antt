@@ -1,4 +1,4 @@
--- The members of a cascade, taken back in the order of their list.
+-- The members of a list, which are the marked tasks, taken back in the order of that list.
 use Rattle.std.proofs.Common.{◌≡◌, ◌≢◌, ◌⊎◌, ◌<◌, ◌≤◌, ◌+◌, ℕ, Bool, true, false, List, length, take, Some, refl, sym}
 use Rattle.std.proofs.Common.{ap, subst, ◌∙◌, inl, inr, arith, slice_index_or, slice_get, if◌then◌else◌}
 use Rattle.std.specs.Prelude.{◌==◌, Contains, AllPairs, IsSome}

@@ -1,4 +1,4 @@
--- The members of a cascade, taken out one after another.
+-- The marked tasks, taken out one after another.
 use Rattle.std.proofs.Common.{◌≡◌, ◌≢◌, ◌<◌, ◌+◌, ℕ, Bool, true, false, List, [], length, take, map, Option, Some}
 use Rattle.std.proofs.Common.{None, refl, sym, ap, subst, ◌∙◌, inl, inr, slice_get, if◌then◌else◌}
 use Rattle.std.specs.Prelude.{AllPairs, IsSome}

@@ -86,7 +86,7 @@ cores_more cores n held at id =
     (slice_get-map (option_map (λ (t : TaskId). t.0)) cores n
     ∙ ap (option_map (option_map (λ (t : TaskId). t.0))) at) id
 
--- the same, where these stand there
+-- one tile more holds what it holds, where these are its cores and its commit queue
 pub tile_more : (cores : List (List (Option ℕ))) (finished : List (List ℕ)) (n : ℕ) (held : List (Option ℕ))
     (ids : List ℕ) → slice_index_or cores n [] ≡ held → slice_index_or finished n [] ≡ ids
     → (id : ℕ) → IsInTiles cores finished (n + 1) id ↔ (IsInTiles cores finished n id ⊎ IsInTile held ids id)

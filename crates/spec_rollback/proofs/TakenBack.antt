@@ -24,7 +24,7 @@ more these id k = if k == id then true else these k
 pub same_id : (k id : ℕ) → k ≡ id → (k == id) ≡ true
 same_id k id same = grind (arith, nat_tests)
 
--- two changes of each list that agree
+-- two changes of an item that agree make the same list
 pub maps_same : {X Y : Type 0} (f g : X → Y) (xs : List X) → ((x : X) → f x ≡ g x) → map f xs ≡ map g xs
 maps_same f g xs same = ap (λ h. map h xs) (λ i x. same x i)
 
@@ -207,7 +207,7 @@ module _ (marks : List Bool) (these : ℕ → Bool) (old mid new : View) (back :
     | inr sets ↦ by_setting_back one.task one.there sets.0 sets.1
   ]
 
--- at first none is taken back
+-- a filter that leaves none out keeps the list
 filter_all : (ids : List ℕ) → filter (λ k. true) ids ≡ ids
 filter_all [] = refl
 filter_all (k ∷ ids) = ap (λ ks. k ∷ ks) (filter_all ids)
@@ -238,6 +238,7 @@ queues_itself tasks [] there = refl
 queues_itself tasks (ids ∷ queues) there =
     λ i. queue_itself tasks ids (there 0) i ∷ queues_itself tasks queues (λ tile. there (suc tile)) i
 
+-- at first none is taken back
 pub none_taken : (size : ℕ) (view : View) → IsStored size view → (marks : List Bool)
     → TakesThese marks (λ k. false) view view
 none_taken size view stored marks = record {

@@ -66,7 +66,7 @@ same_set set other tasks (k ∷ ids) memory same =
     memory) (same k (inl refl))
     ∙ ap (λ m. if other k then undone (log_of (tasks k)) m else m) rest
 
--- a set without these ids takes nothing back
+-- an empty set takes nothing back
 pub nothing_back : (set : ℕ → Bool) (tasks : ℕ → Option Logged) (ids memory : List ℕ) → ((k : ℕ) → set k ≡ false)
     → undone_set set tasks ids memory ≡ memory
 nothing_back set tasks [] memory none = refl

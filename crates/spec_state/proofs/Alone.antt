@@ -1,4 +1,4 @@
--- Where the index holds one closed entry, no access of its task conflicts.
+-- Where the index holds one closed candidate, no access of its task conflicts.
 use Rattle.std.proofs.Common.{◌≡◌, ◌≢◌, ◌≤◌, ℕ, Bool, true, is_some, Option, Some, List, refl, sym, ap, subst, ◌∙◌, arith}
 use Rattle.std.specs.Prelude.{IfSome}
 use Rattle.fractal_vt.specs.Keys.{key_cmp}

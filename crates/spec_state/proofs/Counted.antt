@@ -28,14 +28,14 @@ module _ (queues : List QueueValue) (tile bound id : ℕ) (queue after : QueueVa
       let was : length (slice_index_or queues tile queue).ids ≡ length queue.ids = ap (λ q. length q.ids) (sym is) in
       omega (arith, set, was, longer)
 
-  -- and there was an entry for it
+  -- and there was a place for it
   pub has_room : queued_count queues + 1 ≤ length queues * bound
   has_room =
       let fits = sum_by-le (λ q. length q.ids) bound (slice_set queues tile after) still_short in
       let fits' : queued_count (slice_set queues tile after) ≤ length queues * bound = subst (λ n. queued_count (slice_set queues tile after) ≤ n * bound) (length-set queues tile after) fits in
       omega (arith, one_more, fits')
 
--- a state has at most 4,096 tasks
+-- a state has at most 4,096 queued tasks
 pub few_tasks : (settings : Settings) (tasks : List (Option Task)) (queues finished : List QueueValue)
     (core_lists block_lists : ℕ) (counts : SlotCounts)
     → IsValid settings → HasTiles settings queues finished core_lists block_lists

@@ -1,4 +1,4 @@
--- The kinds of the domains on a path, by the bits of a number.
+-- The kinds of the domains that a task is in, by the bits of a number.
 use Rattle.std.proofs.Common.{◌≡◌, ◌/◌, ◌%◌, ◌^◌, ◌∷◌, ◌++◌, ℕ, zero, suc, true, false, List, [], refl, sym, ap, ◌∙◌, arith, ◌==◌}
 use Rattle.std.proofs.Math.Nat.{div-div-eq-div-mul, mul_comm, pow-suc, div-one}
 use Rattle.fractal_vt.specs.declared.level.Level.{Level}
@@ -12,7 +12,7 @@ pub ordered_by_bit : (outer kinds : ℕ) → is_ordered_at outer kinds ≡ (kind
 ordered_by_bit zero kinds = ap (λ n. n % 2 == 1) (sym (div-one kinds))
 ordered_by_bit (suc outer) kinds = ordered_by_bit outer (kinds / 2) ∙ ap (λ n. n % 2 == 1) (div-div-eq-div-mul kinds 2 (2 ^ outer) ∙ ap (λ n. kinds / n) (mul_comm 2 (2 ^ outer) ∙ sym (pow-suc 2 outer)))
 
--- the floor of a domain is that of its last level
+-- the floor of a domain is the timestamp of its last level
 pub floor_last : (floor : ℕ) (outer : List Level) (last : Level) → floor_in floor (outer ++ last ∷ []) ≡ last.ts
 floor_last floor [] last = refl
 floor_last floor (level ∷ levels) last = floor_last level.ts levels last

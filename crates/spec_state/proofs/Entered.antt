@@ -32,11 +32,11 @@ has_head x xs = (0, omega arith, refl)
 pub in_tail : {X : Type 0} (x : X) (xs : List X) (y : X) → Contains xs y → Contains (x ∷ xs) y
 in_tail x xs y has = (suc has.0, omega (arith, has.1), has.2)
 
--- a place holds what stands at it
+-- a list holds what stands at a place of it
 pub held_at : (ids : List ℕ) (p id : ℕ) → slice_get ids p ≡ Some id → Contains ids id
 held_at ids p id at = (p, slice_get_within ids p id at, get_or_from_slice_get ids p id id at)
 
--- the index holds no entry of an id that is no task's
+-- the index holds no candidate of an id that is no task's
 pub no_entry : (tasks : List (Option Task)) (queues : List (List ℕ)) (arrivals : List ℕ) (next id : ℕ) (entries : List Candidate) → IsIndexed tasks queues arrivals next entries
     → slice_index_or tasks id None ≡ None → HasId id entries → ⊥
 no_entry tasks queues arrivals next id entries is vacant (k, e, below, at, same) =

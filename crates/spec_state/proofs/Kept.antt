@@ -160,7 +160,7 @@ same_count tasks id task changed there =
     let was : ◌≡◌ {A = ℕ} (cond (is_some (slice_index_or tasks id None)) 1 0) 1 = ap (λ slot. cond (is_some slot) 1 0) there in
     omega (arith, set, was)
 
--- slots and entries are as many as they should be
+-- slots and candidates are as many as they should be
 pub slots_kept : (settings : Settings) (tasks now : List (Option Task)) (queues : List QueueValue)
     (counts : SlotCounts) (indexed_now capacity_now : ℕ) → HasSlots settings tasks queues counts
     → count_by is_some now ≡ count_by is_some tasks → indexed_now ≤ counts.indexed → capacity_now ≡ counts.capacity
@@ -186,7 +186,7 @@ task_set tasks id task now there = get_or-set_same tasks id (Some now) None (bel
 pub others_set : (tasks : List (Option Task)) (id : ℕ) (now : Task) (k : ℕ) → k ≢ id → slice_index_or (slice_set tasks id (Some now)) k None ≡ slice_index_or tasks k None
 others_set tasks id now k other = get_or-set_other tasks id k (Some now) None other
 
--- so slots and entries are as many,
+-- so slots and candidates are as many,
 pub slots_set : (settings : Settings) (tasks : List (Option Task)) (queues : List QueueValue) (counts : SlotCounts)
     (id : ℕ) (task now : Task) → HasSlots settings tasks queues counts → slice_index_or tasks id None ≡ Some task
     → HasSlots settings (slice_set tasks id (Some now)) queues counts

@@ -82,7 +82,7 @@ module _ (size : ℕ) (view : View) (arrivals : List ℕ) (next : ℕ) (stored :
     first_of : IsFirstQueued view e.id task
     first_of = record { place = has.0; queued_at = record { queued = at_place; there = there }; first = first }
 
-  -- the first entry of the index is that of the first queued task
+  -- the first candidate of the index is that of the first queued task
   pub first_queued : (entries : List Candidate) → IsIndexed view.tasks view.queues arrivals next entries → IsInOrder candidate_cmp entries → (id : ℕ) → first_id entries ≡ Some id
       → (task : Task) × IsFirstQueued view id task
   first_queued [] is order id at = absurd (cc)

@@ -118,7 +118,7 @@ tiles_left settings queues finished cores cores_now blocks tile queue after wait
   commit_queues = all_but_one (λ q. q.capacity ≡ settings.commit_queue) finished tile waiting later tiles.commit_queues in_finished waits (λ was. same_waiting ∙ was);
 }
 
--- slots and entries are as many as they should be without one task
+-- slots and candidates are as many as they should be without one task
 pub slots_left : (settings : Settings) (tasks now : List (Option Task)) (queues : List QueueValue)
     (counts : SlotCounts) (slots_now indexed_now capacity_now tile : ℕ) (queue after : QueueValue)
     → HasSlots settings tasks queues counts → tile < length queues → queue ≡ slice_index_or queues tile queue
@@ -146,7 +146,7 @@ slots_left settings tasks now queues counts slots_now indexed_now capacity_now t
 
 module _ (tasks after : List (Option Task)) (queues : List (List ℕ)) (arrivals : List ℕ) (next : ℕ) (entries : List Candidate) (id : ℕ)
     (is : IsIndexed tasks queues arrivals next entries) (others : (k : ℕ) → k ≢ id → slice_index_or after k None ≡ slice_index_or tasks k None) where
-  -- an entry of another id is that of its task
+  -- a candidate of another id is that of its task
   abbrev Has : Candidate → Type 0
   Has e = (t : Task) × (slice_index_or after e.id None ≡ Some t) × (e ≡ candidate_of arrivals e.id t)
 

@@ -88,9 +88,9 @@ module _ (tasks : List (Option Task)) (lists : List (List ℕ)) (arrivals : List
       let less = is.rising tile q (suc q) a.0 b (omega arith) a.1 at in
       omega (arith, upto, less)
 
-  -- each task has an entry
-  pub has_entry : (id : ℕ) (task : Task) → slice_index_or tasks id None ≡ Some task → HasId id entries
-  has_entry id task at = let found =
+  -- each task has a candidate
+  pub has_candidate : (id : ℕ) (task : Task) → slice_index_or tasks id None ≡ Some task → HasId id entries
+  has_candidate id task at = let found =
       is.all id task at in (found.0, candidate_of arrivals id task, found.1, found.2, refl)
 
   module _ (theirs : AreTheirs tasks lists) (tile place id : ℕ) (task : Task) (at : slice_get (slice_index_or lists tile []) place ≡ Some id)

@@ -49,7 +49,7 @@ module _ (settings : Settings) (queues finished : List QueueValue) (core_lists b
     pub both_have_room : (count_by is_some tasks + 1 ≤ counts.slots) × (counts.indexed < counts.capacity)
     both_have_room = (omega (arith, fits, has.used, has.enough), omega (arith, fits, has.indexed_are, has.index))
 
-    -- slots and entries are as many as they should be
+    -- slots and candidates are as many as they should be
     pub slots_after : (after : QueueValue) → after.ids ≡ queue.ids ++ id ∷ []
         → (now : List (Option Task)) (slots_now indexed_now capacity_now arrivals_now : ℕ)
         → count_by is_some now ≡ count_by is_some tasks + 1 → slots_now ≡ counts.slots
@@ -116,7 +116,7 @@ has_slot settings queues finished core_lists block_lists tiles tile in_range fre
     let within : tile < length queues = omega (arith, tiles.queue_count) in
     both_have_room settings queues finished core_lists block_lists tiles tile in_range queue (sym (get_or_default queues tile queue nothing within)) free tasks counts has 0
 
--- no more are indexed than the index has entries for
+-- no more are indexed than the index has places for
 pub few_indexed : (settings : Settings) (tasks : List (Option Task)) (queues finished : List QueueValue)
     (core_lists block_lists : ℕ) (counts : SlotCounts) → HasTiles settings queues finished core_lists block_lists
     → HasSlots settings tasks queues counts → counts.indexed ≤ counts.capacity
@@ -125,7 +125,7 @@ few_indexed settings tasks queues finished core_lists block_lists counts tiles h
     let fits' : queued_count queues ≤ settings.tiles * settings.task_queue = subst (λ n. queued_count queues ≤ n * settings.task_queue) tiles.queue_count fits in
     omega (arith, fits', has.indexed_are, has.index)
 
--- the index has at most one entry more
+-- the index has at most one candidate more
 pub few_more : (old fresh now : List Candidate) (e : Candidate) → now ≡ after_insert candidate_cmp e fresh → length fresh ≤ length old → length now ≤ length old + 1
 few_more old fresh now e is upto = let more = ap length is ∙ length-after_insert candidate_cmp e fresh in omega (arith, more, upto)
 

@@ -1,4 +1,4 @@
--- A block with more room: what is seen of the blocks stays, and no room is less.
+-- A block with more that is spare: what is seen of the blocks stays, and nothing spare is less.
 use Rattle.std.proofs.Common.{◌≡◌, ◌+◌, ◌<◌, ◌≤◌, ◌∷◌, ℕ, zero, suc, List, [], length, map, refl, sym, ap, ◌∙◌, arith, slice_index_or}
 use Rattle.std.specs.Prelude.{slice_set, IfSome, IsSome, Some, None, unwrap_or}
 use Rattle.std.proofs.Common.{Option}

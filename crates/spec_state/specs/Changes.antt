@@ -1,4 +1,4 @@
--- The one change of each event, where what it forces is done.
+-- The one change of a dispatch, a step and a commit, where what it forces is done (the others: `Aborts`, `Room`).
 use Rattle.std.specs.Prelude.{◌≡◌, ◌≢◌, ◌+◌, ◌∷◌, ◌++◌, ℕ, List, [], length, map, ◌==◌, Option, Some, None}
 use Rattle.std.specs.Prelude.{slice_set, if◌then◌else◌}
 use Rattle.guest_image.specs.declared.image.Kind.{Kind}

@@ -1,6 +1,7 @@
 -- The lines that a task touched and wrote, by its filter. Here alone it is said which filter that is: a signature,
 -- which says touched of a line where some noted line equals it modulo 1,024, and wrote where some line noted with a
--- write does. It is known also where filters meet (`Pulled` of spec_rollback), and in code.
+-- write does. It is known also where filters meet (`Pulled` of spec_rollback), where notes are added (`Noted` of
+-- spec_law), and in code.
 use Rattle.std.specs.Prelude.{ℕ, Bool, List}
 use Rattle.line_table.specs.Note.{Note}
 use Rattle.line_table.specs.declared.signature.Signature.{Signature}

@@ -1,4 +1,5 @@
--- The first of the queued tasks, and the first of the spilled ones.
+-- The first of the queued tasks, and the first of the spilled ones; how the least task stands; and the heir, firm
+-- tasks and their names, as code finds them.
 use Rattle.std.specs.Prelude.{◌≡◌, ◌≢◌, ◌<◌, ◌+◌, ℕ, List, [], Option, Some, None, slice_get, slice_index_or}
 use Rattle.std.specs.declared.cmp.Ordering.TheVariants.{Greater}
 use Rattle.fractal_vt.specs.declared.key.Key.{Key}

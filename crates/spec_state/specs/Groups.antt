@@ -1,4 +1,4 @@
--- What each group of the laws reads of a view: the order of tasks, memory, names and children, and room in a queue.
+-- What the laws read of a view: those of the order of tasks, of memory, of the serial bags, and of room in a queue.
 use Rattle.std.specs.Prelude.{ℕ, ◌/◌, ◌∷◌, Bool, true, false, List, [], length, map, flat_map, nat_le, Option, Some}
 use Rattle.std.specs.Prelude.{None, option_map}
 use Rattle.fractal_vt.specs.declared.level.Level.{Level}

@@ -1,5 +1,5 @@
--- Room in a task queue: spilling, its return, and the four rules by which a full queue gets a free place (Jeffrey
--- et al. 2015, section 4.7: coalescers and splitters).
+-- Room in a task queue: spilling, its return, and the four rules for who wants a free place (Jeffrey et al. 2015,
+-- section 4.7: coalescers and splitters).
 use Rattle.std.specs.Prelude.{◌≡◌, ◌⊎◌, ◌≢◌, ℕ, ◌<◌, ◌≤◌, List, [], length, map, AllPairs, Contains, Option, Some}
 use Rattle.std.specs.Prelude.{None, slice_set}
 use Rattle.std.specs.List.{AllZip}

@@ -1,5 +1,4 @@
--- What contracts see of a state: the machine, the room that it keeps for what the next event adds, and its notes of
--- a cascade.
+-- What contracts see of a state: the view, what is spare for the next event, and its notes of a cascade.
 use Rattle.std.specs.Prelude.{◌<◌, ◌≤◌, ◌+◌, ℕ, Bool, List, Option, length, IfSome, slice_index_or}
 use Rattle.spec_state.specs.declared.task.TaskId.{TaskId}
 use Rattle.spec_state.specs.declared.reserving.TheConstants.{MAX_MOVED}

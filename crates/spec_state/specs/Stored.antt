@@ -23,7 +23,7 @@ HasCore Finished core = ⊥
 abbrev pub HasTask : View → ℕ → ℕ → (Status → Type 0) → Type 0
 HasTask view tile id kind = (task : Task) × (task_at view id ≡ Some task) × (task.tile ≡ tile) × kind task.status
 
--- a task by itself, in a state of so many bytes of data and so many commits: its depth, the kinds on its path and
+-- a task by itself, in a state of so many bytes of data and so many commits: its depth, the kinds of its domains and
 -- its children are within their bounds, its accesses lie in the data, it has a dispatch number exactly where it
 -- keeps a core, and a committed creator is one of the commits
 pub record IsWellFormed (size commits : ℕ) (task : Task) : Type 0 where
@@ -57,8 +57,8 @@ abbrev pub candidate_of : List ℕ → ℕ → Task → Candidate
 candidate_of arrivals id task =
     record { key = task.key; tile = task.tile; arrival = slice_index_or arrivals id 0; id = id }
 
--- the index holds these tasks and no other, each once, under arrival numbers that rise along each queue and are
--- less than the next one
+-- the index holds these tasks and no other, under arrival numbers that rise along each queue and are less than the
+-- next one
 pub record IsIndexed (tasks : List (Option Task)) (queues : List (List ℕ)) (arrivals : List ℕ) (next : ℕ)
     (entries : List Candidate) : Type 0 where
   pub all : (id : ℕ) (task : Task) → slice_index_or tasks id None ≡ Some task

@@ -29,12 +29,13 @@ depth_of task = length task.key.domain + 1
 abbrev pub is_dispatched : Task → Bool
 is_dispatched task = is_some task.key.tb
 
--- of the domains on a path, from the outermost on, whether the one behind so many others is ordered: a bit of the kinds
+-- of the domains that a task is in, from the outermost on, whether the one behind so many others is ordered: a bit of
+-- the kinds
 abbrev pub is_ordered_at : ℕ → ℕ → Bool
 is_ordered_at zero kinds = kinds % 2 == 1
 is_ordered_at (suc outer) kinds = is_ordered_at outer (kinds / 2)
 
--- whether each of so many domains on a path is ordered, from the outermost on
+-- whether each of so many domains that a task is in is ordered, from the outermost on
 abbrev pub ordered_to : ℕ → ℕ → List Bool
 ordered_to zero kinds = []
 ordered_to (suc n) kinds = is_ordered_at 0 kinds ∷ ordered_to n (kinds / 2)
@@ -105,8 +106,8 @@ progress_at memory core task = record {
   sub = task.sub;
 }
 
--- what is fixed of a task when it is made, but for its creator: its entry, arguments, hint and timestamp, the
--- levels of its domain, and the kinds of the domains on its path
+-- what is fixed of a task when it is made, but for its creator: its entry address, arguments, hint and timestamp, the
+-- levels of its domain, and the kinds of these domains
 pub record Descriptor : Type 0 where
   pub entry : ℕ
   pub args : List ℕ

@@ -49,8 +49,8 @@ fn root_task(version: u16, desc: &Desc, tile: u32) -> Fresh
     }
 }
 
-/// Puts an idle task under the next id, for which there is room, in the place of one that has left. It takes no
-/// memory.
+/// Puts an idle task under the next id, for which there is room, over a spare one: one that has left, or a blank one.
+/// It takes no memory.
 fn put_in(tasks: &mut KeptSlab<Task>, task: &Fresh) -> usize
     requires { HasRoomFor tasks.old 1 }
     ensures was_vacant { get tasks.old result ≡ None }

@@ -81,7 +81,7 @@ impl Places {
     }
 }
 
-/// Whether the child at this place of the task of this id stands under this key.
+/// Whether the child at this place of the task of this id stands under the id `key`.
 fn is_child_at(tasks: &KeptSlab<Task>, key: usize, id: usize, place: usize) -> bool
     ensures { IsTrue result ↔ IsChildAt id place (get tasks.now key) }
 {

@@ -1,4 +1,4 @@
-//! Which tasks are firm, and their names. No call takes memory; each costs what `least` does.
+//! Which tasks are firm, and their names. No call takes memory; those of a state cost what `least` does.
 
 ghost use Rattle.std.specs.Prelude.{◌≡◌, ◌≤◌, ◌↔◌, IsTrue, IsNone, IsSome, IfSome, option_map};
 ghost use Rattle.spec_state.specs.View.{task_at};

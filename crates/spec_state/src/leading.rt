@@ -59,7 +59,7 @@ impl<N: Naming> State<N> {
     }
 
     /// The least uncommitted task, and how it stands; None exactly where no task is uncommitted. It costs a look at
-    /// the index and one at each tile's block.
+    /// the index and one at the block that has the first of the spilled tasks.
     #[inline(always)]
     pub fn least(&self) -> Option<Where>
         ensures some { IfSome result (IsLeast self.now.view) }

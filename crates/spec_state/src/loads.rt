@@ -1,4 +1,4 @@
-//! How many tasks each tile has, for placers.
+//! How many tasks each tile's task queue holds, for placers.
 
 ghost use Rattle.std.specs.Prelude.{◌≡◌, ◌<◌, [], ◌∷◌, ◌++◌, length};
 

@@ -50,7 +50,7 @@ impl<N: Naming> State<N> {
         &self.decoded
     }
 
-    /// What new tasks take their memory from.
+    /// What larger buffers, the list of what pends and a book's lists take their memory from.
     pub fn alloc(&self) -> Global {
         self.alloc
     }

@@ -95,7 +95,7 @@ fn replace<T: Drop>(buffer: &mut Buffer<T>, larger: Option<Buffer<T>>)
 }
 
 impl Buffers {
-    /// Sees to it that so many accesses and children are spare.
+    /// Puts the larger buffers, if there are any, in the places of those for accesses and for children.
     fn cover(&mut self, log: Option<Buffer<Access>>, spawns: Option<Buffer<Spawn>>)
         ensures log { self.new.log ≡ unwrap_or log self.old.log }
         ensures spawns { self.new.spawns ≡ unwrap_or spawns self.old.spawns }
@@ -108,7 +108,7 @@ impl Buffers {
 
 impl<N: Naming> State<N> {
     /// Makes what one event adds spare: an access and a child of this task, if one is given, and so many tasks
-    /// in the tile's block as move at once. A new task needs none: the slab has a slot for each entry of the task
+    /// in the tile's block as move at once. A new task needs none: the slab has a slot for each place of the task
     /// queues, with room for the task's bytes. `AllocError` where memory runs out, and nothing has changed then. The
     /// view stays in any case.
     pub fn reserve(&mut self, task: Option<TaskId>, tile: u32) -> Result<(), AllocError>

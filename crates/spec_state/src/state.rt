@@ -52,7 +52,7 @@ pub struct State<N: Naming> {
     pub cores: Vec<Vec<Option<TaskId>>>,
     /// The spilled tasks of each tile.
     pub blocks: Blocks,
-    /// The queued tasks of all tiles, in the order in which they commit.
+    /// The queued tasks of all tiles, in the order of their keys.
     pub index: Index,
     /// The number of its arrival in its queue, for each id; that of an id that is no task's says nothing.
     pub arrivals: Vec<u64>,
@@ -70,7 +70,7 @@ pub struct State<N: Naming> {
     pub buffers: Buffers,
     /// The text, decoded.
     pub decoded: Decoded<N>,
-    /// What new tasks take their memory from.
+    /// What larger buffers, the list of what pends and a book's lists take their memory from.
     pub alloc: Global,
     /// What the state is about: the limits are those that `N` names.
     pub naming: PhantomData<N>,

@@ -9,7 +9,7 @@ use serial_machine::Items;
 use task_desc::Spawn;
 use undo_log::Log;
 
-/// An uncommitted task that isn't spilled, by its key in the state's slab. It says nothing of the task: an id is
+/// An uncommitted task that isn't spilled, by its slot in the state's slab. It says nothing of the task: an id is
 /// given again once its task has left.
 #[derive(Clone, Copy, Debug, PartialEq, Eq)]
 pub struct TaskId(pub usize);

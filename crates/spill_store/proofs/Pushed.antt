@@ -1,4 +1,4 @@
--- Entries in the order of their keys: what a push leaves, and where it goes.
+-- Spilled tasks in the order of their keys: what a push leaves, and where it goes.
 use Rattle.std.proofs.Common.{◌≡◌, ◌≢◌, ℕ, zero, ◌+◌, ◌≤◌, true, false, List, [], ◌∷◌, ◌++◌, Some, map, slice_get, refl, sym, ap, subst, ◌∙◌, arith}
 use Rattle.std.specs.List.{All, insert}
 use Rattle.std.specs.List.Sorted.{IsPermutation}
@@ -44,7 +44,7 @@ in_order-after_push entries entry order = in_order-after_insert by_key by_key_to
 pub put_in : (entry : Spilled) (old new : List Spilled) (place : ℕ) → place ≡ place_for by_key entry old → new ≡ insert old place entry → new ≡ after_push old entry
 put_in entry old new place at is = is ∙ ap (λ n. insert old n entry) at ∙ sym (inserted_at by_key entry old)
 
--- the first task is the one that the old way took: the first of a least key
+-- the first task is the one that is to be taken: the first of a least key
 pub takes_first : (entry : Spilled) (entries : List Spilled) → IsInOrder by_key (entry ∷ entries) → TakesLeast (entry ∷ entries) entries entry
 takes_first entry entries order = record {
   place = zero;
@@ -66,7 +66,7 @@ takes_first entry entries order = record {
     keys_upto : (e : Spilled) (es : List Spilled) → All (λ other. by_key e other ≢ Greater) es → All (λ other. key_cmp (open_key e) other ≢ Greater) (map open_key es)
     keys_upto e es all = Rattle.std.proofs.lemmas.List.Elements.All-map (λ other. key_cmp (open_key e) other ≢ Greater) open_key es all
 
--- what goes in comes out, the least key first
+-- what several pushes leave: each task once, in the order of their keys
 all_permute : (entries more : List Spilled) → IsPermutation (entries ++ more) (after_pushes entries more)
 all_permute entries [] = subst (λ xs. IsPermutation (entries ++ []) xs) (append-nil entries) (IsPermutation-refl (entries ++ []))
 all_permute entries (entry ∷ more) =

@@ -1,4 +1,4 @@
--- Entries at places: what an edit of the places' order leaves.
+-- Spilled tasks at places: what an edit of the places' order leaves.
 use Rattle.std.proofs.Common.{◌≡◌, ◌≢◌, ℕ, zero, suc, ◌+◌, ◌<◌, ◌≤◌, false, nat_eq, List, [], ◌∷◌, ◌++◌, length, get_or, set, map, refl, sym, ap, subst, ◌∙◌, arith}
 use Rattle.std.specs.List.{All, IsDistinct, AllByRecursion, insert}
 use Rattle.std.specs.List.Sorted.{IsPermutation}
@@ -148,7 +148,7 @@ first_shelved kept order free place room order_room kept_room free_room more_ord
       free_holds = (let holds = is.free_holds in omega arith);
     }
 
--- the tasks of a renumbered table
+-- the tasks renumbered by a table
 get_renumbered : (table : List ℕ) (kept : List Spilled) (k : ℕ) → get_or (map (renumbered_spilled table) kept) k blank_spilled ≡ renumbered_spilled table (get_or kept k blank_spilled)
 get_renumbered table [] k = refl
 get_renumbered table (e ∷ kept) zero = refl

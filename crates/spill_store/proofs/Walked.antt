@@ -37,7 +37,7 @@ module _ (table : List ℕ) (first blocks : List BlockValue) (tile : ℕ) (block
       map-set (λ (b : BlockValue). b.entries) blocks tile after ∙ ap (slice_set (lists_in blocks) tile) renumbered
       ∙ map_over_more (map (renumbered_spilled table)) (lists_in first) (lists_in blocks) tile block.entries in_lists is own_entries
 
--- and its room stays
+-- and what is spare of each block stays
 pub spare_same : (blocks : List BlockValue) (tile : ℕ) (block after : BlockValue) → block ≡ slice_index_or blocks tile block → after.spare ≡ block.spare
     → map (λ b. b.spare) (slice_set blocks tile after) ≡ map (λ b. b.spare) blocks
 spare_same [] tile block after is same = refl

@@ -1,4 +1,4 @@
--- Entries that stay at their places, and the places in an order of their own.
+-- Spilled tasks that stay at their places, and the places in an order of their own.
 use Rattle.std.specs.Prelude.{◌≡◌, ℕ, ◌+◌, ◌<◌, ◌≤◌, ◌^◌, List, [], ◌∷◌, ◌++◌, All, map, length, nat_eq, slice_index_or}
 use Rattle.std.specs.List.{IsDistinct}
 use Rattle.spill_store.specs.SpilledTasks.{Spilled}

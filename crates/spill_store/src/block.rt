@@ -19,7 +19,7 @@ use task_desc::Desc;
 
 /// The spilled tasks of one tile by their open keys, those of one key in the order in which they were pushed.
 ///
-/// Each stays where it is in memory; a ring has the numbers of their places, the least task's at its front. To take
+/// Each stays at its place; a ring has the numbers of these places, the least task's at its front. To take
 /// that moves nothing, and a push, which finds its place by comparisons in the logarithm of the length, moves the
 /// numbers before it or those behind it, whichever are fewer.
 #[derive(Drop)]

@@ -3,8 +3,8 @@
 //!
 //! Between the acts it keeps the legs that are held back. It stands on lines of texts and on the book, which it knows
 //! by its public calls alone; `machine_run` plays by it, `watch_play` plays its acts one by one, and both programs read
-//! by it. Reading takes memory for the acts and time linear in the text. An act costs its event and, where it is a
-//! step, the leg. `script_text`, `watch_text` and `outcome_law` speak of scripts.
+//! by it. Reading takes memory for the acts and time linear in the text. An act costs its event, if it makes one, and
+//! the leg that it runs, if it runs one. `script_text`, `watch_text` and `outcome_law` speak of scripts.
 #![tactic(auto)]
 
 mod act;

@@ -1,6 +1,6 @@
 -- The record of a spilled task, in 64 bytes:
---   0 entry, 4 timestamp, 8, 12 and 16 arguments, 20 hint, 24 the name's creator, 28 the name's index (4 bytes each),
---   32 depth, 34 kinds (2 bytes each), 36 to 63 zeros; all numbers little-endian.
+--   0 entry address, 4 timestamp, 8, 12 and 16 arguments, 20 hint, 24 the name's creator, 28 the name's index (4 bytes
+--   each), 32 depth, 34 kinds (2 bytes each), 36 to 63 zeros; all numbers little-endian.
 use Rattle.std.specs.Prelude.{ℕ, ◌≤◌, ◌<◌, ◌^◌, ◌==◌, ◌&&◌, nat_le, nat_lt, Bool, List, [], ◌∷◌, ◌++◌, drop}
 use Rattle.std.specs.Prelude.{replicate, slice_index, Option, Some, None, if◌then◌else◌}
 use Rattle.std.specs.List.{list_all}

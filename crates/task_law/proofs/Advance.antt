@@ -1,4 +1,4 @@
--- It gets less with each event for the least task.
+-- What is left of the way to a commit gets less with each event for the least task.
 use Rattle.std.proofs.Common.{ℕ, zero, ◌+◌, ◌<◌, ◌≤◌, arith}
 use Rattle.task_law.specs.Advance.{Standing, Over, Finished, Running, Idle, Spilled, rest_of_way, StandingMoves, Split, Dispatch, Step, End_call, Trap, MovesOn, stays, moves, EventsAdvance, AdvancesAreFew}
 

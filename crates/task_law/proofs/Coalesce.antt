@@ -1,4 +1,4 @@
--- Entries as a list; several tasks one after another; a split after that.
+-- Spilled tasks as a list; several spills, one after another; and a split, which is a spill read backwards.
 use Rattle.std.proofs.Common.{◌≡◌, ◌≢◌, ◌⊎◌, ℕ, ◌≤◌, Bool, true, List, [], ◌∷◌, ◌++◌, Option, Some, refl, sym, ap, subst, ◌∙◌, inl, inr}
 use Rattle.std.proofs.lemmas.Bool.{cases_eq}
 use Rattle.task_law.specs.Tasks.{In, BagCreator, Committed, Live, BagTask, IsFree, Names, SpilledBagTask, IsSpilled}

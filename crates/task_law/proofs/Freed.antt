@@ -203,7 +203,7 @@ module _ (count id turn index : ℕ) (old new : ℕ → Option BagTask) (spilled
       by_old None at' = absurd (cc (is.commits.none k at', at))
       by_old (Some x) at' = by_creator x at' x.creator refl
 
-  -- a task that is there now and is no new child has the creator that it had
+  -- a creator that has committed took one of the turns so far, this commit's among them
   counted : (k : ℕ) (y : BagTask) (m i : ℕ) → new k ≡ Some y → y.creator ≡ Committed m i → m ≤ count + 1
   counted k y m i at made = by_how (was k y at)
     where

@@ -401,7 +401,7 @@ none_sound count least runs tasks none =
       families = λ k y at runs'. absurd (cc (none k, at));
     }
 
--- where the least task is idle, no child of it is spilled
+-- while the least task is not dispatched it does not matter which one it is: no child of it is spilled
 pub idle_least : IdleLeastIsAny
 idle_least count least other runs tasks spilled sound =
     record {

@@ -32,7 +32,7 @@ after_accesses-more memory log access = after_accesses-append memory log (access
 Replays-more : (memory : List ℕ) (log : List Access) (access : Access) → Replays memory (log ++ access ∷ []) → Replays memory log × (number_at (after_accesses memory log) access.offset access.width ≡ access.old)
 Replays-more memory log access chain = (Replays-front memory log (access ∷ []) chain, sym (Replays-back memory log (access ∷ []) chain).0.old_is)
 
--- a task on another memory, and a step that doesn't read the memory
+-- a task on another memory, and what a request leads to, on that memory
 abbrev pub on_memory : List ℕ → TaskState → TaskState
 on_memory memory task = record task { memory = memory }
 
@@ -41,7 +41,7 @@ stepped_on memory (Continues task) = Continues (on_memory memory task)
 stepped_on memory (Ends task) = Ends (on_memory memory task)
 stepped_on memory (Traps cause pc) = Traps cause pc
 
--- a call that goes on doesn't read the memory, and counts one instruction
+-- a call that goes on doesn't read the memory, and is no request to go on
 call-on : (memory : List ℕ) (task : TaskState) (request : Request) → IsCall request
     → after_request (on_memory memory task) request ≡ stepped_on memory (after_request task request)
 call-on memory task ask.Continue never = absurd never
@@ -57,7 +57,7 @@ call-other : (request : Request) → IsCall request → request ≢ ask.Continue
 call-other request is_call same = subst IsCall same is_call
 
 module _ (image : ImageValue) (budget : ℕ) (ctx : Ctx) (memory : List ℕ) where
-  -- the steps that are left
+  -- what the instructions that are left come to
   abbrev left : TaskState → TaskEnd
   left t = after_instructions image budget ctx (budget - t.core.used) t
 

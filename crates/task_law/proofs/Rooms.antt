@@ -1,4 +1,4 @@
--- The victim may be aborted, and then an entry is free or an idle firm task is in the queue.
+-- What is aborted for a victim may be aborted, and then the queue is shorter or an idle firm task is in it.
 use Rattle.std.proofs.Common.{◌≡◌, ◌≢◌, ℕ, suc, ◌<◌, ◌≤◌, Bool, true, false, List, [], ◌∷◌, length, Option, Some, None, is_some, refl, sym, ap, subst, ◌∙◌, inl, inr, arith}
 use Rattle.task_law.specs.Tasks.{In}
 use Rattle.task_law.specs.Room.{RoomTask, MayAbort, VictimIsLegal, kept_by, queue_after, VictimMakesRoom}

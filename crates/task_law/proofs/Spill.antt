@@ -1,4 +1,4 @@
--- A task that becomes an entry, or an entry that becomes a task, changes no free task and no family.
+-- A task that is spilled, or a spilled one that comes back, changes no free task and no family.
 use Rattle.std.proofs.Common.{◌≡◌, ◌≢◌, ◌⊎◌, ℕ, ◌+◌, ◌≤◌, Bool, true, Option, Some, refl, sym, ap, subst, ◌∙◌, inl, inr, arith}
 use Rattle.std.proofs.lemmas.Bool.{cases_eq}
 use Rattle.task_desc.specs.declared.desc.Name.{Name}
@@ -27,7 +27,7 @@ module _ (count least : ℕ) (old new : ℕ → Option BagTask) (before after : 
   not_this : (k : ℕ) (x : BagTask) → new k ≡ Some x → k ≢ id
   not_this k x at here = absurd (cc (spills.gone, ap new here, at))
 
-  -- the entry's creator, as a free task's or as a child's
+  -- the free tasks and the children of each task stay the same, both ways
   pub free_forth : (depth : ℕ) (p : PendingTask) → IsFree old before count depth p → IsFree new after count depth p
   free_forth depth p (inr s) = inr (spills.more depth p s.0, s.1)
   free_forth depth p (inl q) = elim (cases_eq q.id id) [
@@ -145,7 +145,7 @@ module _ (count least : ℕ) (old new : ℕ → Option BagTask) (before after : 
         not_this k x at (distinct k id x task (sym (spills.others k (not_this k x at)) ∙ at) spills.there creators)
   ]
 
-  -- backwards it takes that no entry that stays has the name
+  -- backwards it takes that no spilled task that stays has the name
   pub apart_back : ((depth : ℕ) (p : PendingTask) → before depth p → p.name ≢ name) → NamesAreApart count least new after → NamesAreApart count least old before
   apart_back fresh apart k x other depth p at names entry same = elim (cases_eq k id) [
     | inl here ↦

@@ -1,4 +1,4 @@
--- The laws of a commit, put together.
+-- The laws of a commit and of a trap of the least task, put together.
 use Rattle.std.proofs.Common.{◌≡◌, ℕ, zero, suc, ◌+◌, ◌≤◌, true, List, [], ◌∷◌, ◌++◌, length, Option, Some, None, refl, sym, ap, subst, ◌∙◌, arith, slice_get}
 use Rattle.std.specs.Prelude.{IsSome}
 use Rattle.guest_image.specs.declared.image.Kind.{Kind}

@@ -60,7 +60,7 @@ pub record CommitsInBags (old new : ℕ → Option BagTask) (id turn : ℕ) : Ty
   pub none : (k : ℕ) → old k ≡ None → new k ≡ None
 
 -- a child for a subdomain has one, and a child for the superdomain has one: the calls of a task allow no other. It is
--- proved of the run, and no premise
+-- a premise of `CommitIsTurn`, and none of `LeastCommitsSerially`, where it is proved of the run
 pub record HaveDomains (depth : ℕ) (sub : Option Kind) (spawns : List Spawn) : Type 0 where
   pub inside : (index : ℕ) (spawn : Spawn) → slice_get spawns index ≡ Some spawn → spawn.place ≡ Sub
       → (kind : Kind) × (sub ≡ Some kind)

@@ -1,5 +1,5 @@
--- Events by which tasks come to be: a placement, a dispatch, by which a family begins, and an enqueue, by which it
--- grows.
+-- How tasks and families come to be: a placement, by which a task does, a dispatch, by which a family begins, and an
+-- enqueue, by which it grows.
 use Rattle.std.specs.Prelude.{◌≡◌, ◌≢◌, ◌⊎◌, ◌↔◌, ℕ, ◌≤◌, Bool, true, false, List, [], ◌∷◌, ◌++◌, length, Option}
 use Rattle.std.specs.Prelude.{Some, None}
 use Rattle.task_desc.specs.declared.desc.Spawn.{Spawn}

@@ -1,4 +1,4 @@
--- Events that leave the free tasks as they are: an abort, a spill, a coalescing and a split.
+-- What leaves the free tasks as they are: an abort, a coalescing, which spills one task after another, and a split.
 use Rattle.std.specs.Prelude.{◌≡◌, ◌≢◌, ◌⊎◌, ℕ, Bool, true, false, List, [], ◌∷◌, ◌++◌, Option, Some, None}
 use Rattle.task_desc.specs.declared.desc.Name.{Name}
 use Rattle.pending_list.specs.declared.task.PendingTask.{PendingTask}

@@ -13,7 +13,7 @@ pub data BagCreator : Type 0 where
   Committed : (turn index : ℕ) → BagCreator
   Live : (task index : ℕ) → BagCreator
 
--- what a task runs: its entry and its arguments
+-- what a task runs: its entry address and its arguments
 pub record Body : Type 0 where
   pub entry : ℕ
   pub args : List ℕ

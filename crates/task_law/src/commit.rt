@@ -25,8 +25,8 @@ pub fn context_fits()
     ensures { ContextFits }
 {}
 
-/// A turn keeps the kinds and floors of the domains of the other free tasks, and those of the bags after it are
-/// those of its children.
+/// A turn keeps the kinds and floors of the domains of the other free tasks, and those of its children's domains are
+/// those of bags after it.
 pub fn turn_keeps_domains()
     ensures { TurnKeepsDomains }
 {}

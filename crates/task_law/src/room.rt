@@ -2,7 +2,7 @@
 
 ghost use Rattle.task_law.specs.Room.{CoalesceShortensQueue, SomeRuleApplies, VictimIsLegal, VictimMakesRoom};
 
-/// At each queue with room for two tasks or more some rule applies: a place is free, or an idle firm task moves,
+/// At each queue whose capacity is two or more some rule applies: a place is free, or an idle firm task moves,
 /// or the asker stalls, or, where it is the least task, there is a victim.
 pub fn some_rule_applies()
     ensures { SomeRuleApplies }

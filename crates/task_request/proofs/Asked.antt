@@ -86,7 +86,7 @@ deepest-few version = by_test (version == 2)
     by_test true = omega arith
     by_test false = omega arith
 
--- a child is allowed only while there is room for one more
+-- a child is allowed only while its creator may make one more
 allowed_spawn-room : (ctx : Ctx) (spawn : Spawn) (ts : ℕ) → allowed_spawn ctx spawn ≡ Ok ts
     → ctx.children < MAX_CHILDREN
 allowed_spawn-room ctx spawn ts allows = by_place spawn.place allows
@@ -131,7 +131,7 @@ sub_allowed-room ctx value kind is = by_value (nat_lt 1 value) ctx.sub refl is
     by_value false None at allows = (at, by_depth (nat_lt ctx.depth (deepest ctx.version)) refl allows)
     by_value false (Some other) at allows = absurd (cc (allows))
 
--- a byte is allowed only while there is room for one more
+-- a byte is allowed only while one more may be emitted
 byte_allowed-room : (ctx : Ctx) → byte_allowed ctx ≡ Ok tt → ctx.bytes < MAX_BYTES
 byte_allowed-room ctx is = by_test (nat_lt ctx.bytes MAX_BYTES) refl is
   where
@@ -139,7 +139,7 @@ byte_allowed-room ctx is = by_test (nat_lt ctx.bytes MAX_BYTES) refl is
     by_test true below allows = ltb-true ctx.bytes MAX_BYTES below
     by_test false below allows = absurd (cc (allows))
 
--- so there is room for what is allowed
+-- so what is allowed keeps the limits
 pub allowed_by-room : (ctx : Ctx) (request : Request) → AllowedBy ctx request → KeepsLimits ctx request
 allowed_by-room ctx Continue allows = tt
 allowed_by-room ctx (Load width rd offset) allows = tt

@@ -46,7 +46,7 @@ after_request-used task (Emit byte) other = refl
 after_request-used task End other = refl
 after_request-used task (Trap cause) other = tt
 
--- a task asks to go on exactly at the end of a quantum
+-- a task asks to go on only at the end of a quantum
 pub request_at-other : (ctx : Ctx) (core : Core) (found : Stop) → found ≢ stop.Quantum → request_at ctx core found ≢ Continue
 request_at-other ctx core (stop.Load width rd addr) other = λ e. cc
 request_at-other ctx core (stop.Store width addr value) other = λ e. cc
@@ -55,7 +55,7 @@ request_at-other ctx core stop.Call other =
 request_at-other ctx core (stop.Trap cause pc) other = λ e. cc
 request_at-other ctx core stop.Quantum other = absurd (other refl)
 
--- what stands at a stop counts one instruction
+-- what stands at a stop counts one instruction, but for the end of a quantum
 pub after_stop-used : (ctx : Ctx) (task : TaskState) (found : Stop) → found ≢ stop.Quantum → HasUsed (task.core.used + 1) (after_stop ctx task found)
 after_stop-used ctx task found other =
     after_request-used task (request_at (context ctx task) task.core found) (request_at-other (context ctx task) task.core found other)

@@ -18,7 +18,7 @@ use Rattle.task_request.specs.declared.request.Request.TheVariants.{Trap}
 abbrev pub register_at : Core → ℕ → ℕ
 register_at core number = slice_index core.regs number
 
--- the child that an enqueue describes: entry, timestamp, three arguments and hint stand in x10 to x15
+-- the child that an enqueue describes: entry address, timestamp, three arguments and hint stand in x10 to x15
 abbrev pub spawn_at : Core → Place → Spawn
 spawn_at core place = record {
   place = place;

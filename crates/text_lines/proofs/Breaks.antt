@@ -1,3 +1,4 @@
+-- A text is cut at its first line break, and the lines behind that are those of the rest.
 use Rattle.std.proofs.Common.{◌≡◌, ℕ, ◌<◌, ◌==◌, List, [], ◌∷◌, length, take, drop, Some, None, refl, ◌∙◌, arith, true, false, option_map, Bool, subst}
 use Rattle.std.proofs.Math.Seq.{take-length, drop-length}
 use Rattle.std.specs.declared.option.Option.{Option}

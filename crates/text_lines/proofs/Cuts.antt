@@ -1,3 +1,4 @@
+-- The cut of a list at the first mark.
 use Rattle.std.proofs.Common.{◌≡◌, ◌≢◌, ℕ, ◌+◌, ◌<◌, ◌==◌, List, [], ◌∷◌, length, take, drop, get_or, Some, None, refl, ap, ◌∙◌, arith, zero, suc, false, option_map, eq-eqb, rules}
 use Rattle.text_lines.specs.Lines.{cut}
 

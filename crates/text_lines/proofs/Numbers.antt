@@ -1,3 +1,4 @@
+-- What a number is whose digits are all decimal ones, what a parse of them gives, and that they are text.
 use Rattle.std.proofs.Common.{◌≡◌, ℕ, ◌<◌, ◌^◌, List, length, Some, None, refl, arith, true, false, rules, Result, Ok, Err, ap, sym, ◌∙◌, nat_lt}
 use Rattle.std.specs.List.{list_all}
 use Rattle.std.specs.Char.{is_ascii_digit}
@@ -16,7 +17,7 @@ digits_tested = search rules
 pub own : IsNumeralModel (λ ds. list_all is_ascii_digit ds ≡ true) (digits_value 10)
 own = numerals_by_value _ digits_tested
 
--- what parse gives of plain digits
+-- what the definition of a number gives of plain digits
 number_from : (ds : List ℕ) → is_plain ds ≡ true → digits_value 10 ds < 2 ^ 32 → number ds ≡ Some (digits_value 10 ds)
 number_from ds plain small = let e : nat_lt (digits_value 10 ds) (2 ^ 32) ≡ true = search (rules, small) in rw (plain, e) refl
 

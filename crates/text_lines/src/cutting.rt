@@ -1,4 +1,4 @@
-//! The next line of a text, and what stands in a line before and behind a mark or a front.
+//! The next line of a text, what stands in a line before and behind a mark, and what stands behind a front.
 
 ghost use Rattle.std.specs.Prelude.{◌≡◌, ◌≢◌, ℕ, ◌<◌, ◌≤◌, ◌∷◌, [], length, option_map, slice_index, IfSome};
 ghost use Rattle.std.specs.Prelude.{MatchOption};

@@ -212,8 +212,9 @@ fn advance_least<N: Naming, P: Placer, T: Tap>(
     }
 }
 
-/// One hold of the lock: the leg that is handed in, or a dispatch, or, where the worker has none of both, the event
-/// for the least task; and then a look for the core of its next leg. No more than one of these events is made.
+/// One hold of the lock: the leg is handed in, or else a dispatch is made; then a look for the core of the next leg.
+/// Only where neither is made and no core is found, the event for the least task, and another look. No more than one
+/// of these events is made.
 #[tactic(auto, using(crate::proofs::Holding::counts_hold, crate::proofs::Holding::refused_holds))]
 pub(crate) fn serve<N: Naming, P: Placer, T: Tap>(
     book: &mut Book<N, P, T>,

@@ -21,14 +21,14 @@ use std::sync::{Mutex, Wait, ledger};
 use std::thread::Threads;
 use trace_tap::Tap;
 
-/// A book that workers ran, how many events each of them made, and why they stopped.
+/// A book that workers ran, how many events each of them made, and why the run stopped.
 #[derive(Drop)]
 pub struct Drained<N: Naming, P: Placer = Box<dyn Placer + Send>, T: Tap = Box<dyn Tap + Send>> {
     /// The book.
     pub book: Book<N, P, T>,
     /// How many events each worker made; what was made after they stopped counts to the first one.
     pub shares: Shares,
-    /// Why they stopped.
+    /// Why the run stopped.
     pub halt: Halt,
 }
 

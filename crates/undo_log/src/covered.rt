@@ -1,4 +1,4 @@
-//! The calls of a task whose room in the log was made before.
+//! Loads and stores of a task, for whose log memory was made spare before.
 
 ghost use Rattle.std.specs.Prelude.{◌≡◌, ◌<◌, [], ◌∷◌, ◌++◌, length};
 ghost use Rattle.undo_log.specs.Number.{number_at, IsAccessible};

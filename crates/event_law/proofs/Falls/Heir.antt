@@ -89,7 +89,7 @@ module _ (image : ImageValue) (old : View) (sound : Sound image old) (id : ℕ) 
       let itself : key_cmp task.key task.key ≡ Less = subst (λ (t : Task). key_cmp task.key t.key ≡ Less) one later.later in
       absurd (cc (itself, tied_itself key_cmp_total task.key))
 
-  -- freeing an entry of the commit queue for it leaves it the heir
+  -- freeing a place of the commit queue for it leaves it the heir
   pub commit_leaves_heir : (tile : ℕ) (task : Task) → task_at old id ≡ Some task → {aborted : ℕ} {mid : View} → FreesCommit tile task old aborted mid → IsHeir mid (Some id)
   commit_leaves_heir tile task there (events.has_free free) = is
   commit_leaves_heir tile task there (events.aborts_latest aborted v x new full latest later aborts) =

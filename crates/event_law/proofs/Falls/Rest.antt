@@ -1,4 +1,4 @@
--- What is left before the next commit or the end, by how the least task stands.
+-- What is left up to the next commit or the end, by how the least task stands.
 use Rattle.std.proofs.Common.{ℕ, ◌+◌, ◌-◌, ◌≡◌, ◌≤◌, sym, ap, subst, ◌∙◌, arith}
 use Rattle.task_law.specs.Advance.{Standing, rest_of_way}
 use Rattle.task_law.specs.Advance as standing
@@ -19,7 +19,7 @@ most_left budget (Running core) used = budget - used + 2
 most_left budget (Trapped core cause) used = 1
 most_left budget Finished used = 1
 
--- at least one event is left
+-- it is at least 1
 some_left : (budget used : ℕ) (status : Status) → 1 ≤ most_left budget status used
 some_left budget used Idle = omega arith
 some_left budget used (Running core) = omega arith

@@ -107,7 +107,7 @@ module _ (image : ImageValue) (book : BookView) (sound : Sound image book.view) 
       let above = cascade_is_later image book.view v x aborts.marks sound later.there aborts.cascade id marked apart in
       above_is_other x above.0 later.later above.1 above.2)
 
-  -- freeing an entry leaves a sound view
+  -- freeing a place of the commit queue leaves a sound view
   commit_follows : {aborted : ℕ} {mid : View} → FreesCommit tile task book.view aborted mid → Follows image book.view mid
   commit_follows (events.has_free free) = follows_itself image book.view sound
   commit_follows (events.aborts_latest aborted v x new full latest later aborts) =

@@ -1,4 +1,4 @@
--- A dispatch that is granted leaves a sound view, and so does an abort, a commit or a coalescing that is.
+-- A dispatch that is granted leaves a sound view, and so does an abort or a commit that is.
 use Rattle.std.proofs.Common.{ℕ, ◌≡◌, ◌≢◌, ◌<◌, true, false, Some, sym, ap, subst, ◌∙◌, arith}
 use Rattle.std.specs.Prelude.{length}
 use Rattle.guest_image.specs.ImageValue.{ImageValue}

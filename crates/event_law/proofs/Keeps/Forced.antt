@@ -1,4 +1,4 @@
--- What is taken back is no heir, and a running task that is spared takes its leg still.
+-- Sound views with the settings of others; the heir of a sound view; a running task that is spared takes its leg still.
 use Rattle.std.proofs.Common.{ℕ, ◌≡◌, true, false, Some, refl, sym, ap, subst, ◌∙◌}
 use Rattle.guest_image.specs.ImageValue.{ImageValue}
 use Rattle.rv_core.specs.LegValue.{LegValue, IsLegOfImage}

@@ -9,7 +9,7 @@ use Rattle.spec_state.specs.Aborts.{Aborts, OnlyNode}
 use Rattle.spec_state.specs.Room.{Asker, Enqueuer, Coalesces, QueueHasRoom, IsLeastAsker, IsVictim, MakesRoom, asker_of, queue_has_room, coalesces, aborts_victim, aborts_creator}
 use Rattle.spec_law.specs.RoomLaws.{AsksAsLeast, MayBeTaken}
 use Rattle.spec_law.specs.Sound.{Sound}
-use Rattle.spec_law.proofs.Proved.{abort_for_room_is_sound, cascade_spares_heir, coalesce_stays_sound, leaves_entry, victim_is_later}
+use Rattle.spec_law.proofs.Proved.{abort_for_room_is_sound, cascade_spares_heir, coalesce_stays_sound, leaves_place, victim_is_later}
 use Rattle.event_law.proofs.Keeps.Forced.{Follows, abort_follows, follows_itself, spared_stays}
 
 -- a task that isn't idle is not moved
@@ -84,4 +84,4 @@ module _ (image : ImageValue) where
 
     -- the tile's queue has a free place
     pub room_is_free : {aborted : ℕ} {mid : View} → MakesRoom tile asker old aborted mid → QueueHasRoom mid tile
-    room_is_free makes = leaves_entry tile asker old sound.sizes makes
+    room_is_free makes = leaves_place tile asker old sound.sizes makes

@@ -160,7 +160,7 @@ module _ (image : ImageValue) (settings : Settings) (among : ℕ → ImageTask �
     sizes = sizes_are image.kind image settings among view are is sized valid tiles;
   }
 
--- the tasks of the image stand at their places, whatever is placed where
+-- the opening of an image within its limits is sound, whichever tile each of its tasks is placed in
 pub opening_is_sound : OpeningIsSound
 opening_is_sound image settings placers taps book within valid opened =
     let start : BookView = record { view = opened.empty; placers = placers; taps = taps; steps = 0; stopped = false } in

@@ -30,7 +30,7 @@ coalesced_was tile old new c id task there =
 
 -- of which initial tasks at which places are spoken
 module _ (kind : Kind) (among : ℕ → ImageTask → Type 0) where
-  -- the task is an initial task of these, in this version and in the tile that was picked for it
+  -- the task is an initial task of these, idle, in this version and in some tile
   pub record IsImageTask (version : ℕ) (task : Task) : Type 0 where
     pub index : ℕ
     pub tile : ℕ
@@ -70,7 +70,7 @@ module _ (kind : Kind) (among : ℕ → ImageTask → Type 0) where
   spilled_all view (id ∷ ids) (s ∷ moved) are zip =
       All-cons IsImageSpilled s moved (spilled_one view id s are zip.0) (spilled_all view ids moved are zip.1)
 
-  -- a coalescing leaves initial tasks alone
+  -- a coalescing leaves no task that isn't an initial one
   pub coalesces_keeps : (tile : ℕ) (old new : View) → AreImageTasks old → Coalesces tile old new → AreImageTasks new
   coalesces_keeps tile old new are c =
       record {

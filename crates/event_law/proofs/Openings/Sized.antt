@@ -31,7 +31,7 @@ use Rattle.event_law.proofs.Openings.Rooted.{coalesced_was}
 abbrev HasAny : View → ℕ → ℕ → Type 0
 HasAny view tile id = HasTask view tile id (λ status. Unit {0})
 
--- a queue of so many entries at most, none of them twice
+-- a queue of so many ids at most, none of them twice
 abbrev pub FitsQueue : ℕ → List ℕ → Type 0
 FitsQueue capacity ids = (length ids ≤ capacity) × AllPairs (λ a b. a ≢ b) ids
 
@@ -47,7 +47,7 @@ pub record IsSized (view : View) : Type 0 where
 pub none_fit : (capacity : ℕ) → FitsQueue capacity []
 none_fit capacity = (omega arith, λ i j d before below. absurd (omega (arith, below)))
 
--- a task that waits is there
+-- where room reads a task there is one
 pub there_of : (o : Option Task) → is_some (option_map room_task o) ≡ true → (task : Task) × (o ≡ Some task)
 there_of None is = absurd (cc (is))
 there_of (Some task) is = (task, refl)

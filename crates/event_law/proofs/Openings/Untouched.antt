@@ -1,4 +1,4 @@
--- Placements change tasks and queues alone.
+-- Placements change tasks, queues and blocks alone.
 use Rattle.std.specs.Prelude.{replicate}
 use Rattle.std.proofs.Common.{None, ℕ, ◌≡◌, ◌⊎◌, inl, inr, List, [], ◌∷◌, sym, ap, subst, ◌∙◌}
 use Rattle.guest_image.specs.declared.image.ImageTask.{ImageTask}

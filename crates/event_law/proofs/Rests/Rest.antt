@@ -1,4 +1,4 @@
--- What is left before the next commit or the end.
+-- What is left up to and with the next commit, or up to the end, is bounded.
 use Rattle.std.proofs.Common.{◌+◌, ◌≤◌, subst, sym}
 use Rattle.task_law.proofs.Proved.{rest_bounded}
 use Rattle.event_law.specs.Laws.{RestIsBounded}

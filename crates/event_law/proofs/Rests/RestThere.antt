@@ -67,7 +67,7 @@ goes_on view some few free over = by_end over.0 over.1
 
 module _ (image : ImageValue) (view : View) (sound : Sound image view) (some : IsAllCommitted view → ⊥) (few : length view.history ≢ view.settings.commits) where
   module _ (id : ℕ) (task : Task) (least : IsLeastTask view id task) where
-    -- the least task is trapped only where its status says so
+    -- where its status isn't that of a trapped task, the run isn't over
     untrapped : ((core cause : ℕ) → task.status ≢ Trapped core cause) → IsOver view → ⊥
     untrapped free =
         goes_on view some few

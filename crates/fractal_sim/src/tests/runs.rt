@@ -275,7 +275,7 @@ fn misuses_are_told(rt: HostRuntime) -> Result<(), Fail> {
     each_holds(&rt, &MISUSES)
 }
 
-// Images of the second version, and the limits that it moved.
+// Images of the second version, with the limits that it moved, and one of version 3, which there isn't.
 static STACKED_RUNS: [Case; 7] = [
     Case {
         words: "run",

@@ -1,4 +1,4 @@
--- An abort keeps the groups of a sound view.
+-- An abort keeps the group of memory.
 use Rattle.std.proofs.Common.{◌≡◌, ℕ, Bool, true, false, List, Some, refl, sym, ap, subst, ◌∙◌, inl, inr, arith}
 use Rattle.memory_law.specs.Chain.{IsChained}
 use Rattle.memory_law.specs.Notes.{notes_of}

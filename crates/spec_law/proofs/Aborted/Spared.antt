@@ -46,7 +46,7 @@ pub heir_is_least : (view : View) (heir : Option ℕ) (h : ℕ) → IsHeir view 
 heir_is_least view None h is same = absurd (cc)
 heir_is_least view (Some id) h is same = let eq : id ≡ h = cc in (is.0, subst (λ k. IsLeastTask view k is.0) eq is.1)
 
--- where each marked task, but for `own`, lies above a task, an heir other than `own` is unmarked
+-- where the heir, if it were marked, would lie above a task that is there, it is unmarked
 spared_by : (image : ImageValue) (view : View) (sound : Sound image view) (id : ℕ) (task : Task) (marks : List Bool) → task_at view id ≡ Some task
     → (h : ℕ) → sound.heir ≡ Some h → (is_marked marks h ≡ true → IsTaskAbove view task h) → is_marked marks h ≡ false
 spared_by image view sound id task marks there h heir above = by_mark (is_marked marks h) refl

@@ -22,7 +22,7 @@ marked_below [] id marked = absurd (cc)
 marked_below (mark ∷ marks) zero marked = omega arith
 marked_below (mark ∷ marks) (suc id) marked = let rest = marked_below marks id marked in omega arith
 
--- what is read of nothing is nothing
+-- where nothing is read, nothing is there
 pub none_of : {X Y : Type 0} (f : X → Y) (o : Option X) → option_map f o ≡ None → o ≡ None
 none_of f None is = refl
 none_of f (Some x) is = absurd (cc)

@@ -4,7 +4,8 @@ use Rattle.memory_law.proofs.Proved.{all_undone_is_serial}
 use Rattle.spec_state.specs.Groups.{logged_tasks}
 use Rattle.spec_law.specs.Laws.{UndoAllIsSerial}
 
--- the accesses of all dispatched tasks chain from the serial machine's memory to the view's
+-- the memory is the serial machine's, since the accesses of all dispatched tasks chain from its memory to the view's;
+-- so is the output
 pub undo_all_is_serial : UndoAllIsSerial
 undo_all_is_serial image old new sound undone = (
   undone.memory.memory_is

@@ -34,11 +34,11 @@ module _ (view : View) (sizes : SoundSizes view) (sound : SoundOrder view None) 
   abbrev entry : Spilled → Keyed
   entry = keyed_spilled (length view.history) None
 
-  -- each task stands below the bound
+  -- the bound of the ids: so many slots, and behind them the spilled tasks
   abbrev bound : ℕ
   bound = length view.tasks + length (all_spilled view)
 
-  -- all of them
+  -- each task stands below it
   below_bound : (k : ℕ) (x : Keyed) → all_keyed view None k ≡ Some x → k < bound
   below_bound k x at =
       let low = below_all (length view.tasks) (keyed_tasks view) (map entry (all_spilled view)) bounded k x at in

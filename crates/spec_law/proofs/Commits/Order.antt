@@ -38,7 +38,7 @@ least_of_all view sizes heir id task is =
       least = λ k x at. subst (λ key. levels_cmp (keys.levels key) (levels_of x) ≢ Greater) key (none_below view sizes heir (Queued task.tile is.place) is.least k x at);
     }
 
--- a task without a creator stays as it is when its creator has committed
+-- a task without an uncommitted creator is the same once its creator is left out
 freed_is : (x : Keyed) → x.creator ≡ None → without_creator x ≡ x
 freed_is x none = λ i. record x { creator = sym none i }
 
@@ -47,7 +47,7 @@ pub one_longer : (old new : View) → Commits old new → length new.history ≡
 one_longer old new commit = ap length commit.history ∙ length-append old.history _
 
 module _ (old new : View) (commit : Commits old new) (sizes : SoundSizes old) (firm : (s : Spilled) → Contains (all_spilled old) s → s.desc.name.creator ≤ length old.history + 1) (heir : Option ℕ) where
-  -- the entries as the order read them before, and as it reads them after the commit
+  -- the spilled tasks as the order read them before, and as it reads them after the commit
   abbrev before : List Keyed
   before = map (keyed_spilled (length old.history) (Some commit.id)) (all_spilled old)
 
@@ -64,7 +64,7 @@ module _ (old new : View) (commit : Commits old new) (sizes : SoundSizes old) (f
       (ap (λ b. heir_unless b heir) (le-leb from.0.desc.name.creator (length old.history + 1) low))
       ∙ ap (λ y. Some (without_creator y)) (sym from.2)
 
-  -- where there was no entry there is none
+  -- where there was no spilled task there is none
   none_after : (j : ℕ) → slice_get before j ≡ None → slice_get after j ≡ None
   none_after j none =
       let nothing = none_of (keyed_spilled (length old.history) (Some commit.id)) (slice_get (all_spilled old) j)
@@ -72,7 +72,7 @@ module _ (old new : View) (commit : Commits old new) (sizes : SoundSizes old) (f
       slice_get-map (keyed_spilled (length old.history + 1) heir) (all_spilled old) j
       ∙ ap (option_map (keyed_spilled (length old.history + 1) heir)) nothing
 
-  -- an entry whose creator is not the task that commits has none
+  -- a spilled task whose creator is not the task that commits has no uncommitted one
   entry_free : (j : ℕ) (x : Keyed) → slice_get before j ≡ Some x → x.creator ≢ Some commit.id → x.creator ≡ None
   entry_free j x at free = by_creator x.creator refl
     where

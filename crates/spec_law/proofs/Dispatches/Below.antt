@@ -49,7 +49,7 @@ module _ (view : View) (id : ℕ) (x : Task) (least : IsLeastTask view id x) whe
   pub upto_queued : SoundSizes view → (k : ℕ) (t : Task) → task_at view k ≡ Some t → key_cmp x.key t.key ≢ Greater
   upto_queued sizes k t there = let at = queued_at view sizes k t there in upto_key (Queued t.tile at.0) t.key (k, t, at.1, refl)
 
-  -- a dispatched one is below each other task
+  -- a dispatched one is below each other queued task
   pub below_others : (heir : Option ℕ) → SoundOrder view heir → SoundSizes view → is_dispatched x ≡ true
       → (k : ℕ) (t : Task) → k ≢ id → task_at view k ≡ Some t → key_cmp x.key t.key ≡ Less
   below_others heir order sizes runs k t other there =

@@ -91,7 +91,7 @@ module _ (old new : View) (heir : Option ℕ) (tile : ℕ) (d : Dispatches tile 
         | inr same_task ↦ below_others (after old new tile d) k t least heir order' sizes' runs j x differs (d.changes.others j same_task ∙ at)
       ]
 
-  -- the dispatched task is the least one then, or it isn't
+  -- the dispatched task is the least one then
   abbrev IsLeastThen : Type 0
   IsLeastThen = IsLeastTask (after old new tile d) d.id (now old new tile d)
 

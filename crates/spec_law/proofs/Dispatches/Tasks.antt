@@ -59,7 +59,7 @@ module _ (image : ImageValue) (old new : View) (heir : Option ℕ) (serial : Ser
         others = λ k other. ap (option_map bag_task) (d.changes.others k other);
       }
 
-  -- the free tasks are the same ones, and names are apart and families whole
+  -- with this heir names are apart and families whole
   abbrev NamesAfter : Option ℕ → Type 0
   NamesAfter now_heir = AreSound (length old.history) (unwrap_or now_heir 0) (is_some now_heir) (bag_tasks new) (bags_spilled old)
 

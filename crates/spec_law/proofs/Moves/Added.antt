@@ -36,7 +36,7 @@ added_within left right (e ∷ es) before after adds = (
       (added_within left right es (adds.0 ++ e ∷ adds.1) after adds.3),
 )
 
--- a push adds its entry
+-- a push adds its spilled task
 pushed_between : (block : List Spilled) (e : Spilled) → (front : List Spilled) × (back : List Spilled) × (block ≡ front ++ back) × (after_push block e ≡ front ++ e ∷ back)
 pushed_between [] e = ([], [], refl, refl)
 pushed_between (y ∷ ys) e = by_case (is_lt (by_key e y)) (pushed_between ys e)

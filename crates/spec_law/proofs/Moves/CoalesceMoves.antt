@@ -54,7 +54,7 @@ module _ (image : ImageValue) (old new : View) (heir : Option ℕ) (serial : Ser
   pub idle_is_off : (id : ℕ) (t : Task) → task_at old id ≡ Some t → t.status ≡ Idle → is_dispatched t ≡ false
   idle_is_off id t there idle = ap (λ x. is_some x.key.tb) (idle_is id t there idle)
 
-  -- each id that moves is that of an idle firm task
+  -- each id that moves is that of a task that has done nothing
   moved_idle : (id : ℕ) (t : Task) → Contains c.ids id → task_at old id ≡ Some t → t ≡ idle_again old.version t
   moved_idle id t has there =
       let movable = c.chosen.movable id has in

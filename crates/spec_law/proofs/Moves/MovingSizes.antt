@@ -39,18 +39,18 @@ module _ (old new : View) (heir : Option ℕ) (moves : Moves old new) (order : S
   was_or_idle k t there = elim (moves.queued k t there) [ inl was ↦ inl was | inr spilled ↦ inr (ap (λ x. x.status) spilled.2.idle) ]
 
   -- what holds of a spilled task's descriptor
-  abbrev IsEntryDesc : Spilled → Type 0
-  IsEntryDesc s = IsDesc s.desc × (length s.domain + 1 ≡ s.desc.depth)
+  abbrev IsSpilledDesc : Spilled → Type 0
+  IsSpilledDesc s = IsDesc s.desc × (length s.domain + 1 ≡ s.desc.depth)
 
   -- each spilled task has the descriptor of one
-  entry_desc : (s : Spilled) → Contains (all_spilled new) s → IsEntryDesc s
-  entry_desc s has = elim (moves.spilled s has) [
+  spilled_desc_is : (s : Spilled) → Contains (all_spilled new) s → IsSpilledDesc s
+  spilled_desc_is s has = elim (moves.spilled s has) [
     | inl was ↦ sizes.spilled s was
     | inr queued ↦
         let shaped = order.order.shaped queued.0 (keyed_task queued.1) (queued_stands old heir queued.0 queued.1 queued.2) in
         let few : length (map closed_level queued.1.key.domain) < MAX_LEVELS = shaped.0 in
         let same : length (map closed_level queued.1.key.domain) ≡ length queued.1.key.domain = length-map queued.1.key.domain closed_level in
-        subst IsEntryDesc (sym queued.3.is)
+        subst IsSpilledDesc (sym queued.3.is)
         (record { inside = omega arith; shallow = omega (arith, few, same); kinds = sizes.kinds queued.0 queued.1 queued.2 }, refl)
   ]
 
@@ -94,5 +94,5 @@ module _ (old new : View) (heir : Option ℕ) (moves : Moves old new) (order : S
         );
         kinds = kinds;
         bytes = bytes;
-        spilled = entry_desc;
+        spilled = spilled_desc_is;
       }

@@ -38,8 +38,8 @@ module _ (image : ImageValue) (old new : View) (heir : Option ℕ) (serial : Ser
   ]
 
   -- the domains of a spilled task
-  abbrev FitsEntry : Spilled → Type 0
-  FitsEntry s = FitsBags (domains_of s.desc.kinds s.domain) serial.stack
+  abbrev FitsSpilled : Spilled → Type 0
+  FitsSpilled s = FitsBags (domains_of s.desc.kinds s.domain) serial.stack
 
   -- the domains of each queued task of a committed creator are those of the bags
   domains : (id : ℕ) (t : Task) (turn index : ℕ) → task_at new id ≡ Some t → t.creator ≡ Committed turn index
@@ -49,14 +49,14 @@ module _ (image : ImageValue) (old new : View) (heir : Option ℕ) (serial : Ser
     | inr spilled ↦
         let named : HasName old (Committed turn index) spilled.2.name = subst (λ c. HasName old c spilled.2.name) made spilled.2.named in
         let name : spilled.0.desc.name.creator ≡ turn = ap (λ s. s.desc.name.creator) spilled.2.is ∙ ap (λ n. n.creator) named.1 in
-        subst FitsEntry spilled.2.is (sound.spilled_domains spilled.0 spilled.1 (omega (arith, name, named.0)))
+        subst FitsSpilled spilled.2.is (sound.spilled_domains spilled.0 spilled.1 (omega (arith, name, named.0)))
   ]
 
   -- so are those of each spilled one
-  spilled_domains : (s : Spilled) → Contains (all_spilled new) s → s.desc.name.creator ≤ length old.history → FitsEntry s
+  spilled_domains : (s : Spilled) → Contains (all_spilled new) s → s.desc.name.creator ≤ length old.history → FitsSpilled s
   spilled_domains s has low = elim (moves.spilled s has) [
     | inl was ↦ sound.spilled_domains s was low
-    | inr queued ↦ subst FitsEntry (sym queued.3.is) (by_creator queued.0 queued.1 queued.2 queued.3 queued.1.creator refl queued.3.named)
+    | inr queued ↦ subst FitsSpilled (sym queued.3.is) (by_creator queued.0 queued.1 queued.2 queued.3 queued.1.creator refl queued.3.named)
   ]
     where
       by_creator : (k : ℕ) (t : Task) (there : task_at old k ≡ Some t) (spill : IsSpillOf old t s) (c : Creator) → t.creator ≡ c → HasName old c spill.name

@@ -44,11 +44,11 @@ module _ (old new : View) (tile : ℕ) (sizes : SoundSizes old) (c : Splits tile
       let all = place_in_all old.blocks tile c.least.place c.spilled c.least.least.there in
       get_contains (all_spilled old) all.0 c.spilled all.1
 
-  -- the entry is that of the task
+  -- the spilled task is the one that comes back, spilled under its name
   entry_is : c.spilled ≡ spilled_as c.spilled.desc.name (descriptor_of back_task)
   entry_is = let deep = (sizes.spilled c.spilled was_there).1 in λ i. record { desc = record c.spilled.desc { depth = sym deep i }; domain = c.spilled.domain }
 
-  -- it is the same task as the entry, under its name
+  -- it is the same task as the spilled one, under its name
   spill : IsSpillOf old back_task c.spilled
   spill = record { idle = refl; name = c.spilled.desc.name; named = c.named; is = entry_is }
 

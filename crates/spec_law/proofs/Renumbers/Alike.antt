@@ -25,7 +25,7 @@ pub data AreKeys (a b : View) (k l : Key) : Type 0 where
   of_spilled : (tile place : ℕ) (s t : Spilled) → slice_get (block_at a tile) place ≡ Some s → slice_get (block_at b tile) place ≡ Some t
       → k ≡ open_key s → l ≡ open_key t → AreKeys a b k l
 
--- the views have the same tasks, queued and spilled, but for their keys, and these compare alike
+-- the views have the same queued tasks but for their keys, spilled ones at the same places, and all keys compare alike
 pub record AreAlike (a b : View) : Type 0 where
   pub forth : (id : ℕ) (x : Task) → task_at a id ≡ Some x → (y : Task) × (task_at b id ≡ Some y) × IsSameBut x y
   pub back : (id : ℕ) (y : Task) → task_at b id ≡ Some y → (x : Task) × (task_at a id ≡ Some x) × IsSameBut y x

@@ -33,7 +33,7 @@ pub closed_levels : (table : List ℕ) (ds : List Level) → map closed_level (r
 closed_levels table [] = refl
 closed_levels table (d ∷ ds) = ap (λ xs. closed_level (renumbered_level table d) ∷ xs) (closed_levels table ds)
 
--- for the order a task of another domain and creator, with the same kinds
+-- what the order reads of a task of these kinds, this key and this creator
 keyed_as : ℕ → Key → Option ℕ → Keyed
 keyed_as kinds key creator = record {
   domain = map closed_level key.domain;
@@ -57,7 +57,7 @@ keyed_renumbered table kinds key creator =
       creator = creator;
     }
 
--- what stands beside mapped entries
+-- what stands beside mapped spilled tasks
 beside_mapped : (bound : ℕ) (g : Keyed → Keyed) (tasks : ℕ → Option Keyed) (entries : List Keyed) (k : ℕ)
     → beside bound (λ id. option_map g (tasks id)) (map g entries) k ≡ option_map g (beside bound tasks entries k)
 beside_mapped bound g tasks entries k = by_test (nat_lt k bound)

@@ -166,7 +166,7 @@ module _ (image : ImageValue) (view : View) (sound : Sound image view) (id : ℕ
   abbrev at_call : TaskState
   at_call = progress_at view.memory leg.to task
 
-  -- the child that is asked for is one that is allowed
+  -- the child that is asked for, where it is allowed, stands in a place that the law of order has for it
   asked_placed : (tile core to : ℕ) (spawn : Spawn) → TakesLeg view tile core leg id task → AllowedBy (context_of view.version task) (Enqueue spawn)
       → IsPlaced (keyed_task task) (keyed_task (child_of view.version id task spawn to))
   asked_placed tile core to spawn takes (asked, allows, is) =

@@ -66,17 +66,17 @@ has_room old new tile sizes same less =
     subst (λ settings. length (queue_at new tile) < settings.task_queue) (sym same) (omega (arith, less, most))
 
 -- whoever asks
-pub leaves_entry : (tile : ℕ) (asker : Asker) (old : View) {aborted : ℕ} {new : View} → SoundSizes old
+pub leaves_place : (tile : ℕ) (asker : Asker) (old : View) {aborted : ℕ} {new : View} → SoundSizes old
     → MakesRoom tile asker old aborted new → QueueHasRoom new tile
-leaves_entry tile asker old sizes (queue_has_room free) = free
-leaves_entry tile asker old sizes (coalesces new full moves) =
+leaves_place tile asker old sizes (queue_has_room free) = free
+leaves_place tile asker old sizes (coalesces new full moves) =
     has_room old new tile sizes (ap (λ view. view.settings) moves.frame) (coalesce_makes_room tile old new moves).0
-leaves_entry tile asker old sizes (aborts_victim aborted v task mid new full none asks victim firm aborts moves) =
+leaves_place tile asker old sizes (aborts_victim aborted v task mid new full none asks victim firm aborts moves) =
     let less = (coalesce_makes_room tile mid new moves).0 in
     let upto = aborted_queue (OnlyNode v) old mid aborted tile aborts in
     has_room old new tile sizes (ap (λ view. view.settings) moves.frame ∙ ap (λ view. view.settings) aborts.frame) (omega (arith, less, upto))
-leaves_entry tile asker old sizes (aborts_creator aborted v creator task new full none asks victim loose made_by aborts) =
+leaves_place tile asker old sizes (aborts_creator aborted v creator task new full none asks victim loose made_by aborts) =
     has_room old new tile sizes (ap (λ view. view.settings) aborts.frame) (creator_queue old new aborted tile v creator asker task victim made_by aborts)
 
 pub room_is_made : RoomIsMade
-room_is_made image tile aborted asker old new sound makes = leaves_entry tile asker old sound.sizes makes
+room_is_made image tile aborted asker old new sound makes = leaves_place tile asker old sound.sizes makes

@@ -54,18 +54,18 @@ module _ (view : View) (tile : ℕ) (least : IsLeastSpilled view tile) (place : 
   key_there : (k : ℕ) (x : Spilled) → slice_get (block_at view tile) k ≡ Some x → slice_get (map open_key (block_at view tile)) k ≡ Some (open_key x)
   key_there k x at = slice_get-map open_key (block_at view tile) k ∙ ap (option_map open_key) at
 
-  -- the key of the entry that is taken is the least key of the block
+  -- the key of the spilled task that is taken is the least key of the block
   taken_key : first.least.key ≡ open_key s
   taken_key =
       let both : Some first.least.key ≡ Some (open_key s) = sym first.least.there ∙ key_there place s first.there in
       let same : first.least.key ≡ open_key s = cc in
       same
 
-  -- the entry at the least spot
+  -- the spilled task at the least spot
   abbrev at_spot : Spilled
   at_spot = least.least.has.0
 
-  -- the key of the entry that is taken is not above the least task's
+  -- the key of the spilled task that is taken is not above the least task's
   taken_upto : key_cmp (open_key s) (open_key at_spot) ≢ Greater
   taken_upto e =
       all_get (λ other. key_cmp first.least.key other ≢ Greater) (map open_key (block_at view tile)) least.place (open_key at_spot) first.least.least
@@ -84,7 +84,7 @@ module _ (view : View) (tile : ℕ) (least : IsLeastSpilled view tile) (place : 
   least_no_later = no_later tile least.place place (λ e.
       least.least.least (Spilled_at tile place) (open_key s) (s, first.there, refl) (ap (λ o. ordering_then o (place_cmp tile least.place tile place)) ties ∙ e))
 
-  -- nor earlier, since the entry that is taken is the first one of its key
+  -- nor earlier, since the spilled task that is taken is the first one of its key
   least_no_earlier : least.place < place → ⊥
   least_no_earlier early =
       let below : key_cmp first.least.key (open_key at_spot) ≡ Less = all_get (λ other. key_cmp first.least.key other ≡ Less) (take place (map open_key (block_at view tile)))
@@ -94,7 +94,7 @@ module _ (view : View) (tile : ℕ) (least : IsLeastSpilled view tile) (place : 
       ∙ ap ordering_reverse (sym (ap (λ key. key_cmp key (open_key s)) least.least.has.2) ∙ ties) in
       absurd (cc (below, ap (λ key. key_cmp key (open_key at_spot)) taken_key, tie))
 
-  -- the entry that is taken is the least task
+  -- the spilled task that is taken is the least task
   pub taken_is_least : slice_get (block_at view tile) least.place ≡ Some s
   taken_is_least = elim (cases_lt least.place place) [
     | inl early ↦ absurd (least_no_earlier early)

@@ -1,4 +1,5 @@
--- The least task that comes back by a split is the least one still: it stands last of all queued tasks, none of which has its key.
+-- The least task that comes back by a split is the least one still: it stands last in its tile's task queue, and no
+-- other queued task has its key.
 use Rattle.std.proofs.Common.{◌≡◌, ◌≢◌, ◌⊎◌, ℕ, zero, suc, ◌<◌, List, [], ◌∷◌, ◌++◌, length, remove, Some, refl, sym, ap, subst, ◌∙◌, inl, inr, arith, slice_get, slice_index_or}
 use Rattle.std.proofs.lemmas.Bool.{cases_eq}
 use Rattle.std.proofs.lemmas.Cmp.{nat_cmp_total, tied_itself}
@@ -109,9 +110,9 @@ module _ (tile : ℕ) (old new : View) (sizes : SoundSizes old) (least : IsLeast
         (p, ap (λ block. slice_get block p) (sym same) ∙ at)
   ]
 
-  -- no task ranks above it
-  none_above : (other : Spot) (key : Key) → HasKey new other key → ranked_cmp (open_key splits.spilled) (Queued tile end) key other ≢ Greater
-  none_above (Queued t p) key has = elim (queued_was t p has.0 has.2.queued) [
+  -- no task ranks below it
+  none_below : (other : Spot) (key : Key) → HasKey new other key → ranked_cmp (open_key splits.spilled) (Queued tile end) key other ≢ Greater
+  none_below (Queued t p) key has = elim (queued_was t p has.0 has.2.queued) [
     | inl was ↦
         let there : task_at old has.0 ≡ Some has.1 = sym (splits.changes.others has.0 (not_vacant t p has.0 was)) ∙ has.2.there in
         let upto = least.least.least (Queued t p) key (has.0, has.1, record { queued = was; there = there }, has.3) in
@@ -127,7 +128,7 @@ module _ (tile : ℕ) (old new : View) (sizes : SoundSizes old) (least : IsLeast
         (sym key_same)
         (itself_upto (open_key splits.spilled) (Queued tile end) (queued_ties tile end)))
   ]
-  none_above (Spilled_at t p) key has =
+  none_below (Spilled_at t p) key has =
       let was = spilled_was t p has.0 has.1 in
       let upto = first_not_greater (key_cmp least.least.key key) (place_cmp tile least.place t was.0) (least.least.least (Spilled_at t was.0) key (has.0, was.1, has.2)) in
       then_less (key_cmp (open_key splits.spilled) key) (λ e. upto (sym (ap (λ low. key_cmp low key) key_is) ∙ e))
@@ -145,7 +146,7 @@ split_keeps_least image tile old new sound least splits =
         least = record {
           key = open_key splits.spilled;
           has = (splits.id, task, record { queued = stands; there = splits.changes.changed }, refl);
-          least = none_above tile old new sound.sizes least splits;
+          least = none_below tile old new sound.sizes least splits;
         };
       },
     )

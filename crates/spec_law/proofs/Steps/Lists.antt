@@ -1,4 +1,4 @@
--- One element of a list is another one, or one stands behind it.
+-- Lists of which one element is replaced, or behind which one more is put.
 use Rattle.std.proofs.Common.{◌≡◌, ◌≢◌, ◌∷◌, ◌++◌, ℕ, zero, suc, List, [], Some, refl, sym, ap, ◌∙◌, arith, slice_get, slice_set}
 use Rattle.std.specs.Prelude.{Contains}
 use Rattle.std.proofs.lemmas.List.Quantifiers.{all_pairs_push}

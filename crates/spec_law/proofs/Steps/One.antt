@@ -1,4 +1,5 @@
--- A step of one task, after which its key, creator, tile and what it was made as are what they were: most groups read nothing else of it.
+-- A step of one task, after which its key, creator, tile and what it was made as are what they were: the order of
+-- tasks and room in a queue read nothing else of it.
 use Rattle.std.proofs.Common.{◌≡◌, ◌≢◌, ◌<◌, ℕ, List, length, map, Option, Some, refl, sym, ap, subst, ◌∙◌, inl, inr, option_map}
 use Rattle.std.proofs.lemmas.Bool.{cases_eq}
 use Rattle.fractal_vt.specs.Levels.{closed_level}

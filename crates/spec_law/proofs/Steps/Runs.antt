@@ -1,4 +1,5 @@
--- The run of a task goes on by a leg, and each call of it does what calls do.
+-- The run of a task goes on by a leg, its children are for domains that there are, and what a request leaves of its
+-- subdomain and its bytes.
 use Rattle.std.proofs.Common.{◌≡◌, ◌⊎◌, ◌≤◌, ◌<◌, ◌∷◌, ◌++◌, ℕ, zero, suc, List, [], length, Option, Some, None, refl, subst, inl, inr, arith, slice_get}
 use Rattle.std.proofs.lemmas.List.{length-append}
 use Rattle.guest_image.specs.declared.image.Kind.{Kind}

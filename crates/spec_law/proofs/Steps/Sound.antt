@@ -59,7 +59,7 @@ keeps_steps old new id task work there keeps =
           });
     }
 
--- such a change leaves the lists as they were, where the task is finished or on a core as before
+-- such a change keeps the view sound, where after it the task is finished, or on a core, just where it was before
 pub keeps_sound : (image : ImageValue) (old new : View) (sound : Sound image old) (id : ℕ) (task work : Task) → task_at old id ≡ Some task
     → Keeps id (worked task work) old new → work.log ≡ task.log → work.lines ≡ task.lines → work.spawns ≡ task.spawns → KeepsChildren task (worked task work)
     → StandsAs image old.version old.settings.budget (worked task work) work.status → (work.status ≡ Finished) ↔ (task.status ≡ Finished)
@@ -74,7 +74,7 @@ module _ (image : ImageValue) (old : View) (sound : Sound image old) (tile core 
   pub stood : StandsAs image old.version old.settings.budget task (Running core)
   stood = subst (StandsAs image old.version old.settings.budget task) taken.takes.runs.running (sound.tasks.stands id task taken.takes.runs.on.there)
 
-  -- the leg is the run's next steps
+  -- the leg is the run's next instructions
   pub ran_leg : RanTo image old.version old.settings.budget task (progress_at [] leg.to task)
   ran_leg =
       run_on image old.settings.budget image.data_size (start_context old.version task)

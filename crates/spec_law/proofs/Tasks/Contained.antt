@@ -1,4 +1,4 @@
--- What a list contains: at its head or behind it, decided for ids, and one element fewer.
+-- What a list contains: decided for ids, an id of a list that isn't empty, and one element fewer.
 use Rattle.std.proofs.Common.{◌≡◌, ◌≢◌, ◌⊎◌, ◌∷◌, ◌++◌, ℕ, zero, suc, List, [], Some, refl, sym, ap, ◌∙◌, inl, inr, arith, drop, take, slice_index_or, slice_get, append_assoc}
 use Rattle.std.specs.Prelude.{Contains, flat_map, remove, slice_set}
 use Rattle.std.proofs.lemmas.Bool.{cases_eq}

@@ -1,4 +1,4 @@
--- A distinct id stands at one place.
+-- Each list of several has distinct ids, where all have.
 use Rattle.std.proofs.Common.{◌≤◌, ◌∷◌, ℕ, zero, suc, List, [], length, arith, slice_index_or}
 use Rattle.std.specs.Prelude.{All}
 use Rattle.std.proofs.lemmas.List.Elements.{All-head, All-tail}

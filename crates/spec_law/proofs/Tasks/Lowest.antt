@@ -1,4 +1,4 @@
--- Of the tasks below a bound there is one that none is below.
+-- Of the tasks under ids below a bound, if there are any, there is one that none is below.
 use Rattle.std.proofs.Common.{◌≡◌, ◌⊎◌, ◌<◌, ℕ, zero, suc, false, Option, Some, None, refl, sym, ap, subst, ◌∙◌, inl, inr, arith}
 use Rattle.std.proofs.lemmas.Bool.{cases_eq}
 use Rattle.std.proofs.lemmas.Cmp.{tied_itself, upto}

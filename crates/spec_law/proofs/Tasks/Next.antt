@@ -53,7 +53,7 @@ spilled_key_is view tile place s key at has =
     let same : has.0 ≡ s = cc in
     has.2 ∙ ap open_key same
 
--- the number behind another is not below it
+-- the number behind another is not at most that one
 pub above_test : (a b : ℕ) → a ≡ b + 1 → nat_le a b ≡ false
 above_test a b above = grind (arith, nat_tests)
 

@@ -19,7 +19,7 @@ use Rattle.spec_law.specs.AbortLaws.{AbortKeepsSoundOrder}
 use Rattle.spec_law.proofs.Tasks.Beside.{mapped_some, id_below}
 use Rattle.spec_law.proofs.Aborted.Taken.{gone_stays, order_aborts}
 
--- what stands beside entries is a task or an entry
+-- what stands beside spilled tasks is a queued task or a spilled one
 module _ (bound : ℕ) (tasks : ℕ → Option Keyed) (entries : List Keyed) where
   pub low_is : (k : ℕ) → nat_lt k bound ≡ true → beside bound tasks entries k ≡ tasks k
   low_is k low = ap (λ b. if b then tasks k else slice_get entries (k - bound)) low
@@ -35,7 +35,7 @@ module _ (bound : ℕ) (tasks : ℕ → Option Keyed) (entries : List Keyed) whe
       by_test true low = inl (sym (low_is k low) ∙ at)
       by_test false high = inr (k - bound, sym (high_is k high) ∙ at)
 
-  -- where tasks stand below the bound, nothing stands behind the entries
+  -- where tasks stand below the bound, nothing stands behind the spilled ones
   pub below_all : ((k : ℕ) (x : Keyed) → tasks k ≡ Some x → k < bound) → (k : ℕ) (x : Keyed) → beside bound tasks entries k ≡ Some x → k < bound + length entries
   below_all bounded k x at = by_test (nat_lt k bound) refl
     where
@@ -51,7 +51,7 @@ module _ (bound : ℕ) (tasks : ℕ → Option Keyed) (entries : List Keyed) whe
       let same : bound + is.0 - bound ≡ is.0 = omega arith in
       (bound + is.0, high_is (bound + is.0) (high_test bound is.0) ∙ ap (slice_get entries) same ∙ is.1)
 
--- entries that are idle stand under other ids where the bound is another one
+-- spilled tasks stand under other ids where the bound is another one
 pub rebound : (bound other : ℕ) (tasks : ℕ → Option Keyed) (entries : List Keyed)
     → ((k : ℕ) (x : Keyed) → tasks k ≡ Some x → (k < bound) × (k < other)) → ((x : Keyed) → IsAmongSpilled x entries → x.last.tb ≡ None)
     → Renames (beside bound tasks entries) (beside other tasks entries)
@@ -71,7 +71,7 @@ rebound bound other tasks entries bounded idle =
       ];
     }
 
--- each entry that is read of a spilled task is idle, and has no creator that is uncommitted but the heir
+-- what is read of a spilled task is idle, and has no creator that is uncommitted but the heir
 module _ (count : ℕ) (heir : Option ℕ) where
   pub entry_of : (entries : List Spilled) (x : Keyed) (place : ℕ) → slice_get (map (keyed_spilled count heir) entries) place ≡ Some x → (s : Spilled) × (x ≡ keyed_spilled count heir s)
   entry_of [] x place at = absurd (cc)
@@ -104,7 +104,7 @@ low_of bound set k is = by_test (nat_lt k bound) refl
 low_is_set : (bound : ℕ) (set : ℕ → Bool) (k : ℕ) → nat_lt k bound ≡ true → low_only bound set k ≡ set k
 low_is_set bound set k low = ap (λ b. if b then set k else false) low
 
--- an abort of queued tasks is one of all, where no entry's creator is in the set
+-- an abort of queued tasks is one of all, where no spilled task's creator is in the set
 beside_aborts : (bound : ℕ) (set : ℕ → Bool) (old new : ℕ → Option Keyed) (entries : List Keyed)
     → order.AbortsInKeys set old new
     → ((x : Keyed) (c : ℕ) → IsAmongSpilled x entries → x.creator ≡ Some c → set c ≡ false)

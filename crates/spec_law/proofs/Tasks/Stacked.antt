@@ -22,6 +22,6 @@ runs_keep_stack image budget s [] after is run = subst (λ m. IsStack m.stack) r
 runs_keep_stack image budget s (e ∷ es) after is (mid, taken, rest) =
     runs_keep_stack image budget mid es after (turn_keeps_stack image budget s mid e is (turn-did image budget s mid e.name e taken)) rest
 
--- the opening has one bag, of depth 1
+-- and so is the stack after any run: the opening has one bag, of depth 1
 pub run_stack : (image : ImageValue) (budget : ℕ) (journal : List Entry) (after : SerialState) → IsRun image budget journal after → IsStack after.stack
 run_stack image budget journal after run = runs_keep_stack image budget (opening image) journal after (refl, omega arith, tt) run

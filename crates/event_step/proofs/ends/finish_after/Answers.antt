@@ -1,5 +1,5 @@
 use Rattle.event_step.proofs.Stepping.{asks_still}
-use Rattle.event_step.proofs.Ending.{of_there, frees, stays, has_entry}
+use Rattle.event_step.proofs.Ending.{of_there, frees, stays, has_place}
 use Rattle.event_step.proofs.ends.finish_after.Goals as goal
 
 pub finish-requires-clause-asks : goal.finish-requires-clause-asks
@@ -16,7 +16,7 @@ pub finish-requires-clause-free : goal.finish-requires-clause-free
 finish-requires-clause-free g c =
     let takes = c.requires.takes.2 in
     let later = of_there _ _ c.requires.takes.1 c.requires.later takes.runs.on.there in
-    has_entry g.N.Naming.image _ c.args.tile c.requires.takes.0 _ _ c.requires.takes.1 c.requires.sound takes
+    has_place g.N.Naming.image _ c.args.tile c.requires.takes.0 _ _ c.requires.takes.1 c.requires.sound takes
     c.args.last.0 _ _
     c.requires.full later c.abort-aborted.ensures.aborts
 

@@ -1,7 +1,7 @@
 use Rattle.spec_state.specs.StateValue.{Spare}
 use Rattle.event_step.proofs.Accessing.{of_ok, child_still}
 use Rattle.event_step.proofs.Stepping.{asks_still}
-use Rattle.event_step.proofs.Placing.{stays_asking, free_entry, still_inside}
+use Rattle.event_step.proofs.Placing.{stays_asking, free_place, still_inside}
 use Rattle.event_step.proofs.enqueues.place.Goals as goal
 use Rattle.std.proofs.Common.{◌∙◌, sym, ap}
 
@@ -22,7 +22,7 @@ enqueue_child-requires-clause-tile g c =
 pub enqueue_child-requires-clause-free : goal.enqueue_child-requires-clause-free
 enqueue_child-requires-clause-free g c =
     let asks = c.requires.asks in
-    free_entry g.N.Naming.image _ asks.tile asks.core _ c.args.tile _ asks.task _ _ c.requires.sound asks.takes
+    free_place g.N.Naming.image _ asks.tile asks.core _ c.args.tile _ asks.task _ _ c.requires.sound asks.takes
     c.make_room-aborted.ensures.makes
 
 pub returns : goal.returns

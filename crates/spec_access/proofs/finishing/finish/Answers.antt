@@ -5,7 +5,7 @@ use Rattle.spec_state.specs.View.{core_ids}
 use Rattle.spec_state.specs.StateValue.{StateValue}
 use Rattle.spec_state.proofs.Proved.{formed_kept, indexed_set, noted_set, slots_set}
 use Rattle.spec_access.proofs.Kept.{running_has}
-use Rattle.spec_access.proofs.Finished.{in_queues, is_core, not_finished, has_entry, tiles_kept, stored_ended, ends}
+use Rattle.spec_access.proofs.Finished.{in_queues, is_core, not_finished, has_place, tiles_kept, stored_ended, ends}
 use Rattle.spec_access.proofs.finishing.finish.Goals as goal
 
 pub put_finished-requires-clause-tile : goal.put_finished-requires-clause-tile
@@ -28,7 +28,7 @@ pub put_finished-requires-clause-free : goal.put_finished-requires-clause-free
 put_finished-requires-clause-free g c = (
   c.state.inside.settings.commit_queue,
   c.state.invariant.1.commit_queues,
-  has_entry _ _ c.args.id.0 _ c.state.invariant.4 c.index_mut-task.ensures.value _
+  has_place _ _ c.args.id.0 _ c.state.invariant.4 c.index_mut-task.ensures.value _
       (ap (λ (v : StateValue). v.view) c.state.view_is) c.requires.free,
 )
 

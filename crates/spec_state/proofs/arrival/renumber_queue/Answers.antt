@@ -1,7 +1,7 @@
 use Rattle.std.proofs.Common.{rules, ◌≡◌, [], ap, length, map, slice_index_or, arith}
 use Rattle.std.specs.Prelude.{is_some}
 use Rattle.tile_queues.specs.Queue.{QueueValue}
-use Rattle.spec_state.proofs.Moved.{has_entry}
+use Rattle.spec_state.proofs.Moved.{has_candidate}
 use Rattle.spec_state.proofs.Renumbered.{begun, one_more, all_below, below_slots, task_at_place, ids_of_tile}
 use Rattle.spec_state.proofs.arrival.renumber_queue.Goals as goal
 
@@ -21,7 +21,7 @@ move_arrival-requires-clause-slot c =
 pub move_arrival-requires-clause-indexed : goal.move_arrival-requires-clause-indexed
 move_arrival-requires-clause-indexed c =
     let t = task_at_place c.args.tasks.now.slots c.args.queues.now c.args.tile c.index-queues-tile.result c.ids-ids.result.now c.loop-place.place c.requires.theirs c.requires.tile (search rules) c.ids-ids.ensures.ids c.loop-place-test.true in
-    has_entry _ _ _ _ _ c.loop-place.invariant.0.indexed _ t.0 t.1
+    has_candidate _ _ _ _ _ c.loop-place.invariant.0.indexed _ t.0 t.1
 
 pub loop-place-preserved : goal.loop-place-preserved
 loop-place-preserved c =

@@ -6,7 +6,7 @@ use Rattle.spec_state.specs.declared.task.Task.{Task}
 use Rattle.spec_state.specs.Leaving.{freed_of, IsHeldAs}
 use Rattle.spec_state.specs.StateValue.{StateValue}
 use Rattle.spec_state.specs.View.{core_ids}
-use Rattle.spec_state.proofs.Moved.{has_entry}
+use Rattle.spec_state.proofs.Moved.{has_candidate}
 use Rattle.spec_state.proofs.Put.{few_indexed}
 use Rattle.spec_state.proofs.Renumbered.{below_slots, ids_of_tile}
 use Rattle.spec_state.proofs.Without.{seen_at}
@@ -45,7 +45,7 @@ leave_core-requires g c =
     }
 
 pub open-requires : goal.open-requires
-open-requires g c = has_entry _ _ _ _ _ c.self.invariant.5 c.args.id.0 _ c.index_mut-task.ensures.value
+open-requires g c = has_candidate _ _ _ _ _ c.self.invariant.5 c.args.id.0 _ c.index_mut-task.ensures.value
 
 pub returns-clause-back : goal.returns-clause-back
 returns-clause-back g c =

@@ -6,7 +6,7 @@ use Rattle.tile_queues.specs.Queue.{QueueValue}
 use Rattle.spec_state.specs.Leaving.{freed_of, IsHeldAs}
 use Rattle.spec_state.specs.StateValue.{StateValue}
 use Rattle.spec_state.specs.View.{core_ids}
-use Rattle.spec_state.proofs.Moved.{fewer, has_entry}
+use Rattle.spec_state.proofs.Moved.{fewer, has_candidate}
 use Rattle.spec_state.proofs.Noted.{noted_left}
 use Rattle.spec_state.proofs.Renumbered.{ids_of_tile}
 use Rattle.spec_state.proofs.Without.{seen_at}
@@ -69,7 +69,7 @@ invariant_of-self g c =
     let leaves = leaves_in c.args.id.0 _ _ _ (sym (ap (λ (v : StateValue). v.view) c.self.view_is)) (returns-clause-leaves g c) in
     let held_now = with_items c.index_mut-3.result.now c.leave_core.new.cores in
     let items : held_now.items ≡ c.leave_core.new.cores = with_items_is c.index_mut-3.result.now c.leave_core.new.cores (search rules) in
-    let less = fewer c.args.id.0 c.self.inside.index.candidates (has_entry _ _ _ _ _ c.self.invariant.5 c.args.id.0 c.index-task.result.now c.index-task.ensures) in (
+    let less = fewer c.args.id.0 c.self.inside.index.candidates (has_candidate _ _ _ _ _ c.self.invariant.5 c.args.id.0 c.index-task.result.now c.index-task.ensures) in (
       c.self.invariant.0,
       tiles_left _ _ _ _ _ _ c.index-task.result.now.tile c.index_mut.result.now c.leave_queue.new.queue c.index_mut-2.result.now c.leave_commits.new.waiting c.self.invariant.1
           (search rules) c.index_mut.ensures.value (ap (λ (q : QueueValue). q.capacity) c.leave_queue.ensures.taken)
