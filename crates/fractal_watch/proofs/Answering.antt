@@ -1,8 +1,7 @@
 -- What was found and is told is an answer.
-use Rattle.std.proofs.Common.{◌≡◌, ◌≢◌, ◌⊎◌, inl, inr, refl, sym, subst, ℕ, List, arith, ◌==◌, Bool, true, false}
-use Rattle.std.proofs.lemmas.Bool.Decides.{nat_tests}
-use Rattle.std.proofs.lemmas.Grind.{common_steps}
+use Rattle.std.proofs.Common.{◌≡◌, ◌≢◌, ◌⊎◌, inl, inr, sym, subst, ℕ, List}
 use Rattle.std.specs.declared.marker.Brand.{Brand}
+use Rattle.std.proofs.lemmas.Bool.{cases_eq}
 use Rattle.sim_io.specs.Streams.{SinkState}
 use Rattle.program_call.specs.declared.outcome.Outcome.{Outcome}
 use Rattle.program_call.specs.Outcomes.{IsEmpty, TellsLine}
@@ -16,19 +15,13 @@ use Rattle.fractal_watch.specs.Telling.{IsMade, IsWant, TellsMadeLine, TellsRun}
 use Rattle.fractal_watch.proofs.Completing.{fault_is_due, story_is_due}
 use Rattle.fractal_watch.proofs.Told.{holds_lawful}
 
-is_seven : (n : ℕ) → (n ≡ 7) ⊎ (n ≢ 7)
-is_seven n = go (n == 7) refl where
-  go : (b : Bool) → (n == 7) ≡ b → (n ≡ 7) ⊎ (n ≢ 7)
-  go true e = inl (grind (arith, nat_tests, common_steps))
-  go false e = inr (λ h. grind (arith, nat_tests, common_steps))
-
 -- a fault that is told by its line
 pub fault_answers : (input : Input) (before after : SinkState) (status : ℕ) (line : List ℕ) (o : Outcome)
     → IsFault input status line → TellsLine status line before after o → WatchAnswers (call_on input before after) o
 fault_answers input before after status line o fault tells = record {
   run = inl tells.empty;
   laws = holds_lawful input o;
-  told = told (is_seven o.status);
+  told = told (cases_eq o.status 7);
   complete = λ bytes known well.
       let told = tells.told (λ seven. well.sink (tells.failed seven).0) in
       inr (subst (IsWatchDue input.words bytes) (sym told.0) (fault_is_due input bytes status line known fault));

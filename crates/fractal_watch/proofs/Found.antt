@@ -1,4 +1,4 @@
--- What is found in the bytes that were read is found.
+-- What was taken where a call read its input, and that a script has no more acts than bytes.
 use Rattle.std.specs.Prelude.{IfOk}
 use Rattle.std.proofs.Common.{◌≡◌, ℕ, ◌+◌, ◌^◌, ◌<◌, ◌≤◌, ◌==◌, List, [], ◌∷◌, length, refl, ap, arith}
 use Rattle.std.proofs.Common.{Result, Ok, Err, Bool, true, false, nat_lt, if◌then◌else◌, Some, None}
@@ -26,35 +26,6 @@ read_as_asked input asking bytes h = record {
   read = read_some input.source_before input.source_after input_limit bytes h.read;
   untouched = λ none. absurd (cc (none, h.asked));
 }
-
--- ---- sizes
-
-abbrev size_in : Result (ImageValue × ℕ) ImageFault → ℕ
-size_in (Ok x) = x.1
-size_in (Err fault) = 0
-
--- an image is no longer than the bytes that it was read from
-pub size-within : (bytes : List ℕ) (image : ImageValue) (size : ℕ) → image_of bytes ≡ Ok (image, size)
-    → size ≤ length bytes
-unfolding image_of
-size-within bytes image size is = short (nat_lt (length bytes) 32) is where
-  whole : (b : Bool) → nat_lt (length bytes) (whole_length bytes) ≡ b
-      → if◌then◌else◌ {A = Result (ImageValue × ℕ) ImageFault} b
-      (Err (faults.Short (whole_length bytes) (length bytes))) (Ok (value_in_bytes bytes, whole_length bytes))
-      ≡ Ok (image, size) → size ≤ length bytes
-  whole true e h = cc
-  whole false e h =
-      let same : whole_length bytes ≡ size = ap size_in h in grind (arith, nat_tests, common_steps)
-
-  behind : (o : Result (Unit {0}) ImageFault) → after_header bytes o ≡ Ok (image, size) → size ≤ length bytes
-  behind (Err f) h = cc
-  behind (Ok u) h = whole (nat_lt (length bytes) (whole_length bytes)) refl h
-
-  short : (b : Bool)
-      → (if b then Err (faults.Short 32 (length bytes)) else after_header bytes (header_fault bytes)) ≡ Ok (image, size)
-      → size ≤ length bytes
-  short true h = cc
-  short false h = behind (header_fault bytes) h
 
 -- ---- how many acts a script has
 
@@ -93,7 +64,7 @@ acts_are_few text tiles cores acts is =
     let same : count_in (acts_of text tiles cores) ≡ length acts = ap count_in is in
     omega (arith, few, same, lines_few text)
 
--- and fewer than are played, as no more bytes are read
+-- and fewer than 2^32, as no more bytes than the limit are read
 pub acts_below : {A E : Type 0} (read : Result A E) (items : A → List Act) (text : List ℕ) (tiles cores : ℕ)
     → length text ≤ input_limit → IfOk read (λ a. acts_of text tiles cores ≡ Ok (items a))
     → IfOk read (λ a. length (items a) < 2 ^ 32)

@@ -19,7 +19,7 @@ IsWatchFound input (finding.NoScript line) = IsWatchNoScript input line
 IsWatchFound input (finding.Ready asking image script) =
     (behind : List ℕ) × WatchReadsImage input asking image behind × HasActs asking.course asking behind script.items
 
--- the acts that are to be played act within the machine, and are no more than an input has
+-- the acts that are to be played act within the machine, and are fewer than 2^32
 abbrev pub IsPlayable : Finding → Type 0
 IsPlayable (finding.Ready asking image script) =
     (length script.items < 2 ^ 32)

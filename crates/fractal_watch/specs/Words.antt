@@ -63,7 +63,7 @@ abbrev pub HasRounds : CourseWord → Type 0
 HasRounds (courses.Lockstep rounds seed) = (1 ≤ rounds) × (rounds ≤ 1000000)
 HasRounds other = Unit {0}
 
--- so are the numbers of a course
+-- so are the numbers that the words give: of rounds, and of moments between views
 pub record IsInRanges (asking : Asking) : Type 0 where
   pub each : IfSome asking.each (λ number. 1 ≤ number)
   pub rounds : HasRounds asking.course

@@ -21,7 +21,7 @@ use std::alloc::Global;
 use step_script::{Act, ScriptFault, read_script};
 use watch_text::CourseWord;
 
-/// How many bytes are read at most: 64 MiB.
+/// How many bytes an input has at most: 64 MiB.
 const INPUT_LIMIT: usize = 67_108_864;
 
 /// What is found before anything is told.

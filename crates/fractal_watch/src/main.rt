@@ -5,7 +5,7 @@
 //!
 //! It stands on `watch_play`, on `watch_text` for the last line, on the readers of words, images and scripts, and on
 //! the definitions of `machine_run` for what a closed book leaves. The launcher calls it. It costs what the run does,
-//! and for each act a look at each place of the task queues.
+//! and for each act that took tasks back or may have spilled some a look at each place of the task queues.
 #![tactic(auto)]
 
 mod closing;

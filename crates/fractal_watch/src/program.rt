@@ -1,4 +1,4 @@
-//! The whole program but its entry.
+//! The whole program but its `main`.
 
 ghost use Rattle.std.specs.Prelude.{[], map};
 ghost use Rattle.program_call.specs.Call.{call_on, input_of};

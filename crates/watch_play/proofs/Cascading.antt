@@ -96,9 +96,9 @@ back_is_cascade N image old new e aborted task request sound given all happens a
     by_event e given happens about asked
   where
     told : (marks : List Bool) (moved : List ℕ) (arrived : Option ℕ)
-        → Taken old.view new.view marks moved aborted arrived
+        → Taken old.view new.view marks moved aborted task arrived
         → TellsTaken marks moved aborted old.view new.view arrived None
-    told marks moved arrived = taken_is_told image old.view new.view sound marks moved aborted arrived all
+    told marks moved arrived = taken_is_told image old.view new.view sound marks moved aborted task arrived all
 
     by_event : (e : Event N) → IsGiven image old.view.settings e → (happens : Happens old e reply.Ok aborted new)
         → IsAbout old.view (Hands e) task → IsAskedFor old.view (Hands e) request
@@ -112,7 +112,7 @@ back_is_cascade N image old new e aborted task request sound given all happens a
         (step_taken N image old sound aborted new.view new.placers tile core leg step.id step.task step.takes
         step.comes task request about asked)
     by_event (event.Abort tile) given happens about asked =
-        told _ _ None (abort_taken tile old.view new.view aborted happens.makes.0)
+        told _ _ None (abort_taken tile old.view new.view task aborted happens.makes.0)
     by_event event.Commit given happens about asked =
         let none : aborted ≡ 0 = happens.makes.1 in
         subst (λ n. TellsTaken [] [] n old.view new.view None task) (sym none)
@@ -120,7 +120,7 @@ back_is_cascade N image old new e aborted task request sound given all happens a
         (subst (λ n. Happens {N = N} old event.Commit reply.Ok n new) none happens) about asked all)
     by_event (event.Coalesce tile) given happens about asked =
         let made = happens.makes in
-        told _ _ None (coalesce_taken image tile old.view new.view sound made.0 aborted made.1.none)
+        told _ _ None (coalesce_taken image tile old.view new.view sound task made.0 aborted made.1.none)
     by_event (event.Split tile) given happens about asked =
         told _ _ (last_item (queue_at new.view tile))
-        (split_taken image old.view sound tile given aborted new.view happens.makes.0)
+        (split_taken image old.view sound tile given aborted new.view happens.makes.0 task)

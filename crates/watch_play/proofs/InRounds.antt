@@ -16,7 +16,7 @@ use Rattle.watch_play.proofs.Tellings.{CourseGoes, CourseGoesOn}
 
 -- ---- how many acts a round has
 
--- four at least, and 112 at most
+-- some, and 112 at most
 pub some_acts : (settings : Settings) → IsValid settings → 0 < round_length settings
 some_acts settings valid =
     let least = mul-le 1 (settings.cores + 3) settings.tiles (settings.cores + 3) valid.tiles.0

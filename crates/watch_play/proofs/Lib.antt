@@ -3,10 +3,10 @@ pub mod Cascading
 pub mod Chosen
 pub mod Does
 pub mod SoundPlays
+pub mod InRound
 pub mod InRounds
 pub mod LeftAlone
 pub mod Lined
-pub mod NoneBack
 pub mod NothingTaken
 pub mod OneChild
 pub mod Plays

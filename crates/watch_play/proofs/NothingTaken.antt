@@ -1,4 +1,5 @@
--- An event that takes no task back, and spills none, leaves all tasks there, and the dispatched ones dispatched.
+-- An event that takes no task back, and spills none, leaves all tasks there but the one that commits, and the
+-- dispatched ones dispatched.
 use Rattle.std.proofs.Common.{◌≡◌, ◌≢◌, ◌⊎◌, ◌≤◌, ◌<◌, ◌+◌, ◌-◌, ◌++◌, ◌∷◌, ◌==◌, ◌&&◌, ◌||◌, ℕ, zero, suc, List, []}
 use Rattle.std.proofs.Common.{Bool, true, false, not, cond, Some, None, is_some, length, map, filter, find, option_map}
 use Rattle.std.proofs.Common.{if◌then◌else◌, inl, inr, refl, sym, ap, subst, ◌∙◌, arith}
@@ -22,13 +23,12 @@ use Rattle.spec_state.specs.View.{View, ChangesTask, queue_at, task_at}
 use Rattle.spec_state.specs.Tasks.{is_dispatched}
 use Rattle.spec_state.specs.Aborts.{Aborts, OnlyNode, is_marked}
 use Rattle.spec_state.specs.Changes.{Commits, Enqueues, TakesLeg, after_commit, creator_after, request_of}
-use Rattle.spec_state.specs.Least.{IsLeastTask, Queued}
 use Rattle.spec_state.specs.Numbers as numbers
 use Rattle.spec_state.specs.Numbers.{FreesNumber, Renumbers, renumbered_task}
 use Rattle.spec_state.specs.Room as room
 use Rattle.spec_state.specs.Room.{Asker, MakesRoom, QueueHasRoom, Splits}
+use Rattle.spec_state.proofs.Proved.{one_least, same_test}
 use Rattle.spec_law.specs.Sound.{Sound}
-use Rattle.spec_law.proofs.Proved.{least_is_one, same_test}
 use Rattle.event_def.specs.declared.event.Event.{Event}
 use Rattle.event_def.specs.declared.event.Event.TheVariants as event
 use Rattle.event_def.specs.declared.event.Reply.TheVariants as reply
@@ -41,7 +41,7 @@ use Rattle.watch_text.specs.Asking.{Hands}
 use Rattle.watch_text.specs.Changes.{arrived_in, child_at, child_in, done_in, has_child, is_child, is_some_child}
 use Rattle.watch_text.specs.Changes.{last_child, last_child_of, last_item}
 use Rattle.watch_text.specs.Moments.{IsAbout, IsAskedFor}
-use Rattle.watch_text.specs.Taking.{TookNone, before_of, creator_undone, has_left, id_count, is_back, is_id}
+use Rattle.watch_text.specs.Taking.{before_of, creator_undone, has_left, id_count, ids_back, ids_spilled, is_back, is_id}
 use Rattle.watch_text.specs.Taking.{remembered, some_creator_undone, table_of, undone_by, waits, was_at}
 use Rattle.watch_text.specs.Taking.{was_discarded, was_spilled, was_undone}
 use Rattle.watch_text.specs.declared.before.Before.{Before}
@@ -49,7 +49,13 @@ use Rattle.watch_play.specs.Room.{HasItsRoom}
 
 -- ---- the statement
 
--- an event that took no task back, and found room, left all tasks there
+-- none was taken back, discarded or spilled
+pub record TookNone (table : List (Option Before)) (new : View) (arrived done : Option ℕ) : Type 0 where
+  pub back : ids_back table new arrived done ≡ []
+  pub gone : filter (was_discarded table new arrived) (range_with_len 0 (length table)) ≡ []
+  pub spilled : ids_spilled table new arrived done ≡ []
+
+-- of an event that took no task back, and found room, none is told as taken back, discarded or spilled
 abbrev pub NothingTaken : Type 0 → Type 0
 NothingTaken N =
     (image : ImageValue) (old new : BookView) (e : Event N) (task : Option ℕ) (request : Option Request)
@@ -396,17 +402,6 @@ same_id a b is = grind (arith, nat_tests)
 pub other_id : (a b : ℕ) → (a == b) ≡ false → (b == a) ≡ false
 other_id a b is = grind (arith, nat_tests)
 
--- two least tasks have one id
-pub least_ids : (view : View) (a b : ℕ) (x y : Task) → IsLeastTask view a x → IsLeastTask view b y → a ≡ b
-least_ids view a b x y one two =
-    let spots : Queued x.tile one.place ≡ Queued y.tile two.place =
-    least_is_one view (Queued x.tile one.place) (Queued y.tile two.place) one.least two.least in
-    let tiles : x.tile ≡ y.tile = cc (spots) in
-    let places : one.place ≡ two.place = cc (spots) in
-    let ids : Some a ≡ Some b =
-    sym one.queued_at.queued ∙ ((λ i. slice_get (queue_at view (tiles i)) (places i)) ∙ two.queued_at.queued) in
-    cc (ids)
-
 module _ (old new : View) (commit : Commits old new) where
   abbrev commit_number : ℕ
   commit_number = length old.history + 1
@@ -441,7 +436,7 @@ module _ (old new : View) (commit : Commits old new) where
   commit_told_kept N None about = absurd (about commit.id (commit.task, commit.least))
   commit_told_kept N (Some id) about =
       subst (λ k. IsKept old new None (Some k))
-      (least_ids old commit.id id commit.task about.0 commit.least about.1) commit_kept
+      (one_least old commit.id id commit.task about.0 commit.least about.1) commit_kept
 
 -- ---- a task that comes
 

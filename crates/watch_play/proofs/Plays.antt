@@ -17,14 +17,9 @@ use Rattle.watch_play.specs.Replies.{StoryPlays, said_by}
 use Rattle.watch_play.specs.Stories.{ActComes, StoryLeads, Makes, Passes, begun}
 use Rattle.watch_play.proofs.Does.{came_between, moment_does}
 use Rattle.watch_play.proofs.SoundPlays.{IsSoundPlay, stays_good}
+use Rattle.fractal_vt.proofs.Proved.{take_next}
 
 -- ---- lists
-
-take_one_more : {X : Type 0} (xs : List X) (n : ℕ) (x : X) → slice_get xs n ≡ Some x
-    → take (suc n) xs ≡ take n xs ++ x ∷ []
-take_one_more [] n x is = absurd (cc (is))
-take_one_more (y ∷ xs) zero x is = let same : y ≡ x = cc in ap (λ z. z ∷ []) same
-take_one_more (y ∷ xs) (suc n) x is = ap (λ l. y ∷ l) (take_one_more xs n x is)
 
 map_pushed : {X Y : Type 0} (f : X → Y) (xs : List X) (x : X) → map f (xs ++ x ∷ []) ≡ map f xs ++ f x ∷ []
 map_pushed f [] x = refl
@@ -66,7 +61,7 @@ module _ (N : Type 0) (image : ImageValue) (script : List Act) (opening : BookVi
       ap (map said_by) more ∙ map_pushed said_by front m in record {
         does =
             subst (λ acts. DoesAll N image acts (begun opening) (map said_by moments) last)
-            (sym (take_one_more script n m.act found))
+            (sym (take_next script n m.act found))
             (subst (λ s. DoesAll N image (take n script ++ m.act ∷ []) (begun opening) s last) (sym saids) longer);
         good =
             stays_good N image opening.view.settings old plays.good m.act m.asks m.reply m.aborted last within

@@ -1,7 +1,7 @@
 -- A play that is sound stays so, moment by moment: the view is sound, the book goes on, and the legs that are held are
 -- runs.
 use Rattle.std.proofs.Common.{◌≡◌, ◌<◌, ◌≤◌, ℕ, false, List}
-use Rattle.std.proofs.Common.{sym, subst, ◌∙◌, arith}
+use Rattle.std.proofs.Common.{sym, subst, ◌∙◌}
 use Rattle.guest_image.specs.ImageValue.{ImageValue}
 use Rattle.rv_core.specs.LegValue.{IsLegOfImage, LegValue}
 use Rattle.spec_state.specs.declared.settings.Settings.{Settings}

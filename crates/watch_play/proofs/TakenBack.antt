@@ -69,15 +69,19 @@ AllFare moved marks mid new =
 abbrev pub AllStay : List Bool → View → View → Type 0
 AllStay marks mid new = (id : ℕ) → Fares (is_marked marks id) ⊥ (task_at mid id) (task_at new id)
 
--- behind an abort a task may come, under the id of one that was moved; so all others fare whose ids have a place
-pub record Keeps (marks : List Bool) (moved : List ℕ) (count : ℕ) (mid new : View) (arrived : Option ℕ) : Type 0 where
+-- behind an abort a task may come, under the id of one that was moved; so all others fare whose ids have a place, and
+-- what is remembered stays of those that weren't moved, but for the one that the event is about
+pub record Keeps (marks : List Bool) (moved : List ℕ) (count : ℕ) (mid new : View)
+    (about arrived : Option ℕ) : Type 0 where
   pub fares : (id : ℕ) → id < count → is_id arrived id ≡ false
       → Fares (is_marked marks id) (Contains moved id) (task_at mid id) (task_at new id)
+  pub likes : (id : ℕ) → id < count → is_id about id ≡ false → is_id arrived id ≡ false → (Contains moved id → ⊥)
+      → remembered new id ≡ remembered mid id
   pub fresh : (id : ℕ) (task : Task) → is_id arrived id ≡ true → task_at mid id ≡ Some task
       → (is_dispatched task ≡ false) × Contains moved id
   pub there : (id : ℕ) → Contains moved id → (task : Task) × (task_at mid id ≡ Some task)
 
-or_true : (b : Bool) → (b || true) ≡ true
+pub or_true : (b : Bool) → (b || true) ≡ true
 or_true false = refl
 or_true true = refl
 
@@ -104,7 +108,7 @@ module _ (m : Bool) (P : Type 0) (was now : Option Task) (came : Bool) (fares : 
             ap not ((f refl).1 (ap is_dispatched same ∙ dispatched))
 
     -- one that was taken back has left, or waits
-    gone_or_waits : is_dispatched task ≡ false → m ≡ true → ((is_none now || came) || waits now) ≡ true
+    pub gone_or_waits : is_dispatched task ≡ false → m ≡ true → ((is_none now || came) || waits now) ≡ true
     gone_or_waits idle marked = by_case was now came fares there
       where
         by_case : (s t : Option Task) (c : Bool) → (c ≡ false → Fares m P s t) → s ≡ Some task
@@ -129,7 +133,7 @@ module _ (m : Bool) (P : Type 0) (was now : Option Task) (came : Bool) (fares : 
             (let no_way : false ≡ true = gone in absurd (cc (no_way)))
 
     -- and what was moved has left
-    moved_left : P → (is_none now || came) ≡ true
+    pub moved_left : P → (is_none now || came) ≡ true
     moved_left moved = by_case was now came fares there
       where
         by_case : (s t : Option Task) (c : Bool) → (c ≡ false → Fares m P s t) → s ≡ Some task
@@ -140,7 +144,7 @@ module _ (m : Bool) (P : Type 0) (was now : Option Task) (came : Bool) (fares : 
         by_case (Some x) (Some y) false f is = absurd ((f refl).0 moved)
 
 -- where none stood, what was there before has left
-left_there : (m : Bool) (P : Type 0) (was now : Option Task) (came : Bool) → (came ≡ false → Fares m P was now)
+pub left_there : (m : Bool) (P : Type 0) (was now : Option Task) (came : Bool) → (came ≡ false → Fares m P was now)
     → was ≡ None → (is_none now || came) ≡ true
 left_there m P None None came fares none = refl
 left_there m P None (Some y) true fares none = refl
@@ -246,10 +250,10 @@ passed_by_marks p (suc n) k (mark ∷ marks) passes none =
 
 -- what an event took back and moved: an abort, or none, and behind it nothing that hides it
 pub record Taken (old new : View) (marks : List Bool) (moved : List ℕ) (aborted : ℕ)
-    (arrived : Option ℕ) : Type 0 where
+    (about arrived : Option ℕ) : Type 0 where
   pub mid : View
   pub takes : Takes old mid marks
-  pub keeps : Keeps marks moved (id_count old) mid new arrived
+  pub keeps : Keeps marks moved (id_count old) mid new about arrived
   pub counted : aborted ≡ count_by (λ mark. mark) marks
 
 module _ (image : ImageValue) (old : View) (sound : Sound image old) where
@@ -276,7 +280,8 @@ module _ (image : ImageValue) (old : View) (sound : Sound image old) where
       )
 
 module _ (image : ImageValue) (old new : View) (sound : Sound image old) (marks : List Bool) (moved : List ℕ)
-    (aborted : ℕ) (arrived : Option ℕ) (all : AllHavePlaces old) (taken : Taken old new marks moved aborted arrived)
+    (aborted : ℕ) (about arrived : Option ℕ) (all : AllHavePlaces old)
+    (taken : Taken old new marks moved aborted about arrived)
   where
     abbrev takes : Takes old taken.mid marks
     takes = taken.takes

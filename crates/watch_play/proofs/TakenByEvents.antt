@@ -27,9 +27,9 @@ use Rattle.spec_state.specs.Queries.{Conflicts, IsLeastIdle, IsOnCore}
 use Rattle.spec_state.specs.Room as room
 use Rattle.spec_state.specs.Room.{Asker, Coalesces, MakesRoom, Splits}
 use Rattle.spec_state.specs.Stored.{HasCore}
-use Rattle.spec_state.proofs.Proved.{has_head, head_or_tail, in_tail}
+use Rattle.spec_state.proofs.Proved.{same_test}
 use Rattle.spec_law.specs.Sound.{Sound, StandsAs}
-use Rattle.spec_law.proofs.Proved.{abort_of_one_is_sound, same_test}
+use Rattle.spec_law.proofs.Proved.{abort_of_one_is_sound, decided}
 use Rattle.event_def.specs.declared.event.Event.TheVariants as event
 use Rattle.event_def.specs.declared.event.Reply.TheVariants as reply
 use Rattle.event_def.specs.Book.{BookView, picked_tile}
@@ -44,12 +44,12 @@ use Rattle.event_lemma.proofs.Proved.{room_leaves_asker, taken_is_live, taker_as
 use Rattle.watch_text.specs.Asking.{Hands}
 use Rattle.watch_text.specs.Changes.{child_in, is_some_child, last_child, last_item}
 use Rattle.watch_text.specs.Moments.{IsAbout, IsAskedFor}
-use Rattle.watch_text.specs.Taking.{id_count, is_id}
+use Rattle.watch_text.specs.Taking.{before_of, id_count, is_id, remembered}
 use Rattle.watch_play.specs.Cascades.{commit_marks, core_marks, request_marks, request_spilled, room_marks}
 use Rattle.watch_play.specs.Cascades.{room_spilled}
 use Rattle.watch_play.proofs.Chosen.{idle_is_one}
 use Rattle.watch_play.proofs.NothingTaken.{asked_is, last_fresh, renumbered_at, same_id, told_child, told_is}
-use Rattle.watch_play.proofs.Remembered.{last_of_pushed, least_before}
+use Rattle.watch_play.proofs.Remembered.{apart_of, last_of_pushed, least_before, number_remembers}
 use Rattle.watch_play.proofs.TakenBack.{AllFare, AllStay, Fares, Taken, Takes, fares_self, fares_then, same_fares}
 use Rattle.watch_play.proofs.TakenBack.{takes_abort, takes_none}
 
@@ -67,25 +67,9 @@ changed_stays marks mid new id task now there changes busy idle k = elim (cases_
       same_fares (is_marked marks k) ⊥ (λ none. none) (task_at mid k) (task_at new k) (changes.others k other)
 ]
 
--- of no list an id is
+-- no id is in the empty list
 pub none_in : (id : ℕ) → Contains [] id → ⊥
 none_in id has = (let below = has.1 in omega (arith, below))
-
--- an id stands in a list, or doesn't
-stands_in : (ids : List ℕ) (id : ℕ) → Contains ids id ⊎ (Contains ids id → ⊥)
-stands_in [] id = inr (none_in id)
-stands_in (first ∷ ids) id = by_first (stands_in ids id)
-  where
-    by_first : Contains ids id ⊎ (Contains ids id → ⊥)
-        → Contains (first ∷ ids) id ⊎ (Contains (first ∷ ids) id → ⊥)
-    by_first (inl has) = inl (in_tail first ids id has)
-    by_first (inr none) = elim (cases_eq first id) [
-      | inl same ↦ inl (subst (Contains (first ∷ ids)) same (has_head first ids))
-      | inr other ↦ inr (λ has. elim (head_or_tail first ids id has) [
-        | inl same ↦ other same
-        | inr behind ↦ none behind
-      ])
-    ]
 
 -- a coalescing moves idle tasks alone
 module _ (image : ImageValue) (tile : ℕ) (old new : View) (marks : List Bool) (sound : Sound image old)
@@ -103,7 +87,7 @@ module _ (image : ImageValue) (tile : ℕ) (old new : View) (marks : List Bool) 
         ∙ idle_is_open image old sound id movable.0 movable.1.idle.there movable.1.idle.idle
 
     coalesced_fares : AllFare c.ids marks old new
-    coalesced_fares id = by_list (stands_in c.ids id)
+    coalesced_fares id = by_list (decided c.ids id)
       where
         by_list : Contains c.ids id ⊎ (Contains c.ids id → ⊥)
             → Fares (is_marked marks id) (Contains c.ids id) (task_at old id) (task_at new id)
@@ -129,6 +113,7 @@ record Forced (old mid : View) (marks : List Bool) (moved : List ℕ) (aborted :
   between : View
   takes : Takes old between marks
   fares : AllFare moved marks between mid
+  still : (id : ℕ) → (Contains moved id → ⊥) → task_at mid id ≡ task_at between id
   there : (id : ℕ) → Contains moved id → (x : Task) × (task_at between id ≡ Some x)
   counted : aborted ≡ count_by (λ mark. mark) marks
 
@@ -139,6 +124,7 @@ none_moved old mid marks aborted takes counted = record {
   between = mid;
   takes = takes;
   fares = λ id. fares_self (is_marked marks id) (Contains [] id) (none_in id) (task_at mid id);
+  still = λ id none. refl;
   there = λ id has. absurd (none_in id has);
   counted = counted;
 }
@@ -162,16 +148,24 @@ module _ (old mid new : View) (marks : List Bool) (moved : List ℕ) (aborted : 
         let same : x ≡ task = cc (is) in
         (ap is_dispatched (sym same) ∙ fares.0, fares.1)
 
+    -- of the others the same is remembered
+    abbrev AllLike : (about arrived : Option ℕ) → Type 0
+    AllLike about arrived =
+        (id : ℕ) → id < id_count old → is_id about id ≡ false → is_id arrived id ≡ false
+        → remembered new id ≡ remembered mid id
+
     -- a task comes under an id at which none stands any more
-    task_comes : (arrived : Option ℕ) → ((id : ℕ) → is_id arrived id ≡ true → task_at mid id ≡ None)
+    task_comes : (about arrived : Option ℕ) → ((id : ℕ) → is_id arrived id ≡ true → task_at mid id ≡ None)
         → ((id : ℕ) → id < id_count old → is_id arrived id ≡ false
         → Fares (is_marked marks id) ⊥ (task_at mid id) (task_at new id))
-        → Taken old new marks moved aborted arrived
-    task_comes arrived fresh behind = record {
+        → AllLike about arrived → Taken old new marks moved aborted about arrived
+    task_comes about arrived fresh behind likes = record {
       mid = forced.between;
       takes = forced.takes;
       keeps = record {
         fares = λ id below other. fares_on id (behind id below other);
+        likes = λ id below other came unmoved.
+            likes id below other came ∙ ap (option_map before_of) (forced.still id unmoved);
         fresh = λ id task is at. gone_moved (is_marked marks id) (Contains moved id) (task_at forced.between id)
             (task_at mid id) task (forced.fares id) at (fresh id is);
         there = forced.there;
@@ -180,10 +174,11 @@ module _ (old mid new : View) (marks : List Bool) (moved : List ℕ) (aborted : 
     }
 
     -- none comes
-    none_comes : AllStay marks mid new → Taken old new marks moved aborted None
-    none_comes stays =
-        task_comes None (λ id is. (let no_way : false ≡ true = is in absurd (cc (no_way))))
-        (λ id below other. stays id)
+    none_comes : (about : Option ℕ) → AllStay marks mid new → AllLike about None
+        → Taken old new marks moved aborted about None
+    none_comes about stays likes =
+        task_comes about None (λ id is. (let no_way : false ≡ true = is in absurd (cc (no_way))))
+        (λ id below other. stays id) likes
 
 module _ (image : ImageValue) (old : View) (sound : Sound image old) where
   -- the task on a core is dispatched
@@ -225,6 +220,7 @@ module _ (image : ImageValue) (old : View) (sound : Sound image old) where
     between = old;
     takes = takes_none old;
     fares = coalesced_fares image tile old mid [] sound change;
+    still = change.others;
     there = moved_there image tile old mid [] sound change;
     counted = refl;
   }
@@ -244,6 +240,7 @@ module _ (image : ImageValue) (old : View) (sound : Sound image old) where
         between = mid;
         takes = one_takes v first.0 old mid aborted aborts first.1 first.2;
         fares = coalesced_fares image tile mid new aborts.marks now spills;
+        still = spills.others;
         there = moved_there image tile mid new aborts.marks now spills;
         counted = aborts.counted;
       }
@@ -339,10 +336,36 @@ module _ (N : Type 0) (image : ImageValue) (book : BookView) (sound : Sound imag
               low about.0 about.1 left.idle.idle.there (ap (is_marked aborts.marks) one ∙ marked);
         })
 
+    -- and it is the one that the event is about
+    told_is_dispatched : {aborted : ℕ} {mid : View} (forced : FreesCore tile book.view aborted mid)
+        → (told : Option ℕ) → IsAbout {N = N} book.view (Hands (event.Dispatch tile)) told
+        → (id : ℕ) (task : Task) → IsLeastIdle mid tile id task → told ≡ Some id
+    told_is_dispatched (events.has_free core free) None about id task least = absurd (about id task least.idle)
+    told_is_dispatched (events.has_free core free) (Some low) about id task least =
+        ap Some (idle_is_one book.view tile id low task about.0 least about.1)
+    told_is_dispatched (events.aborts_latest aborted v x new held latest aborts) None about id task least =
+        absurd (granted reply.Empty about)
+    told_is_dispatched (events.aborts_latest aborted v x new held latest aborts) (Some low) about id task least =
+        elim (cases_eq low id) [
+          | inl same ↦ ap Some same
+          | inr other ↦ absurd (granted reply.Busy (record {
+            held = held;
+            id = low;
+            task = about.0;
+            idle = about.1;
+            not_least = λ is_least.
+                let forced : FreesCore tile book.view aborted new =
+                events.aborts_latest aborted v x new held latest aborts in
+                let left = core_leaves_idle image book.view tile low about.0 aborted new sound about.1
+                (λ all_held. is_least) forced in
+                other (idle_is_one new tile id low task about.0 least left.idle);
+          }))
+        ]
+
     -- a dispatch
     pub dispatch_taken : (told : Option ℕ) → IsAbout {N = N} book.view (Hands (event.Dispatch tile)) told
         → (aborted : ℕ) (new : View) (made : DispatchEvent tile book.view aborted new)
-        → Taken book.view new (core_marks tile book.view made.forced) [] aborted None
+        → Taken book.view new (core_marks tile book.view made.forced) [] aborted told None
     dispatch_taken told about aborted new made =
         let marks : List Bool = core_marks tile book.view made.forced in
         let change = made.change in
@@ -351,9 +374,12 @@ module _ (N : Type 0) (image : ImageValue) (book : BookView) (sound : Sound imag
         changed_stays marks made.ready new change.id change.task _ change.least.idle.there change.changes
         (λ dispatched. refl)
         (λ marked idle. absurd (dispatched_is_other made.forced told about change.id first.0 first.1 marked)) in
-        none_comes book.view made.mid new marks [] aborted (core_forced image book.view sound tile made.forced)
+        let is : told ≡ Some change.id = told_is_dispatched made.forced told about change.id first.0 first.1 in
+        none_comes book.view made.mid new marks [] aborted (core_forced image book.view sound tile made.forced) told
         (λ id. fares_then (is_marked marks id) ⊥ (task_at made.mid id) (task_at made.ready id) (task_at new id)
         (number_stays marks made.number id) (goes id))
+        (λ id below other came. ap (option_map before_of) (change.changes.others id (apart_of told change.id id is other))
+        ∙ number_remembers made.number id)
 
 -- ---- a step
 
@@ -364,15 +390,16 @@ module _ (N : Type 0) (image : ImageValue) (book : BookView) (sound : Sound imag
     -- behind what was forced the task alone changes
     own_taken : (mid : View) (marks : List Bool) → Forced book.view mid marks [] aborted → task_at mid id ≡ Some task
         → (now : Task) → ChangesTask mid new id (Some now) → is_dispatched now ≡ is_dispatched task
-        → Taken book.view new marks [] aborted None
+        → Taken book.view new marks [] aborted (Some id) None
     own_taken mid marks forced there now changes same =
-        none_comes book.view mid new marks [] aborted forced
+        none_comes book.view mid new marks [] aborted forced (Some id)
         (changed_stays marks mid new id task now there changes (λ dispatched. same ∙ dispatched)
         (λ marked idle. same ∙ idle))
+        (λ k below other came. ap (option_map before_of) (changes.others k (apart_of (Some id) id k refl other)))
 
     -- where nothing is forced
     quiet_taken : aborted ≡ 0 → (now : Task) → ChangesTask book.view new id (Some now)
-        → is_dispatched now ≡ is_dispatched task → Taken book.view new [] [] aborted None
+        → is_dispatched now ≡ is_dispatched task → Taken book.view new [] [] aborted (Some id) None
     quiet_taken none now changes same =
         own_taken book.view [] (none_moved book.view book.view [] aborted (takes_none book.view) none)
         takes.runs.on.there now changes same
@@ -433,23 +460,35 @@ module _ (N : Type 0) (image : ImageValue) (book : BookView) (sound : Sound imag
         ]
       ]
 
+      -- of the others the same is remembered
+      like : (k : ℕ) → k < id_count book.view → is_id (Some id) k ≡ false → is_id (last_child new id) k ≡ false
+          → remembered new k ≡ remembered made.mid k
+      like k below other out = elim (cases_eq k change.child) [
+        | inl same ↦
+            (let told = child_told (subst (λ j. j < id_count book.view) same below) in
+            let clash : true ≡ false = sym told ∙ (ap (is_id (last_child new id)) (sym same) ∙ out) in
+            absurd (cc (clash)))
+        | inr apart ↦
+            ap (option_map before_of) (change.others k (apart_of (Some id) id k refl other) apart)
+      ]
+
       enqueue_taken : Taken book.view new (room_marks to (room.Enqueuer id) book.view made.forced)
-          (room_spilled to (room.Enqueuer id) book.view made.forced) aborted (last_child new id)
+          (room_spilled to (room.Enqueuer id) book.view made.forced) aborted (Some id) (last_child new id)
       enqueue_taken =
           let forced = room_forced image book.view sound to (room.Enqueuer id)
           (taker_asks book.view tile core id leg task takes) made.forced in
           let marks : List Bool = room_marks to (room.Enqueuer id) book.view made.forced in
           let moved : List ℕ = room_spilled to (room.Enqueuer id) book.view made.forced in
-          task_comes book.view made.mid new marks moved aborted forced (last_child new id)
+          task_comes book.view made.mid new marks moved aborted forced (Some id) (last_child new id)
           (last_fresh image made.mid new left.sound id task _ left.there change.parent refl more (λ d. d)
           change.child change.vacant change.others)
-          (λ k. behind (is_marked marks k) k)
+          (λ k. behind (is_marked marks k) k) like
 
     -- what the task asks for
     abbrev SoBy : (request : Request) → ComesTo tile core leg id task request book aborted new placers → Type 0
     SoBy request made =
         Taken book.view new (request_marks tile core leg id task request book aborted new placers made)
-        (request_spilled tile core leg id task request book aborted new placers made) aborted
+        (request_spilled tile core leg id task request book aborted new placers made) aborted (Some id)
         (child_in new (Some id) (Some request))
 
     by_request : (request : Request) (made : ComesTo tile core leg id task request book aborted new placers)
@@ -483,15 +522,15 @@ module _ (N : Type 0) (image : ImageValue) (book : BookView) (sound : Sound imag
         → Taken book.view new
         (request_marks tile core leg id task (request_of book.view task leg) book aborted new placers made)
         (request_spilled tile core leg id task (request_of book.view task leg) book aborted new placers made) aborted
-        (child_in new told asked)
+        told (child_in new told asked)
     step_taken made told asked about asked_for =
         let asks = asked_is N image book sound 0 refl new placers tile core leg id task takes asked asked_for in
         let is = told_is N image book sound 0 refl new placers tile core leg id task takes told about in
         let request = request_of book.view task leg in
         let marks : List Bool = request_marks tile core leg id task request book aborted new placers made in
         let moved : List ℕ = request_spilled tile core leg id task request book aborted new placers made in
-        subst (λ o. Taken book.view new marks moved aborted (child_in new o asked)) (sym is)
-        (subst (λ o. Taken book.view new marks moved aborted (child_in new (Some id) o)) (sym asks)
+        subst (λ o. Taken book.view new marks moved aborted o (child_in new o asked)) (sym is)
+        (subst (λ o. Taken book.view new marks moved aborted (Some id) (child_in new (Some id) o)) (sym asks)
         (by_request request made))
 
 -- ---- a split
@@ -516,23 +555,20 @@ module _ (image : ImageValue) (old : View) (sound : Sound image old) (tile : ℕ
         let named : (back.id == k) ≡ true = sym (ap (λ o. is_id o k) came_is) ∙ is in
         ap (task_at made.mid) (sym (same_id back.id k named)) ∙ back.vacant
 
-    others_stay : (m : Bool) (k : ℕ) → is_id (last_item (queue_at new tile)) k ≡ false
-        → Fares m ⊥ (task_at made.mid k) (task_at new k)
-    others_stay m k out =
-        same_fares m ⊥ (λ none. none) (task_at made.mid k) (task_at new k)
-        (back.changes.others k (λ same.
-        (let clash : true ≡ false =
-        sym (same_test k) ∙ (ap (λ n. n == k) same ∙ (sym (ap (λ o. is_id o k) came_is) ∙ out)) in
-        absurd (cc (clash)))))
+    others_same : (k : ℕ) → is_id (last_item (queue_at new tile)) k ≡ false → task_at new k ≡ task_at made.mid k
+    others_same k out =
+        back.changes.others k (apart_of (last_item (queue_at new tile)) back.id k came_is out)
 
-    pub split_taken : Taken old new (room_marks tile room.Splitter old made.forced)
-        (room_spilled tile room.Splitter old made.forced) aborted (last_item (queue_at new tile))
-    split_taken =
+    pub split_taken : (about : Option ℕ) → Taken old new (room_marks tile room.Splitter old made.forced)
+        (room_spilled tile room.Splitter old made.forced) aborted about (last_item (queue_at new tile))
+    split_taken about =
         let marks : List Bool = room_marks tile room.Splitter old made.forced in
         let moved : List ℕ = room_spilled tile room.Splitter old made.forced in
         task_comes old made.mid new marks moved aborted
-        (room_forced image old sound tile room.Splitter tt made.forced) (last_item (queue_at new tile)) came_vacant
-        (λ k below. others_stay (is_marked marks k) k)
+        (room_forced image old sound tile room.Splitter tt made.forced) about (last_item (queue_at new tile)) came_vacant
+        (λ k below out. same_fares (is_marked marks k) ⊥ (λ none. none) (task_at made.mid k) (task_at new k)
+        (others_same k out))
+        (λ k below other out. ap (option_map before_of) (others_same k out))
 
 -- ---- an abort and a coalescing
 
@@ -540,18 +576,19 @@ module _ (image : ImageValue) (old : View) (sound : Sound image old) (tile : ℕ
 all_stay : (marks : List Bool) (view : View) → AllStay marks view view
 all_stay marks view id = fares_self (is_marked marks id) ⊥ (λ none. none) (task_at view id)
 
-pub abort_taken : (tile : ℕ) (old new : View) (aborted : ℕ) (made : AbortEvent tile old aborted new)
-    → Taken old new made.aborts.marks [] aborted None
-abort_taken tile old new aborted made =
+pub abort_taken : (tile : ℕ) (old new : View) (about : Option ℕ) (aborted : ℕ)
+    (made : AbortEvent tile old aborted new) → Taken old new made.aborts.marks [] aborted about None
+abort_taken tile old new about aborted made =
     let is = made.latest.of_kind in
     let marks : List Bool = made.aborts.marks in
     none_comes old new new marks [] aborted
     (none_moved old new marks aborted
-    (one_takes made.id made.task old new aborted made.aborts is.there is.dispatched) made.aborts.counted)
-    (all_stay marks new)
+    (one_takes made.id made.task old new aborted made.aborts is.there is.dispatched) made.aborts.counted) about
+    (all_stay marks new) (λ id below other came. refl)
 
-pub coalesce_taken : (image : ImageValue) (tile : ℕ) (old new : View) → Sound image old
-    → (change : Coalesces tile old new) → (aborted : ℕ) → aborted ≡ 0 → Taken old new [] change.ids aborted None
-coalesce_taken image tile old new sound change aborted none =
-    subst (λ n. Taken old new [] change.ids n None) (sym none)
-    (none_comes old new new [] change.ids 0 (coalesce_forced image old sound tile new change) (all_stay [] new))
+pub coalesce_taken : (image : ImageValue) (tile : ℕ) (old new : View) → Sound image old → (about : Option ℕ)
+    (change : Coalesces tile old new) (aborted : ℕ) → aborted ≡ 0 → Taken old new [] change.ids aborted about None
+coalesce_taken image tile old new sound about change aborted none =
+    subst (λ n. Taken old new [] change.ids n about None) (sym none)
+    (none_comes old new new [] change.ids 0 (coalesce_forced image old sound tile new change) about (all_stay [] new)
+    (λ id below other came. refl))

@@ -8,3 +8,4 @@ pub mod Telling
 pub mod Replies
 pub mod Room
 pub mod Cascades
+pub mod Rounds

@@ -11,7 +11,7 @@ use Rattle.watch_text.specs.Opening.{head_line, placed_lines}
 use Rattle.watch_text.specs.Views.{view_line}
 use Rattle.watch_play.specs.Courses.{Course, course_word}
 
--- the view is told behind the moment of this place
+-- the view is told behind the last of so many moments
 abbrev pub is_due : Option ℕ → ℕ → Bool
 is_due None place = false
 is_due (Some each) place = place % each == 0

@@ -2,12 +2,13 @@
 
 ghost use Rattle.watch_play.specs.Cascades.{BackIsCascade};
 ghost use Rattle.watch_play.specs.Replies.{MomentDoes, StoryPlays};
+ghost use Rattle.watch_play.specs.Rounds.{AskedIsMade, PassedIsRefused};
 
 use rv_core::Naming;
 
 /// A moment of a sound book that wasn't stopped does its act, as a script that is played does; what is said of it are
-/// its reply and how many tasks it took back. On an unsound view the event for the least task might be refused, and a
-/// stopped book advances to no end.
+/// its reply, or of an advance whether it committed or moved, and how many tasks it took back. On an unsound view the
+/// event for the least task might be refused, and a stopped book advances to no end.
 pub fn moment_does<N: Naming>()
     ensures { MomentDoes N }
 {}
@@ -24,4 +25,15 @@ pub fn story_plays<N: Naming>()
 /// creator might be idle, or the task that asks be taken back.
 pub fn back_is_cascade<N: Naming>()
     ensures { BackIsCascade N }
+{}
+
+/// While a run goes on, what a round asks for as the machine stands is made, unless a step stalls or memory runs out.
+pub fn asked_is_made<N: Naming>()
+    ensures { AskedIsMade N }
+{}
+
+/// What a round passes over isn't made by whoever hands it in: it is refused, or memory is wanting, and the book stays
+/// as it is. On an unsound view an id might stand twice in a task queue, so that none is the least idle one.
+pub fn passed_is_refused<N: Naming>()
+    ensures { PassedIsRefused N }
 {}

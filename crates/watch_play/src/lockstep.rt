@@ -274,7 +274,7 @@ fn play_round<N: Naming, P: Placer, T: Tap, K: Sink>(
     Ok(())
 }
 
-/// Plays rounds in this order, and in those that follow from it.
+/// Plays so many rounds, in the orders that follow one after another from this one; with the seed 0 all have this one.
 fn play_in_order<N: Naming, P: Placer, T: Tap, K: Sink>(
     watch: &mut Watch<N, P, T>,
     sink: &mut K,

@@ -1,6 +1,7 @@
 //! One act, which is played and told.
 
-ghost use Rattle.std.specs.Prelude.{◌≡◌, ◌≢◌, ◌+◌, ◌<◌, ◌≤◌, ◌^◌, ◌++◌, IfSome, IsTrue, OnOk, length};
+ghost use Rattle.std.specs.Prelude.{◌≡◌, ◌≢◌, ◌+◌, ◌<◌, ◌≤◌, ◌^◌, ◌++◌, [], IfOk, IfSome, IsTrue, OnOk, false, length};
+ghost use Rattle.std.specs.Prelude.{true};
 ghost use Rattle.std.specs.String.{string_bytes};
 ghost use Rattle.rv_core.specs.LegValue.{IsLegOfImage, LegValue};
 ghost use Rattle.spec_law.specs.Sound.{Sound};
@@ -8,12 +9,14 @@ ghost use Rattle.event_def.specs.declared.event.Reply.TheVariants as reply;
 ghost use Rattle.conflict_book.specs.BookViews.{events_made, machine_view, view_of};
 ghost use Rattle.step_script.specs.Ranges.{ActIsInRange};
 ghost use Rattle.watch_text.specs.Asking.{AskedIsInRange, asks_of};
-ghost use Rattle.watch_text.specs.Changes.{IsOneIn, LeavesOthers, TakesBackNone, arrived_in};
+ghost use Rattle.watch_text.specs.Changes.{HasOrphans, HasOrphansIn, IsFound, IsOneIn, LeavesOthers};
+ghost use Rattle.watch_text.specs.Changes.{affected_in, arrived_in};
 ghost use Rattle.watch_text.specs.Lines.{rest_text};
 ghost use Rattle.watch_text.specs.Moments.{task_of};
 ghost use Rattle.watch_text.specs.Taking.{id_count, table_of};
 ghost use Rattle.watch_play.specs.Made.{AttemptComes, TellsAct, play_of};
 ghost use Rattle.watch_play.specs.Playing.{ComesToLine};
+ghost use Rattle.watch_play.specs.Room.{AttemptHasRoom};
 ghost use Rattle.watch_play.specs.Texts.{is_due, view_text};
 
 use crate::asking::ask;
@@ -29,7 +32,8 @@ use std::alloc::AllocError;
 use step_script::Act;
 use trace_tap::Tap;
 use watch_text::{
-    About, Asked, Effect, about_of, arrived_in, put_front, put_rest, put_view, remember_behind,
+    About, Asked, Effect, about_of, affected_by, arrived_in, orphans_of, put_front, put_rest,
+    put_view, remember_behind,
 };
 
 /// What came of an act.
@@ -73,7 +77,7 @@ fn make<N: Naming, P: Placer, T: Tap>(
     }
 }
 
-/// Whether the view is told behind the moment of this place.
+/// Whether the view is told behind the last of so many moments.
 fn is_due(each: Option<u32>, place: u64) -> bool
     requires { IfSome each (λ number. 1 ≤ number) }
     ensures { result ≡ is_due each place }
@@ -84,7 +88,7 @@ fn is_due(each: Option<u32>, place: u64) -> bool
     }
 }
 
-/// The view, where it is told behind the moment of this place.
+/// The view, where it is told behind the last of so many moments.
 fn put_view_behind<N: Naming, P: Placer, T: Tap>(
     line: &mut String,
     book: &Book<N, P, T>,
@@ -102,60 +106,15 @@ fn put_view_behind<N: Naming, P: Placer, T: Tap>(
     }
 }
 
-/// The rest of the line of an act, and the table of the tasks behind it. A refusal leaves both state and table, so
-/// nothing is looked at anew, and a quiet effect leaves the other tasks alone.
-fn tell_rest<N: Naming, P: Placer, T: Tap>(
-    watch: &mut Watch<N, P, T>,
-    asked: &Asked,
-    about: &About,
-    effect: Effect,
-) -> Result<(), AllocError>
-    requires came { effect.reply ≡ reply.Ok → (leg : LegValue) → effect.arrived ≡ arrived_in
-        (machine_view watch.old.book) (asks_of {N = N} asked.now leg) (task_of about.now) about.now.request }
-    requires each { IfSome watch.old.each (λ number. 1 ≤ number) }
-    requires stands { effect.reply ≢ reply.Ok → watch.old.table.items ≡ table_of (machine_view watch.old.book) }
-    requires long { length watch.old.table.items ≡ id_count (machine_view watch.old.book) }
-    requires kept { effect.reply ≡ reply.Ok → effect.aborted ≡ 0 → (leg : LegValue)
-        → TakesBackNone {N = N} watch.old.table.items (machine_view watch.old.book) (asks_of asked.now leg)
-        (task_of about.now) about.now.request }
-    requires quiet { IsTrue effect.quiet → (leg : LegValue) → LeavesOthers {N = N} watch.old.table.items
-        (machine_view watch.old.book) (asks_of asked.now leg) (task_of about.now) about.now.request }
-    ensures line { (leg : LegValue) → let view = machine_view watch.old.book in
-        OnOk result (string_bytes watch.new.line ≡ string_bytes watch.old.line
-        ++ rest_text watch.old.table.items effect.output view (asks_of {N = N} asked.now leg) (task_of about.now)
-        about.now.request effect.reply effect.aborted (events_made watch.old.book)
-        ++ view_text watch.old.each watch.old.count view (events_made watch.old.book)) }
-    ensures table { OnOk result (watch.new.table.items ≡ table_of (machine_view watch.old.book)) }
-    ensures play { play_of P.policy T.notes watch.new ≡ play_of P.policy T.notes watch.old }
-    ensures each { watch.new.each ≡ watch.old.each }
-    ensures count { watch.new.count ≡ watch.old.count }
-{
-    let state = watch.book.state();
-    let events = watch.book.steps();
-    let table = watch.table.as_slice();
-    put_rest(&mut watch.line, state, table, asked, about, effect, events)?;
-    put_view_behind(&mut watch.line, &watch.book, watch.each, watch.count)?;
-    match effect.reply {
-        Reply::Ok => remember_behind(state, &mut watch.table, asked, about, effect),
-        _ => Ok(()),
-    }
-}
-
-/// What came of an attempt: quiet where an event was made that took none back, and a task that came found its place.
-fn effect_of(applied: Applied, has_room: bool, arrived: Option<usize>, output: usize) -> Effect
-    ensures reply { result.reply ≡ applied.reply }
-    ensures aborted { result.aborted ≡ applied.aborted }
-    ensures quiet { IsTrue result.quiet → (applied.reply ≡ reply.Ok) × (applied.aborted ≡ 0) × IsTrue has_room }
-    ensures arrived { result.arrived ≡ arrived }
-    ensures output { result.output ≡ output }
-{
-    Effect {
-        reply: applied.reply,
-        aborted: applied.aborted,
-        quiet: has_room && applied.reply == Reply::Ok && applied.aborted == 0,
-        arrived,
-        output,
-    }
+/// What is read of the machine before an act, for its line and for the table behind it.
+#[derive(Drop)]
+struct Ahead {
+    /// Whether the task that comes, where one does, finds a free place.
+    has_room: bool,
+    /// Ids among which all children of the task are that is to commit.
+    orphans: Vec<usize>,
+    /// How many bytes were emitted.
+    output: usize,
 }
 
 /// The task that came, where an event was made.
@@ -174,6 +133,130 @@ fn arrived_by<N: Naming, P: Placer, T: Tap>(
         Reply::Ok => arrived_in(book.state(), asked, about),
         _ => None,
     }
+}
+
+/// The tasks that an event took back or spilled. They are looked for only where an event was made that took some back,
+/// or for which some may have been spilled.
+fn affected_of<N: Naming, P: Placer, T: Tap>(
+    watch: &Watch<N, P, T>,
+    asked: &Asked,
+    about: &About,
+    arrived: Option<usize>,
+    is_quiet: bool,
+) -> Result<Vec<usize>, AllocError>
+    requires came { is_quiet ≡ false → (leg : LegValue) → arrived ≡ arrived_in (machine_view watch.now.book)
+        (asks_of {N = N} asked.now leg) (task_of about.now) about.now.request }
+    ensures none { is_quiet ≡ true → IfOk result (λ ids. ids.items ≡ []) }
+    ensures found { is_quiet ≡ false → IfOk result (λ ids. (leg : LegValue) → ids.items
+        ≡ affected_in watch.now.table.items (machine_view watch.now.book) (asks_of {N = N} asked.now leg)
+        (task_of about.now) about.now.request) }
+{
+    if is_quiet {
+        return Ok(Vec::new(watch.book.state().alloc()));
+    }
+    affected_by(
+        watch.book.state(),
+        watch.table.as_slice(),
+        asked,
+        about,
+        arrived,
+    )
+}
+
+/// What came of an attempt.
+fn effect_of<N: Naming, P: Placer, T: Tap>(
+    watch: &Watch<N, P, T>,
+    asked: &Asked,
+    about: &About,
+    applied: Applied,
+    ahead: Ahead,
+) -> Result<Effect, AllocError>
+    requires within { AskedIsInRange N (machine_view watch.now.book).settings asked.now }
+    requires one { applied.reply ≡ reply.Ok
+        → IsOneIn (machine_view watch.now.book) about.now.request (task_of about.now) }
+    requires quiet { applied.reply ≡ reply.Ok → applied.aborted ≡ 0 → IsTrue ahead.has_room → (leg : LegValue)
+        → affected_in watch.now.table.items (machine_view watch.now.book) (asks_of {N = N} asked.now leg)
+        (task_of about.now) about.now.request ≡ [] }
+    ensures reply { IfOk result (λ effect. effect.reply ≡ applied.reply) }
+    ensures aborted { IfOk result (λ effect. effect.aborted ≡ applied.aborted) }
+    ensures events { IfOk result (λ effect. effect.events ≡ events_made watch.now.book) }
+    ensures orphans { IfOk result (λ effect. effect.orphans ≡ ahead.orphans) }
+    ensures output { IfOk result (λ effect. effect.output ≡ ahead.output) }
+    ensures found { IfOk result (λ effect. applied.reply ≡ reply.Ok → (leg : LegValue) → IsFound {N = N}
+        watch.now.table.items (machine_view watch.now.book) (asks_of asked.now leg) (task_of about.now)
+        about.now.request effect.arrived effect.affected.items) }
+{
+    let arrived = arrived_by(&watch.book, asked, about, applied.reply);
+    let is_quiet = applied.reply != Reply::Ok || applied.aborted == 0 && ahead.has_room;
+    let affected = affected_of(watch, asked, about, arrived, is_quiet)?;
+    Ok(Effect {
+        reply: applied.reply,
+        aborted: applied.aborted,
+        events: watch.book.steps(),
+        arrived,
+        affected,
+        orphans: ahead.orphans,
+        output: ahead.output,
+    })
+}
+
+/// The rest of the line of an act, and the table of the tasks behind it. A refusal leaves both state and table, so
+/// nothing is looked at anew.
+fn tell_rest<N: Naming, P: Placer, T: Tap>(
+    watch: &mut Watch<N, P, T>,
+    asked: &Asked,
+    about: &About,
+    effect: &Effect,
+) -> Result<(), AllocError>
+    requires events { effect.now.events ≡ events_made watch.old.book }
+    requires found { effect.now.reply ≡ reply.Ok → (leg : LegValue) → IsFound {N = N} watch.old.table.items
+        (machine_view watch.old.book) (asks_of asked.now leg) (task_of about.now) about.now.request
+        effect.now.arrived effect.now.affected.items }
+    requires each { IfSome watch.old.each (λ number. 1 ≤ number) }
+    requires stands { effect.now.reply ≢ reply.Ok → watch.old.table.items ≡ table_of (machine_view watch.old.book) }
+    requires long { length watch.old.table.items ≡ id_count (machine_view watch.old.book) }
+    requires orphans { effect.now.reply ≡ reply.Ok → (leg : LegValue) → HasOrphansIn {N = N} watch.old.table.items
+        (asks_of asked.now leg) (task_of about.now) effect.now.orphans.items }
+    requires others { effect.now.reply ≡ reply.Ok → (leg : LegValue) → LeavesOthers {N = N} watch.old.table.items
+        (machine_view watch.old.book) (asks_of asked.now leg) (task_of about.now) about.now.request }
+    ensures line { (leg : LegValue) → let view = machine_view watch.old.book in
+        OnOk result (string_bytes watch.new.line ≡ string_bytes watch.old.line
+        ++ rest_text watch.old.table.items effect.now.output view (asks_of {N = N} asked.now leg) (task_of about.now)
+        about.now.request effect.now.reply effect.now.aborted (events_made watch.old.book)
+        ++ view_text watch.old.each watch.old.count view (events_made watch.old.book)) }
+    ensures table { OnOk result (watch.new.table.items ≡ table_of (machine_view watch.old.book)) }
+    ensures play { play_of P.policy T.notes watch.new ≡ play_of P.policy T.notes watch.old }
+    ensures each { watch.new.each ≡ watch.old.each }
+    ensures count { watch.new.count ≡ watch.old.count }
+{
+    let state = watch.book.state();
+    let table = watch.table.as_slice();
+    put_rest(&mut watch.line, state, table, asked, about, effect)?;
+    put_view_behind(&mut watch.line, &watch.book, watch.each, watch.count)?;
+    if effect.reply == Reply::Ok {
+        remember_behind(state, watch.table.as_mut_slice(), asked, about, effect);
+    }
+    Ok(())
+}
+
+/// What is read of the machine before an act.
+fn read_ahead<N: Naming, P: Placer, T: Tap>(
+    book: &Book<N, P, T>,
+    asked: &Asked,
+    about: &About,
+) -> Result<Ahead, AllocError>
+    requires { AskedIsInRange N (machine_view book.now).settings asked.now }
+    ensures room { IfOk result (λ ahead. IsTrue ahead.has_room → (leg : LegValue) → AttemptHasRoom {N = N}
+        (view_of P.policy T.notes book.now) (asks_of asked.now leg) about.now.request) }
+    ensures orphans { IfOk result (λ ahead. (leg : LegValue) → HasOrphans {N = N} (machine_view book.now)
+        (asks_of asked.now leg) (task_of about.now) ahead.orphans.items) }
+    ensures output { IfOk result (λ ahead. ahead.output ≡ length (machine_view book.now).output) }
+{
+    Ok(Ahead {
+        has_room: has_its_room(book, asked, about),
+        orphans: orphans_of(book.state(), asked, about)?,
+        output: book.state().output().len(),
+    })
 }
 
 /// Plays an act of this number, from 1, and puts its line together.
@@ -200,8 +283,9 @@ fn play_act<N: Naming, P: Placer, T: Tap>(
         return PlayedAct::Unmade;
     };
     let about = about_of(watch.book.state(), &asked, &watch.leg);
-    let has_room = has_its_room(&watch.book, &asked, &about);
-    let output = watch.book.state().output().len();
+    let Ok(ahead) = read_ahead(&watch.book, &asked, &about) else {
+        return PlayedAct::Unmade;
+    };
     watch.line.clear();
     if put_front(&mut watch.line, at, act, &asked, &about, &watch.leg).is_err() {
         return PlayedAct::Unmade;
@@ -212,9 +296,10 @@ fn play_act<N: Naming, P: Placer, T: Tap>(
         return PlayedAct::Unmade;
     }
     watch.count += 1;
-    let arrived = arrived_by(&watch.book, &asked, &about, applied.reply);
-    let effect = effect_of(applied, has_room, arrived, output);
-    match tell_rest(watch, &asked, &about, effect) {
+    let Ok(effect) = effect_of(watch, &asked, &about, applied, ahead) else {
+        return PlayedAct::Untold;
+    };
+    match tell_rest(watch, &asked, &about, &effect) {
         Ok(()) => PlayedAct::Told,
         Err(_) => PlayedAct::Untold,
     }

@@ -3,4 +3,7 @@ mod Placing
 mod Joined
 mod Handed
 mod Refreshed
-mod Quiet
+mod Named
+mod Affected
+mod Noted
+pub mod Proved

@@ -2,10 +2,10 @@
 use Rattle.std.proofs.Common.{◌≡◌, ◌∙◌, ℕ, ◌+◌, ◌++◌, ◌∷◌, [], List, take, ap, sym, suc, zero, add-one, append_assoc}
 use Rattle.std.specs.Prelude.{Some, None, option_map, slice_get, unwrap_or}
 use Rattle.std.specs.List.{flat_map}
+use Rattle.std.proofs.lemmas.List.{append-nil}
 use Rattle.spill_store.specs.SpilledTasks.{Spilled}
 use Rattle.task_desc.specs.declared.desc.Desc.{Desc}
 use Rattle.watch_text.specs.Opening.{placed_desc, placed_line, spilled_line}
-use Rattle.watch_text.proofs.Ranged.{append_nil}
 
 module _ (tile : ℕ) where
   -- one task more
@@ -15,7 +15,7 @@ module _ (tile : ℕ) where
       ≡ flat_map (spilled_line tile) (take k block) ++ placed_line tile None (placed_desc desc)
   more_lines [] k desc h = cc
   more_lines (s ∷ block) zero desc h =
-      append_nil (spilled_line tile s)
+      append-nil (spilled_line tile s)
       ∙ ap (λ (d : Desc). placed_line tile None (placed_desc d)) (ap (λ found. unwrap_or found s.desc) h)
   more_lines (s ∷ block) (suc k) desc h =
       ap (λ (rest : List ℕ). spilled_line tile s ++ rest) (more_lines block k desc h)

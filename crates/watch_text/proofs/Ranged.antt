@@ -1,12 +1,14 @@
 -- Lists, texts and searches over the numbers from 0 on.
 use Rattle.std.proofs.Common.{◌≡◌, ◌∙◌, ℕ, ◌+◌, ◌<◌, ◌≤◌, ◌++◌, ◌∷◌, [], List, map, ap, sym, refl, arith, suc}
-use Rattle.std.proofs.Common.{zero, ⊎_elim, append_assoc}
+use Rattle.std.proofs.Common.{zero, ⊎_elim, append_assoc, length, slice_index_or, take}
 use Rattle.std.specs.Prelude.{codes, cond, find, filter, Bool, true, false, Some, None}
 use Rattle.std.specs.List.{flat_map, range_with_len}
 use Rattle.std.proofs.lemmas.Bool.{cases_lt, false_from_ne_true}
 use Rattle.std.proofs.lemmas.List.Concat.{flat_map-append}
 use Rattle.std.proofs.lemmas.List.Folds.{flat_map-map}
 use Rattle.std.proofs.lemmas.List.FromFn.{filter_of_map_range_with_len_more, map-range_with_len_more}
+use Rattle.std.proofs.lemmas.List.{append-nil}
+use Rattle.std.proofs.lemmas.List.Elements as elements
 use Rattle.watch_text.specs.Fields.{comma_before, items_text, more_items}
 
 -- ---- texts
@@ -20,17 +22,13 @@ flat_map-range_more f a n j h =
     ∙ flat_map-append (λ x. x) (map f (range_with_len a n)) (f j ∷ [])
     ∙ ap (λ front. front ++ (f j ++ [])) (flat_map-map (λ x. x) f (range_with_len a n))
 
-pub append_nil : (xs : List ℕ) → xs ++ [] ≡ xs
-append_nil [] = refl
-append_nil (x ∷ xs) = ap (λ ys. x ∷ ys) (append_nil xs)
-
 -- a text of pieces, one of which is added
 pub flat_step : (f : ℕ → List ℕ) (k : ℕ) (start old new : List ℕ)
     → old ≡ start ++ flat_map f (range_with_len 0 k) → new ≡ old ++ f k
     → new ≡ start ++ flat_map f (range_with_len 0 (k + 1))
 flat_step f k start old new so more =
     more ∙ ap (λ front. front ++ f k) so ∙ append_assoc start (flat_map f (range_with_len 0 k)) (f k)
-    ∙ ap (λ (last : List ℕ). start ++ (flat_map f (range_with_len 0 k) ++ last)) (sym (append_nil (f k)))
+    ∙ ap (λ (last : List ℕ). start ++ (flat_map f (range_with_len 0 k) ++ last)) (sym (append-nil (f k)))
     ∙ ap (λ (all : List ℕ). start ++ all) (sym (flat_map-range_more f 0 k k (omega arith)))
 
 comma_there : (j : ℕ) → comma_before (suc j) ≡ codes ","
@@ -39,14 +37,14 @@ comma_there j = grind arith
 -- one item more, with the comma before it
 items_more : (f : ℕ → List ℕ) (k : ℕ)
     → items_text f (range_with_len 0 (k + 1)) ≡ items_text f (range_with_len 0 k) ++ (comma_before k ++ f k)
-items_more f zero = append_nil (f 0)
+items_more f zero = append-nil (f 0)
 items_more f (suc j) =
     let e : suc j + 1 ≡ suc (j + 1) = omega arith in
     let more : List ℕ = codes "," ++ f (suc j) in
     ap (λ n. items_text f (range_with_len 0 n)) e
     ∙ ap (λ (rest : List ℕ). f 0 ++ rest) (flat_map-range_more (λ k. codes "," ++ f k) 1 j (suc j) (omega arith))
     ∙ sym (append_assoc (f 0) (more_items f (range_with_len 1 j)) (more ++ []))
-    ∙ ap (λ (last : List ℕ). (f 0 ++ more_items f (range_with_len 1 j)) ++ last) (append_nil more)
+    ∙ ap (λ (last : List ℕ). (f 0 ++ more_items f (range_with_len 1 j)) ++ last) (append-nil more)
     ∙ ap (λ (comma : List ℕ). items_text f (range_with_len 0 (suc j)) ++ (comma ++ f (suc j))) (sym (comma_there j))
 
 -- a text of items, one of which is added behind its comma
@@ -71,6 +69,13 @@ map_same : (xs : List ℕ) → map (λ x. x) xs ≡ xs
 map_same [] = refl
 map_same (x ∷ xs) = ap (λ ys. x ∷ ys) (map_same xs)
 
+-- the numbers below one that is added
+pub range_step : (k : ℕ) (old new : List ℕ) → old ≡ range_with_len 0 k → new ≡ old ++ k ∷ []
+    → new ≡ range_with_len 0 (k + 1)
+range_step k old new so more =
+    table_step (λ x. x) k old new (so ∙ sym (map_same (range_with_len 0 k))) more
+    ∙ map_same (range_with_len 0 (k + 1))
+
 filter_more : (p : ℕ → Bool) (k : ℕ)
     → filter p (range_with_len 0 (k + 1)) ≡ filter p (range_with_len 0 k) ++ cond (p k) (k ∷ []) []
 filter_more p k =
@@ -89,8 +94,27 @@ filter_takes p k old new is so more =
 pub filter_passes : (p : ℕ → Bool) (k : ℕ) (old : List ℕ) → p k ≡ false → old ≡ filter p (range_with_len 0 k)
     → old ≡ filter p (range_with_len 0 (k + 1))
 filter_passes p k old isnt so =
-    so ∙ sym (append_nil (filter p (range_with_len 0 k)))
+    so ∙ sym (append-nil (filter p (range_with_len 0 k)))
     ∙ ap (λ b. filter p (range_with_len 0 k) ++ cond b (k ∷ []) []) (sym isnt) ∙ sym (filter_more p k)
+
+-- ---- lists of numbers that are filtered place by place
+
+-- the next one passes
+pub filter_takes_next : (p : ℕ → Bool) (xs : List ℕ) (k : ℕ) (old new : List ℕ) → k < length xs
+    → p (slice_index_or xs k 0) ≡ true → old ≡ filter p (take k xs) → new ≡ old ++ slice_index_or xs k 0 ∷ []
+    → new ≡ filter p (take (k + 1) xs)
+filter_takes_next p xs k old new inside is so more =
+    more ∙ ap (λ front. front ++ slice_index_or xs k 0 ∷ []) so
+    ∙ ap (λ b. filter p (take k xs) ++ cond b (slice_index_or xs k 0 ∷ []) []) (sym is)
+    ∙ sym (elements.filter_more p xs k 0 inside)
+
+-- or it doesn't
+pub filter_passes_next : (p : ℕ → Bool) (xs : List ℕ) (k : ℕ) (old : List ℕ) → k < length xs
+    → p (slice_index_or xs k 0) ≡ false → old ≡ filter p (take k xs) → old ≡ filter p (take (k + 1) xs)
+filter_passes_next p xs k old inside isnt so =
+    so ∙ sym (append-nil (filter p (take k xs)))
+    ∙ ap (λ b. filter p (take k xs) ++ cond b (slice_index_or xs k 0 ∷ []) []) (sym isnt)
+    ∙ sym (elements.filter_more p xs k 0 inside)
 
 -- ---- searches
 

@@ -1,6 +1,6 @@
 -- What stands in a line behind its event: the reply, and what changed.
-use Rattle.std.specs.Prelude.{◌≡◌, ◌-◌, ◌==◌, ◌&&◌, ℕ, Bool, false, true, List, [], ◌∷◌, ◌++◌, codes, decimal}
-use Rattle.std.specs.Prelude.{drop, find, length}
+use Rattle.std.specs.Prelude.{◌≡◌, ◌<◌, ◌-◌, ◌==◌, ◌&&◌, ℕ, Bool, false, true, List, [], ◌∷◌, ◌++◌, codes, decimal}
+use Rattle.std.specs.Prelude.{Contains, drop, find, length}
 use Rattle.std.specs.Prelude.{Some, None, option_and_then, option_map, slice_get, if◌then◌else◌}
 use Rattle.std.specs.declared.option.Option.{Option}
 use Rattle.std.specs.List.{range_with_len}
@@ -22,8 +22,8 @@ use Rattle.event_def.specs.declared.event.Reply.TheVariants as reply
 use Rattle.watch_text.specs.declared.before.Before.{Before}
 use Rattle.watch_text.specs.Asking.{Attempt, Hands, Says}
 use Rattle.watch_text.specs.Fields.{hex_text, items_field, name_field, number_field, pair_text, some_field, word_field}
-use Rattle.watch_text.specs.Taking.{OthersRemembered, TookBackNone, TookNone, id_count, ids_back, ids_gone}
-use Rattle.watch_text.specs.Taking.{ids_spilled, was_at}
+use Rattle.watch_text.specs.Taking.{OthersRemembered, id_count, ids_affected, ids_back, ids_gone, ids_spilled}
+use Rattle.watch_text.specs.Taking.{is_orphan, remembered, was_at}
 
 -- the last item
 abbrev pub last_item : {X : Type 0} → List X → Option X
@@ -95,16 +95,31 @@ abbrev pub done_in : {N : Type 0} → Attempt N → Option ℕ → Option ℕ
 done_in (Hands event.Commit) task = task
 done_in asks task = None
 
--- the event took none back
-abbrev pub TakesBackNone : {N : Type 0} → List (Option Before) → View → Attempt N → Option ℕ → Option Request → Type 0
-TakesBackNone table new asks task request =
-    TookBackNone table new (arrived_in new asks task request) (done_in asks task)
+-- the ids of the tasks that were taken back or spilled
+abbrev pub affected_in : {N : Type 0} → List (Option Before) → View → Attempt N → Option ℕ → Option Request → List ℕ
+affected_in table new asks task request =
+    ids_affected table new (arrived_in new asks task request) (done_in asks task)
 
--- the event left the other tasks alone: it took none back and spilled none, and what was remembered of them is so still
-pub record LeavesOthers {N : Type 0} (table : List (Option Before)) (new : View) (asks : Attempt N) (task : Option ℕ)
-    (request : Option Request) : Type 0 where
-  pub took : TookNone table new (arrived_in new asks task request) (done_in asks task)
-  pub others : OthersRemembered table new task (arrived_in new asks task request) (done_in asks task)
+-- the task that came, and the ids of those that were taken back or spilled, are these
+pub record IsFound {N : Type 0} (table : List (Option Before)) (new : View) (asks : Attempt N) (task : Option ℕ)
+    (request : Option Request) (arrived : Option ℕ) (ids : List ℕ) : Type 0 where
+  pub came : arrived ≡ arrived_in new asks task request
+  pub affected : ids ≡ affected_in table new asks task request
+
+-- what was remembered of the other tasks is so still
+abbrev pub LeavesOthers : {N : Type 0} → List (Option Before) → View → Attempt N → Option ℕ → Option Request → Type 0
+LeavesOthers table new asks task request =
+    OthersRemembered table new task (arrived_in new asks task request) (done_in asks task)
+
+-- all children that the table has of the task that committed are among these
+abbrev pub HasOrphansIn : {N : Type 0} → List (Option Before) → Attempt N → Option ℕ → List ℕ → Type 0
+HasOrphansIn table asks task ids =
+    (id : ℕ) → id < length table → is_orphan (done_in asks task) (was_at table id) ≡ true → Contains ids id
+
+-- and all that the machine has of the one that is to commit
+abbrev pub HasOrphans : {N : Type 0} → View → Attempt N → Option ℕ → List ℕ → Type 0
+HasOrphans old asks task ids =
+    (id : ℕ) → id < id_count old → is_orphan (done_in asks task) (remembered old id) ≡ true → Contains ids id
 
 -- ---- tasks that were taken back
 
@@ -135,7 +150,7 @@ aborted_text aborted = if aborted == 0 then [] else number_field (codes "aborted
 abbrev pub lists_text : List (Option Before) → View → (arrived done : Option ℕ) → List ℕ
 lists_text table new arrived done =
     items_field (codes "back") (back_text table) (ids_back table new arrived done)
-    ++ items_field (codes "gone") decimal (ids_gone table new arrived)
+    ++ items_field (codes "gone") decimal (ids_gone table new arrived done)
     ++ items_field (codes "spilled") (spilled_text table (length new.history)) (ids_spilled table new arrived done)
 
 -- how many were taken back, and these
@@ -182,7 +197,7 @@ split_name_text commits None = []
 split_name_text commits (Some task) =
     let name = name_given task.creator commits in name_field name.creator name.index
 
--- a commit: the entry, and the bytes behind these many, where there are any
+-- the entry of a task that committed
 unfoldable pub entry_text : Entry → List ℕ
 entry_text entry =
     name_field entry.name.creator entry.name.index ++ number_field (codes "depth") entry.depth
@@ -196,6 +211,7 @@ abbrev pub some_entry_text : Option Entry → List ℕ
 some_entry_text None = []
 some_entry_text (Some entry) = entry_text entry
 
+-- a commit: the entry, and the bytes behind these many, where there are any
 abbrev pub commit_text : View → ℕ → List ℕ
 commit_text new output = some_entry_text (last_item new.history) ++ emitted_text (drop output new.output)
 

@@ -61,7 +61,7 @@ abbrev pub kind_word : Kind → List ℕ
 kind_word Unordered = codes "unordered"
 kind_word Ordered = codes "ordered"
 
--- what a task starts with: its entry, its timestamp, its arguments and its hint
+-- what a task starts with: its entry address, its timestamp, its arguments and its hint
 unfoldable pub start_text : (entry ts : ℕ) → (args : List ℕ) → (hint : ℕ) → List ℕ
 start_text entry ts args hint =
     number_field (codes "entry") entry ++ number_field (codes "ts") ts ++ args_field args

@@ -1,6 +1,6 @@
 -- Which tasks an event took back, discarded and spilled, told from what stood before it and what stands behind it; and
 -- what it is to leave the other tasks alone.
-use Rattle.std.specs.Prelude.{◌≡◌, ◌<◌, ◌==◌, ◌&&◌, ◌||◌, ◌*◌, not, ℕ, Bool, false, List, [], map, filter, length}
+use Rattle.std.specs.Prelude.{◌≡◌, ◌<◌, ◌==◌, ◌&&◌, ◌||◌, ◌*◌, not, ℕ, Bool, false, List, map, filter, length}
 use Rattle.std.specs.Prelude.{Some, None, is_none, is_some, option_map, slice_index_or}
 use Rattle.std.specs.declared.option.Option.{Option}
 use Rattle.std.specs.List.{range_with_len}
@@ -61,7 +61,7 @@ abbrev pub some_creator_undone : List (Option Before) → View → (arrived : Op
 some_creator_undone table new arrived None = false
 some_creator_undone table new arrived (Some was) = creator_undone table new arrived was.creator
 
--- it has left with its creator
+-- it has left, since its creator was taken back
 abbrev pub was_discarded : List (Option Before) → View → (arrived : Option ℕ) → ℕ → Bool
 was_discarded table new arrived id = has_left new arrived id && some_creator_undone table new arrived (was_at table id)
 
@@ -70,34 +70,34 @@ abbrev pub is_back : List (Option Before) → View → (arrived done : Option �
 is_back table new arrived done id =
     not (is_id done id) && (was_undone table new arrived id || was_discarded table new arrived id)
 
+-- and is gone
+abbrev pub is_gone : List (Option Before) → View → (arrived done : Option ℕ) → ℕ → Bool
+is_gone table new arrived done id = not (is_id done id) && was_discarded table new arrived id
+
 -- it has left, and neither was discarded nor committed
 abbrev pub was_spilled : List (Option Before) → View → (arrived done : Option ℕ) → ℕ → Bool
 was_spilled table new arrived done id =
     not (is_id done id) && (is_some (was_at table id) && (has_left new arrived id
     && not (was_discarded table new arrived id)))
 
+-- the event took it back or spilled it
+abbrev pub is_affected : List (Option Before) → View → (arrived done : Option ℕ) → ℕ → Bool
+is_affected table new arrived done id = is_back table new arrived done id || was_spilled table new arrived done id
+
 -- the ids of these, the lowest first
 abbrev pub ids_back : List (Option Before) → View → (arrived done : Option ℕ) → List ℕ
 ids_back table new arrived done = filter (is_back table new arrived done) (range_with_len 0 (length table))
 
-abbrev pub ids_gone : List (Option Before) → View → (arrived : Option ℕ) → List ℕ
-ids_gone table new arrived = filter (was_discarded table new arrived) (range_with_len 0 (length table))
+abbrev pub ids_gone : List (Option Before) → View → (arrived done : Option ℕ) → List ℕ
+ids_gone table new arrived done = filter (is_gone table new arrived done) (range_with_len 0 (length table))
 
 abbrev pub ids_spilled : List (Option Before) → View → (arrived done : Option ℕ) → List ℕ
 ids_spilled table new arrived done = filter (was_spilled table new arrived done) (range_with_len 0 (length table))
 
--- none was taken back, whatever was spilled
-pub record TookBackNone (table : List (Option Before)) (new : View) (arrived done : Option ℕ) : Type 0 where
-  pub back : ids_back table new arrived done ≡ []
-  pub gone : ids_gone table new arrived ≡ []
+abbrev pub ids_affected : List (Option Before) → View → (arrived done : Option ℕ) → List ℕ
+ids_affected table new arrived done = filter (is_affected table new arrived done) (range_with_len 0 (length table))
 
--- ---- an event that leaves other tasks alone
-
--- none was taken back, discarded or spilled
-pub record TookNone (table : List (Option Before)) (new : View) (arrived done : Option ℕ) : Type 0 where
-  pub back : ids_back table new arrived done ≡ []
-  pub gone : ids_gone table new arrived ≡ []
-  pub spilled : ids_spilled table new arrived done ≡ []
+-- ---- the tasks that an event leaves alone
 
 -- the creator is this task, which hasn't committed
 abbrev pub is_made_by : ℕ → Creator → Bool
@@ -114,8 +114,9 @@ is_orphan None was = false
 is_orphan (Some id) was = was_made_by id was
 
 -- what the table has is what is remembered now: of all tasks but the one that the event is about, the one that came,
--- and the children of the one that committed
+-- those that were taken back or spilled, and the children of the one that committed
 abbrev pub OthersRemembered : List (Option Before) → View → (about arrived done : Option ℕ) → Type 0
 OthersRemembered table new about arrived done =
     (id : ℕ) → id < length table → is_id about id ≡ false → is_id arrived id ≡ false
-    → is_orphan done (was_at table id) ≡ false → was_at table id ≡ remembered new id
+    → is_orphan done (was_at table id) ≡ false → is_affected table new arrived done id ≡ false
+    → was_at table id ≡ remembered new id

@@ -1,20 +1,19 @@
 //! What an event changed.
 
-ghost use Rattle.std.specs.Prelude.{◌≡◌, ◌<◌, ◌++◌, ℕ, IfSome, IsTrue, OnOk, Some, codes, decimal, length};
+ghost use Rattle.std.specs.Prelude.{◌≡◌, ◌<◌, ◌++◌, ℕ, IfSome, OnOk, Some, codes, decimal, length};
 ghost use Rattle.std.specs.Prelude.{option_map};
 ghost use Rattle.std.specs.String.{string_bytes};
 ghost use Rattle.rv_core.specs.LegValue.{LegValue};
 ghost use Rattle.spec_state.specs.Fronts.{name_given};
 ghost use Rattle.spec_state.specs.View.{queue_at};
 ghost use Rattle.watch_text.specs.Asking.{AskedIsInRange, asks_of};
-ghost use Rattle.watch_text.specs.Changes.{IsOneChild, IsOneIn, IsOneLast, LeavesOthers, TakesBackNone};
-ghost use Rattle.watch_text.specs.Changes.{aborted_text};
+ghost use Rattle.watch_text.specs.Changes.{IsFound, IsOneChild, IsOneIn, IsOneLast, aborted_text};
 ghost use Rattle.watch_text.specs.Changes.{arrived_in, back_text, child_at, child_in};
 ghost use Rattle.watch_text.specs.Changes.{done_in, has_child, last_child, last_item, lists_text, named_text};
 ghost use Rattle.watch_text.specs.Changes.{spilled_text, taken_text, used_by, work_of};
 ghost use Rattle.watch_text.specs.Fields.{items_field, more_items};
 ghost use Rattle.watch_text.specs.Moments.{task_of};
-ghost use Rattle.watch_text.specs.Taking.{TookBackNone, TookNone, ids_back, ids_gone, ids_spilled};
+ghost use Rattle.watch_text.specs.Taking.{ids_affected, ids_back, ids_gone, ids_spilled};
 
 use crate::about::{About, task_of};
 use crate::asking::Asked;
@@ -182,15 +181,20 @@ fn put_lists<N: Naming>(
     line: &mut String,
     state: &State<N>,
     table: &[Option<Before>],
+    affected: &[usize],
     arrived: Option<usize>,
     done: Option<usize>,
 ) -> Result<(), AllocError>
+    requires { affected.now ≡ ids_affected table.now state.now.view arrived done }
     ensures { OnOk result (string_bytes line.new ≡ string_bytes line.old
         ++ lists_text table.now state.now.view arrived done) }
 {
-    put_backs(line, state, table, arrived, done)?;
-    put_gone(line, state, table, arrived)?;
-    put_spills(line, state, table, arrived, done)
+    let back = ids_back(state, table, affected, arrived, done)?;
+    put_all_back(line, table, &back)?;
+    let gone = ids_gone(state, table, affected, arrived, done)?;
+    put_list(line, "gone", &gone)?;
+    let spilled = ids_spilled(state, table, affected, arrived, done)?;
+    put_all_spilled(line, table, state.commit_count(), &spilled)
 }
 
 /// What an event did to other tasks: how many were taken back, which, which of these are gone, and which were spilled.
@@ -199,65 +203,15 @@ fn put_taken<N: Naming>(
     line: &mut String,
     state: &State<N>,
     table: &[Option<Before>],
-    arrived: Option<usize>,
     done: Option<usize>,
-    effect: Effect,
+    effect: &Effect,
 ) -> Result<(), AllocError>
-    requires quiet { IsTrue effect.quiet → TookNone table.now state.now.view arrived done }
-    requires kept { effect.aborted ≡ 0 → TookBackNone table.now state.now.view arrived done }
+    requires { effect.now.affected.items ≡ ids_affected table.now state.now.view effect.now.arrived done }
     ensures { OnOk result (string_bytes line.new ≡ string_bytes line.old
-        ++ taken_text table.now state.now.view arrived done effect.aborted) }
+        ++ taken_text table.now state.now.view effect.now.arrived done effect.now.aborted) }
 {
     put_aborted(line, effect.aborted)?;
-    if effect.quiet {
-        return Ok(());
-    }
-    if effect.aborted == 0 {
-        return put_spills(line, state, table, arrived, done);
-    }
-    put_lists(line, state, table, arrived, done)
-}
-
-fn put_backs<N: Naming>(
-    line: &mut String,
-    state: &State<N>,
-    table: &[Option<Before>],
-    arrived: Option<usize>,
-    done: Option<usize>,
-) -> Result<(), AllocError>
-    ensures { OnOk result (string_bytes line.new ≡ string_bytes line.old
-        ++ items_field (codes "back") (back_text table.now) (ids_back table.now state.now.view arrived done)) }
-{
-    let ids = ids_back(state, table, arrived, done)?;
-    put_all_back(line, table, &ids)
-}
-
-fn put_gone<N: Naming>(
-    line: &mut String,
-    state: &State<N>,
-    table: &[Option<Before>],
-    arrived: Option<usize>,
-) -> Result<(), AllocError>
-    ensures { OnOk result (string_bytes line.new ≡ string_bytes line.old
-        ++ items_field (codes "gone") decimal (ids_gone table.now state.now.view arrived)) }
-{
-    let ids = ids_gone(state, table, arrived)?;
-    put_list(line, "gone", &ids)
-}
-
-fn put_spills<N: Naming>(
-    line: &mut String,
-    state: &State<N>,
-    table: &[Option<Before>],
-    arrived: Option<usize>,
-    done: Option<usize>,
-) -> Result<(), AllocError>
-    ensures { OnOk result (string_bytes line.new ≡ string_bytes line.old
-        ++ items_field (codes "spilled") (spilled_text table.now (length state.now.view.history))
-        (ids_spilled table.now state.now.view arrived done)) }
-{
-    let ids = ids_spilled(state, table, arrived, done)?;
-    put_all_spilled(line, table, state.commit_count(), &ids)
+    put_lists(line, state, table, &effect.affected, effect.arrived, done)
 }
 
 /// Whether the task of an id was made by this one, as its child of this place.
@@ -400,19 +354,14 @@ pub(crate) fn put_taken_by<N: Naming>(
     table: &[Option<Before>],
     asked: &Asked,
     about: &About,
-    effect: Effect,
+    effect: &Effect,
 ) -> Result<(), AllocError>
-    requires came { (leg : LegValue) → effect.arrived
-        ≡ arrived_in state.now.view (asks_of {N = N} asked.now leg) (task_of about.now) about.now.request }
-    requires kept { effect.aborted ≡ 0 → (leg : LegValue) → TakesBackNone {N = N} table.now state.now.view
-        (asks_of asked.now leg) (task_of about.now) about.now.request }
-    requires quiet { IsTrue effect.quiet → (leg : LegValue)
-        → LeavesOthers {N = N} table.now state.now.view (asks_of asked.now leg) (task_of about.now) about.now.request }
+    requires { (leg : LegValue) → IsFound {N = N} table.now state.now.view (asks_of asked.now leg) (task_of about.now)
+        about.now.request effect.now.arrived effect.now.affected.items }
     ensures { (leg : LegValue) → let asks = asks_of {N = N} asked.now leg in
         OnOk result (string_bytes line.new ≡ string_bytes line.old ++ taken_text table.now state.now.view
         (arrived_in state.now.view asks (task_of about.now) about.now.request) (done_in asks (task_of about.now))
-        effect.aborted) }
+        effect.now.aborted) }
 {
-    let done = done_in::<N>(asked, about);
-    put_taken(line, state, table, effect.arrived, done, effect)
+    put_taken(line, state, table, done_in::<N>(asked, about), effect)
 }

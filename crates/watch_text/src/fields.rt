@@ -171,7 +171,7 @@ fn put_args(line: &mut String, args: &[u32; 3]) -> Result<(), AllocError>
     put_text(line, "]")
 }
 
-/// What a task starts with: its entry, its timestamp, its arguments and its hint.
+/// What a task starts with: its entry address, its timestamp, its arguments and its hint.
 #[tactic(auto, unfolding(crate::specs::Fields::start_text))]
 pub(crate) fn put_start(
     line: &mut String,

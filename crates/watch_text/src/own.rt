@@ -217,12 +217,12 @@ pub(crate) fn put_own<N: Naming>(
     state: &State<N>,
     asked: &Asked,
     about: &About,
-    effect: Effect,
+    effect: &Effect,
 ) -> Result<(), AllocError>
-    requires { (leg : LegValue) → effect.arrived
+    requires { (leg : LegValue) → effect.now.arrived
         ≡ arrived_in state.now.view (asks_of {N = N} asked.now leg) (task_of about.now) about.now.request }
     ensures { (leg : LegValue) → OnOk result (string_bytes line.new ≡ string_bytes line.old
-        ++ own_text state.now.view effect.output (asks_of {N = N} asked.now leg) (task_of about.now)
+        ++ own_text state.now.view effect.now.output (asks_of {N = N} asked.now leg) (task_of about.now)
         about.now.request) }
 {
     match *asked {

@@ -1,12 +1,11 @@
 //! The rest of a line behind its event: the reply, and what changed.
 
-ghost use Rattle.std.specs.Prelude.{◌≡◌, ◌++◌, IsTrue, OnOk};
+ghost use Rattle.std.specs.Prelude.{◌≡◌, ◌++◌, OnOk};
 ghost use Rattle.std.specs.String.{string_bytes};
 ghost use Rattle.rv_core.specs.LegValue.{LegValue};
 ghost use Rattle.event_def.specs.declared.event.Reply.TheVariants as replies;
 ghost use Rattle.watch_text.specs.Asking.{asks_of};
-ghost use Rattle.watch_text.specs.Changes.{LeavesOthers, TakesBackNone, arrived_in, change_by, change_text};
-ghost use Rattle.watch_text.specs.Changes.{done_in, own_text};
+ghost use Rattle.watch_text.specs.Changes.{IsFound, arrived_in, change_by, change_text, done_in, own_text};
 ghost use Rattle.watch_text.specs.Changes.{reply_part, taken_text};
 ghost use Rattle.watch_text.specs.Lines.{rest_text};
 ghost use Rattle.watch_text.specs.Moments.{task_of};
@@ -40,19 +39,16 @@ fn put_made<N: Naming>(
     table: &[Option<Before>],
     asked: &Asked,
     about: &About,
-    effect: Effect,
+    effect: &Effect,
 ) -> Result<(), AllocError>
-    requires came { (leg : LegValue) → effect.arrived
-        ≡ arrived_in state.now.view (asks_of {N = N} asked.now leg) (task_of about.now) about.now.request }
-    requires kept { effect.aborted ≡ 0 → (leg : LegValue) → TakesBackNone {N = N} table.now state.now.view
-        (asks_of asked.now leg) (task_of about.now) about.now.request }
-    requires quiet { IsTrue effect.quiet → (leg : LegValue)
-        → LeavesOthers {N = N} table.now state.now.view (asks_of asked.now leg) (task_of about.now) about.now.request }
+    requires { (leg : LegValue) → IsFound {N = N} table.now state.now.view (asks_of asked.now leg) (task_of about.now)
+        about.now.request effect.now.arrived effect.now.affected.items }
     ensures { (leg : LegValue) → let asks = asks_of {N = N} asked.now leg in
         let task = task_of about.now in
         OnOk result (string_bytes line.new ≡ string_bytes line.old
         ++ (taken_text table.now state.now.view (arrived_in state.now.view asks task about.now.request)
-        (done_in asks task) effect.aborted ++ own_text state.now.view effect.output asks task about.now.request)) }
+        (done_in asks task) effect.now.aborted
+        ++ own_text state.now.view effect.now.output asks task about.now.request)) }
 {
     put_taken_by(line, state, table, asked, about, effect)?;
     put_own(line, state, asked, about, effect)
@@ -65,17 +61,13 @@ fn put_change<N: Naming>(
     table: &[Option<Before>],
     asked: &Asked,
     about: &About,
-    effect: Effect,
+    effect: &Effect,
 ) -> Result<(), AllocError>
-    requires came { (leg : LegValue) → effect.arrived
-        ≡ arrived_in state.now.view (asks_of {N = N} asked.now leg) (task_of about.now) about.now.request }
-    requires kept { effect.aborted ≡ 0 → (leg : LegValue) → TakesBackNone {N = N} table.now state.now.view
-        (asks_of asked.now leg) (task_of about.now) about.now.request }
-    requires quiet { IsTrue effect.quiet → (leg : LegValue)
-        → LeavesOthers {N = N} table.now state.now.view (asks_of asked.now leg) (task_of about.now) about.now.request }
+    requires { (leg : LegValue) → IsFound {N = N} table.now state.now.view (asks_of asked.now leg) (task_of about.now)
+        about.now.request effect.now.arrived effect.now.affected.items }
     ensures { (leg : LegValue) → OnOk result (string_bytes line.new ≡ string_bytes line.old
-        ++ change_text table.now effect.output state.now.view (asks_of {N = N} asked.now leg) (task_of about.now)
-        about.now.request effect.aborted) }
+        ++ change_text table.now effect.now.output state.now.view (asks_of {N = N} asked.now leg) (task_of about.now)
+        about.now.request effect.now.aborted) }
 {
     match *asked {
         Asked::Says(_) => Ok(()),
@@ -91,18 +83,13 @@ fn put_change_by<N: Naming>(
     table: &[Option<Before>],
     asked: &Asked,
     about: &About,
-    effect: Effect,
+    effect: &Effect,
 ) -> Result<(), AllocError>
-    requires came { effect.reply ≡ replies.Ok → (leg : LegValue) → effect.arrived
-        ≡ arrived_in state.now.view (asks_of {N = N} asked.now leg) (task_of about.now) about.now.request }
-    requires kept { effect.reply ≡ replies.Ok → effect.aborted ≡ 0 → (leg : LegValue)
-        → TakesBackNone {N = N} table.now state.now.view (asks_of asked.now leg) (task_of about.now)
-        about.now.request }
-    requires quiet { IsTrue effect.quiet → (leg : LegValue)
-        → LeavesOthers {N = N} table.now state.now.view (asks_of asked.now leg) (task_of about.now) about.now.request }
+    requires { effect.now.reply ≡ replies.Ok → (leg : LegValue) → IsFound {N = N} table.now state.now.view
+        (asks_of asked.now leg) (task_of about.now) about.now.request effect.now.arrived effect.now.affected.items }
     ensures { (leg : LegValue) → OnOk result (string_bytes line.new ≡ string_bytes line.old
-        ++ change_by effect.reply (change_text table.now effect.output state.now.view (asks_of {N = N} asked.now leg)
-        (task_of about.now) about.now.request effect.aborted)) }
+        ++ change_by effect.now.reply (change_text table.now effect.now.output state.now.view
+        (asks_of {N = N} asked.now leg) (task_of about.now) about.now.request effect.now.aborted)) }
 {
     match effect.reply {
         Reply::Ok => put_change(line, state, table, asked, about, effect),
@@ -116,29 +103,23 @@ fn put_change_by<N: Naming>(
     }
 }
 
-/// The rest of a line behind its event: the reply, how many events were made so far, and what changed. `table` has the
-/// tasks before it. Where the effect is quiet no other task is looked at.
+/// The rest of a line behind its event: the reply, how many events were made so far, and what changed. `table` tells
+/// of the tasks before it.
 pub fn put_rest<N: Naming>(
     line: &mut String,
     state: &State<N>,
     table: &[Option<Before>],
     asked: &Asked,
     about: &About,
-    effect: Effect,
-    events: u64,
+    effect: &Effect,
 ) -> Result<(), AllocError>
-    requires came { effect.reply ≡ replies.Ok → (leg : LegValue) → effect.arrived
-        ≡ arrived_in state.now.view (asks_of {N = N} asked.now leg) (task_of about.now) about.now.request }
-    requires kept { effect.reply ≡ replies.Ok → effect.aborted ≡ 0 → (leg : LegValue)
-        → TakesBackNone {N = N} table.now state.now.view (asks_of asked.now leg) (task_of about.now)
-        about.now.request }
-    requires quiet { IsTrue effect.quiet → (leg : LegValue)
-        → LeavesOthers {N = N} table.now state.now.view (asks_of asked.now leg) (task_of about.now) about.now.request }
+    requires { effect.now.reply ≡ replies.Ok → (leg : LegValue) → IsFound {N = N} table.now state.now.view
+        (asks_of asked.now leg) (task_of about.now) about.now.request effect.now.arrived effect.now.affected.items }
     ensures { (leg : LegValue) → OnOk result (string_bytes line.new ≡ string_bytes line.old
-        ++ rest_text table.now effect.output state.now.view (asks_of {N = N} asked.now leg) (task_of about.now)
-        about.now.request effect.reply effect.aborted events) }
+        ++ rest_text table.now effect.now.output state.now.view (asks_of {N = N} asked.now leg) (task_of about.now)
+        about.now.request effect.now.reply effect.now.aborted effect.now.events) }
 {
-    put_reply(line, effect.reply, events)?;
+    put_reply(line, effect.reply, effect.events)?;
     put_change_by(line, state, table, asked, about, effect)?;
     put_text(
         line,

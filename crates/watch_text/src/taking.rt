@@ -1,11 +1,19 @@
 //! Which tasks an event took back, discarded and spilled.
 
 ghost use Rattle.std.specs.Prelude.{◌≡◌, IfOk};
+ghost use Rattle.rv_core.specs.LegValue.{LegValue};
 ghost use Rattle.spec_state.specs.View.{task_at};
-ghost use Rattle.watch_text.specs.Taking.{creator_undone, has_left, ids_back, ids_gone, ids_spilled, is_back, is_id};
-ghost use Rattle.watch_text.specs.Taking.{some_creator_undone, waits, was_at, was_discarded, was_spilled, was_undone};
+ghost use Rattle.watch_text.specs.Asking.{asks_of};
+ghost use Rattle.watch_text.specs.Changes.{affected_in, arrived_in};
+ghost use Rattle.watch_text.specs.Moments.{task_of};
+ghost use Rattle.watch_text.specs.Taking.{creator_undone, has_left, ids_affected, ids_back, ids_gone, ids_spilled};
+ghost use Rattle.watch_text.specs.Taking.{is_affected, is_back, is_gone, is_id, some_creator_undone, waits, was_at};
+ghost use Rattle.watch_text.specs.Taking.{was_discarded, was_spilled, was_undone};
 
+use crate::about::About;
+use crate::asking::Asked;
 use crate::before::Before;
+use crate::change::done_in;
 use rv_core::Naming;
 use spec_state::{Creator, State, TaskId};
 use std::alloc::AllocError;
@@ -89,7 +97,7 @@ fn some_creator_undone<N: Naming>(
     }
 }
 
-/// Whether the task of an id has left with its creator.
+/// Whether the task of an id has left, since its creator was taken back.
 fn was_discarded<N: Naming>(
     state: &State<N>,
     table: &[Option<Before>],
@@ -115,6 +123,19 @@ fn is_back<N: Naming>(
         && (was_undone(state, table, arrived, id) || was_discarded(state, table, arrived, id))
 }
 
+/// Whether it is gone then.
+fn is_gone<N: Naming>(
+    state: &State<N>,
+    table: &[Option<Before>],
+    arrived: Option<usize>,
+    done: Option<usize>,
+    id: usize,
+) -> bool
+    ensures { result ≡ is_gone table.now state.now.view arrived done id }
+{
+    !is_id(done, id) && was_discarded(state, table, arrived, id)
+}
+
 /// Whether the task of an id has left, and neither was discarded nor committed.
 fn was_spilled<N: Naming>(
     state: &State<N>,
@@ -131,57 +152,118 @@ fn was_spilled<N: Naming>(
         && !was_discarded(state, table, arrived, id)
 }
 
-/// The ids of the tasks that were taken back, the lowest first.
+/// Whether the task of an id was taken back or spilled, where this one committed: it has left, or waits again.
+fn is_affected<N: Naming>(
+    state: &State<N>,
+    table: &[Option<Before>],
+    arrived: Option<usize>,
+    done: Option<usize>,
+    id: usize,
+) -> bool
+    ensures { result ≡ is_affected table.now state.now.view arrived done id }
+{
+    match was_at(table, id) {
+        None => false,
+        Some(was) => {
+            !is_id(done, id) && (has_left(state, arrived, id) || was.dispatched && waits(state, id))
+        }
+    }
+}
+
+/// The ids of the tasks that were taken back or spilled, the lowest first.
 #[tactic(auto, using(crate::proofs::Ranged::filter_takes, crate::proofs::Ranged::filter_passes))]
+fn ids_affected<N: Naming>(
+    state: &State<N>,
+    table: &[Option<Before>],
+    arrived: Option<usize>,
+    done: Option<usize>,
+) -> Result<Vec<usize>, AllocError>
+    ensures { IfOk result (λ ids. ids.items ≡ ids_affected table.now state.now.view arrived done) }
+{
+    let mut ids = Vec::new(state.alloc());
+    for id in 0..table.len() {
+        if is_affected(state, table, arrived, done, id) {
+            ids.push(id)?;
+        }
+    }
+    Ok(ids)
+}
+
+/// The ids of the tasks that an event took back or spilled, the lowest first, where this task came; `table` tells of
+/// the time before it. It costs a look at each place of the table.
+pub fn affected_by<N: Naming>(
+    state: &State<N>,
+    table: &[Option<Before>],
+    asked: &Asked,
+    about: &About,
+    arrived: Option<usize>,
+) -> Result<Vec<usize>, AllocError>
+    requires { (leg : LegValue) → arrived
+        ≡ arrived_in state.now.view (asks_of {N = N} asked.now leg) (task_of about.now) about.now.request }
+    ensures { IfOk result (λ ids. (leg : LegValue) → ids.items
+        ≡ affected_in table.now state.now.view (asks_of {N = N} asked.now leg) (task_of about.now) about.now.request) }
+{
+    ids_affected(state, table, arrived, done_in::<N>(asked, about))
+}
+
+/// Those of them that were taken back.
+#[tactic(auto, using(crate::proofs::Ranged::filter_takes_next, crate::proofs::Ranged::filter_passes_next))]
 pub(crate) fn ids_back<N: Naming>(
     state: &State<N>,
     table: &[Option<Before>],
+    affected: &[usize],
     arrived: Option<usize>,
     done: Option<usize>,
 ) -> Result<Vec<usize>, AllocError>
+    requires { affected.now ≡ ids_affected table.now state.now.view arrived done }
     ensures { IfOk result (λ ids. ids.items ≡ ids_back table.now state.now.view arrived done) }
 {
     let mut ids = Vec::new(state.alloc());
-    for id in 0..table.len() {
-        if is_back(state, table, arrived, done, id) {
-            ids.push(id)?;
+    for id in affected {
+        if is_back(state, table, arrived, done, *id) {
+            ids.push(*id)?;
         }
     }
     Ok(ids)
 }
 
-/// Those of them that are gone.
-#[tactic(auto, using(crate::proofs::Ranged::filter_takes, crate::proofs::Ranged::filter_passes))]
+/// Those that are gone then.
+#[tactic(auto, using(crate::proofs::Ranged::filter_takes_next, crate::proofs::Ranged::filter_passes_next))]
 pub(crate) fn ids_gone<N: Naming>(
     state: &State<N>,
     table: &[Option<Before>],
+    affected: &[usize],
     arrived: Option<usize>,
+    done: Option<usize>,
 ) -> Result<Vec<usize>, AllocError>
-    ensures { IfOk result (λ ids. ids.items ≡ ids_gone table.now state.now.view arrived) }
+    requires { affected.now ≡ ids_affected table.now state.now.view arrived done }
+    ensures { IfOk result (λ ids. ids.items ≡ ids_gone table.now state.now.view arrived done) }
 {
     let mut ids = Vec::new(state.alloc());
-    for id in 0..table.len() {
-        if was_discarded(state, table, arrived, id) {
-            ids.push(id)?;
+    for id in affected {
+        if is_gone(state, table, arrived, done, *id) {
+            ids.push(*id)?;
         }
     }
     Ok(ids)
 }
 
-/// The ids of the tasks that were spilled, the lowest first.
-#[tactic(auto, using(crate::proofs::Ranged::filter_takes, crate::proofs::Ranged::filter_passes))]
+/// Those that were spilled.
+#[tactic(auto, using(crate::proofs::Ranged::filter_takes_next, crate::proofs::Ranged::filter_passes_next))]
 pub(crate) fn ids_spilled<N: Naming>(
     state: &State<N>,
     table: &[Option<Before>],
+    affected: &[usize],
     arrived: Option<usize>,
     done: Option<usize>,
 ) -> Result<Vec<usize>, AllocError>
+    requires { affected.now ≡ ids_affected table.now state.now.view arrived done }
     ensures { IfOk result (λ ids. ids.items ≡ ids_spilled table.now state.now.view arrived done) }
 {
     let mut ids = Vec::new(state.alloc());
-    for id in 0..table.len() {
-        if was_spilled(state, table, arrived, done, id) {
-            ids.push(id)?;
+    for id in affected {
+        if was_spilled(state, table, arrived, done, *id) {
+            ids.push(*id)?;
         }
     }
     Ok(ids)

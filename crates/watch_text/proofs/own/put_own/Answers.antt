@@ -3,7 +3,7 @@ use Rattle.watch_text.specs.declared.asking.Asked.{Asked}
 use Rattle.watch_text.specs.Asking.{asks_of}
 use Rattle.watch_text.specs.Changes.{arrived_in}
 use Rattle.watch_text.specs.Moments.{task_of}
-use Rattle.watch_text.proofs.Quiet.{some_leg}
+use Rattle.watch_text.proofs.Named.{some_leg}
 use Rattle.watch_text.proofs.own.put_own.Goals as goal
 
 pub put_step-requires : goal.put_step-requires

@@ -1,4 +1,4 @@
 use Rattle.watch_text.proofs.rest.put_change_by.Goals as goal
 
-pub put_change-requires-clause-kept : goal.put_change-requires-clause-kept
-put_change-requires-clause-kept g c none leg = c.requires.kept c.in-Ok.is none leg
+pub put_change-requires : goal.put_change-requires
+put_change-requires g c leg = c.requires c.in-Ok.is leg

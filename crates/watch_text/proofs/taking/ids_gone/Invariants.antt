@@ -1,8 +1,8 @@
-use Rattle.std.proofs.Common.{◌≡◌}
+use Rattle.std.proofs.Common.{◌≡◌, take}
 use Rattle.std.specs.Prelude.{filter}
-use Rattle.std.specs.List.{range_with_len}
-use Rattle.watch_text.specs.Taking.{was_discarded}
+use Rattle.watch_text.specs.Taking.{is_gone}
 use Rattle.watch_text.proofs.taking.ids_gone.Given as goal
 
 abbrev pub invariant-loop-id : goal.invariant-loop-id
-invariant-loop-id g l = l.ids.items ≡ filter (was_discarded l.table l.state.view l.arrived) (range_with_len 0 l.id)
+invariant-loop-id g l =
+    l.ids.items ≡ filter (is_gone l.table l.state.view l.arrived l.done) (take l.id-index l.affected)

@@ -1,0 +1,50 @@
+-- What comes of the acts of a round: those that it asks for are made, unless a step stalls or memory runs out; those
+-- that it passes over would be refused.
+use Rattle.std.specs.Prelude.{◌≡◌, ◌≢◌, ℕ, List}
+use Rattle.guest_image.specs.ImageValue.{ImageValue}
+use Rattle.spec_law.specs.Sound.{Sound}
+use Rattle.event_def.specs.declared.event.Reply.{Reply}
+use Rattle.event_def.specs.declared.event.Reply.TheVariants as reply
+use Rattle.event_def.specs.Book.{BookView}
+use Rattle.event_def.specs.End.{IsOver}
+use Rattle.step_script.specs.declared.act.Act.{Act}
+use Rattle.step_script.specs.declared.act.Act.TheVariants as acts
+use Rattle.step_script.specs.Playing.{HeldLeg, PlayState}
+use Rattle.watch_text.specs.Asking.{AsksFor, Attempt}
+use Rattle.watch_play.specs.Courses.{IsAskedInRound}
+use Rattle.watch_play.specs.Made.{AttemptComes}
+
+-- the act is a step
+abbrev pub IsStep : Act → Type 0
+IsStep (acts.Step tile core) = Unit {0}
+IsStep other = ⊥
+
+-- it is one of those that make up a round: a dispatch, a step, a commit or a split
+abbrev pub IsOfRound : Act → Type 0
+IsOfRound (acts.Dispatch tile) = Unit {0}
+IsOfRound (acts.Step tile core) = Unit {0}
+IsOfRound acts.Commit = Unit {0}
+IsOfRound (acts.Split tile) = Unit {0}
+IsOfRound other = ⊥
+
+-- the act was made, or memory was wanting, or it is a step, and stalled
+abbrev pub IsMadeOrStalls : Act → Reply → Type 0
+IsMadeOrStalls act reply.Ok = Unit {0}
+IsMadeOrStalls act reply.Memory = Unit {0}
+IsMadeOrStalls act reply.Stall = IsStep act
+IsMadeOrStalls act other = ⊥
+
+-- while a run goes on: what a round asks for, as the machine stands, is made or stalls
+abbrev pub AskedIsMade : Type 0 → Type 0
+AskedIsMade N =
+    (image : ImageValue) (old : PlayState) (new : BookView) (act : Act) (asks : Attempt N) (held : List HeldLeg)
+    (answer : Reply) (aborted : ℕ) → (IsOver old.book.view → ⊥) → IsAskedInRound old.book.view act
+    → AsksFor image act old asks held → AttemptComes asks answer aborted old.book new → IsMadeOrStalls act answer
+
+-- and what it passes over isn't made by whoever hands it in, and leaves the book as it is
+abbrev pub PassedIsRefused : Type 0 → Type 0
+PassedIsRefused N =
+    (image : ImageValue) (old : PlayState) (new : BookView) (act : Act) (asks : Attempt N) (held : List HeldLeg)
+    (answer : Reply) (aborted : ℕ) → Sound image old.book.view → IsOfRound act
+    → (IsAskedInRound old.book.view act → ⊥) → AsksFor image act old asks held
+    → AttemptComes asks answer aborted old.book new → (answer ≢ reply.Ok) × (new ≡ old.book)
