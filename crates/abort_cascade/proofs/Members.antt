@@ -21,8 +21,8 @@ pub record ListsTo (upto : ℕ) (marks : List Bool) (members : List ℕ) (found 
   pub all : (node : ℕ) → node < upto → Marked marks node → (k : ℕ) × (k < found) × (get_or members k 0 ≡ node)
   pub size : found ≡ count_by (λ mark. mark) (take upto marks)
 
-pub ListsTo-room : (upto : ℕ) (marks : List Bool) (members : List ℕ) (found : ℕ) → ListsTo upto marks members found → found ≤ upto
-ListsTo-room upto marks members found lists = omega (arith, lists.size, count_by-le-length (λ (mark : Bool). mark) (take upto marks), length-take upto marks)
+pub ListsTo-below : (upto : ℕ) (marks : List Bool) (members : List ℕ) (found : ℕ) → ListsTo upto marks members found → found ≤ upto
+ListsTo-below upto marks members found lists = omega (arith, lists.size, count_by-le-length (λ (mark : Bool). mark) (take upto marks), length-take upto marks)
 
 pub ListsTo-skip : (upto : ℕ) (marks : List Bool) (members : List ℕ) (found : ℕ)
     → upto < length marks → get_or marks upto false ≡ false → ListsTo upto marks members found → ListsTo (upto + 1) marks members found
@@ -54,7 +54,7 @@ ListsTo-more upto marks members found within room here lists =
       size = omega (arith, lists.size, count_by_more_yes (λ (mark : Bool). mark) marks upto false within here);
     }
 
--- there is room for an unmarked node
+-- where a node is unmarked, fewer are listed than there are nodes
 pub listed_below : (marks : List Bool) (members : List ℕ) (found node : ℕ)
     → IsListOf marks members found → node < length marks → get_or marks node false ≡ false → found < length marks
 listed_below marks members found node listed within unmarked =

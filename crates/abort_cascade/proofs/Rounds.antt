@@ -24,7 +24,7 @@ module _ (count : ℕ) (pull : ℕ → ℕ → Bool) where
         size = two.size ∙ one.size;
       }
 
-  -- a marked node's neighbour is marked
+  -- marks spread to a node that a marked one pulls
   pub Spreads-mark : (marks : List Bool) (a b : ℕ) → a < count → b < count → b < length marks → Marked marks a → pull a b ≡ true → Spreads count pull marks (set marks b true)
   Spreads-mark marks a b low high within marked pulled =
       record {

@@ -1,4 +1,5 @@
--- The least closed set of several first nodes is the union of the sets of each.
+-- The least closed set of several first nodes is the union of the sets of each, and is in each closed set that holds
+-- those.
 use Rattle.std.proofs.Common.{◌≡◌, ℕ, zero, suc, ◌<◌, Bool, true, false, List, length, get_or, set, replicate, refl, sym, subst, inl, inr}
 use Rattle.std.proofs.lemmas.Bool.{cases_eq}
 use Rattle.std.proofs.lemmas.List.{get_or-set_other, get_or-set_same}

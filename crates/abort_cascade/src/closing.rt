@@ -26,8 +26,8 @@ pub fn close<P: Pulls>(relation: &P, marks: &mut [bool], members: &mut [usize]) 
     found
 }
 
-/// Two laws. The closed set of several nodes is the union of the closed sets of each, and each closed set that
-/// holds those nodes holds it.
+/// Two laws. The least closed set of several nodes is the union of the least closed sets of each, and each closed set
+/// that holds those nodes holds it.
 pub fn closed_sets()
     ensures union { ClosesToUnion }
     ensures least { ClosesToLeast }

@@ -1,4 +1,4 @@
-//! The closed set of one node, with no room but the marks.
+//! The closed set of one node, with no memory but the marks.
 
 ghost use Rattle.std.specs.Prelude.{◌≡◌, ℕ, ◌<◌, true, false, length};
 ghost use Rattle.abort_cascade.specs.Cascade.{Marked, IsClosed, IsLeastClosed, OnlyNode};

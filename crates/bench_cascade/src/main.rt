@@ -51,7 +51,7 @@ fn kind_of(word: &str) -> Option<RelationKind> {
     }
 }
 
-/// Closes the set of the first node so many times, and tells its size.
+/// Closes the set of the node that leads to all so many times, and tells its size.
 fn size_of(shape: &Relation, rounds: u32, marks: &mut [bool], members: &mut [usize]) -> usize
     requires marks { length marks.old ≡ shape.now.nodes }
     requires members { length members.old ≡ shape.now.nodes }
@@ -59,7 +59,7 @@ fn size_of(shape: &Relation, rounds: u32, marks: &mut [bool], members: &mut [usi
     let mut size = 0;
     for _round in 0..rounds {
         marks.fill(false);
-        marks[shape.first()] = true;
+        marks[shape.head()] = true;
         size = close(shape, marks, members);
     }
     size

@@ -33,7 +33,7 @@ impl Relation {
     }
 
     /// The node whose closed set is all nodes.
-    pub fn first(&self) -> usize
+    pub fn head(&self) -> usize
         ensures { result < self.now.nodes }
     {
         match self.kind {

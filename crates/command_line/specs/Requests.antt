@@ -7,6 +7,7 @@ use Rattle.std.specs.List.{list_all}
 use Rattle.std.specs.Char.{is_ascii_digit}
 use Rattle.std.specs.Str.{bytes_eq}
 use Rattle.std.specs.Str.Parse.{digits_value}
+use Rattle.text_lines.specs.Lines.{◌>>=◌}
 use Rattle.load_gen.specs.declared.making.Load.{Load}
 use Rattle.load_gen.specs.declared.making.Load.TheVariants.{Walk, Nest}
 use Rattle.spec_state.specs.declared.settings.Settings.{Settings}
@@ -17,12 +18,6 @@ use Rattle.command_line.specs.declared.request.Request.{Request}
 use Rattle.command_line.specs.Settings as table
 use Rattle.command_line.specs.Settings.{Setting, between}
 use Rattle.command_line.specs.Reading.{text_in, given_in, kind, seed, size}
-
-infixl 10 ◌>>=◌
--- what a second step makes of the first one's value
-abbrev pub ◌>>=◌ : {A B : Type 0} → Option A → (A → Option B) → Option B
-None >>= f = None
-(Some x) >>= f = f x
 
 -- the texts that are given, by their names
 abbrev pub Texts : Type 0

@@ -1,11 +1,11 @@
 //! Numbers as words write them.
 
 ghost use Rattle.std.specs.Prelude.{◌≡◌, ◌≤◌, true, IfSome};
-ghost use Rattle.std.specs.List.{list_all};
-ghost use Rattle.std.specs.Char.{is_ascii_digit};
 ghost use Rattle.std.specs.Str.Parse.{digits_value};
 ghost use Rattle.command_line.specs.Requests.{is_number, number_in, number_of};
 ghost use Rattle.command_line.specs.Settings.{between};
+
+use text_lines::are_digits;
 
 /// The number that a text writes, where it is from `least` to `greatest`.
 pub fn number_between(least: u32, greatest: u32, text: &str) -> Option<u32>
@@ -37,12 +37,6 @@ fn is_number(digits: &[u8]) -> bool
     ensures { result ≡ is_number digits.now }
 {
     are_digits(digits) && 1 <= digits.len() && digits.len() <= 10
-}
-
-fn are_digits(bytes: &[u8]) -> bool
-    ensures { result ≡ list_all is_ascii_digit bytes.now }
-{
-    bytes.iter().all(|byte| byte.is_ascii_digit())
 }
 
 /// The value of at most 10 digits.

@@ -75,7 +75,7 @@ closed_upto_all (e ∷ es) =
     let both = cons_closed e es in
     omega (arith, first, rest, both)
 
--- of one of an id there is one, and of two of two ids there are two
+-- a closed candidate that is there makes the count at least 1, and two with two ids make it at least 2
 head_or_tail : (x y : Candidate) (xs : List Candidate) (k : ℕ) → k < length (x ∷ xs) → get_or (x ∷ xs) k y ≡ y → (x ≡ y) ⊎ Contains xs y
 head_or_tail x y xs zero inside is = inl is
 head_or_tail x y xs (suc k) inside is = inr (k, omega (arith, inside), is)

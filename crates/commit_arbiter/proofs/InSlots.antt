@@ -24,7 +24,7 @@ in_slots-set table slot e (s ∷ slots) other =
     differ : (s : ℕ) → s ≡ slot → nat_eq slot s ≡ false → ⊥
     differ s same not = grind (arith, nat_tests)
 
-module _ (table : List Candidate) (order free : List ℕ) (slot : ℕ) (order_room free_room : ℕ) (is : IsSlotted table order (free ++ slot ∷ []) order_room free_room) where
+module _ (table : List Candidate) (order free : List ℕ) (slot : ℕ) (order_capacity free_capacity : ℕ) (is : IsSlotted table order (free ++ slot ∷ []) order_capacity free_capacity) where
   front : IsDistinct nat_eq (slot ∷ (order ++ free))
   front = IsDistinct-IsPermutation nat_eq nat_eq_equiv.symm (order ++ (free ++ slot ∷ [])) (slot ∷ (order ++ free)) (last_front order free slot) is.distinct
 
@@ -34,23 +34,23 @@ module _ (table : List Candidate) (order free : List ℕ) (slot : ℕ) (order_ro
   pub slot_inside : slot < length table
   slot_inside = All-head (λ s. s < length table) slot (order ++ free) inside_all
 
-  inserted_entries : (e : Candidate) (place : ℕ) → in_slots (set table slot e) (insert order place slot) ≡ insert (in_slots table order) place e
-  inserted_entries e place =
+  inserted_candidates : (e : Candidate) (place : ℕ) → in_slots (set table slot e) (insert order place slot) ≡ insert (in_slots table order) place e
+  inserted_candidates e place =
       let others = in_slots-set table slot e order (All-front (λ s. nat_eq slot s ≡ false) order free (IsDistinct-head nat_eq slot (order ++ free) front)) in
       map-insert (λ s. get_or (set table slot e) s blank_candidate) order place slot
       ∙ ap (insert (in_slots (set table slot e) order) place) (get_or-set_same table slot e blank_candidate slot_inside)
       ∙ ap (λ xs. insert xs place e) others
 
   -- the candidates after the last free slot is written and comes to the order's end
-  pub entries_pushed : (e : Candidate)
+  pub candidates_pushed : (e : Candidate)
       → in_slots (set table slot e) (order ++ slot ∷ []) ≡ in_slots table order ++ e ∷ []
-  entries_pushed e =
+  candidates_pushed e =
       ap (in_slots (set table slot e)) (sym (insert_end order slot))
-      ∙ inserted_entries e (length order)
+      ∙ inserted_candidates e (length order)
       ∙ ap (λ n. insert (in_slots table order) n e) (sym (length-map order (λ s. get_or table s blank_candidate)))
       ∙ insert_end (in_slots table order) e
 
-  inserted_slotted : (e : Candidate) (place more_room less_room : ℕ) → place ≤ length order → order_room ≤ more_room → free_room ≤ less_room → IsSlotted (set table slot e) (insert order place slot) free more_room less_room
+  inserted_slotted : (e : Candidate) (place more_room less_room : ℕ) → place ≤ length order → order_capacity ≤ more_room → free_capacity ≤ less_room → IsSlotted (set table slot e) (insert order place slot) free more_room less_room
   inserted_slotted e place more_room less_room upto more less =
       let long = length-set table slot e in
       let one_more = length-insert order place slot upto in
@@ -64,20 +64,20 @@ module _ (table : List Candidate) (order free : List ℕ) (slot : ℕ) (order_ro
         free_holds = (let holds = is.free_holds in omega arith);
       }
 
-  pub slotted_pushed : (e : Candidate) (more_room less_room : ℕ) → order_room ≤ more_room → free_room ≤ less_room → IsSlotted (set table slot e) (order ++ slot ∷ []) free more_room less_room
+  pub slotted_pushed : (e : Candidate) (more_room less_room : ℕ) → order_capacity ≤ more_room → free_capacity ≤ less_room → IsSlotted (set table slot e) (order ++ slot ∷ []) free more_room less_room
   slotted_pushed e more_room less_room more less =
       subst (λ slots. IsSlotted (set table slot e) slots free more_room less_room) (insert_end order slot)
       (inserted_slotted e (length order) more_room less_room (omega arith) more less)
 
 -- the order's last slot goes to the free ones
-module _ (table : List Candidate) (front free : List ℕ) (slot : ℕ) (order_room free_room : ℕ) (is : IsSlotted table (front ++ slot ∷ []) free order_room free_room) where
+module _ (table : List Candidate) (front free : List ℕ) (slot : ℕ) (order_capacity free_capacity : ℕ) (is : IsSlotted table (front ++ slot ∷ []) free order_capacity free_capacity) where
   slots_moved : IsPermutation ((front ++ slot ∷ []) ++ free) (front ++ (free ++ slot ∷ []))
   slots_moved =
       IsPermutation-trans ((front ++ slot ∷ []) ++ free) (slot ∷ (front ++ free)) (front ++ (free ++ slot ∷ []))
       (IsPermutation-append_left free (front ++ slot ∷ []) (slot ∷ front) (IsPermutation-to_front front slot))
       (IsPermutation-sym (front ++ (free ++ slot ∷ [])) (slot ∷ (front ++ free)) (last_front front free slot))
 
-  pub slotted_popped : (more_room less_room : ℕ) → order_room ≤ more_room → free_room ≤ less_room → IsSlotted table front (free ++ slot ∷ []) more_room less_room
+  pub slotted_popped : (more_room less_room : ℕ) → order_capacity ≤ more_room → free_capacity ≤ less_room → IsSlotted table front (free ++ slot ∷ []) more_room less_room
   slotted_popped more_room less_room more less =
       let one_less = length-append front (slot ∷ []) in
       let one_more = length-append free (slot ∷ []) in
@@ -93,15 +93,15 @@ module _ (table : List Candidate) (front free : List ℕ) (slot : ℕ) (order_ro
 take_front : {X : Type 0} (xs : List X) (y : X) → take (length (xs ++ y ∷ []) - 1) (xs ++ y ∷ []) ≡ xs
 take_front xs y = ap (λ n. take n (xs ++ y ∷ [])) (let long = length-append xs (y ∷ []) in omega arith) ∙ take-append_seam xs (y ∷ [])
 
-pub entries_popped : (table : List Candidate) (order front : List ℕ) (slot : ℕ) → order ≡ front ++ slot ∷ [] → in_slots table front ≡ take (length (in_slots table order) - 1) (in_slots table order)
-entries_popped table order front slot is =
+pub candidates_popped : (table : List Candidate) (order front : List ℕ) (slot : ℕ) → order ≡ front ++ slot ∷ [] → in_slots table front ≡ take (length (in_slots table order) - 1) (in_slots table order)
+candidates_popped table order front slot is =
     let f : ℕ → Candidate = λ s. get_or table s blank_candidate in
     let parts : in_slots table order ≡ in_slots table front ++ f slot ∷ [] = ap (in_slots table) is ∙ map-append f front (slot ∷ []) in
     sym (take_front (in_slots table front) (f slot)) ∙ ap (λ es. take (length es - 1) es) (sym parts)
 
 -- a place among the candidates is one in the order
-pub place_within : (table : List Candidate) (order : List ℕ) (entries : List Candidate) (place : ℕ) → in_slots table order ≡ entries → place < length entries → place < length order
-place_within table order entries place same inside =
+pub place_within : (table : List Candidate) (order : List ℕ) (candidates : List Candidate) (place : ℕ) → in_slots table order ≡ candidates → place < length candidates → place < length order
+place_within table order candidates place same inside =
     let long = length-map order (λ slot. get_or table slot blank_candidate) in
     let as_long = ap length same in
     omega arith

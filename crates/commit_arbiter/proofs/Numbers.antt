@@ -20,8 +20,8 @@ unfolding IsDistinct
 range_distinct from zero = tt
 range_distinct from (suc many) = (above_differ from (from + 1) many (omega arith), range_distinct (from + 1) many)
 
-pub all_free : (table : List Candidate) (free : List ℕ) (many order_room free_room : ℕ) → table ≡ replicate many blank_candidate → free ≡ range_with_len 0 many → many ≤ order_room → many ≤ free_room → IsSlotted table [] free order_room free_room
-all_free table free many order_room free_room blanks numbers order_holds free_holds =
+pub all_free : (table : List Candidate) (free : List ℕ) (many order_capacity free_capacity : ℕ) → table ≡ replicate many blank_candidate → free ≡ range_with_len 0 many → many ≤ order_capacity → many ≤ free_capacity → IsSlotted table [] free order_capacity free_capacity
+all_free table free many order_capacity free_capacity blanks numbers order_holds free_holds =
     let long : length table ≡ many = ap length blanks ∙ length-replicate many blank_candidate in
     let as_long : length free ≡ many = ap length numbers ∙ length-range_with_len 0 many in
     record {

@@ -24,7 +24,7 @@ use Rattle.commit_arbiter.specs.declared.candidate.Candidate.{Candidate}
 use Rattle.commit_arbiter.specs.Indexed.{candidate_cmp, HasId, without_candidate, first_id, keys, IndexOrderIsOne}
 use Rattle.commit_arbiter.specs.Slots.{blank_candidate, candidate_at}
 use Rattle.commit_arbiter.specs.Heap.{IsHeapBy, IsHeapUp, IsHeapIndex, in_rising_order, upto}
-use Rattle.commit_arbiter.proofs.Places.{entry_cmp_total, without_none, no_id}
+use Rattle.commit_arbiter.proofs.Places.{candidate_cmp_total, without_none, no_id}
 use Rattle.commit_arbiter.proofs.Heaps.{grown, root_least}
 use Rattle.commit_arbiter.proofs.Swaps.{not_above_trans, itself}
 
@@ -39,13 +39,14 @@ candidate_cmp-same a b e =
     let id : a.id ≡ b.id = nat_cmp-IsAntisymmetric a.id b.id two.1 in
     λ i. record { key = key i; tile = tile i; arrival = arrival i; id = id i }
 
-ordered_is : (xs : List Candidate) → in_rising_order xs ≡ in_turn candidate_cmp entry_cmp_total candidate_cmp-same xs
+ordered_is : (xs : List Candidate)
+    → in_rising_order xs ≡ in_turn candidate_cmp candidate_cmp_total candidate_cmp-same xs
 ordered_is [] = refl
 ordered_is (x ∷ xs) = ap (after_insert candidate_cmp x) (ordered_is xs)
 
 pub in_rising_order-permutation : (xs ys : List Candidate) → IsPermutation xs ys
     → in_rising_order ys ≡ in_rising_order xs
-in_rising_order-permutation xs ys permuted = ordered_is ys ∙ in_turn-permutation candidate_cmp entry_cmp_total candidate_cmp-same xs ys permuted ∙ sym (ordered_is xs)
+in_rising_order-permutation xs ys permuted = ordered_is ys ∙ in_turn-permutation candidate_cmp candidate_cmp_total candidate_cmp-same xs ys permuted ∙ sym (ordered_is xs)
 
 pub in_rising_order-permutes : (xs : List Candidate) → IsPermutation xs (in_rising_order xs)
 in_rising_order-permutes [] = IsPermutation-refl []
@@ -92,22 +93,20 @@ ids_grown e old new none permuted ids =
 pub put_in_heap : (e : Candidate) (old grown new : List Candidate) → grown ≡ old ++ e ∷ [] → IsPermutation grown new → IsPermutation (e ∷ old) new
 put_in_heap e old grown new is permuted = IsPermutation-trans (e ∷ old) grown new (subst (IsPermutation (e ∷ old)) (insert_end old e ∙ sym is) (IsPermutation-insert old (length old) e)) permuted
 
+-- a number passes the test against itself
+itself_is : (n : ℕ) → n == n ≡ true
+itself_is n = grind (arith, nat_tests)
+
 -- a candidate goes out of a heap
 without_inserted : (x : Candidate) (ys : List Candidate) → All (λ y. y.id ≢ x.id) ys → without_candidate x.id (after_insert candidate_cmp x ys) ≡ ys
 without_inserted x [] all = gone (x.id == x.id) (itself_is x.id)
   where
-    itself_is : (n : ℕ) → n == n ≡ true
-    itself_is n = grind (arith, nat_tests)
-
     gone : (b : Bool) → b ≡ true → cond (not b) (x ∷ []) [] ≡ []
     gone true sure = refl
     gone false sure = absurd (cc (sure))
 without_inserted x (y ∷ ys) all =
     by_case (is_lt (candidate_cmp x y)) (without_inserted x ys (All-tail (λ y. y.id ≢ x.id) y ys all)) (without_none x.id (y ∷ ys) all)
   where
-    itself_is : (n : ℕ) → n == n ≡ true
-    itself_is n = grind (arith, nat_tests)
-
     differ_is : (m n : ℕ) → m ≢ n → m == n ≡ false
     differ_is m n not = grind (arith, nat_tests)
 
@@ -132,13 +131,13 @@ taken_out x old new permuted ids =
     sym (ap (without_candidate x.id) (sym (in_rising_order-permutation old (x ∷ new) permuted)) ∙ without_inserted x (in_rising_order new) (All-permutation (λ y. y.id ≢ x.id) new (in_rising_order new) (in_rising_order-permutes new) others))
 
 -- the first is the root
-pub first_is_root : (entries : List Candidate) (root : Candidate) → IsHeapBy upto (candidate_at entries) (length entries) → slice_get entries 0 ≡ Some root → Some root.id ≡ first_id (in_rising_order entries)
+pub first_is_root : (candidates : List Candidate) (root : Candidate) → IsHeapBy upto (candidate_at candidates) (length candidates) → slice_get candidates 0 ≡ Some root → Some root.id ≡ first_id (in_rising_order candidates)
 first_is_root [] root heap there = absurd (cc (there))
-first_is_root (e ∷ entries) root heap there =
+first_is_root (e ∷ candidates) root heap there =
     let same : e ≡ root = cc in
-    let least : All (upto e) entries = (λ k d inside. subst (upto e) (Rattle.std.proofs.lemmas.List.get_or_default entries k blank_candidate d inside) (root_least upto not_above_trans itself (candidate_at (e ∷ entries)) (length (e ∷ entries)) heap (suc k) (suc k) (omega arith) (omega arith))) in
+    let least : All (upto e) candidates = (λ k d inside. subst (upto e) (Rattle.std.proofs.lemmas.List.get_or_default candidates k blank_candidate d inside) (root_least upto not_above_trans itself (candidate_at (e ∷ candidates)) (length (e ∷ candidates)) heap (suc k) (suc k) (omega arith) (omega arith))) in
     ap (λ x. Some x.id) (sym same)
-    ∙ sym (ap first_id (front-after_insert candidate_cmp entry_cmp_total candidate_cmp-same e (in_rising_order entries) (All-permutation (upto e) entries (in_rising_order entries) (in_rising_order-permutes entries) least)))
+    ∙ sym (ap first_id (front-after_insert candidate_cmp candidate_cmp_total candidate_cmp-same e (in_rising_order candidates) (All-permutation (upto e) candidates (in_rising_order candidates) (in_rising_order-permutes candidates) least)))
 
 pub empty_heap : IsHeapIndex []
 unfolding IsDistinct
@@ -151,7 +150,7 @@ as_long es shown view = ap length (sym view) ∙ length_permutation es (in_risin
 pub in_rising_order-in_order : (es : List Candidate) → IsInOrder candidate_cmp (in_rising_order es)
 in_rising_order-in_order [] = λ i j d before inside. absurd (omega arith)
 in_rising_order-in_order (e ∷ es) =
-    in_order-after_insert candidate_cmp entry_cmp_total e (in_rising_order es) (in_rising_order-in_order es)
+    in_order-after_insert candidate_cmp candidate_cmp_total e (in_rising_order es) (in_rising_order-in_order es)
 
 pub ids_apart : (es : List Candidate) → IsDistinct same_id es → AllPairs (λ a b. a.id ≢ b.id) es
 unfolding IsDistinct
@@ -181,4 +180,4 @@ first_is_least [] some order = absurd (cc (some))
 first_is_least (e ∷ es) some order = head_is_least e es order
 
 pub one_order : IndexOrderIsOne
-one_order = Rattle.fractal_vt.proofs.InTurn.order_is_one candidate_cmp entry_cmp_total candidate_cmp-same
+one_order = Rattle.fractal_vt.proofs.InTurn.order_is_one candidate_cmp candidate_cmp_total candidate_cmp-same

@@ -16,18 +16,18 @@ use Rattle.fractal_vt.specs.Sorted.{after_insert}
 use Rattle.commit_arbiter.specs.Heap.{parent, IsHeapBy, IsHeapIndex, in_rising_order, upto}
 use Rattle.commit_arbiter.proofs.Ordered.{in_rising_order-permutes}
 
-pub get_renumbered : (table : List ℕ) (entries : List Candidate) (k : ℕ) → get_or (map (renumbered_candidate table) entries) k blank_candidate ≡ renumbered_candidate table (get_or entries k blank_candidate)
+pub get_renumbered : (table : List ℕ) (candidates : List Candidate) (k : ℕ) → get_or (map (renumbered_candidate table) candidates) k blank_candidate ≡ renumbered_candidate table (get_or candidates k blank_candidate)
 get_renumbered table [] k = refl
-get_renumbered table (e ∷ entries) zero = refl
-get_renumbered table (e ∷ entries) (suc k) = get_renumbered table entries k
+get_renumbered table (e ∷ candidates) zero = refl
+get_renumbered table (e ∷ candidates) (suc k) = get_renumbered table candidates k
 
 -- the candidates of a renumbered table
-pub slots_renumbered : (table : List ℕ) (entries : List Candidate) (slots : List ℕ) → in_slots (map (renumbered_candidate table) entries) slots ≡ map (renumbered_candidate table) (in_slots entries slots)
-slots_renumbered table entries [] = refl
-slots_renumbered table entries (s ∷ slots) = λ i. get_renumbered table entries s i ∷ slots_renumbered table entries slots i
+pub slots_renumbered : (table : List ℕ) (candidates : List Candidate) (slots : List ℕ) → in_slots (map (renumbered_candidate table) candidates) slots ≡ map (renumbered_candidate table) (in_slots candidates slots)
+slots_renumbered table candidates [] = refl
+slots_renumbered table candidates (s ∷ slots) = λ i. get_renumbered table candidates s i ∷ slots_renumbered table candidates slots i
 
-pub entry_kept : (table : List ℕ) (a b : Candidate) → HoldsKey table a.key → HoldsKey table b.key → candidate_cmp (renumbered_candidate table a) (renumbered_candidate table b) ≡ candidate_cmp a b
-entry_kept table a b in_a in_b =
+pub candidate_kept : (table : List ℕ) (a b : Candidate) → HoldsKey table a.key → HoldsKey table b.key → candidate_cmp (renumbered_candidate table a) (renumbered_candidate table b) ≡ candidate_cmp a b
+candidate_kept table a b in_a in_b =
     ap (λ o. ordering_then o (ordering_then (ordering_then (nat_cmp a.tile b.tile) (nat_cmp a.arrival b.arrival)) (nat_cmp a.id b.id))) (keeps_order table a.key b.key in_a in_b)
 
 -- a heap whose candidates are renumbered
@@ -39,7 +39,7 @@ module _ (table : List ℕ) where
   inserted_renumbered x [] held all = refl
   inserted_renumbered x (y ∷ ys) held all =
       ap (λ o. if is_lt o then renumbered_candidate table x ∷ renumbered_candidate table y ∷ map (renumbered_candidate table) ys else renumbered_candidate table y ∷ after_insert candidate_cmp (renumbered_candidate table x) (map (renumbered_candidate table) ys))
-      (entry_kept table x y held (All-head Held y ys all))
+      (candidate_kept table x y held (All-head Held y ys all))
       ∙ by_case (is_lt (candidate_cmp x y)) (inserted_renumbered x ys held (All-tail Held y ys all))
     where
       by_case : (b : Bool) → after_insert candidate_cmp (renumbered_candidate table x) (map (renumbered_candidate table) ys) ≡ map (renumbered_candidate table) (after_insert candidate_cmp x ys)
@@ -83,7 +83,7 @@ module _ (table : List ℕ) where
           subst (λ e. upto e (candidate_at (map (renumbered_candidate table) es) k))
           (sym (get_renumbered table es (parent k)))
           (subst (upto (renumbered_candidate table (candidate_at es (parent k)))) (sym (get_renumbered table es k))
-          (subst (λ o. o ≢ Greater) (sym (entry_kept table (candidate_at es (parent k)) (candidate_at es k) (at (parent k) (below k pos kin)) (at k kin))) (is.heap k pos kin)))
+          (subst (λ o. o ≢ Greater) (sym (candidate_kept table (candidate_at es (parent k)) (candidate_at es k) (at (parent k) (below k pos kin)) (at k kin))) (is.heap k pos kin)))
 
   pub held_inside : (es shown : List Candidate) → in_rising_order es ≡ shown → All Held shown → All Held es
   held_inside es shown view all = All-permutation Held (in_rising_order es) es (IsPermutation-sym es (in_rising_order es) (in_rising_order-permutes es)) (subst (All Held) (sym view) all)

@@ -16,7 +16,7 @@ use Rattle.commit_arbiter.specs.declared.candidate.Candidate.{Candidate}
 use Rattle.commit_arbiter.specs.Indexed.{candidate_cmp}
 use Rattle.commit_arbiter.specs.Slots.{blank_candidate, in_slots, IsSlotted, candidate_at, HasSwapped}
 use Rattle.commit_arbiter.specs.Heap.{parent, IsHeapBy, IsHeapUp, IsLeastChild, IsHeapApart, IsHeap, SiftsUpOnce, SiftsDownOnce, upto as not_above}
-use Rattle.commit_arbiter.proofs.Places.{entry_cmp_total}
+use Rattle.commit_arbiter.proofs.Places.{candidate_cmp_total}
 use Rattle.commit_arbiter.proofs.Heaps.{up_step, up_end, apart_step, apart_from}
 
 get_mapped : {X Y : Type 0} (f : X → Y) (xs : List X) (k : ℕ) (d : X) → get_or (map f xs) k (f d) ≡ f (get_or xs k d)
@@ -24,13 +24,13 @@ get_mapped f [] k d = refl
 get_mapped f (x ∷ xs) zero d = refl
 get_mapped f (x ∷ xs) (suc k) d = get_mapped f xs k d
 
-slot_entry : (table : List Candidate) (order : List ℕ) (k : ℕ) → candidate_at (in_slots table order) k ≡ get_or table (get_or order k (length table)) blank_candidate
-slot_entry table order k =
+slot_candidate : (table : List Candidate) (order : List ℕ) (k : ℕ) → candidate_at (in_slots table order) k ≡ get_or table (get_or order k (length table)) blank_candidate
+slot_candidate table order k =
     ap (get_or (in_slots table order) k) (sym (get_or_past table (length table) blank_candidate (omega arith)))
     ∙ get_mapped (λ slot. get_or table slot blank_candidate) order k (length table)
 
-pub slots_swapped : (table : List Candidate) (old new : List ℕ) (entries : List Candidate) (a b : ℕ) → in_slots table old ≡ entries → new ≡ swap old a b → a < length entries → b < length entries → HasSwapped entries (in_slots table new) a b
-slots_swapped table old new entries a b view is first second =
+pub slots_swapped : (table : List Candidate) (old new : List ℕ) (candidates : List Candidate) (a b : ℕ) → in_slots table old ≡ candidates → new ≡ swap old a b → a < length candidates → b < length candidates → HasSwapped candidates (in_slots table new) a b
+slots_swapped table old new candidates a b view is first second =
     subst (λ es. HasSwapped es (in_slots table new) a b) view (swapped (omega (arith, long, ap length view)) (omega (arith, long, ap length view)))
   where
     long : length (in_slots table old) ≡ length old
@@ -39,20 +39,20 @@ slots_swapped table old new entries a b view is first second =
     swapped : a < length old → b < length old → HasSwapped (in_slots table old) (in_slots table new) a b
     swapped one two =
         let moves = swapped_from_swap old new a b (length table) one two is in
-        let read = λ (k : ℕ). slot_entry table new k in
+        let read = λ (k : ℕ). slot_candidate table new k in
         record {
           long = length-map new (λ slot. get_or table slot blank_candidate) ∙ ap length is
               ∙ length-swap old a b ∙ sym long;
-          first = slot_entry table new a ∙ ap (λ s. get_or table s blank_candidate) moves.0
-              ∙ sym (slot_entry table old b);
-          second = slot_entry table new b ∙ ap (λ s. get_or table s blank_candidate) moves.1
-              ∙ sym (slot_entry table old a);
-          others = λ k not_a not_b. slot_entry table new k ∙ ap (λ s. get_or table s blank_candidate) (moves.2 k not_a not_b) ∙ sym (slot_entry table old k);
+          first = slot_candidate table new a ∙ ap (λ s. get_or table s blank_candidate) moves.0
+              ∙ sym (slot_candidate table old b);
+          second = slot_candidate table new b ∙ ap (λ s. get_or table s blank_candidate) moves.1
+              ∙ sym (slot_candidate table old a);
+          others = λ k not_a not_b. slot_candidate table new k ∙ ap (λ s. get_or table s blank_candidate) (moves.2 k not_a not_b) ∙ sym (slot_candidate table old k);
           permuted = IsPermutation-map (λ slot. get_or table slot blank_candidate) old new (IsPermutation-swap old new a b one two is);
         }
 
-pub slotted_swapped : (table : List Candidate) (old new free : List ℕ) (order_room free_room more_room : ℕ) (a b : ℕ) → IsSlotted table old free order_room free_room → a < length old → b < length old → new ≡ swap old a b → order_room ≤ more_room → IsSlotted table new free more_room free_room
-slotted_swapped table old new free order_room free_room more_room a b is one two same more =
+pub slotted_swapped : (table : List Candidate) (old new free : List ℕ) (order_capacity free_capacity more_room : ℕ) (a b : ℕ) → IsSlotted table old free order_capacity free_capacity → a < length old → b < length old → new ≡ swap old a b → order_capacity ≤ more_room → IsSlotted table new free more_room free_capacity
+slotted_swapped table old new free order_capacity free_capacity more_room a b is one two same more =
     let moved = IsPermutation-append_left free old new (IsPermutation-swap old new a b one two same) in
     let long : length new ≡ length old = ap length same ∙ length-swap old a b in
     let all = is.all in
@@ -70,10 +70,10 @@ pub not_above_trans : (x y z : Candidate) → not_above x y → not_above y z �
 not_above_trans x y z one two = by_case (candidate_cmp x y) (candidate_cmp y z) refl refl one two
   where
     by_case : (o p : Ordering) → candidate_cmp x y ≡ o → candidate_cmp y z ≡ p → o ≢ Greater → p ≢ Greater → candidate_cmp x z ≢ Greater
-    by_case Less Less ea eb a b = λ e. (let less = entry_cmp_total.trans x y z ea eb in let no_way : Less ≡ Greater = sym less ∙ e in cc)
-    by_case Less Equal ea eb a b = λ e. (let alike = Rattle.std.proofs.lemmas.Cmp.alike_right entry_cmp_total y z x eb in let no_way : Less ≡ Greater = sym ea ∙ alike ∙ e in cc)
-    by_case Equal Less ea eb a b = λ e. (let alike = entry_cmp_total.congr x y z ea in let no_way : Less ≡ Greater = sym eb ∙ sym alike ∙ e in cc)
-    by_case Equal Equal ea eb a b = λ e. (let alike = entry_cmp_total.congr x y z ea in let no_way : Equal ≡ Greater = sym eb ∙ sym alike ∙ e in cc)
+    by_case Less Less ea eb a b = λ e. (let less = candidate_cmp_total.trans x y z ea eb in let no_way : Less ≡ Greater = sym less ∙ e in cc)
+    by_case Less Equal ea eb a b = λ e. (let alike = Rattle.std.proofs.lemmas.Cmp.alike_right candidate_cmp_total y z x eb in let no_way : Less ≡ Greater = sym ea ∙ alike ∙ e in cc)
+    by_case Equal Less ea eb a b = λ e. (let alike = candidate_cmp_total.congr x y z ea in let no_way : Less ≡ Greater = sym eb ∙ sym alike ∙ e in cc)
+    by_case Equal Equal ea eb a b = λ e. (let alike = candidate_cmp_total.congr x y z ea in let no_way : Equal ≡ Greater = sym eb ∙ sym alike ∙ e in cc)
     by_case Greater p ea eb a b = absurd (a refl)
     by_case o Greater ea eb a b = absurd (b refl)
 
@@ -81,7 +81,7 @@ pub less_not_above : (x y : Candidate) → is_lt (candidate_cmp x y) ≡ true �
 less_not_above x y less e = let no_way : false ≡ true = ap is_lt (sym e) ∙ less in cc
 
 pub not_less_above : (x y : Candidate) → is_lt (candidate_cmp x y) ≡ false → not_above y x
-not_less_above x y not e = let less : candidate_cmp x y ≡ Less = entry_cmp_total.antisymm x y ∙ ap ordering_reverse e in let no_way : true ≡ false = sym (ap is_lt less) ∙ not in cc
+not_less_above x y not e = let less : candidate_cmp x y ≡ Less = candidate_cmp_total.antisymm x y ∙ ap ordering_reverse e in let no_way : true ≡ false = sym (ap is_lt less) ∙ not in cc
 
 module _ (old new : List Candidate) (at : ℕ) (x y : Candidate) (pos : 0 < at) (inside : at < length old) (heap : IsHeapUp not_above (candidate_at old) (length old) at) (here : slice_get old at ≡ Some x) (above : slice_get old (parent at) ≡ Some y) where
   read_here : x ≡ candidate_at old at
@@ -112,44 +112,43 @@ module _ (old new : List Candidate) (at : ℕ) (x y : Candidate) (pos : 0 < at) 
   }
 
 pub itself : (x : Candidate) → not_above x x
-itself x e = let no_way : Equal ≡ Greater = sym (Rattle.std.proofs.lemmas.Cmp.tied_itself entry_cmp_total x) ∙ e in cc
+itself x e =
+    let no_way : Equal ≡ Greater = sym (Rattle.std.proofs.lemmas.Cmp.tied_itself candidate_cmp_total x) ∙ e in cc
 
-module _ (entries : List Candidate) (at left : ℕ) (is : left ≡ 2 * at + 1) (inside : left < length entries) where
+module _ (candidates : List Candidate) (at left : ℕ) (is : left ≡ 2 * at + 1) (inside : left < length candidates) where
   -- the left child alone
-  pub left_alone : length entries ≤ left + 1 → IsLeastChild entries at left
+  pub left_alone : length candidates ≤ left + 1 → IsLeastChild candidates at left
   left_alone short = record {
     pos = omega arith;
     inside = inside;
     child = omega arith;
-    least = λ k kpos kin child. (let same : k ≡ left = omega arith in subst (λ m. not_above (candidate_at entries left) (candidate_at entries m)) (sym same) (itself (candidate_at entries left)));
+    least = λ k kpos kin child. (let same : k ≡ left = omega arith in subst (λ m. not_above (candidate_at candidates left) (candidate_at candidates m)) (sym same) (itself (candidate_at candidates left)));
   }
 
+  -- where one of two is not greater than the other, it is not greater than either
+  upto_both : (c other : ℕ) → not_above (candidate_at candidates c) (candidate_at candidates other)
+      → (k : ℕ) → (k ≡ c) ⊎ (k ≢ c) → (k ≢ c → k ≡ other)
+      → not_above (candidate_at candidates c) (candidate_at candidates k)
+  upto_both c other below k (inl same) differ =
+      subst (λ m. not_above (candidate_at candidates c) (candidate_at candidates m)) (sym same)
+      (itself (candidate_at candidates c))
+  upto_both c other below k (inr not) differ =
+      subst (λ m. not_above (candidate_at candidates c) (candidate_at candidates m)) (sym (differ not)) below
+
   -- the one of two that is not greater
-  pub of_two : (c other : ℕ) → (c ≡ left) × (other ≡ left + 1) ⊎ (c ≡ left + 1) × (other ≡ left) → c < length entries → not_above (candidate_at entries c) (candidate_at entries other) → IsLeastChild entries at c
+  pub of_two : (c other : ℕ) → (c ≡ left) × (other ≡ left + 1) ⊎ (c ≡ left + 1) × (other ≡ left) → c < length candidates → not_above (candidate_at candidates c) (candidate_at candidates other) → IsLeastChild candidates at c
   of_two c other (inl (mine, theirs)) cin below = record {
     pos = omega arith;
     inside = cin;
     child = omega arith;
-    least = λ k kpos kin child. one k (cases_eq k c) (omega arith);
+    least = λ k kpos kin child. upto_both c other below k (cases_eq k c) (omega arith);
   }
-    where
-      one : (k : ℕ) → (k ≡ c) ⊎ (k ≢ c) → (k ≢ c → k ≡ other)
-          → not_above (candidate_at entries c) (candidate_at entries k)
-      one k (inl same) differ = subst (λ m. not_above (candidate_at entries c) (candidate_at entries m)) (sym same) (itself (candidate_at entries c))
-      one k (inr not) differ =
-          subst (λ m. not_above (candidate_at entries c) (candidate_at entries m)) (sym (differ not)) below
   of_two c other (inr (mine, theirs)) cin below = record {
     pos = omega arith;
     inside = cin;
     child = omega arith;
-    least = λ k kpos kin child. one k (cases_eq k c) (omega arith);
+    least = λ k kpos kin child. upto_both c other below k (cases_eq k c) (omega arith);
   }
-    where
-      one : (k : ℕ) → (k ≡ c) ⊎ (k ≢ c) → (k ≢ c → k ≡ other)
-          → not_above (candidate_at entries c) (candidate_at entries k)
-      one k (inl same) differ = subst (λ m. not_above (candidate_at entries c) (candidate_at entries m)) (sym same) (itself (candidate_at entries c))
-      one k (inr not) differ =
-          subst (λ m. not_above (candidate_at entries c) (candidate_at entries m)) (sym (differ not)) below
 
 -- a step down
 pub stepped_down : (old new : List Candidate) (at c : ℕ) → IsHeapApart not_above (candidate_at old) (length old) at → IsLeastChild old at c → HasSwapped old new at c → SiftsDownOnce old new at c

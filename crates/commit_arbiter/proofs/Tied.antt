@@ -7,7 +7,7 @@ use Rattle.std.specs.Ordering.{nat_cmp, ordering_then}
 use Rattle.std.specs.declared.cmp.Ordering.TheVariants.{Less, Greater}
 use Rattle.std.proofs.lemmas.Bool.{cases_lt, cases_eq}
 use Rattle.std.proofs.lemmas.Bool.Decides.{nat_tests}
-use Rattle.std.proofs.lemmas.List.{get_or-set_same, get_or-set_other, get_or_default, get_or_append_left, length-append, length-set, length-map, take-set-le, drop-set-lt}
+use Rattle.std.proofs.lemmas.List.{get_or-set_same, get_or-set_other, get_or_default, get_or_append_left, length-append, length-set, take-set-le, drop-set-lt}
 use Rattle.std.proofs.lemmas.List.Sorted.{IsPermutation-remove, IsPermutation-sym, Contains-permutation, length_permutation}
 use Rattle.std.proofs.lemmas.Option.{slice_get_within, get_or_from_slice_get}
 use Rattle.fractal_vt.specs.Keys.{key_cmp}
@@ -49,19 +49,19 @@ written table (s ∷ slots) zero d e distinct inside low =
 written table (s ∷ slots) (suc place) d e distinct inside low =
     λ i. get_or-set_other table (get_or slots place d) s e blank_candidate (differs_at s slots place d distinct.0 (omega arith)) i ∷ written table slots place d e distinct.1 (omega arith) low i
 
-pub slot_low : (table : List Candidate) (order free : List ℕ) (place slot order_room free_room : ℕ) → IsSlotted table order free order_room free_room → place < length order → slot ≡ get_or order place slot → slot < length table
-slot_low table order free place slot order_room free_room is inside there =
+pub slot_low : (table : List Candidate) (order free : List ℕ) (place slot order_capacity free_capacity : ℕ) → IsSlotted table order free order_capacity free_capacity → place < length order → slot ≡ get_or order place slot → slot < length table
+slot_low table order free place slot order_capacity free_capacity is inside there =
     let long = length-append order free in
     subst (λ s. s < length table) (get_or_append_left order free slot place inside ∙ sym there) (is.within place slot (omega arith))
 
-pub slots_written : (table : List Candidate) (order free : List ℕ) (entries : List Candidate) (place slot : ℕ) (order_room free_room : ℕ) (e : Candidate) → IsSlotted table order free order_room free_room → in_slots table order ≡ entries → place < length order → slot < length table → slot ≡ get_or order place slot → in_slots (set table slot e) order ≡ set entries place e
-slots_written table order free entries place slot order_room free_room e is view inside low there =
+pub slots_written : (table : List Candidate) (order free : List ℕ) (candidates : List Candidate) (place slot : ℕ) (order_capacity free_capacity : ℕ) (e : Candidate) → IsSlotted table order free order_capacity free_capacity → in_slots table order ≡ candidates → place < length order → slot < length table → slot ≡ get_or order place slot → in_slots (set table slot e) order ≡ set candidates place e
+slots_written table order free candidates place slot order_capacity free_capacity e is view inside low there =
     ap (λ s. in_slots (set table s e) order) there
     ∙ written table order place slot e (front_distinct order free is.distinct) inside (subst (λ s. s < length table) there low)
     ∙ ap (λ es. set es place e) view
 
-pub slot_entry_is : (table : List Candidate) (order : List ℕ) (entries : List Candidate) (place slot : ℕ) → in_slots table order ≡ entries → place < length order → slot ≡ get_or order place slot → get_or table slot blank_candidate ≡ candidate_at entries place
-slot_entry_is table order entries place slot view inside there =
+pub slot_candidate_is : (table : List Candidate) (order : List ℕ) (candidates : List Candidate) (place slot : ℕ) → in_slots table order ≡ candidates → place < length order → slot ≡ get_or order place slot → get_or table slot blank_candidate ≡ candidate_at candidates place
+slot_candidate_is table order candidates place slot view inside there =
     sym (ap (λ es. candidate_at es place) (sym view) ∙ Rattle.std.proofs.lemmas.List.get_or-map (λ s. get_or table s blank_candidate) order place slot blank_candidate inside ∙ ap (λ s. get_or table s blank_candidate) (sym there))
 
 -- candidates of one id are one
@@ -80,7 +80,7 @@ one_of_id es a b apart (i, iin, ia) (j, jin, jb) same = elim (cases_lt i j) [
     ia_at : (d : Candidate) → get_or es i d ≡ a
     ia_at d = get_or_default es i d a iin ∙ ia
 
--- a closed tiebreaker makes a candidate less
+-- closing its tiebreaker makes no candidate greater
 pub closed_upto : (number : ℕ) (e : Candidate) → e.key.tb ≡ None → upto (with_tiebreaker (Some number) e) e
 closed_upto number e none greater =
     let was : e.key ≡ record e.key { tb = None } = (λ i. record e.key { tb = none i }) in
@@ -95,7 +95,7 @@ module _ (tb : Option ℕ) (id place : ℕ) (old new : List Candidate) (at : IsP
   was = candidate_at old place
 
   pub inside : place < length old
-  inside = slice_get_within old place at.entry at.there
+  inside = slice_get_within old place at.candidate at.there
 
   long : length new ≡ length old
   long = ap length put ∙ length-set old place (with_tiebreaker tb was)
@@ -112,7 +112,7 @@ module _ (tb : Option ℕ) (id place : ℕ) (old new : List Candidate) (at : IsP
       ∙ get_or-set_other old place k (with_tiebreaker tb was) blank_candidate other
 
   mine : was.id ≡ id
-  mine = ap (λ e. e.id) (get_or_from_slice_get old place at.entry blank_candidate at.there) ∙ at.id_is
+  mine = ap (λ e. e.id) (get_or_from_slice_get old place at.candidate blank_candidate at.there) ∙ at.id_is
 
   was_there : Contains old was
   was_there = (place, inside, get_or_default old place was blank_candidate inside)
@@ -148,9 +148,9 @@ module _ (tb : Option ℕ) (id place : ℕ) (old new : List Candidate) (at : IsP
         (ids_permuted (with_tiebreaker tb was ∷ remove old place) new (IsPermutation-sym new (with_tiebreaker tb was ∷ remove old place) new_permuted)
         (ids_tied (ids_permuted old (was ∷ remove old place) old_permuted heap.ids)))
 
-    pub entries_tied : (shown : List Candidate) → in_rising_order old ≡ shown
+    pub candidates_tied : (shown : List Candidate) → in_rising_order old ≡ shown
         → IsTied id tb shown (in_rising_order final)
-    entries_tied shown view e there same =
+    candidates_tied shown view e there same =
         let one : e ≡ was = one_of_id (in_rising_order old) e was (ids_in_order old heap.ids) (subst (λ es. Contains es e) (sym view) there) (Contains-permutation old (in_rising_order old) was (in_rising_order-permutes old) was_there) (same ∙ sym mine) in
         in_rising_order-permutation new final moved
         ∙ sym (in_rising_order-permutation new (with_tiebreaker tb was ∷ remove old place) new_permuted)
@@ -168,7 +168,7 @@ module _ (tb : Option ℕ) (id place : ℕ) (old new : List Candidate) (at : IsP
   pub open_there : (shown : List Candidate) → in_rising_order old ≡ shown → IsHeapIndex old → IsOpenIn id shown
       → was.key.tb ≡ None
   open_there shown view heap is_open =
-      let one : was ≡ is_open.entry = one_of_id (in_rising_order old) was is_open.entry (ids_in_order old heap.ids) (Contains-permutation old (in_rising_order old) was (in_rising_order-permutes old) was_there) (subst (λ es. Contains es is_open.entry) (sym view) is_open.there) (mine ∙ sym is_open.id_is) in
+      let one : was ≡ is_open.candidate = one_of_id (in_rising_order old) was is_open.candidate (ids_in_order old heap.ids) (Contains-permutation old (in_rising_order old) was (in_rising_order-permutes old) was_there) (subst (λ es. Contains es is_open.candidate) (sym view) is_open.there) (mine ∙ sym is_open.id_is) in
       ap (λ e. e.key.tb) one ∙ is_open.open_tie
 
 -- an id that is seen is there
@@ -176,4 +176,4 @@ pub seen_there : (id : ℕ) (old shown : List Candidate) → in_rising_order old
 seen_there id old shown view has = has_permuted id (in_rising_order old) old (IsPermutation-sym old (in_rising_order old) (in_rising_order-permutes old)) (subst (HasId id) (sym view) has)
 
 pub open_has : (id : ℕ) (shown : List Candidate) → IsOpenIn id shown → HasId id shown
-open_has id shown is_open = (is_open.there.0, is_open.entry, is_open.there.1, is_open.there.2, is_open.id_is)
+open_has id shown is_open = (is_open.there.0, is_open.candidate, is_open.there.1, is_open.there.2, is_open.id_is)

@@ -32,7 +32,7 @@ upto a b = candidate_cmp a b ≢ Greater
 
 -- each candidate is not less than its parent
 abbrev pub IsHeap : List Candidate → Type 0
-IsHeap entries = IsHeapBy upto (candidate_at entries) (length entries)
+IsHeap candidates = IsHeapBy upto (candidate_at candidates) (length candidates)
 
 -- what one exchange up leaves: where it moved the candidate, the parent's place is now the one that may stand wrong
 pub record SiftsUpOnce (old new : List Candidate) (at : ℕ) (moved : Bool) : Type 0 where
@@ -42,12 +42,12 @@ pub record SiftsUpOnce (old new : List Candidate) (at : ℕ) (moved : Bool) : Ty
   pub all : moved ≡ false → IsHeap new
 
 -- the least child of a place
-pub record IsLeastChild (entries : List Candidate) (at c : ℕ) : Type 0 where
+pub record IsLeastChild (candidates : List Candidate) (at c : ℕ) : Type 0 where
   pub pos : 0 < c
-  pub inside : c < length entries
+  pub inside : c < length candidates
   pub child : parent c ≡ at
-  pub least : (k : ℕ) → 0 < k → k < length entries → parent k ≡ at
-      → upto (candidate_at entries c) (candidate_at entries k)
+  pub least : (k : ℕ) → 0 < k → k < length candidates → parent k ≡ at
+      → upto (candidate_at candidates c) (candidate_at candidates k)
 
 -- what one exchange down leaves: the place that may stand wrong is now the child's
 pub record SiftsDownOnce (old new : List Candidate) (at c : ℕ) : Type 0 where
@@ -60,9 +60,9 @@ pub record SiftsDownOnce (old new : List Candidate) (at c : ℕ) : Type 0 where
 -- the candidates in their order
 abbrev pub in_rising_order : List Candidate → List Candidate
 in_rising_order [] = []
-in_rising_order (e ∷ entries) = after_insert candidate_cmp e (in_rising_order entries)
+in_rising_order (e ∷ candidates) = after_insert candidate_cmp e (in_rising_order candidates)
 
 -- a heap of candidates, no two with one id
-pub record IsHeapIndex (entries : List Candidate) : Type 0 where
-  pub heap : IsHeap entries
-  pub ids : IsDistinct (λ a b. nat_eq a.id b.id) entries
+pub record IsHeapIndex (candidates : List Candidate) : Type 0 where
+  pub heap : IsHeap candidates
+  pub ids : IsDistinct (λ a b. nat_eq a.id b.id) candidates

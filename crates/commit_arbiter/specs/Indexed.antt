@@ -1,4 +1,4 @@
--- The tasks that may commit, in the order in which they do.
+-- The queued tasks in their order: by key, and on a tie by tile, by arrival and by id.
 use Rattle.std.specs.Prelude.{◌≡◌, ◌≢◌, ℕ, ◌==◌, Option, Some, None, List, [], ◌∷◌, Any, All, AllPairs, Contains}
 use Rattle.std.specs.Prelude.{map, filter}
 use Rattle.std.specs.Prelude.{not, cond, is_some, sum_by}
@@ -23,28 +23,28 @@ pub record IndexValue : Type 0 where
   pub candidates : List Candidate
 
 -- the candidates are in their order, and no two have one id
-pub record IsIndex (entries : List Candidate) : Type 0 where
-  pub order : IsInOrder candidate_cmp entries
-  pub ids : AllPairs (λ a b. a.id ≢ b.id) entries
+pub record IsIndex (candidates : List Candidate) : Type 0 where
+  pub order : IsInOrder candidate_cmp candidates
+  pub ids : AllPairs (λ a b. a.id ≢ b.id) candidates
 
 -- some candidate has this id
 abbrev pub HasId : ℕ → List Candidate → Type 0
-HasId id entries = Any (λ e. e.id ≡ id) entries
+HasId id candidates = Any (λ e. e.id ≡ id) candidates
 
 -- the candidates with another id
 abbrev pub without_candidate : ℕ → List Candidate → List Candidate
-without_candidate id entries = filter (λ e. not (e.id == id)) entries
+without_candidate id candidates = filter (λ e. not (e.id == id)) candidates
 
 -- the candidate with this tiebreaker in its key
 abbrev pub with_tiebreaker : Option ℕ → Candidate → Candidate
 with_tiebreaker tb e = record e { key = record e.key { tb = tb } }
 
 -- a candidate of this id is there, with an open tiebreaker
-pub record IsOpenIn (id : ℕ) (entries : List Candidate) : Type 0 where
-  pub entry : Candidate
-  pub there : Contains entries entry
-  pub id_is : entry.id ≡ id
-  pub open_tie : entry.key.tb ≡ None
+pub record IsOpenIn (id : ℕ) (candidates : List Candidate) : Type 0 where
+  pub candidate : Candidate
+  pub there : Contains candidates candidate
+  pub id_is : candidate.id ≡ id
+  pub open_tie : candidate.key.tb ≡ None
 
 -- 1 where the tiebreaker is closed, and 0 where it is open
 abbrev pub one_closed : Option ℕ → ℕ
@@ -52,7 +52,7 @@ one_closed tb = cond (is_some tb) 1 0
 
 -- how many of the candidates have a closed tiebreaker
 abbrev pub closed_in : List Candidate → ℕ
-closed_in entries = sum_by (λ e. one_closed e.key.tb) entries
+closed_in candidates = sum_by (λ e. one_closed e.key.tb) candidates
 
 -- whatever candidate of this id was there, it stands in order with this tiebreaker now
 abbrev pub IsTied : ℕ → Option ℕ → List Candidate → List Candidate → Type 0
@@ -63,11 +63,11 @@ IsTied id tb old new =
 -- the id of the first candidate
 abbrev pub first_id : List Candidate → Option ℕ
 first_id [] = None
-first_id (e ∷ entries) = Some e.id
+first_id (e ∷ candidates) = Some e.id
 
 -- the keys of the candidates
 abbrev pub keys : List Candidate → List Key
-keys entries = map (λ e. e.key) entries
+keys candidates = map (λ e. e.key) candidates
 
 -- the candidate with its key's tiebreakers replaced by their places in a table
 abbrev pub renumbered_candidate : List ℕ → Candidate → Candidate
@@ -75,7 +75,7 @@ renumbered_candidate table e = record e { key = renumbered_key table e.key }
 
 -- the table holds the tiebreakers of each candidate's key
 abbrev pub HoldsCandidates : List ℕ → List Candidate → Type 0
-HoldsCandidates table entries = All (λ e. HoldsKey table e.key) entries
+HoldsCandidates table candidates = All (λ e. HoldsKey table e.key) candidates
 
 -- two lists in order that hold the same candidates are one
 abbrev pub IndexOrderIsOne : Type 0

@@ -19,16 +19,16 @@ abbrev pub in_slots : List Candidate → List ℕ → List Candidate
 in_slots table slots = map (λ slot. slice_index_or table slot blank_candidate) slots
 
 -- each slot of the table is in use or free, and the two vectors have memory for all
-pub record IsSlotted (table : List Candidate) (order free : List ℕ) (order_room free_room : ℕ) : Type 0 where
+pub record IsSlotted (table : List Candidate) (order free : List ℕ) (order_capacity free_capacity : ℕ) : Type 0 where
   pub distinct : IsDistinct nat_eq (order ++ free)
   pub within : All (λ slot. slot < length table) (order ++ free)
   pub all : length order + length free ≡ length table
-  pub order_holds : length table ≤ order_room
-  pub free_holds : length table ≤ free_room
+  pub order_holds : length table ≤ order_capacity
+  pub free_holds : length table ≤ free_capacity
 
 -- the candidate at a place, and a blank one past the end
 abbrev pub candidate_at : List Candidate → ℕ → Candidate
-candidate_at entries k = slice_index_or entries k blank_candidate
+candidate_at candidates k = slice_index_or candidates k blank_candidate
 
 -- two candidates have changed places, and all others stayed
 pub record HasSwapped (old new : List Candidate) (a b : ℕ) : Type 0 where
@@ -39,7 +39,7 @@ pub record HasSwapped (old new : List Candidate) (a b : ℕ) : Type 0 where
   pub permuted : IsPermutation old new
 
 -- this is the place of a candidate with this id
-pub record IsPlaceOfId (id : ℕ) (entries : List Candidate) (place : ℕ) : Type 0 where
-  pub entry : Candidate
-  pub there : slice_get entries place ≡ Some entry
-  pub id_is : entry.id ≡ id
+pub record IsPlaceOfId (id : ℕ) (candidates : List Candidate) (place : ℕ) : Type 0 where
+  pub candidate : Candidate
+  pub there : slice_get candidates place ≡ Some candidate
+  pub id_is : candidate.id ≡ id

@@ -60,13 +60,19 @@ fn put_key(key: &mut Key, from: &Key)
 }
 
 /// Makes a candidate that of a task, in its place.
-pub(crate) fn put_candidate(entry: &mut Candidate, key: &Key, tile: u32, arrival: u64, id: usize)
-    ensures { entry.new ≡ record { key = key.now; tile = tile; arrival = arrival; id = id } }
+pub(crate) fn put_candidate(
+    candidate: &mut Candidate,
+    key: &Key,
+    tile: u32,
+    arrival: u64,
+    id: usize,
+)
+    ensures { candidate.new ≡ record { key = key.now; tile = tile; arrival = arrival; id = id } }
 {
-    put_key(&mut entry.key, key);
-    entry.tile = tile;
-    entry.arrival = arrival;
-    entry.id = id;
+    put_key(&mut candidate.key, key);
+    candidate.tile = tile;
+    candidate.arrival = arrival;
+    candidate.id = id;
 }
 
 /// 1 where the tiebreaker is closed, and 0 where it is open.
@@ -77,9 +83,9 @@ pub(crate) fn one_closed(tb: Option<u64>) -> usize
 }
 
 /// Replaces each tiebreaker of the key by its place in the table.
-pub(crate) fn renumber_candidate(entry: &mut Candidate, table: &[u64])
+pub(crate) fn renumber_candidate(candidate: &mut Candidate, table: &[u64])
     requires { IsStrictlyIncreasing table.now }
-    ensures { entry.new ≡ renumbered_candidate table.now entry.old }
+    ensures { candidate.new ≡ renumbered_candidate table.now candidate.old }
 {
-    entry.key = renumber_key(&entry.key, table);
+    candidate.key = renumber_key(&candidate.key, table);
 }

@@ -78,7 +78,7 @@ fn sift_down_once(slots: &mut Slots, at: usize) -> usize
 
 /// Moves the one candidate that may stand wrong to where it belongs: down to a leaf, past the least child of each
 /// place, and up again as far as it is less. What a removal puts there came from the end, and so mostly belongs
-/// near a leaf: this takes about one comparison a level, where a test on the way down takes two.
+/// near a leaf: this takes about one comparison a row, where a test on the way down takes two.
 pub(crate) fn settle(slots: &mut Slots, start: usize)
     requires within { start < length slots.old.candidates }
     requires heap { IsHeapApart upto (candidate_at slots.old.candidates) (length slots.old.candidates) start }

@@ -1,4 +1,4 @@
-//! The index of the tasks that may commit.
+//! The index of the queued tasks.
 
 ghost use Rattle.std.specs.Prelude.{◌≡◌, ◌≢◌, ◌<◌, ◌≤◌, ◌+◌, ◌↔◌, AllPairs, map, [], length, IfOk, IfSome};
 ghost use Rattle.std.specs.Prelude.{IsNone, None, Some};
@@ -21,7 +21,7 @@ use fractal_vt::Key;
 use std::alloc::{AllocError, Global};
 use std::marker::Model;
 
-/// The tasks that may commit, in their order: by key, then by tile, by arrival and by id.
+/// The queued tasks, in their order: by key, then by tile, by arrival and by id.
 ///
 /// It is a binary heap of slot numbers. `first` costs one look, `insert` and `remove` comparisons in the logarithm
 /// of the length, where the ids are below the capacity; the candidate with a greater id is found by a look at each.
@@ -56,11 +56,11 @@ impl Index {
 
     /// Adds a task. No memory.
     pub fn insert(&mut self, key: &Key, tile: u32, arrival: u64, id: usize)
-        requires room { length self.old.candidates < self.old.capacity }
+        requires spare { length self.old.candidates < self.old.capacity }
         requires other { ¬ HasId id self.old.candidates }
         ensures capacity { self.new.capacity ≡ self.old.capacity }
-        ensures entries { let entry : Candidate = record { key = key.now; tile = tile; arrival = arrival; id = id } in
-            self.new.candidates ≡ after_insert candidate_cmp entry self.old.candidates }
+        ensures candidates { let own : Candidate = record { key = key.now; tile = tile; arrival = arrival; id = id } in
+            self.new.candidates ≡ after_insert candidate_cmp own self.old.candidates }
     {
         let place = self.slots.len();
         self.slots.push(key, tile, arrival, id);
@@ -72,7 +72,7 @@ impl Index {
     pub fn remove(&mut self, id: usize) -> bool
         ensures found { IsTrue result ↔ HasId id self.old.candidates }
         ensures capacity { self.new.capacity ≡ self.old.capacity }
-        ensures entries { self.new.candidates ≡ without_candidate id self.old.candidates }
+        ensures candidates { self.new.candidates ≡ without_candidate id self.old.candidates }
     {
         match place_of(&self.slots, id) {
             Some(place) => {
@@ -90,7 +90,7 @@ impl Index {
         requires { IsOpenIn id self.old.candidates }
         ensures capacity { self.new.capacity ≡ self.old.capacity }
         ensures count { length self.new.candidates ≡ length self.old.candidates }
-        ensures entries { IsTied id (Some tb) self.old.candidates self.new.candidates }
+        ensures candidates { IsTied id (Some tb) self.old.candidates self.new.candidates }
     {
         match place_of(&self.slots, id) {
             Some(place) => {
@@ -107,7 +107,7 @@ impl Index {
         requires { HasId id self.old.candidates }
         ensures capacity { self.new.capacity ≡ self.old.capacity }
         ensures count { length self.new.candidates ≡ length self.old.candidates }
-        ensures entries { IsTied id None self.old.candidates self.new.candidates }
+        ensures candidates { IsTied id None self.old.candidates self.new.candidates }
     {
         match place_of(&self.slots, id) {
             Some(place) => {
@@ -137,7 +137,7 @@ impl Index {
         requires rising { IsStrictlyIncreasing table.now }
         requires held { HoldsCandidates table.now self.old.candidates }
         ensures capacity { self.new.capacity ≡ self.old.capacity }
-        ensures entries { self.new.candidates ≡ map (renumbered_candidate table.now) self.old.candidates }
+        ensures candidates { self.new.candidates ≡ map (renumbered_candidate table.now) self.old.candidates }
     {
         self.slots.renumber(table);
     }
@@ -205,7 +205,7 @@ fn place_of(slots: &Slots, id: usize) -> Option<usize>
 fn noted_place(slots: &Slots, id: usize) -> Option<usize>
     ensures { IfSome result (IsPlaceOfId id slots.now.candidates) }
 {
-    let place = slots.place_hint(id)?;
+    let place = slots.note_of(id)?;
     if place < slots.len() && slots.get(place).id == id {
         Some(place)
     } else {

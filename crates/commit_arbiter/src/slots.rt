@@ -17,8 +17,7 @@ use std::marker::Model;
 
 /// A list of candidates that stay where they are in memory: what a change moves is the number of a slot, of four bytes.
 ///
-/// The place of a candidate is noted by its id, as a hint: whoever asks tests it, so nothing rests on the notes being
-/// right.
+/// The place of a candidate is noted by its id. Whoever asks tests the note, so no contract rests on it being right.
 #[derive(Drop)]
 pub(crate) struct Slots {
     /// What each slot holds, or was left with.
@@ -83,8 +82,8 @@ impl Slots {
         &self.table[slot]
     }
 
-    /// Where the candidate with this id stands, if it does: a hint, to be tested.
-    pub(crate) fn place_hint(&self, id: usize) -> Option<usize> {
+    /// The noted place of the candidate with this id, if there is a note: whoever asks tests it.
+    pub(crate) fn note_of(&self, id: usize) -> Option<usize> {
         match self.places.get(id) {
             Some(place) => Some(*place),
             None => None,
@@ -95,8 +94,8 @@ impl Slots {
     pub(crate) fn push(&mut self, key: &Key, tile: u32, arrival: u64, id: usize)
         requires { length self.old.candidates < self.old.capacity }
         ensures capacity { self.new.capacity ≡ self.old.capacity }
-        ensures entries { let entry : Candidate = record { key = key.now; tile = tile; arrival = arrival; id = id } in
-            self.new.candidates ≡ self.old.candidates ++ entry ∷ [] }
+        ensures candidates { let own : Candidate = record { key = key.now; tile = tile; arrival = arrival; id = id } in
+            self.new.candidates ≡ self.old.candidates ++ own ∷ [] }
     {
         match self.free.pop() {
             Some(slot) => {
@@ -114,7 +113,7 @@ impl Slots {
     pub(crate) fn pop(&mut self)
         requires { 0 < length self.old.candidates }
         ensures capacity { self.new.capacity ≡ self.old.capacity }
-        ensures entries { self.new.candidates ≡ take (length self.old.candidates - 1) self.old.candidates }
+        ensures candidates { self.new.candidates ≡ take (length self.old.candidates - 1) self.old.candidates }
     {
         match self.order.pop() {
             Some(slot) => match self.free.push(slot) {
@@ -129,7 +128,7 @@ impl Slots {
     pub(crate) fn set_tb(&mut self, place: usize, tb: Option<u64>)
         requires { place < length self.old.candidates }
         ensures capacity { self.new.capacity ≡ self.old.capacity }
-        ensures entries { let was = self.old.candidates in
+        ensures candidates { let was = self.old.candidates in
             self.new.candidates ≡ slice_set was place (with_tiebreaker tb (candidate_at was place)) }
     {
         let slot = self.order[place] as usize;
@@ -141,7 +140,7 @@ impl Slots {
         requires a { a < length self.old.candidates }
         requires b { b < length self.old.candidates }
         ensures capacity { self.new.capacity ≡ self.old.capacity }
-        ensures entries { HasSwapped self.old.candidates self.new.candidates a b }
+        ensures candidates { HasSwapped self.old.candidates self.new.candidates a b }
     {
         self.order.swap(a, b);
     }
@@ -159,7 +158,7 @@ impl Slots {
     pub(crate) fn renumber(&mut self, table: &[u64])
         requires { IsStrictlyIncreasing table.now }
         ensures capacity { self.new.capacity ≡ self.old.capacity }
-        ensures entries { self.new.candidates ≡ map (renumbered_candidate table.now) self.old.candidates }
+        ensures candidates { self.new.candidates ≡ map (renumbered_candidate table.now) self.old.candidates }
     {
         renumber_all(&mut self.table, table);
     }
@@ -179,7 +178,7 @@ fn blanks(alloc: Global, many: u32) -> Result<Vec<Candidate>, AllocError>
 /// The numbers below a bound, in a vector with memory for them.
 fn numbers(alloc: Global, many: u32) -> Result<Vec<u32>, AllocError>
     ensures items { IfOk result (λ free. free.items ≡ range_with_len 0 many) }
-    ensures room { IfOk result (λ free. many ≤ vec_capacity free) }
+    ensures spare { IfOk result (λ free. many ≤ vec_capacity free) }
 {
     let mut free = Vec::with_capacity(alloc, many as usize)?;
     for slot in 0..many {
@@ -198,12 +197,12 @@ fn zeros(alloc: Global, many: u32) -> Result<Vec<usize>, AllocError> {
 }
 
 /// Replaces each tiebreaker of the candidates by its place in the table.
-fn renumber_all(entries: &mut [Candidate], table: &[u64])
+fn renumber_all(candidates: &mut [Candidate], table: &[u64])
     requires { IsStrictlyIncreasing table.now }
-    ensures { entries.new ≡ map (renumbered_candidate table.now) entries.old }
+    ensures { candidates.new ≡ map (renumbered_candidate table.now) candidates.old }
 {
-    for entry in entries.iter_mut() {
-        renumber_candidate(entry, table);
+    for candidate in candidates.iter_mut() {
+        renumber_candidate(candidate, table);
     }
 }
 

@@ -1,6 +1,6 @@
 -- Room for one more task where nothing has run yet.
-use Rattle.std.proofs.Common.{ℕ, ◌≡◌, ◌≢◌, ◌<◌, ◌≤◌, ◌⊎◌, inl, inr, Some, List, [], ◌∷◌, false, refl, sym, ap, subst, ◌∙◌, arith}
-use Rattle.std.specs.Prelude.{length, slice_index_or, is_some, option_map, Contains}
+use Rattle.std.proofs.Common.{ℕ, ◌≡◌, ◌<◌, ◌≤◌, ◌⊎◌, inl, inr, Some, List, [], false, sym, ap, subst, ◌∙◌, arith}
+use Rattle.std.specs.Prelude.{length, slice_index_or, is_some, option_map}
 use Rattle.std.proofs.lemmas.Bool.{cases_eq}
 use Rattle.spec_state.specs.declared.task.Creator.TheVariants.{Committed}
 use Rattle.spec_state.specs.declared.task.Status.TheVariants.{Idle}
@@ -14,11 +14,7 @@ use Rattle.spec_state.specs.View.{View, queue_at, task_at}
 use Rattle.event_law.proofs.Proved.{coalesced_was, kept_at, kept_fewer}
 use Rattle.task_law.specs.Room.{queue_after}
 use Rattle.conflict_book.specs.Fresh.{AreFresh}
-
--- what is no empty list holds something
-some_in : (ids : List ℕ) → 1 ≤ length ids → (id : ℕ) × Contains ids id
-some_in [] some = absurd (omega (arith, some))
-some_in (id ∷ ids) some = (id, (0, omega arith, refl))
+use Rattle.spec_law.proofs.Proved.{some_first, some_in}
 
 -- in a full queue a fresh task may move
 pub fresh_moves : (size : ℕ) (view : View) (tile : ℕ) → IsStored size view → AreFresh view → IsValid view.settings → IsFull view tile
@@ -42,10 +38,6 @@ module _ (tile : ℕ) (old new : View) (c : Coalesces tile old new) where
   -- tasks that move leave the others fresh
   pub fresh_moved : AreFresh old → AreFresh new
   fresh_moved fresh id task there = fresh id task (coalesced_was tile old new c id task there)
-
-  some_first : (ids : List ℕ) → ids ≢ [] → (id : ℕ) × Contains ids id
-  some_first [] some = absurd (some refl)
-  some_first (id ∷ ids) some = some_in (id ∷ ids) (omega arith)
 
   -- and a free place
   pub free_moved : length (queue_at old tile) ≤ old.settings.task_queue → QueueHasRoom new tile

@@ -1,5 +1,5 @@
 -- The event for the least task, by how it stands.
-use Rattle.std.proofs.Common.{ℕ, ◌≡◌, ◌≤◌, ◌<◌, Some, sym, ap, subst, refl, ◌∙◌}
+use Rattle.std.proofs.Common.{ℕ, ◌≡◌, ◌≤◌, Some, sym, ap, subst, refl, ◌∙◌}
 use Rattle.std.specs.Prelude.{IfSome}
 use Rattle.guest_image.specs.ImageValue.{ImageValue}
 use Rattle.rv_core.specs.LegValue.{LegValue}
@@ -15,14 +15,14 @@ use Rattle.spec_law.specs.Sound.{Sound}
 use Rattle.event_def.specs.declared.event.Event.TheVariants as event
 use Rattle.event_def.specs.Advancing.{IsLegFrom, IsNextEvent}
 use Rattle.event_def.specs.End.{IsOver}
-use Rattle.event_law.proofs.Proved.{next_event_is_given, running_within}
+use Rattle.event_law.proofs.Proved.{running_within}
 use Rattle.event_lemma.proofs.Proved.{least_idle, next_is_commit, next_is_dispatch, next_is_split, next_is_step}
 
 -- the tile that is read of the task of this id
-abbrev ReadsTile : View → TaskId → ℕ → Type 0
+abbrev pub ReadsTile : View → TaskId → ℕ → Type 0
 ReadsTile view id tile = IfSome (task_at view id.0) (λ t. tile ≡ t.tile)
 
-tile_is : (view : View) (id : TaskId) (tile : ℕ) (task : Task) → task_at view id.0 ≡ Some task → ReadsTile view id tile → tile ≡ task.tile
+pub tile_is : (view : View) (id : TaskId) (tile : ℕ) (task : Task) → task_at view id.0 ≡ Some task → ReadsTile view id tile → tile ≡ task.tile
 tile_is view id tile task there read = subst (λ o. IfSome o (λ (t : Task). tile ≡ t.tile)) there read
 
 -- a running least task has used its budget at most
@@ -46,9 +46,6 @@ module _ (N : Type 0) (image : ImageValue) (view : View) (sound : Sound image vi
   dispatch_is_idle id tile is read =
       (is.0, subst (λ t. IsLeastIdle view t id.0 is.0) (sym (tile_is view id tile is.0 is.1.queued_at.there read)) (least_idle image view id.0 is.0 sound is.1 is.2))
 
-  pub dispatch_is_inside : (id : TaskId) (tile : ℕ) → IsLeast view (where_.Idle id) → ReadsTile view id tile → tile < view.settings.tiles
-  dispatch_is_inside id tile is read = next_event_is_given N image view (event.Dispatch tile) sound (next_dispatch id tile is read)
-
   -- it runs
   module _ (id : TaskId) (is : IsLeast view (where_.Running id)) where
     module _ (tile : ℕ) (leg : LegValue) (read : ReadsTile view id tile) (from : (task : Task) → IsLeastTask view id.0 task → IsLegFrom image view task leg) where
@@ -67,9 +64,6 @@ module _ (N : Type 0) (image : ImageValue) (view : View) (sound : Sound image vi
             from = sym (from is.0 is.2).from;
           }
 
-      pub step_is_inside : tile < view.settings.tiles
-      step_is_inside = (next_event_is_given N image view (event.Step tile is.1 leg) sound next_step).0
-
   -- it is finished
   pub next_commit : (id : TaskId) → IsLeast view (where_.Finished id) → IsNextEvent {N = N} image view event.Commit
   next_commit id is = next_is_commit N image view going id.0 is.0 is.1 is.2
@@ -77,6 +71,3 @@ module _ (N : Type 0) (image : ImageValue) (view : View) (sound : Sound image vi
   -- it is spilled
   pub next_split : (tile : ℕ) → IsLeastSpilled view tile → IsNextEvent {N = N} image view (event.Split tile)
   next_split tile is = next_is_split N image view going tile is
-
-  pub split_is_inside : (tile : ℕ) → IsLeastSpilled view tile → tile < view.settings.tiles
-  split_is_inside tile is = next_event_is_given N image view (event.Split tile) sound (next_split tile is)

@@ -6,8 +6,9 @@ mod FrozenRun
 mod Telling
 mod Passing
 mod Slices
-mod Leading
+pub mod Leading
 mod Nexts
 mod Lists
 mod Settled
 mod Few
+pub mod Proved

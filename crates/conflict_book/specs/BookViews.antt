@@ -9,10 +9,10 @@ use Rattle.conflict_book.specs.declared.book.Book.{Book}
 
 -- what is seen of a book, by what its placers and its taps mean
 abbrev pub view_of : {N P T : Type 0} → (P → Policy) → (T → TapValue) → Book N P T → BookView
-view_of policy reading book = record {
+view_of policy meaning book = record {
   view = book.sound.view;
   placers = map policy book.placers.items;
-  taps = map reading book.taps.items;
+  taps = map meaning book.taps.items;
   steps = book.sound.steps;
   stopped = book.stopped;
 }

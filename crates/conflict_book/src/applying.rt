@@ -16,11 +16,11 @@ use rv_core::{Leg, Naming};
 use std::alloc::AllocError;
 use trace_tap::{Record, Tap, note_all};
 
-/// Adds an answer to a list that has room for it.
+/// Adds an answer to a list that has the memory for it.
 fn push_answer(answers: &mut Vec<Applied>, applied: Applied)
     requires { length answers.old.items + 1 ≤ vec_capacity answers.old }
     ensures items { answers.new.items ≡ answers.old.items ++ applied ∷ [] }
-    ensures room { vec_capacity answers.old ≤ vec_capacity answers.new }
+    ensures spare { vec_capacity answers.old ≤ vec_capacity answers.new }
 {
     match answers.push(applied) {
         Ok(()) => {}

@@ -11,7 +11,7 @@ use std::marker::Model;
 use trace_tap::Tap;
 
 /// A sound state, and how many events have been made on it, up to 2^64 - 1. Its type keeps the soundness. Beside them
-/// stands the leg that was run last for the least task, at first some leg, whose place serves the next one.
+/// stands the leg that was run last for the least task, at first some leg, whose memory serves the next one.
 #[derive(Drop)]
 pub struct SoundState<N: Naming> {
     pub(crate) state: State<N>,

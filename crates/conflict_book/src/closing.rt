@@ -16,7 +16,7 @@ use spec_rollback::undo_all;
 use spec_state::State;
 use trace_tap::Tap;
 
-/// Takes all tasks of a sound state back.
+/// Takes all uncommitted tasks of a sound state back.
 fn undo<N: Naming>(state: &mut State<N>)
     requires { Sound N.image state.old.view }
     ensures { UndoesAll state.old.view state.new.view }

@@ -206,7 +206,7 @@ impl<N: Naming, P: Placer, T: Tap> Book<N, P, T> {
     /// How many numbers the list of a tap has; None exactly past the last tap.
     pub fn tap_len(&self, tap: usize) -> Option<u32>
         ensures { let book = view_of P.policy T.notes self.now in
-            result ≡ option_map (λ reading. length reading.list) (slice_get book.taps tap) }
+            result ≡ option_map (λ value. length value.list) (slice_get book.taps tap) }
     {
         let found = self.taps.get(tap)?;
         Some(found.len())
@@ -215,7 +215,7 @@ impl<N: Naming, P: Placer, T: Tap> Book<N, P, T> {
     /// The number at a place of the list of a tap; None exactly past its end, or past the last tap.
     pub fn tap_at(&self, tap: usize, place: u32) -> Option<u64>
         ensures { let book = view_of P.policy T.notes self.now in
-            result ≡ option_and_then (λ reading. slice_get reading.list place) (slice_get book.taps tap) }
+            result ≡ option_and_then (λ value. slice_get value.list place) (slice_get book.taps tap) }
     {
         let found = self.taps.get(tap)?;
         found.at(place)

@@ -1,4 +1,4 @@
--- The events of the least task, and how many of them there are up to its commit.
+-- The events of the least task, and how many of them there are at most up to its commit.
 use Rattle.std.specs.Prelude.{◌≡◌, ◌⊎◌, ℕ, zero, suc, true, false}
 use Rattle.guest_image.specs.ImageValue.{ImageValue}
 use Rattle.rv_core.specs.LegValue.{LegValue}
@@ -33,7 +33,7 @@ pub record IsLeastLeg (image : ImageValue) (view : View) (tile core : ℕ) (leg 
   pub there : task.tile ≡ tile
   pub runs_on : IsLegFrom image view task leg
 
--- the event for the least task: a split where it is spilled, a dispatch where it is idle, a leg where it runs, and
+-- the event for the least task: a split where it is spilled, a dispatch where it is idle, a step where it runs, and
 -- a commit where it is finished
 abbrev pub IsLeastEvent : {N : Type 0} → ImageValue → View → Event N → Type 0
 IsLeastEvent image view (event.Split tile) = IsLeastSpilled view tile
@@ -55,7 +55,8 @@ IsNoCommit event.Commit = ⊥
 IsNoCommit other = Unit {0}
 
 -- what an advance is answered: the end of a run that is over; else, by the event for the least task, that it
--- committed, that another event was made, and how many tasks that took back, or how it was refused
+-- committed, that another event was made, and how many tasks that took back, or that memory ran out, which a stopped
+-- book answers always
 abbrev pub AdvanceAnswers : Type 0 → ImageValue → BookView → Advance → BookView → Type 0
 AdvanceAnswers N image old (answers.Ended end) new = (old.stopped ≡ false) × HasEnd old.view end × (new ≡ old)
 AdvanceAnswers N image old answers.Committed new =

@@ -1,4 +1,4 @@
--- Why an event is refused.
+-- Why an event is refused, and which events take memory.
 use Rattle.std.specs.Prelude.{◌≡◌, ◌≢◌, ◌⊎◌, ◌++◌, ◌∷◌, ℕ, ◌<◌, ◌≤◌, [], length}
 use Rattle.rv_core.specs.LegValue.{LegValue}
 use Rattle.task_desc.specs.declared.desc.Spawn.{Spawn}
@@ -35,7 +35,7 @@ pub record IsBusy (view : View) (tile : ℕ) : Type 0 where
 abbrev pub IsStale : View → ℕ → ℕ → LegValue → Type 0
 IsStale view tile core leg = (id : ℕ) (task : Task) → TakesLeg view tile core leg id task → ⊥
 
--- an enqueue of a task that isn't the least one, for a tile that is full and in which nothing moves
+-- an enqueue of a task that isn't the least one, for a tile whose task queue is full and in which nothing moves
 pub record StallsAtEnqueue (book : BookView) (tile core : ℕ) (leg : LegValue) : Type 0 where
   pub id : ℕ
   pub task : Task

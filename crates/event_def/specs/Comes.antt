@@ -15,7 +15,7 @@ use Rattle.event_def.specs.Trace.{IsRecord}
 abbrev pub IsAsBefore : BookView → View → List Policy → Type 0
 IsAsBefore book view placers = (view ≡ book.view) × (placers ≡ book.placers)
 
--- from a book the event leads to this view and these placers, and the taps note that; or it is refused with this
+-- from a book the event leads to this view and these placers, and this is its record; or it is refused with this
 -- reply, or memory runs out for an event that takes it and that nothing else refuses, and view and placers are as
 -- they were
 abbrev pub Comes : {N : Type 0} → BookView → Event N → Came → View → List Policy → Type 0

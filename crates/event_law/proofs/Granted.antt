@@ -1,5 +1,5 @@
 -- The event for the least task is never refused.
-use Rattle.std.proofs.Common.{ℕ, zero, ◌≡◌, ◌≢◌, ◌≤◌, inl, inr, true, List, [], ◌∷◌, Some, refl, sym, ap, subst, ◌∙◌, arith}
+use Rattle.std.proofs.Common.{ℕ, ◌≡◌, ◌≢◌, ◌≤◌, inl, inr, true, List, [], Some, refl, sym, ap, subst, ◌∙◌, arith}
 use Rattle.std.specs.Prelude.{length, Contains, slice_get}
 use Rattle.std.proofs.lemmas.Bool.{cases_eq}
 use Rattle.std.specs.Ordering.{ordering_reverse}
@@ -16,7 +16,7 @@ use Rattle.spec_state.specs.Queries.{IsIdle, IsFinished, IsLater}
 use Rattle.spec_state.specs.Changes.{TakesLeg}
 use Rattle.spec_state.specs.Stored.{HasCore}
 use Rattle.spec_law.specs.Sound.{Sound, SoundSizes, StandsAs}
-use Rattle.spec_law.proofs.Proved.{below_others, get_contains, least_key, queued_at, ranked_turned}
+use Rattle.spec_law.proofs.Proved.{below_others, get_contains, least_key, queued_at, ranked_turned, some_in}
 use Rattle.event_def.specs.declared.event.Event.{Event}
 use Rattle.event_def.specs.declared.event.Event.TheVariants as event
 use Rattle.event_def.specs.declared.event.Reply.{Reply}
@@ -94,8 +94,8 @@ module _ (image : ImageValue) (view : View) (sound : Sound image view) (tile cor
   least_runs = running_is_dispatched image view sound next.id core next.task next.least.queued_at.there next.runs
 
   -- a finished task is dispatched
-  finished_runs : (k : ℕ) (x : Task) → task_at view k ≡ Some x → x.status ≡ Finished → is_dispatched x ≡ true
-  finished_runs k x there finished =
+  finished_dispatched : (k : ℕ) (x : Task) → task_at view k ≡ Some x → x.status ≡ Finished → is_dispatched x ≡ true
+  finished_dispatched k x there finished =
       let stands : StandsAs image view.version view.settings.budget x Finished = subst (StandsAs image view.version view.settings.budget x) finished (sound.tasks.stands k x there) in
       stands.0
 
@@ -112,20 +112,17 @@ module _ (image : ImageValue) (view : View) (sound : Sound image view) (tile cor
         record { queued = has; there = is.1 },
         record {
           there = is.1;
-          dispatched = finished_runs k is.0 is.1 is.3;
+          dispatched = finished_dispatched k is.0 is.1 is.3;
           later = below_others view next.id next.task next.least sound.heir sound.order sound.sizes least_runs k is.0 apart is.1;
         },
       )
 
-  -- a full commit queue has a first task
-  some_finished : (ids : List ℕ) (n : ℕ) → 1 ≤ n → n ≤ length ids → (k : ℕ) × Contains ids k
-  some_finished [] n one full = absurd (omega (arith, one, full))
-  some_finished (k ∷ ids) n one full = (k, get_contains (k ∷ ids) zero k refl)
-
   -- the end call of the least task doesn't stall
   pub no_stall_at_end : StallsAtEnd view tile core leg → ⊥
   no_stall_at_end stalls =
-      let some = some_finished (finished_at view tile) view.settings.commit_queue sound.sizes.settings.commit_queue.0 stalls.full in
+      let one : 1 ≤ view.settings.commit_queue = sound.sizes.settings.commit_queue.0 in
+      let full : view.settings.commit_queue ≤ length (finished_at view tile) = stalls.full in
+      let some = some_in (finished_at view tile) (omega (arith, one, full)) in
       let later = finished_is_later some.0 some.1 in
       let is = taken_is stalls.id stalls.task stalls.takes in
       stalls.none_later some.0 later.0 later.1 (subst (λ (t : Task). IsLater view t some.0 later.0) (sym is) later.2)

@@ -1,5 +1,5 @@
--- From the opening on, each history is a run of the serial machine.
-use Rattle.std.proofs.Common.{ℕ, ◌^◌, ◌≡◌, ◌<◌, ◌⊎◌, inl, inr, false, List, [], ◌∷◌, sym, ap, subst, ◌∙◌, arith}
+-- From the opening on, each history is a run of the serial machine; lists of events join, and a book counts events.
+use Rattle.std.proofs.Common.{ℕ, ◌≡◌, inl, inr, false, List, [], ◌∷◌, sym, ap, subst, ◌∙◌}
 use Rattle.std.specs.Prelude.{All}
 use Rattle.std.specs.List.{enumerate_from}
 use Rattle.std.proofs.lemmas.List.Elements.{All-head, All-tail}
@@ -60,7 +60,7 @@ all_keep N image settings (event ∷ events) (applied ∷ answers) old new given
     let keeps = happens_keeps N image old happen.0 event applied.aborted first sound applied.reply happen.1 in
     all_keep N image settings events answers happen.0 new (All-tail (IsGiven image settings) event events given) (keeps.settings ∙ same) keeps.now happen.2
 
--- each list of events after the opening leaves a sound book
+-- each list of events after the opening leaves a history that is a run of the serial machine
 pub histories_are_runs : (N : Type 0) → HistoriesAreRuns N
 histories_are_runs N image settings placers taps opened book events answers within valid opening given happen =
     let start : BookView = record { view = opening.empty; placers = placers; taps = taps; steps = 0; stopped = false } in
@@ -76,7 +76,7 @@ histories_join N old mid new (event ∷ events) second [] others before after = 
 histories_join N old mid new (event ∷ events) second (applied ∷ answers) others before after =
     (before.0, before.1, histories_join N before.0 mid new events second answers others before.2 after)
 
--- an event that is made is counted, and any other changes nothing
+-- an event leaves the count of events, or raises it by one, up to where it stands still
 pub events_count_one : (N : Type 0) → EventsCountOne N
 events_count_one N old new event reply.Ok aborted happens = inr happens.steps
 events_count_one N old new event reply.Empty aborted happens = inl (ap (λ (b : BookView). b.steps) happens.unchanged.same)

@@ -1,4 +1,4 @@
--- Facts about each element of lists.
+-- Facts about the elements of lists, and about a value under a map of an option.
 use Rattle.std.proofs.Common.{ℕ, suc, ◌+◌, ◌≡◌, ◌<◌, ◌≤◌, ◌⊎◌, inl, inr, List, [], ◌∷◌, Option, Some, None, refl, sym, subst, arith}
 use Rattle.std.specs.Prelude.{length, slice_get, slice_index_or, flat_map, option_map}
 use Rattle.std.specs.List.{All, AllByRecursion, enumerate_from}

@@ -82,7 +82,7 @@ module _ {N : Type 0} (book : BookView) (event : Event N) (answer other : Reply)
       let not_behind : refusal_rank other < refusal_rank answer → ⊥ = λ before. one.first other before two.cause in
       rank_is_one answer other (grind (arith, not_before, not_behind))
 
-  -- what is granted is not refused
+  -- and what is granted is not refused: two outcomes have one reply
   one_outcome : ((answer ≡ reply.Ok) × IsGranted book event) ⊎ IsRefused book event answer → ((other ≡ reply.Ok) × IsGranted book event) ⊎ IsRefused book event other → answer ≡ other
   one_outcome (inl granted) (inl also) = granted.0 ∙ sym also.0
   one_outcome (inl granted) (inr refused) = absurd (granted.1 other refused.cause)

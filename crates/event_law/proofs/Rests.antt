@@ -1,4 +1,4 @@
--- What is left up to the next commit.
+-- What is left up to and with the next commit, or up to the end.
 pub mod Rest
 pub mod LeastSpot
 pub mod RestThere

@@ -83,7 +83,7 @@ pub fn end_is_there()
     ensures { EndIsThere }
 {}
 
-/// An event leaves the count of events, or raises it by one.
+/// An event leaves the count of events, or raises it by one, up to where it stands still.
 pub fn events_count_one<N: Naming>()
     ensures { EventsCountOne N }
 {}

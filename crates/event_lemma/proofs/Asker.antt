@@ -26,7 +26,7 @@ module _ (image : ImageValue) (old : View) (sound : Sound image old) (tile core 
   there : task_at old id ≡ Some task
   there = takes.runs.on.there
 
-  -- what conflicts with its access is taken back
+  -- once what conflicts with its access is taken back, it takes its leg still
   conflicts_spare : (offset : ℕ) (write : Bool) (aborted : ℕ) (mid : View)
       → TakesConflicts task offset write old aborted mid
       → TakesStill image tile core leg id task old mid
@@ -63,7 +63,7 @@ module _ (image : ImageValue) (old : View) (sound : Sound image old) (tile core 
       let above = cascade_is_later image old v x aborts.marks sound later.there aborts.cascade id marked apart in
       above_is_other x above.0 later.later above.1 above.2)
 
-  -- a place of its tile's commit queue is freed for it
+  -- once a place of its tile's commit queue is freed for it, the view is sound, and it stays as it was
   commit_spares : {aborted : ℕ} {mid : View} → FreesCommit tile task old aborted mid
       → Sound image mid × (task_at mid id ≡ Some task)
   commit_spares (events.has_free free) = (sound, there)

@@ -96,7 +96,7 @@ first_where : (o p : Ordering) → o ≡ Less → ordering_then o p ≢ Greater
 first_where o p less greater = absurd (cc (sym (ap (λ r. ordering_then r p) less) ∙ greater))
 
 module _ (image : ImageValue) (old : View) (sound : Sound image old) (id : ℕ) (task : Task) (least : IsLeastTask old id task) (idle : task.status ≡ Idle) where
-  -- the least task is open
+  -- the least task is not dispatched
   open_is : is_dispatched task ≡ false
   open_is = idle_is_open image old sound id task least.queued_at.there idle
 
@@ -113,8 +113,8 @@ module _ (image : ImageValue) (old : View) (sound : Sound image old) (id : ℕ) 
     now = (abort_of_one_is_sound image v x old aborted mid sound latest.of_kind.1.there (no_heir v) aborts).0
 
     -- the task on a core is dispatched
-    holder_runs : is_dispatched x ≡ true
-    holder_runs = holder_is_dispatched image old sound task.tile latest.of_kind.0 v x latest.of_kind.1
+    holder_dispatched : is_dispatched x ≡ true
+    holder_dispatched = holder_is_dispatched image old sound task.tile latest.of_kind.0 v x latest.of_kind.1
 
     -- the least task is below it
     below_holder : key_cmp task.key x.key ≡ Less
@@ -122,7 +122,7 @@ module _ (image : ImageValue) (old : View) (sound : Sound image old) (id : ℕ) 
         less_of (key_cmp task.key x.key) (upto_queued old id task least sound.sizes v x latest.of_kind.1.there)
         (λ tie.
         let same : task.key ≡ x.key = (equal_keys_tie task.key x.key).0 tie in
-        absurd (cc (sym holder_runs ∙ (ap (λ (key : Key). is_some key.tb) (sym same) ∙ open_is))))
+        absurd (cc (sym holder_dispatched ∙ (ap (λ (key : Key). is_some key.tb) (sym same) ∙ open_is))))
 
     -- and below all that is taken back
     below_marked : (k : ℕ) (y : Task) → is_marked aborts.marks k ≡ true → task_at old k ≡ Some y

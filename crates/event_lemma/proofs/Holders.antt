@@ -1,6 +1,6 @@
 -- What stands on the cores and in the commit queue of a tile.
 use Rattle.std.proofs.Common.{ℕ, zero, ◌≡◌, ◌≢◌, ◌≤◌, ◌<◌, true, List, [], ◌∷◌, Option, Some, None, refl, sym, ap, subst, ◌∙◌, arith, length}
-use Rattle.std.specs.Prelude.{Contains, slice_get}
+use Rattle.std.specs.Prelude.{slice_get}
 use Rattle.std.specs.declared.cmp.Ordering.{Ordering}
 use Rattle.std.specs.declared.cmp.Ordering.TheVariants.{Less, Equal, Greater}
 use Rattle.fractal_vt.specs.Keys.{key_cmp}
@@ -15,7 +15,7 @@ use Rattle.spec_state.specs.Tasks.{is_dispatched}
 use Rattle.spec_state.specs.Queries.{IsFinished, IsLater, IsLatestFinished, IsOnCore}
 use Rattle.spec_state.specs.Stored.{HasCore}
 use Rattle.spec_law.specs.Sound.{Sound, StandsAs}
-use Rattle.spec_law.proofs.Proved.{get_contains}
+use Rattle.spec_law.proofs.Proved.{some_in}
 use Rattle.event_def.specs.Causes.{AllCoresHeld, IsCommitFull}
 
 module _ (image : ImageValue) (view : View) (sound : Sound image view) where
@@ -62,13 +62,11 @@ module _ (image : ImageValue) (view : View) (sound : Sound image view) where
   finished_is_later tile k task x finished less = record { there = finished.there; dispatched = finished_is_dispatched tile k x finished; later = less }
 
   -- a full commit queue has a task
-  some_of : (ids : List ℕ) (n : ℕ) → 1 ≤ n → n ≤ length ids → (k : ℕ) × Contains ids k
-  some_of [] n one full = absurd (omega (arith, one, full))
-  some_of (k ∷ ids) n one full = (k, get_contains (k ∷ ids) zero k refl)
-
   pub full_has_finished : (tile : ℕ) → IsCommitFull view tile → (id : ℕ) × (task : Task) × IsFinished view tile id task
   full_has_finished tile full =
-      let some = some_of (finished_at view tile) view.settings.commit_queue sound.sizes.settings.commit_queue.0 full in
+      let one : 1 ≤ view.settings.commit_queue = sound.sizes.settings.commit_queue.0 in
+      let many : view.settings.commit_queue ≤ length (finished_at view tile) = full in
+      let some = some_in (finished_at view tile) (omega (arith, one, many)) in
       let has = (sound.sizes.finished_are tile some.0).0 some.1 in
       (some.0, has.0, record { queued = some.1; there = has.1 })
 

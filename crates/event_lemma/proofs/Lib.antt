@@ -1,6 +1,6 @@
 pub mod Views
 pub mod Leasts
-pub mod Readings
+pub mod LeastRead
 pub mod Causes
 pub mod Forced
 pub mod Asker

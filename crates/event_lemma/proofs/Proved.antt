@@ -6,12 +6,13 @@ pub use Rattle.event_lemma.proofs.Causes.{no_child_no_stall, no_end_no_stall, st
 pub use Rattle.event_lemma.proofs.Comes.{comes_stays_sound}
 pub use Rattle.event_lemma.proofs.Cores.{core_leaves_idle}
 pub use Rattle.event_lemma.proofs.Falling.{next_is_commit, next_is_dispatch, next_is_split, next_is_step}
-pub use Rattle.event_lemma.proofs.Holders.{finished_is_later, held_has_task, none_is_later}
+pub use Rattle.event_lemma.proofs.Holders.{finished_is_dispatched, finished_is_later, held_has_task}
+pub use Rattle.event_lemma.proofs.Holders.{holder_is_dispatched, none_is_later}
 pub use Rattle.event_lemma.proofs.Leasts.{least_idle}
 pub use Rattle.event_lemma.proofs.Made.{makes_keeps_settings}
-pub use Rattle.event_lemma.proofs.Readings.{below_limit, least_is_firm, least_where, limit_ends, none_commits, none_is_least}
-pub use Rattle.event_lemma.proofs.Readings.{none_is_spilled, read_trap_ends, spilled_where, trapped_is_over}
-pub use Rattle.event_lemma.proofs.Readings.{untrapped_goes_on}
+pub use Rattle.event_lemma.proofs.LeastRead.{below_limit, least_is_firm, least_where, limit_ends, none_commits, none_is_least}
+pub use Rattle.event_lemma.proofs.LeastRead.{none_is_spilled, read_trap_ends, spilled_where, trapped_is_over}
+pub use Rattle.event_lemma.proofs.LeastRead.{untrapped_goes_on}
 pub use Rattle.event_lemma.proofs.Rooms.{least_in_block, room_leaves, room_leaves_asker, room_leaves_block, taken_is_live, taker_asks}
 pub use Rattle.event_lemma.proofs.Rooms.{victim_moves}
 pub use Rattle.event_lemma.proofs.Views.{least_is_committed, sound_by_key, sound_named, sound_numbers, trap_ends}

@@ -1,4 +1,5 @@
--- What an event forces leaves: a sound view like the one before, in which who asked asks still.
+-- What an event forces leaves: a sound view like the one before, in which who asked asks still, a task queue has a free
+-- place, or a core is free.
 use Rattle.std.specs.Prelude.{◌≡◌, ℕ, length, Some}
 use Rattle.guest_image.specs.ImageValue.{ImageValue}
 use Rattle.rv_core.specs.LegValue.{LegValue}

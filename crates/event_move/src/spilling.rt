@@ -50,7 +50,7 @@ pub fn coalesce<N: Naming>(state: &mut State<N>, tile: u32) -> Came
     make_coalesce(state, tile)
 }
 
-/// Brings the least task of a tile's block back, for which there is room.
+/// Brings the least task of a tile's block back, once the task queue has made room for it.
 fn return_to_queue<N: Naming>(state: &mut State<N>, tile: u32) -> Record
     requires sound { Sound N.image state.old.view }
     requires tile { tile < state.old.view.settings.tiles }

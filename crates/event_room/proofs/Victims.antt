@@ -27,7 +27,7 @@ pub none_if_not : (view : View) (tile : ℕ) (some : Bool)
     → NoneMoves view tile
 none_if_not view tile some is none id moves = absurd (cc (sym (is.1 (id, moves.0, moves.1)) ∙ none))
 
--- in a sound view an abort is one
+-- in a sound view the logged tasks have an order by key, so what is an abort given one is an abort
 pub aborted_one : (image : ImageValue) (old new : View) (id aborted : ℕ) → Sound image old
     → ((ids : List ℕ) → IsByKey (logged_tasks old) ids → Aborts (OnlyNode id) old aborted new)
     → Aborts (OnlyNode id) old aborted new
@@ -49,7 +49,7 @@ pub aborted_moves : (image : ImageValue) (tile : ℕ) (asker : Asker) (old : Vie
 aborted_moves image tile asker old v task sound runs least victim firm aborted mid aborts =
     (v, victim_moves image tile asker old v task sound runs least victim firm aborted mid aborts)
 
--- the creator of another one is there
+-- the creator of a victim that isn't firm is there
 pub creator_there : (image : ImageValue) (tile : ℕ) (asker : Asker) (old : View) (v creator : ℕ) (task : Task) → Sound image old
     → RunsIfTask old asker → NoneMoves old tile → IsLeastAsker old tile asker → IsVictim old tile asker v task
     → (IsFirm old task → ⊥) → IfSome (task_at old v) (λ t. live_creator t.creator ≡ Some creator)

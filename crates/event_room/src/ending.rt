@@ -1,4 +1,4 @@
-//! Whether a run is over. No call takes memory.
+//! Whether a run is over, and how it ended. No call takes memory.
 
 ghost use Rattle.std.specs.Prelude.{◌≡◌, ◌≢◌, ◌↔◌, IsTrue, IsNone, IfSome, length};
 ghost use Rattle.spec_law.specs.Sound.{Sound};

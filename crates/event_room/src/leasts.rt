@@ -1,4 +1,4 @@
-//! Whether the least task is one that is given. No call takes memory.
+//! Whether the least task is a given one, or is spilled in a given tile. No call takes memory.
 
 ghost use Rattle.std.specs.Prelude.{◌≡◌, ◌↔◌, IsTrue, Some, option_map};
 ghost use Rattle.spec_state.specs.Least.{IsTheLeast, IsLeastSpilled};

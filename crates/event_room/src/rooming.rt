@@ -50,7 +50,7 @@ fn spill<N: Naming>(state: &mut State<N>, tile: u32)
     requires some { (id : ℕ) × IsMovable state.old.view tile id }
     requires covered { CoversPushes state.old tile MAX_MOVED }
     ensures moves { Coalesces tile state.old.view state.new.view }
-    ensures room { KeepsOtherSpare tile state.old.spare state.new.spare }
+    ensures others { KeepsOtherSpare tile state.old.spare state.new.spare }
 {
     match coalesce(state, tile) {
         Ok(_) => {}
@@ -58,7 +58,7 @@ fn spill<N: Naming>(state: &mut State<N>, tile: u32)
     }
 }
 
-/// Takes the latest task of a full queue back, which is then idle and moves, or its creator where it isn't firm, so
+/// Takes the victim of a full queue back, which is then idle and moves, or its creator where it isn't firm, so
 /// that it leaves.
 fn take_victim<N: Naming>(state: &mut State<N>, tile: u32, asker: Option<TaskId>) -> u32
     requires sound { Sound N.image state.old.view }
@@ -70,7 +70,7 @@ fn take_victim<N: Naming>(state: &mut State<N>, tile: u32, asker: Option<TaskId>
     requires covered { CoversPushes state.old tile MAX_MOVED }
     ensures makes { let who = asker_of (option_map (λ id. id.0) asker) in
         MakesRoom tile who state.old.view result state.new.view }
-    ensures room { KeepsOtherSpare tile state.old.spare state.new.spare }
+    ensures others { KeepsOtherSpare tile state.old.spare state.new.spare }
 {
     let last = victim_of(state, tile, asker);
     if state.firm(last) {
@@ -84,7 +84,7 @@ fn take_victim<N: Naming>(state: &mut State<N>, tile: u32, asker: Option<TaskId>
 }
 
 /// Makes a free place in a tile's task queue for who asks, a running task for its child or else the splitter, which
-/// doesn't stall. It tells how many tasks were taken back for it. The tile's block has room for what moves, so it
+/// doesn't stall. It tells how many tasks were taken back for it. The tile's block has the pushes to spare, so it
 /// takes no memory.
 pub fn make_room<N: Naming>(state: &mut State<N>, tile: u32, asker: Option<TaskId>) -> u32
     requires sound { Sound N.image state.old.view }
@@ -94,7 +94,7 @@ pub fn make_room<N: Naming>(state: &mut State<N>, tile: u32, asker: Option<TaskI
     requires covered { CoversPushes state.old tile MAX_MOVED }
     ensures makes { let who = asker_of (option_map (λ id. id.0) asker) in
         MakesRoom tile who state.old.view result state.new.view }
-    ensures room { KeepsOtherSpare tile state.old.spare state.new.spare }
+    ensures others { KeepsOtherSpare tile state.old.spare state.new.spare }
 {
     if state.queue_has_room(tile) {
         return 0;

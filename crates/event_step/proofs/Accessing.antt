@@ -1,4 +1,4 @@
--- What is forced for an access or an enqueue leaves its room, and for an access what its task asks for.
+-- What is forced for an access or an enqueue leaves it spare, and for an access what its task asks for.
 use Rattle.std.proofs.Common.{ℕ, ◌≡◌, ◌<◌, ◌/◌, Bool, List, Some, Result, Ok, Err, sym, subst, ◌∙◌, length}
 use Rattle.std.specs.Prelude.{IsOk, OnOk, IfSome, Option}
 use Rattle.guest_image.specs.ImageValue.{ImageValue}
@@ -37,20 +37,20 @@ module _ (image : ImageValue) (old mid : View) (leg : LegValue) (id : ℕ)
   pub same_task : (request : Request) → Asks old leg id request → task_at mid id ≡ task_at old id
   same_task request asks = (stays asks.tile asks.core asks.task asks.takes).there ∙ sym asks.takes.runs.on.there
 
--- room for an access stays
+-- an access that is spare stays so
 pub log_still : (old mid : StateValue) (id : ℕ) → task_at mid.view id ≡ task_at old.view id
     → mid.spare.log ≡ old.spare.log
     → CoversLog old id → CoversLog mid id
-log_still old mid id there room covers =
-    subst (λ n. IfSome (task_at mid.view id) (λ task. length task.log < n)) (sym room)
+log_still old mid id there spare covers =
+    subst (λ n. IfSome (task_at mid.view id) (λ task. length task.log < n)) (sym spare)
     (subst (λ (o : Option Task). IfSome o (λ task. length task.log < old.spare.log)) (sym there) covers)
 
--- so does room for a child
+-- and so does a child
 pub child_still : (old mid : StateValue) (id : ℕ) → task_at mid.view id ≡ task_at old.view id
     → mid.spare.spawns ≡ old.spare.spawns
     → CoversChild old id → CoversChild mid id
-child_still old mid id there room covers =
-    subst (λ n. IfSome (task_at mid.view id) (λ task. length task.spawns < n)) (sym room)
+child_still old mid id there spare covers =
+    subst (λ n. IfSome (task_at mid.view id) (λ task. length task.spawns < n)) (sym spare)
     (subst (λ (o : Option Task). IfSome o (λ task. length task.spawns < old.spare.spawns)) (sym there) covers)
 
 -- what conflicts with the task's access is taken back

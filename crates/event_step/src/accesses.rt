@@ -42,7 +42,7 @@ fn clear<N: Naming>(state: &mut State<N>, id: TaskId, leg: &Leg<N>, offset: u32,
     ensures stays { let old = state.old.view in
         (tile core : ℕ) (task : Task) → TakesLeg old tile core leg.now id.0 task
         → TakesStill N.image tile core leg.now id.0 task old state.new.view }
-    ensures room { state.new.spare ≡ state.old.spare }
+    ensures spare { state.new.spare ≡ state.old.spare }
 {
     let line = line_of(state, offset);
     abort_conflicts(state, id, line, write)

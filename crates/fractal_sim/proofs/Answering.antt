@@ -46,7 +46,7 @@ use Rattle.fractal_sim.proofs.Found.{asked_for, left_alone}
 
 -- ---- runs that are held
 
--- an outcome keeps the run of what was closed
+-- an outcome that keeps a run of the image that the words ask for holds it
 abbrev holds_kept : (input : Input) (request : Request) (image : ImageValue) (run : SerialRun) (steps : Option ℕ) (o : Outcome) → HasImage input request image
     → IsRunOf image request.settings.commits request.settings.budget run → HoldsRun run steps o → HoldsRunOfInput input o
 holds_kept input request image run steps o given is_run kept = record {
@@ -306,7 +306,7 @@ well_told call (finding.Traced t) o found kept s w =
     let read = was_read call.input found.request found.image found.bytes_behind found.given in
     by_end call (finding.Traced t) o (λ end. trace_text (lists_of_traced t)) (λ end. 0) t.ran (Some t.ran.closed.steps) refl refl held kept read found kept s w
 
--- the text of a finding whose text the sink failed on
+-- there is a text, of which the sink took a front
 record HasFront (old new : SinkState) (text : Option (List ℕ)) : Type 0 where
   whole_text : List ℕ
   is : text ≡ Some whole_text

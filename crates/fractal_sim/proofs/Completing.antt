@@ -1,5 +1,5 @@
--- Where nothing failed, the status is the one that is due.
-use Rattle.std.proofs.Common.{◌≡◌, ◌⊎◌, inl, inr, refl, sym, ap, ◌∙◌, subst, ℕ, ◌≤◌, List, length, arith, drop, Some, None}
+-- Where nothing failed, the status is the one that is due, or 5 for want of memory.
+use Rattle.std.proofs.Common.{◌≡◌, ◌⊎◌, inl, inr, refl, sym, ap, ◌∙◌, subst, ℕ, ◌≤◌, List, length, drop, Some, None}
 use Rattle.std.specs.declared.option.Option.{Option}
 use Rattle.sim_io.specs.Causes.{Rose}
 use Rattle.guest_image.specs.ImageValue.{ImageValue}
@@ -54,7 +54,7 @@ begins input bytes request image rest known given =
       rest_is = given.rest_is ∙ ap (drop given.size) all.same;
     }
 
--- where the source didn't fail, the status of what was found is due
+-- where the source didn't fail, the status of what was found is due, or 5 for want of memory
 is_due : (input : Input) (bytes : List ℕ) (f : Finding) → IsKnown input bytes → (Rose input.source_before.faults input.source_after.faults → ⊥) → IsFound input f
     → (status_of f ≡ 5) ⊎ IsDue input.words bytes (status_of f)
 is_due input bytes finding.Usage known well found = inr (due.Usage found.refused)

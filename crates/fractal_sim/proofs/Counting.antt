@@ -28,7 +28,7 @@ use Rattle.fractal_sim.specs.Deciding.{run_with_end, lists_of_traced, event_coun
 use Rattle.fractal_sim.specs.Finding.{IsFound, HoldsRun, OutcomeKeeps}
 
 -- one list of words asks for one thing
-same_request : (words : List (List ℕ)) (a b : Request) → request_of_words words ≡ Some a
+pub same_request : (words : List (List ℕ)) (a b : Request) → request_of_words words ≡ Some a
     → request_of_words words ≡ Some b → a ≡ b
 same_request words a b ha hb = same_Some a b (sym ha ∙ hb)
 

@@ -1,4 +1,4 @@
--- A run that was made is kept, whatever comes of what follows it.
+-- What is found of the machine's answer is found where the words ask for it, and can be written.
 use Rattle.std.proofs.Common.{◌≡◌, ◌≢◌, refl, sym, ap, subst, ℕ, true, false, List, length, Result, Ok, Err, Some}
 use Rattle.std.proofs.Common.{None}
 use Rattle.std.specs.Prelude.{IfOk, IfSome, IsSome, MatchOption, MatchResult}

@@ -2,7 +2,6 @@
 use Rattle.std.proofs.Common.{◌≡◌, ◌⊎◌, inl, inr, refl, sym, ap, ◌∙◌, subst, ℕ, ◌<◌, ◌≤◌, List, length, drop, codes}
 use Rattle.std.proofs.Common.{arith, Some, None, Result, Ok, Err}
 use Rattle.std.specs.declared.marker.Brand.{Brand}
-use Rattle.std.proofs.lemmas.Option.{same_Some}
 use Rattle.sim_io.specs.Parts.{SinkTakes}
 use Rattle.guest_image.specs.ImageValue.{ImageValue, IsImage}
 use Rattle.guest_image.specs.Reading.{image_of}
@@ -32,6 +31,7 @@ use Rattle.fractal_sim.specs.Runs.{IsReported, IsScript, PlaysScript}
 use Rattle.fractal_sim.specs.Texts.{image_fault_line, script_fault_line, played_status, played_text}
 use Rattle.fractal_sim.specs.Twice.{EndsWell, ScriptCallsAreOne}
 use Rattle.fractal_sim.proofs.Completing.{asks_all, begins}
+use Rattle.fractal_sim.proofs.Counting.{same_request}
 
 -- ---- what the bytes are
 
@@ -177,13 +177,11 @@ not_reported (commands.Load load seed size) end plays told = plays
 module _ (input : Input) (bytes : List ℕ) (request : Request) (o : Outcome)
     (has : input.source_before.left ≡ Some bytes) (asked : request_of_words input.words ≡ Some request)
     (plays : PlaysScript request.command) where
-  same : (r : Request) → request_of_words input.words ≡ Some r → r ≡ request
-  same r asks = same_Some r request (sym asks ∙ asked)
-
-  -- no other command is asked for
+  -- the command that is asked for plays a script
   asks_so : (r : Request) (command : Command) → request_of_words input.words ≡ Some r → r.command ≡ command
       → PlaysScript command
-  asks_so r command asks is = subst PlaysScript (ap (λ (q : Request). q.command) (sym (same r asks)) ∙ is) plays
+  asks_so r command asks is = subst PlaysScript
+      (ap (λ (q : Request). q.command) (sym (same_request input.words r request asks asked)) ∙ is) plays
 
   -- what an answer says of the bytes
   says : {n : ℕ} {text : List ℕ} → IsAnswer input o n text → Says input bytes request o n text
@@ -206,7 +204,8 @@ module _ (input : Input) (bytes : List ℕ) (request : Request) (o : Outcome)
       let rest = drop begun.size bytes in
       let behind : IsNoScriptAt is.request rest line =
       subst (λ rest. IsNoScriptAt is.request rest line) begun.rest_is is.wrong in
-      let wrong = subst (λ r. IsNoScriptAt r rest line) (same is.request begun.asked) behind in
+      let wrong = subst (λ r. IsNoScriptAt r rest line) (same_request input.words is.request request begun.asked asked)
+      behind in
       record {
         verdict = NoScriptThere line;
         is_of = (begun.within, is.image, begun.size, begun.image_is, wrong);
@@ -226,7 +225,7 @@ module _ (input : Input) (bytes : List ℕ) (request : Request) (o : Outcome)
       absurd (asks_so is.request (commands.Load load seed size) is.given.asked is.given.command)
   says (table.Played image said end is) =
       let begun = begins input bytes is.request image is.bytes_behind (inl has) is.given in
-      let one = same is.request begun.asked in
+      let one = same_request input.words is.request request begun.asked asked in
       let rest = drop begun.size bytes in
       let behind : IsScript is.request rest is.script =
       subst (λ rest. IsScript is.request rest is.script) begun.rest_is is.script_is in
@@ -253,7 +252,7 @@ module _ (input : Input) (bytes : List ℕ) (request : Request) (o : Outcome)
       }
   says (table.Traced image lists end is) =
       let begun = begins input bytes is.request image is.bytes_behind (inl has) is.given in
-      let one = same is.request begun.asked in
+      let one = same_request input.words is.request request begun.asked asked in
       let rest = drop begun.size bytes in
       let behind : IsScript is.request rest is.script =
       subst (λ rest. IsScript is.request rest is.script) begun.rest_is is.script_is in

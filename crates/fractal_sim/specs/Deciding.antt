@@ -84,7 +84,7 @@ abbrev pub trace_finding : Result Traced AllocError → Finding
 trace_finding (Ok traced) = finding.Traced traced
 trace_finding (Err error) = finding.Memory
 
--- what was made of the tasks that pend after a run: the bytes of the image that goes on, or why there is none
+-- what was made of the tasks that pend after a run: the bytes of the saved image, or why there is none
 abbrev pub Saves : ImageValue → List ℕ → List Pending → Saving → Type 0
 Saves image memory pendings (saving.Bytes bytes) =
     AreOfRoot pendings × (length pendings ≤ MAX_TASKS)
@@ -172,7 +172,7 @@ pub record IsAcceptedSo (request : Request) (image : ImageValue) (rest : List �
   pub accepted : IsReportOf image request.settings.commits request.settings.budget report
   pub kept : IsClosedReport accepted.state report closed
 
--- what is found where a text is no script
+-- what is found where a text wasn't read as a script: it is none, or memory ran out
 abbrev pub no_script_finding : ScriptFault → Finding
 no_script_finding (faults.Line line) = finding.NoScript line
 no_script_finding faults.Memory = finding.Memory

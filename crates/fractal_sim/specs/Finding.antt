@@ -155,7 +155,7 @@ OutcomeKeeps (finding.Played image played) o = HoldsRun (run_with_end played.ran
 OutcomeKeeps (finding.Traced traced) o = HoldsRun (run_with_end traced.ran) (Some traced.ran.closed.steps) o
 OutcomeKeeps other o = IsEmpty o
 
--- the image's window lies in the memory that the run left
+-- the memory that the run left is as large as the image's data, so that the window lies in it
 abbrev pub HasWindow : ImageValue → Ran → Type 0
 HasWindow image ran = length ran.closed.memory ≡ image.data_size
 

@@ -1,4 +1,5 @@
-//! Laws of the program: it answers the same each time. Each is the contract of a function that does nothing.
+//! Laws of the program: a call that plays a script answers the same each time, where it ends well. Each is the contract
+//! of a function that does nothing.
 
 ghost use Rattle.fractal_sim.specs.Twice.{ScriptCallsAreOne, ScriptCallsEndWell};
 

@@ -4,8 +4,9 @@
 //! the verdict on a report, or a line that says what is wrong. Everything is found before anything is written; a run
 //! takes memory for its tasks, its journal and its output, and one copy of the data memory.
 //!
-//! It stands on `machine_run`, on the readers of words, images and scripts, and on the writers of texts. A person, the
-//! launcher or a script calls it. It costs what the run does, and a look at each byte of the input and of the text.
+//! It stands on `machine_run`, on the readers of words, images, scripts and reports, on `load_gen` and `resume_image`,
+//! and on the writers of texts. A person, the launcher or a tool calls it. It costs what the run does, and a look at
+//! each byte of the input and of the text.
 #![tactic(auto)]
 
 mod checking;

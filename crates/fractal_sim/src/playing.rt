@@ -91,7 +91,7 @@ fn trace_finding(made: Result<Traced, AllocError>) -> Finding
     }
 }
 
-/// What is found where the text is no script.
+/// What is found where the text wasn't read as a script: it is none, or memory ran out.
 fn no_script_finding(fault: ScriptFault) -> Finding
     ensures { result ≡ no_script_finding fault }
 {

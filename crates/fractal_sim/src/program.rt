@@ -27,8 +27,8 @@ use trace_tap::Tap;
 /// The outcome holds nothing, or a run of the serial machine from the image that was read or generated: its journal,
 /// the memory and the output that it leads to, and its end. The run meets the laws of runs. The status tells what was
 /// found, and the sink took the text that tells it and no other byte; where the sink failed it took a prefix of that
-/// text. A run that is to be saved and meets its commit limit is told by the bytes of the image that goes on, or by why
-/// there is none; where memory runs out for that image no end is told. Where the words are refused or ask for a
+/// text. A run that is to be saved and meets its commit limit is told by the bytes of the saved image, or by why there
+/// is none; where memory runs out for that no end is told. Where the words are refused or ask for a
 /// generated image the source is left alone; else at most 67,108,864 of its bytes are taken, or one more where it has
 /// more than that.
 pub fn top<R: Threads + Wait + Sync, S: Source, K: Sink, G: Gate + Sync>(

@@ -77,7 +77,7 @@ pub(crate) fn publish<K: Sink>(sink: &mut K, image: &Image, ran: Ran, steps: Opt
     }
 }
 
-/// Writes the bytes of the image that goes on, or the line that says why there is none.
+/// Writes the bytes of the saved image, or the line that says why there is none.
 pub(crate) fn publish_stopped<K: Sink>(
     sink: &mut K,
     ran: Ran,

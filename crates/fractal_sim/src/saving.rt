@@ -23,8 +23,8 @@ use std::thread::Threads;
 use tile_worker::Gate;
 use trace_tap::Tap;
 
-/// Runs an image up to its end, or as far as memory goes, and makes the image that goes on where the run meets its
-/// commit limit.
+/// Runs an image up to its end, or as far as memory goes, and makes the saved image where the run meets its commit
+/// limit.
 pub(crate) fn save_image<R: Threads + Wait + Sync, G: Gate + Sync, P: Placer + Send, T: Tap + Send>(
     rt: &R,
     alloc: Global,
@@ -79,8 +79,8 @@ fn keep_stopped(alloc: Global, image: Image, settings: Settings, stopped: Stoppe
     }
 }
 
-/// What is found of a run that met its commit limit and is to go on. The run is kept whatever comes of the image that
-/// goes on, also where memory runs out for it; then no end is told.
+/// What is found of a run that met its commit limit and is to go on. The run is kept whatever comes of the saved
+/// image, also where memory runs out for it; then no end is told.
 fn keep_frozen(alloc: Global, image: Image, frozen: Frozen, steps: Option<u64>) -> Finding
     requires run { (budget : ℕ) × IsFrozenOf image budget frozen }
     requires some { 0 < length frozen.pending }
@@ -112,7 +112,7 @@ fn without_end(frozen: Frozen) -> Ran
     }
 }
 
-/// The bytes of the image that goes on, or why there is none; None where memory runs out.
+/// The bytes of the saved image, or why there is none; None where memory runs out.
 fn save(alloc: Global, image: &Image, frozen: &Frozen) -> Option<Saving>
     requires run { (budget : ℕ) × IsFrozenOf image.now budget frozen.now }
     requires some { 0 < length frozen.now.pending }

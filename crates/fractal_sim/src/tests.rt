@@ -37,14 +37,14 @@ struct Case {
 }
 
 /// A source and a sink in memory: how many bytes each gives or takes at a call, which call of it fails, where 0 is
-/// none, and how many bytes the sink has room for.
+/// none, and how many bytes the sink takes at most.
 #[derive(Clone, Copy)]
 struct Streams {
     gives: usize,
     unread: u32,
     takes: usize,
     unwritten: u32,
-    room: usize,
+    most: usize,
 }
 
 /// Streams that never fail and make small pieces of all that there is.
@@ -53,7 +53,7 @@ const PIECES: Streams = Streams {
     unread: 0,
     takes: 3,
     unwritten: 0,
-    room: 10_000,
+    most: 10_000,
 };
 
 fn bytes_of(alloc: Global, image: &str, behind: &str) -> Result<Vec<u8>, Fail> {
@@ -77,7 +77,7 @@ fn source_of(alloc: Global, bytes: Vec<u8>, streams: Streams) -> Result<MemSourc
 
 fn sink_of(alloc: Global, streams: Streams) -> Result<MemSink, Fail> {
     let fails = vec![in alloc; streams.unwritten]?;
-    Ok(MemSink::new(alloc, streams.room, streams.takes.max(1), fails)?)
+    Ok(MemSink::new(alloc, streams.most, streams.takes.max(1), fails)?)
 }
 
 /// The word of an end, as reports have it, or "none".

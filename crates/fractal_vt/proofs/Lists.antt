@@ -1,6 +1,7 @@
--- What holds of every list, every option and every truth value.
-use Rattle.std.proofs.Common.{◌≡◌, ◌≢◌, ◌⊎◌, ◌≤◌, ◌+◌, ◌&&◌, ◌∷◌, ◌++◌, ℕ, zero, suc, Bool, true, false, List, [], length, map, take, drop, Option}
-use Rattle.std.proofs.Common.{None, Some, inl, inr, refl, sym, ap, subst, ◌∙◌, arith}
+-- What holds of every list and every option.
+use Rattle.std.proofs.Common.{◌≡◌, ◌≢◌, ◌⊎◌, ◌≤◌, ◌+◌, ◌∷◌, ◌++◌, ℕ, zero, suc, List, [], length, drop, Option}
+use Rattle.std.proofs.Common.{map, take}
+use Rattle.std.proofs.Common.{None, Some, is_some, option_map, inl, inr, refl, sym, ap, subst, ◌∙◌, arith}
 use Rattle.std.specs.Prelude.{All, slice_get}
 use Rattle.std.specs.List.{AllByRecursion, insert}
 use Rattle.std.specs.List.Sorted.{IsPermutation}
@@ -62,12 +63,18 @@ pub take_one_more : {X : Type 0} (xs : List X) (k : ℕ) (x : X) → slice_get x
     → take (k + 1) xs ≡ take k xs ++ x ∷ []
 take_one_more xs k x e = let next : k + 1 ≡ suc k = omega arith in rw next (take_next xs k x e)
 
--- a number is this one or not
+-- an option holds this number or does not
 pub cases_some : (a : Option ℕ) (b : ℕ) → (a ≡ Some b) ⊎ (a ≢ Some b)
 cases_some None b = inr (λ e. absurd (cc))
 cases_some (Some a) b = elim (cases_eq a b) [ inl e ↦ inl (ap Some e) | inr differs ↦ inr (λ e. differs (cc)) ]
 
--- what is asked beside what fails, fails
-pub and_false : (b : Bool) → (b && false) ≡ false
-and_false true = refl
-and_false false = refl
+-- a mapped option is there where the option was
+pub is_some_mapped : {X Y : Type 0} (f : X → Y) (o : Option X) → is_some (option_map f o) ≡ is_some o
+is_some_mapped f None = refl
+is_some_mapped f (Some x) = refl
+
+-- what a mapped option holds comes from what the option holds
+pub mapped_some : {X Y : Type 0} (f : X → Y) (o : Option X) (y : Y) → option_map f o ≡ Some y
+    → (x : X) × (o ≡ Some x) × (y ≡ f x)
+mapped_some f None y at = absurd (cc (at))
+mapped_some f (Some x) y at = (x, refl, cc)

@@ -29,7 +29,7 @@ less_of Less a b = refl
 less_of Equal a b = absurd (b refl)
 less_of Greater a b = absurd (a refl)
 
--- two orderings after one another tie where both do
+-- where two orderings after one another tie, both do
 pub both_equal : (o p : Ordering) → ordering_then o p ≡ Equal → (o ≡ Equal) × (p ≡ Equal)
 both_equal Less p e = absurd (cc)
 both_equal Equal p e = (refl, e)
@@ -40,6 +40,12 @@ pub then_equal : (o p : Ordering) → ordering_then o p ≡ Equal → p ≡ Equa
 then_equal Less p e = absurd (cc)
 then_equal Equal p e = e
 then_equal Greater p e = absurd (cc)
+
+-- where the whole isn't greater, the first isn't
+pub first_not_greater : (o p : Ordering) → ordering_then o p ≢ Greater → o ≢ Greater
+first_not_greater Less p low e = absurd (cc)
+first_not_greater Equal p low e = absurd (cc)
+first_not_greater Greater p low e = low refl
 
 -- one that isn't greater, and then less, isn't greater
 pub then_less : (o : Ordering) → o ≢ Greater → ordering_then o Less ≢ Greater

@@ -29,7 +29,7 @@ less_then {X} {R} total x y z less upto = by_case (R y z) refl upto
     by_case Equal e not = sym (alike_right total y z x e) ∙ less
     by_case Greater e not = absurd (not refl)
 
-less_upto : (o : Ordering) → o ≡ Less → o ≢ Greater
+pub less_upto : (o : Ordering) → o ≡ Less → o ≢ Greater
 less_upto o less greater = let no_way : Less ≡ Greater = sym less ∙ greater in cc
 
 back_upto : (o : Ordering) → is_lt o ≡ false → ordering_reverse o ≢ Greater
@@ -165,7 +165,7 @@ module _ {X : Type 0} (R : X → X → Ordering) (total : IsTotalOrder R) (x : X
       by_case Equal is more = both y ys (is_eq (R x y)) more
       by_case Greater is more = both y ys (is_eq (R x y)) more
 
--- two lists in order that hold the same elements are one, where only equal elements tie
+-- a list put in its order, where only equal elements tie
 module _ {X : Type 0} (R : X → X → Ordering) (total : IsTotalOrder R) (same : (a b : X) → R a b ≡ Equal → a ≡ b) where
   pair_swaps : (a b : X) (zs : List X) → (if is_lt (R a b) then a ∷ b ∷ zs else b ∷ a ∷ zs) ≡ (if is_lt (R b a) then b ∷ a ∷ zs else a ∷ b ∷ zs)
   pair_swaps a b zs = by_case (R a b) refl
@@ -216,7 +216,7 @@ module _ {X : Type 0} (R : X → X → Ordering) (total : IsTotalOrder R) (same 
       by_case Equal is upto more = let one = same x y is in ap (λ zs. y ∷ zs) (more one) ∙ (λ i. sym one i ∷ one i ∷ ys)
       by_case Greater is upto more = absurd (upto refl)
 
-  -- a list that is in order is its own order, so two that hold the same are one
+  -- a list that is in order is its own order
   pub in_turn-in_order : (xs : List X) → IsInOrder R xs → in_turn xs ≡ xs
   in_turn-in_order [] order = refl
   in_turn-in_order (x ∷ xs) order =

@@ -68,7 +68,7 @@ pub record WatchTellsSourceFault (call : Call) (o : Outcome) : Type 0 where
   pub unread : IsWatchUnread call.input
   pub untouched : call.sink_after ≡ call.sink_before
 
--- a front of a text was to be taken: of a fault's line, of the lines of a story so far, or of these and the last line
+-- a text was to be taken: a fault's line, the lines of a story so far, or these and the last line
 pub data IsCutText (N : Type 0) (call : Call) (o : Outcome) : List ℕ → Type 0 where
   OfFault : (status : ℕ) (line : List ℕ) → IsFault call.input status line → IsEmpty o → IsCutText N call o line
   OfStory : (watched : IsWatched N call.input o) → IsCutText N call o (lines_of_watched watched)

@@ -65,7 +65,7 @@ abbrev pub IsWatchScript : Asking → List ℕ → List Act → Type 0
 IsWatchScript asking behind script =
     acts_of behind asking.request.settings.tiles asking.request.settings.cores ≡ Ok script
 
--- the course plays a script, and the text behind the image is none, from this line on
+-- the course plays a script, and the text behind the image is none: this is its first wrong line
 pub record IsWatchNoScript (input : Input) (line : ℕ) : Type 0 where
   pub asking : Asking
   pub image : ImageValue

@@ -21,7 +21,7 @@ pub data TellsMadeLine (status : ℕ) (line : List ℕ) (old new : SinkState) (o
   IsMade : TellsLine status line old new o → TellsMadeLine status line old new o
   IsWant : o.status ≡ 5 → IsEmpty o → new ≡ old → TellsMadeLine status line old new o
 
--- the outcome holds the run that was watched, and tells its story
+-- the outcome holds a run of the image or nothing, and its status says how far the story was told
 pub record TellsRun (N : Type 0) (input : Input) (before after : SinkState) (o : Outcome) : Type 0 where
   pub holds : WatchHoldsRunOrNothing input o
   pub lawful : WatchHoldsLawfulRun input o

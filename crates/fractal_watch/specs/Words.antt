@@ -3,7 +3,8 @@ use denote.Ref.{Bor}
 use Rattle.std.specs.Prelude.{ℕ, ◌^◌, ◌-◌, ◌≤◌, List, [], ◌∷◌, codes, map, IfSome, Some, None, if◌then◌else◌}
 use Rattle.std.specs.declared.option.Option.{Option}
 use Rattle.std.specs.Str.{bytes_eq}
-use Rattle.command_line.specs.Requests.{◌>>=◌, number_in, request_of_words}
+use Rattle.command_line.specs.Requests.{number_in, request_of_words}
+use Rattle.text_lines.specs.Lines.{◌>>=◌}
 use Rattle.command_line.specs.Settings.{between}
 use Rattle.watch_text.specs.declared.head.CourseWord.{CourseWord}
 use Rattle.watch_text.specs.declared.head.CourseWord.TheVariants as courses

@@ -16,13 +16,15 @@ use std::marker::Brand;
 /// Does what the words ask for, on the bytes of the source, and tells what comes of it to the sink.
 ///
 /// The words are those behind the program's name: `views K` or not, a course, and the options of the first program. The
-/// head is told, the tasks of the image where they were placed, each act as it is made, and how the run stands at the
-/// end. Each line tells the event that was made, as the machine stood before and behind it.
+/// head is told, the tasks of the image where they were placed, each act that is asked for, the view behind each K of
+/// these, and how the run stands at the end. The line of an act tells what it came to, as the machine stood before and
+/// behind it.
 ///
 /// The outcome holds nothing, or the run of the serial machine from the image that was read, which the events left. The
 /// status tells what was found. Where the sink failed it took a front of the text, and the run stopped there; where
-/// memory ran out it took whole lines, of all moments or of all but the last, and no end. Where the words are refused
-/// the source is left alone; else at most 67,108,864 of its bytes are taken, or one more where it has more than that.
+/// memory ran out it took nothing, or whole lines, of all moments or of all but the last, and no end. Where the words
+/// are refused the source is left alone; else at most 67,108,864 of its bytes are taken, or one more where it has more
+/// than that.
 pub fn top<S: Source, K: Sink>(
     alloc: Global,
     words: &[&str],

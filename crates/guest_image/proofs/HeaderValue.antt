@@ -17,7 +17,7 @@ unfolding tasks_from
 length-tasks_from bytes at n = length-map-range_with_len (λ k. image_task_at bytes (at + 20 * k)) 0 n
 
 length-part : (bytes : List ℕ) (n m : ℕ) → 32 + 4 * n + m ≤ length bytes → length (slice_range bytes (32 + 4 * n) (32 + 4 * n + m)) ≡ m
-length-part bytes n m room =
+length-part bytes n m long =
     omega (arith, length-take (32 + 4 * n + m - (32 + 4 * n)) (drop (32 + 4 * n) bytes), length-drop (32 + 4 * n) bytes)
 
 -- the parts of which a header with good numbers tells are within the limits
@@ -28,8 +28,8 @@ pub value_fits : (bytes : List ℕ) (n m t d o w : ℕ) (text initial : List ℕ
     → tasks ≡ tasks_from bytes (32 + 4 * n + m) t
     → 32 + 4 * word_at bytes 8 + word_at bytes 12 + 20 * word_at bytes 28 ≤ length bytes → HeaderFits bytes
     → AreWithinLimits (length text) (length initial) d o w (length tasks)
-value_fits bytes n m t d o w text initial tasks en em et ed eo ew ex ei ea room fits =
-    let part : length (slice_range bytes (32 + 4 * n) (32 + 4 * n + m)) ≡ m = length-part bytes n m (omega (arith, en, em, et, room)) in
+value_fits bytes n m t d o w text initial tasks en em et ed eo ew ex ei ea long fits =
+    let part : length (slice_range bytes (32 + 4 * n) (32 + 4 * n + m)) ≡ m = length-part bytes n m (omega (arith, en, em, et, long)) in
     rw (ex, ei, ea, length-words_from bytes 32 n, part, length-tasks_from bytes (32 + 4 * n + m) t, en, em, et, ed, eo, ew) fits.1
 
 -- they are what the bytes say

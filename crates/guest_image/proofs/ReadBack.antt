@@ -42,7 +42,7 @@ length-laid : (i : ImageValue) (rest : List ℕ) → IsImage i → length (laid 
 length-laid i rest h =
     sym (ap length (image_bytes-append i rest)) ∙ length-append (image_bytes i) rest ∙ ap (λ n. n + length rest) (length-image_bytes i h)
 
--- the numbers of a header
+-- the numbers of the image's header stand in the bytes, each at its offset
 record Header (i : ImageValue) (bytes : List ℕ) : Type 0 where
   magic : word_at bytes 0 ≡ 0x43415246
   version : half_at bytes 4 ≡ i.version

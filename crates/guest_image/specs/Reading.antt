@@ -65,7 +65,7 @@ value_in_bytes bytes = record {
   tasks = tasks_from bytes (32 + 4 * word_at bytes 8 + word_at bytes 12) (word_at bytes 28);
 }
 
--- the image, where the header has no fault and the bytes are as many as it tells
+-- the image, where the header has no fault and the bytes are at least as many as it tells
 abbrev pub after_header : List ℕ → Result (Unit {0}) ImageFault → Result (ImageValue × ℕ) ImageFault
 after_header bytes (Err e) = Err e
 after_header bytes (Ok _) =

@@ -3,7 +3,7 @@
 //! An image is read from bytes or made of given values, under the same limits, and written as bytes. It keeps the
 //! values as they are. Reading and writing take time and memory in proportion to the bytes; to make one of given
 //! values moves them and takes no memory, and a word of the text is fetched by one look at its place. It stands on
-//! nothing; both machines, reports, the program and all that makes images call it.
+//! nothing; both machines, reports, both programs and all that makes images call it.
 #![tactic(auto)]
 
 mod fault;

@@ -123,7 +123,7 @@ fn length_of(bytes: &[u8]) -> usize
 
 /// The image that the bytes begin with.
 fn whole(alloc: Global, bytes: &[u8]) -> Result<Image, AllocError>
-    requires room { 32 + 4 * word_at bytes.now 8 + word_at bytes.now 12 + 20 * word_at bytes.now 28 ≤ length bytes.now }
+    requires long { 32 + 4 * word_at bytes.now 8 + word_at bytes.now 12 + 20 * word_at bytes.now 28 ≤ length bytes.now }
     requires fits { HeaderFits bytes.now }
     ensures { IfOk result (λ image. image ≡ value_in_bytes bytes.now) }
 {

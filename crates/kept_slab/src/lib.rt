@@ -1,7 +1,7 @@
 //! A slab of large values, none of which moves: one that leaves keeps its place in memory for the next one that comes.
 //!
 //! Contracts see it as a slab. The memory of all values that may be is taken when it is made, so that to put a value
-//! in and to take one out moves an address, and what a value has grown (a list's room, say) serves the next one.
+//! in and to take one out moves an address, and what a value has grown (a list's memory, say) serves the next one.
 //! It stands on the kit's `slab`. The state of the machine keeps its tasks in one, and what changes it goes through
 //! them.
 #![tactic(auto)]
@@ -78,7 +78,7 @@ impl<T> Model for KeptSlab<T> {
 /// Blank values, one for each of so many places.
 fn blanks<T: Blank + Drop>(alloc: Global, places: usize) -> Result<Vec<Boxed<T>>, AllocError>
     ensures count { IfOk result (λ held. vec_len held ≡ places) }
-    ensures room { IfOk result (λ held. places ≤ vec_capacity held) }
+    ensures spare { IfOk result (λ held. places ≤ vec_capacity held) }
 {
     let mut held = Vec::with_capacity(alloc, places)?;
     for _ in 0..places {
@@ -91,7 +91,7 @@ fn blanks<T: Blank + Drop>(alloc: Global, places: usize) -> Result<Vec<Boxed<T>>
 impl<T> KeptSlab<T> {
     ghost use Rattle.kept_slab.specs.Lends.{lends_value, lends_get};
 
-    /// An empty slab with room for `capacity` values, whose memory it takes at once; `AllocError` where it runs out.
+    /// An empty slab for at least `capacity` values, whose memory it takes at once; `AllocError` where it runs out.
     pub fn with_capacity(alloc: Global, capacity: usize) -> Result<Self, AllocError>
     where
         T: Blank + Drop,
@@ -159,7 +159,7 @@ impl<T> KeptSlab<T> {
         }
     }
 
-    /// Puts some value under the next key, for which there is room, and tells the key: a spare one, as it was left. It
+    /// Puts some value under the next key, which has a free place, and tells the key: a spare one, as it was left. It
     /// takes no memory.
     pub fn insert_spare(&mut self) -> usize
         requires { HasRoomFor self.old 1 }

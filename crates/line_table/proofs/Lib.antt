@@ -1,4 +1,4 @@
 pub mod Bits
-pub mod Entries
+pub mod Pairs
 pub mod Signatures
 pub mod Proved

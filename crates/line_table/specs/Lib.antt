@@ -1,4 +1,4 @@
--- Contracts mean all of these.
+-- Contracts mean all but Laws, which serves this crate alone.
 pub mod Exact
 pub mod Laws
 pub mod Note

@@ -15,6 +15,6 @@ touched_in notes line = list_any (λ note. note.line == line) notes
 abbrev pub wrote_in : List Note → ℕ → Bool
 wrote_in notes line = list_any (λ note. note.write && note.line == line) notes
 
--- some line is wrote by the first answers and touched by the second
+-- some line is written by the first answers and touched by the second
 abbrev pub Meet : (ℕ → Bool) → (ℕ → Bool) → Type 0
 Meet wrote touched = (line : ℕ) × (wrote line ≡ true) × (touched line ≡ true)

@@ -21,8 +21,8 @@ touched_beside notes line = list_any (λ note. same_bit note.line line) notes
 abbrev pub wrote_beside : List Note → ℕ → Bool
 wrote_beside notes line = list_any (λ note. note.write && same_bit note.line line) notes
 
--- a line is touched exactly where some noted line equals it modulo 1,024, and wrote exactly where some line noted
--- with a write does
+-- a line is touched exactly where some noted line equals it modulo 1,024, and written exactly where some line noted
+-- with a store does
 pub record IsSignature (signature : Signature) (notes : List Note) : Type 0 where
   pub touched_is : (line : ℕ) → touched_of signature line ≡ touched_beside notes line
   pub wrote_is : (line : ℕ) → wrote_of signature line ≡ wrote_beside notes line

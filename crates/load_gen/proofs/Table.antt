@@ -19,7 +19,7 @@ one_more_node seed size node =
     ∙ flat_map-append word_bytes (flat_map (λ k. edges size (random seed k) k) (range_with_len 0 node)) (flat_map (λ k. edges size (random seed k) k) ((0 + node) ∷ []))
     ∙ ap (λ k. flat_map word_bytes (flat_map (λ k. edges size (random seed k) k) (range_with_len 0 node)) ++ flat_map word_bytes (edges size (random seed k) k)) (let e : 0 + node ≡ node = omega arith in e)
 
--- one more turn of the loop: the next number, and the table of one more node
+-- once more through the loop: the next number, and the table of one more node
 pub next_node : (seed size node number next : ℕ) (old three new : List ℕ) → number ≡ random seed node → old ≡ flat_map word_bytes (flat_map (λ k. edges size (random seed k) k) (range_with_len 0 node)) → three ≡ edges size number node → new ≡ old ++ flat_map word_bytes three → next ≡ next_random number → (next ≡ random seed (node + 1)) × (new ≡ flat_map word_bytes (flat_map (λ k. edges size (random seed k) k) (range_with_len 0 (node + 1))))
 next_node seed size node number next old three new at was own put step = (
   step ∙ ap next_random at ∙ ap (random seed) (let e : suc node ≡ node + 1 = omega arith in e),

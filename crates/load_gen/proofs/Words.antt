@@ -1,4 +1,4 @@
--- Two words that stand for one instruction of the programs are one word.
+-- Two words that stand for one instruction of the programs are one word, so their words are those written out.
 use Rattle.std.proofs.Common.{◌≡◌, ℕ, ◌+◌, ◌*◌, ◌^◌, ◌<◌, ◌==◌, ◌&&◌, ℤ, pos, true, false, Option, Some, None, List, [], ◌∷◌, map, slice_get, zero, suc, refl, ap, sym, ◌∙◌, if◌then◌else◌, arith, rules}
 use Rattle.std.specs.List.{range_with_len, AllByRecursion}
 use Rattle.std.specs.Option.{option_map}

@@ -27,7 +27,7 @@ abbrev pub sw : ℕ → ℕ → Instr
 sw rs2 rs1 = Store store.W rs1 rs2 (pos 0)
 
 -- a breadth-first walk: the task of a node (x10) whose word in the distance table (at x11) is 0 sets it to its
--- timestamp (x13) plus 1, and enqueues the nodes at the end of its three edges at that timestamp
+-- timestamp (x13) plus 1, and enqueues the nodes at the end of its edges, three at most, at that timestamp
 unfoldable pub breadth_first_walk : List Instr
 breadth_first_walk =
     slli 5 10 2  -- slli x5, x10, 2

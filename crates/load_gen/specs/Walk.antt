@@ -7,11 +7,11 @@ use Rattle.guest_image.specs.declared.memory_map.TheConstants.{DATA_START, TEXT_
 use Rattle.guest_image.specs.declared.image.Kind.TheVariants.{Ordered}
 use Rattle.load_gen.specs.Programs.{walk_words}
 
--- one step of the linear congruential recurrence
+-- the next number of the linear congruential recurrence
 abbrev pub next_random : ℕ → ℕ
 next_random x = (1664525 * x + 1013904223) % 2 ^ 32
 
--- the number of a node: the seed for node 0, and one step further for each next node
+-- the number of a node: the seed for node 0, and the next number for each next node
 abbrev pub random : ℕ → ℕ → ℕ
 random seed zero = seed
 random seed (suc node) = next_random (random seed node)

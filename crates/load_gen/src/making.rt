@@ -18,7 +18,7 @@ pub enum Load {
     /// for each node.
     Walk,
     /// As many tasks in an unordered root as the size tells, each of which adds an amount to two of eight cells by
-    /// two tasks of a domain of its own. A whole run has three commits for each task.
+    /// two tasks of a domain of its own. A whole run has three commits for each initial task.
     Nest,
 }
 

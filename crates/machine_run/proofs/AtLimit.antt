@@ -1,4 +1,5 @@
--- A run that met its commit limit leaves the tasks that pend.
+-- A run that met its commit limit leaves the tasks that pend; where no end is told of a run, it is still one by
+-- events of the least tasks.
 use Rattle.std.proofs.Common.{◌≡◌, ◌<◌, ◌==◌, refl, ap, ◌∙◌, subst, zero, suc, ℕ, true, List, [], ◌∷◌, length, map, Option, Some, None, if◌then◌else◌, arith}
 use Rattle.std.specs.Prelude.{IfSome}
 use Rattle.std.proofs.lemmas.Bool.Decides.{nat_tests}

@@ -3,5 +3,5 @@ pub mod AtLimit
 pub mod Leaving
 pub mod Least
 pub mod Scripts
-pub mod Readings
+pub mod TapLists
 pub mod One

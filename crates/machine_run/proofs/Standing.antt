@@ -50,7 +50,7 @@ over_is_closed view (Some ends.Limit) has unfinished = cc
 over_is_closed view (Some (ends.Trap name cause pc)) has unfinished = cc
 over_is_closed view (Some ends.Unfinished) has unfinished = has
 
--- an end that is told is one where it is told
+-- where an end is told and the view stands at it, the view stands at whatever end is told
 pub if_told : (view : View) (told : Option End) → IsSomeAnd told (StandsAt view) → IfSome told (StandsAt view)
 if_told view None stands = tt
 if_told view (Some end) stands = stands

@@ -32,7 +32,7 @@ use trace_tap::Tap;
 pub struct Played {
     /// The run.
     pub ran: Ran,
-    /// What was said of each act.
+    /// What was said of each act; nothing where memory ran out on the way.
     pub said: Vec<Said>,
 }
 
@@ -41,7 +41,7 @@ pub struct Played {
 pub struct Traced {
     /// The run.
     pub ran: Ran,
-    /// The numbers of each tap.
+    /// The numbers of each tap; nothing where memory ran out on the way, or for the lists.
     pub lists: Vec<Vec<u64>>,
 }
 

@@ -1,4 +1,5 @@
-//! Books to which events are handed in, one by one or as a list, and what they tell and leave.
+//! Books to which events are handed in, one by one or as a list, or that make those of the least tasks, and what they
+//! tell and leave.
 
 ghost use Rattle.std.specs.Prelude.{◌≡◌, All, IsTrue};
 ghost use Rattle.spec_state.specs.Settings.{IsValid};
@@ -30,7 +31,7 @@ fn book_is_sent<N: Naming + Send>(book: &Book<N>) {
     is_sent(book);
 }
 
-/// What a schedule does in a tile; a step is one of the first core.
+/// What a schedule asks for; a step is one of the first core of a tile.
 #[derive(Clone, Copy)]
 enum Act {
     Dispatch(u32),
@@ -120,7 +121,7 @@ fn may_take_all<N: Naming, P: Placer, T: Tap>(book: &Book<N, P, T>, events: &[Ev
     true
 }
 
-/// A leg of the task on the first core of a tile; None where that isn't there or no task runs on it.
+/// The step of the task on the first core of a tile; None where that isn't there or no task runs on it.
 fn step_of<N: Naming>(image: &Image, book: &Hinted<N>, tile: u32) -> Option<Event<N>>
     requires image { image.now ≡ N.image }
 {
@@ -451,8 +452,8 @@ fn dispatch_numbers_have_sixteen_bits(rt: HostRuntime) {
     assert_eq!(rt; DISPATCH_NUMBERS, 65_536);
 }
 
-/// A task at timestamp 2 that emits the last word of its stack, stores 65 there, emits it again, and then loads the
-/// first word of the data. A writer at timestamp 1, which stores 7 into that word.
+/// A task at timestamp 2 that emits the low byte of the last word of its stack, stores 65 there, emits that byte again,
+/// and then loads the first word of the data. A writer at timestamp 1, which stores 7 into that word.
 const STACK_KEEPER: Program = Program {
     text: &[
         0xffc1_2503,

@@ -406,7 +406,7 @@ fn is_nested(saved: Result<Image, SaveFault>, wanted: u8) -> bool {
     }
 }
 
-/// A run that stopped inside a domain can't be saved.
+/// A run that stopped inside a subdomain can't be saved.
 fn stops_inside<N: Naming>(
     rt: &impl Abort,
     alloc: Global,

@@ -331,7 +331,7 @@ fn said_of<N: Naming>(
     Ok(play(alloc, image, &mut book, &acts)?)
 }
 
-/// The script of a row says of its acts what the row has.
+/// What is said of the acts of a row's script is what the row has.
 fn plays_row<N: Naming>(
     rt: &impl Abort,
     alloc: Global,

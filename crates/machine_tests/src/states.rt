@@ -1,4 +1,5 @@
-//! The state of the speculative machine: its settings, what it tells without a task and with one, and what it leaves.
+//! The state of the speculative machine: its settings, the bytes of a task, what it tells without a task, with one and
+//! with two, and what it leaves.
 
 ghost use Rattle.std.specs.Prelude.{◌≡◌, ◌<◌, IsSome};
 ghost use Rattle.spec_state.specs.Opening.{DescIsOfImage};
@@ -196,7 +197,7 @@ fn tells_one<N: Naming>(rt: &impl Abort, state: &State<N>, task: TaskId)
 }
 
 /// Memory is taken for what one event of the task adds, and the task stands as before.
-fn has_room<N: Naming>(
+fn is_reserved<N: Naming>(
     rt: &impl Abort,
     state: &mut State<N>,
     task: TaskId,
@@ -213,7 +214,7 @@ fn has_room<N: Naming>(
 fn adds_one<N: Naming>(rt: &impl Abort, state: &mut State<N>) -> Result<(), AllocError> {
     let task = added_to(rt, state, &FIRST, 3);
     tells_one(rt, state, task);
-    has_room(rt, state, task)
+    is_reserved(rt, state, task)
 }
 
 /// What the state leaves.

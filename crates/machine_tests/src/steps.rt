@@ -55,7 +55,7 @@ const BAD_CALLER: u32 = 0x0001_0044;
 /// Where a task begins that enqueues a child at timestamp 9.
 const MAKER: u32 = 0x0001_004c;
 
-/// The tasks that begin at these places, and a first word of 7.
+/// The text of the tasks that begin at these addresses, and a first word of 7 in the data.
 const CALLERS: Program = Program {
     text: &[
         0x1000_02b7,

@@ -5,6 +5,7 @@ use Rattle.undo_log.specs.Number.{IsAccessible}
 use Rattle.undo_log.specs.Undo.{undone}
 use Rattle.memory_law.specs.Accesses.{after_accesses, Replays}
 use Rattle.memory_law.proofs.Marks.{Marks, Clear, Untouched, UntouchedIfStore, all_of, kept_of, without, IsClosed}
+use Rattle.memory_law.proofs.Access.{Untouched-append}
 use Rattle.memory_law.proofs.Lines.{lines_apart}
 use Rattle.memory_law.proofs.Joins.{taken_back_closed}
 use Rattle.memory_law.specs.Tasks.{Logged, IsLineSize, IsNoted, AreNotedInFilter, IsWroteIfStore, log_of, logs, In, Earlier, Ascends, undone_set}
@@ -65,13 +66,9 @@ Clear-append : (log xs ys : List Access) → Clear log xs → Clear log ys → C
 Clear-append [] xs ys one two = tt
 Clear-append (a ∷ log) xs ys one two = (by_store a.new one.0 two.0, Clear-append log xs ys one.1 two.1)
   where
-    untouched : (o w : ℕ) (us vs : List Access) → Untouched o w us → Untouched o w vs → Untouched o w (us ++ vs)
-    untouched o w [] vs p q = q
-    untouched o w (u ∷ us) vs p q = (p.0, untouched o w us vs p.1 q)
-
     by_store : (n : Option ℕ) → UntouchedIfStore a.offset a.width n xs → UntouchedIfStore a.offset a.width n ys → UntouchedIfStore a.offset a.width n (xs ++ ys)
     by_store None p q = tt
-    by_store (Some v) p q = untouched a.offset a.width xs ys p q
+    by_store (Some v) p q = Untouched-append a.offset a.width xs ys p q
 
 Clear-nil : (log : List Access) → Clear log []
 Clear-nil [] = tt

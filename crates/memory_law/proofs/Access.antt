@@ -29,7 +29,7 @@ module _ (size line : ℕ) (sized : IsLineSize line) (o w : ℕ) (accessible : I
       by_store None at = tt
       by_store (Some v) at = lines_apart size o w a.offset a.width line sized accessible noted.0 (λ same. absurd (cc (ap wrote same, at, none)))
 
-Untouched-append : (o w : ℕ) (us vs : List Access) → Untouched o w us → Untouched o w vs → Untouched o w (us ++ vs)
+pub Untouched-append : (o w : ℕ) (us vs : List Access) → Untouched o w us → Untouched o w vs → Untouched o w (us ++ vs)
 Untouched-append o w [] vs p q = q
 Untouched-append o w (u ∷ us) vs p q = (p.0, Untouched-append o w us vs p.1 q)
 
@@ -55,7 +55,7 @@ pub record Splits (old new : ℕ → Option Logged) (ids : List ℕ) (access : A
   pub rest : Rest back
 
 module _ (line : ℕ) (memory : List ℕ) (old new : ℕ → Option Logged) (id : ℕ) (was now : Logged) (access : Access) (grows : AccessesInLogs line memory old new id was now access) where
-  -- the logs of later tasks are as they were
+  -- the logs of other tasks are as they were
   logs_others : (ids : List ℕ) → (In id ids → ⊥) → logs new ids ≡ logs old ids
   logs_others [] out = refl
   logs_others (k ∷ ids) out =
@@ -156,7 +156,7 @@ module _ (line : ℕ) (memory : List ℕ) (old new : ℕ → Option Logged) (id 
   load_keeps serial sized is_load none replay =
       let long : length memory ≡ length serial = ap length replay.memory_is ∙ length-after_accesses serial (logs old replay.ids) in
       let accessible : IsAccessible (length serial) access.offset access.width = subst (λ n. IsAccessible n access.offset access.width) long grows.accessible in
-      let split = splits (Unwritten access.offset access.width) tt (Unwritten-append access.offset access.width) (λ k y at runs later. unwritten_line (length serial) line sized access.offset access.width accessible y.touched y.wrote (none k y at runs later) y.log (replay.noted k y at)) replay.ids replay.by_key.ascends (replay.by_key.complete id was grows.there grows.runs) in
+      let split = splits (Unwritten access.offset access.width) tt (Unwritten-append access.offset access.width) (λ k y at runs later. unwritten_line (length serial) line sized access.offset access.width accessible y.touched y.wrote (none k y at runs later) y.log (replay.noted k y at)) replay.ids replay.by_key.ascends (replay.by_key.complete id was grows.there grows.was_dispatched) in
       let is : memory ≡ after_accesses serial (split.front ++ split.back) = replay.memory_is ∙ ap (after_accesses serial) split.before in
       let joined = load_joins serial split.front split.back access is_load accessible.within (grows.old_is ∙ ap (λ m. number_at m access.offset access.width) is) split.rest (subst (Replays serial) split.before replay.replays) in
       record {
@@ -173,7 +173,7 @@ module _ (line : ℕ) (memory : List ℕ) (old new : ℕ → Option Logged) (id 
   store_keeps serial v sized is_store none replay =
       let long : length memory ≡ length serial = ap length replay.memory_is ∙ length-after_accesses serial (logs old replay.ids) in
       let accessible : IsAccessible (length serial) access.offset access.width = subst (λ n. IsAccessible n access.offset access.width) long grows.accessible in
-      let split = splits (Untouched access.offset access.width) tt (Untouched-append access.offset access.width) (λ k y at runs later. untouched_line (length serial) line sized access.offset access.width accessible y.touched y.wrote (none k y at runs later) y.log (replay.noted k y at)) replay.ids replay.by_key.ascends (replay.by_key.complete id was grows.there grows.runs) in
+      let split = splits (Untouched access.offset access.width) tt (Untouched-append access.offset access.width) (λ k y at runs later. untouched_line (length serial) line sized access.offset access.width accessible y.touched y.wrote (none k y at runs later) y.log (replay.noted k y at)) replay.ids replay.by_key.ascends (replay.by_key.complete id was grows.there grows.was_dispatched) in
       let is : memory ≡ after_accesses serial (split.front ++ split.back) = replay.memory_is ∙ ap (after_accesses serial) split.before in
       let joined = store_joins serial split.front split.back access v is_store accessible.within (grows.old_is ∙ ap (λ m. number_at m access.offset access.width) is) split.rest (Untouched-unwritten access.offset access.width split.back split.rest) (subst (Replays serial) split.before replay.replays) in
       record {

@@ -5,7 +5,7 @@ use Rattle.std.proofs.lemmas.List.{get_or-set_same, length-set, ext_get_or}
 use Rattle.undo_log.specs.declared.access.Access.{Access}
 use Rattle.undo_log.specs.Number.{number_at, after_write, AreBytes}
 use Rattle.memory_law.specs.Accesses.{written_if, after_access, after_accesses, FindsOldValue, Replays, AllLieIn}
-use Rattle.memory_law.specs.ByteChain.{digit, covers, new_digit, byte_events, IsByteChain}
+use Rattle.memory_law.specs.ByteChain.{digit, covers, new_digit, byte_accesses, IsByteChain}
 use Rattle.undo_log.proofs.Proved.{get_or-written_before, get_or-written_behind, low_digit}
 use Rattle.memory_law.proofs.Bytes.{number_at-below}
 use Rattle.memory_law.proofs.Replays.{length-after_access, AreBytes-after_access}
@@ -69,12 +69,12 @@ byte_after m a k within = by_new a.new
     by_new (Some v) = by_cover v (covers a k) refl
 
 -- a chain makes the chain of each byte
-pub bytes-of_replay : (m : List ℕ) (log : List Access) (k : ℕ) → AreBytes m → Replays m log → IsByteChain (get_or m k 0) (byte_events k log) (get_or (after_accesses m log) k 0)
+pub bytes-of_replay : (m : List ℕ) (log : List Access) (k : ℕ) → AreBytes m → Replays m log → IsByteChain (get_or m k 0) (byte_accesses k log) (get_or (after_accesses m log) k 0)
 bytes-of_replay m [] k bytes chain = refl
 bytes-of_replay m (a ∷ log) k bytes chain =
     by_cover (covers a k) refl (bytes-of_replay (after_access m a) log k (AreBytes-after_access m a bytes) chain.1) (byte_after m a k chain.0.within)
   where
-    by_cover : (b : Bool) → covers a k ≡ b → IsByteChain (get_or (after_access m a) k 0) (byte_events k log) (get_or (after_accesses (after_access m a) log) k 0) → get_or (after_access m a) k 0 ≡ cond b (unwrap_or (new_digit a.new (k - a.offset)) (get_or m k 0)) (get_or m k 0) → IsByteChain (get_or m k 0) (cond b ((digit a.old (k - a.offset), new_digit a.new (k - a.offset)) ∷ byte_events k log) (byte_events k log)) (get_or (after_accesses (after_access m a) log) k 0)
+    by_cover : (b : Bool) → covers a k ≡ b → IsByteChain (get_or (after_access m a) k 0) (byte_accesses k log) (get_or (after_accesses (after_access m a) log) k 0) → get_or (after_access m a) k 0 ≡ cond b (unwrap_or (new_digit a.new (k - a.offset)) (get_or m k 0)) (get_or m k 0) → IsByteChain (get_or m k 0) (cond b ((digit a.old (k - a.offset), new_digit a.new (k - a.offset)) ∷ byte_accesses k log) (byte_accesses k log)) (get_or (after_accesses (after_access m a) log) k 0)
     by_cover true e rest after =
         let in' = inside a k e in
         let at : k ≡ a.offset + (k - a.offset) = omega (arith, in'.0) in
@@ -83,51 +83,52 @@ bytes-of_replay m (a ∷ log) k bytes chain =
         in (
           old,
           subst
-              (λ b. IsByteChain b (byte_events k log) (get_or (after_accesses (after_access m a) log) k 0)) after rest,
+              (λ b. IsByteChain b (byte_accesses k log) (get_or (after_accesses (after_access m a) log) k 0))
+              after rest,
         )
-    by_cover false e rest after = subst (λ b. IsByteChain b (byte_events k log) (get_or (after_accesses (after_access m a) log) k 0)) after rest
+    by_cover false e rest after = subst (λ b. IsByteChain b (byte_accesses k log) (get_or (after_accesses (after_access m a) log) k 0)) after rest
 
 -- the accesses of a replay lie in the memory, and each old value is a number of its width
-pub room-of_replay : (m : List ℕ) (log : List Access) → AreBytes m → Replays m log → AllLieIn (length m) log
-room-of_replay m [] bytes replays = tt
-room-of_replay m (a ∷ log) bytes replays = (
+pub inside-of_replay : (m : List ℕ) (log : List Access) → AreBytes m → Replays m log → AllLieIn (length m) log
+inside-of_replay m [] bytes replays = tt
+inside-of_replay m (a ∷ log) bytes replays = (
   record { within = replays.0.within; small = subst (λ v. v < 256 ^ a.width) (sym replays.0.old_is) (number_at-below m a.offset a.width bytes) },
-  subst (λ n. AllLieIn n log) (length-after_access m a) (room-of_replay (after_access m a) log (AreBytes-after_access m a bytes) replays.1),
+  subst (λ n. AllLieIn n log) (length-after_access m a) (inside-of_replay (after_access m a) log (AreBytes-after_access m a bytes) replays.1),
 )
 
 -- the chains of all bytes make a chain, and the memory that it makes
-pub replay-of_bytes : (m now : List ℕ) (log : List Access) → AreBytes m → AllLieIn (length m) log → length now ≡ length m → ((k : ℕ) → IsByteChain (get_or m k 0) (byte_events k log) (get_or now k 0)) → Replays m log × (now ≡ after_accesses m log)
-replay-of_bytes m now [] bytes room size each = (tt, ext_get_or 0 now m size (λ k below. sym (each k)))
-replay-of_bytes m now (a ∷ log) bytes room size each =
+pub replay-of_bytes : (m now : List ℕ) (log : List Access) → AreBytes m → AllLieIn (length m) log → length now ≡ length m → ((k : ℕ) → IsByteChain (get_or m k 0) (byte_accesses k log) (get_or now k 0)) → Replays m log × (now ≡ after_accesses m log)
+replay-of_bytes m now [] bytes inside size each = (tt, ext_get_or 0 now m size (λ k below. sym (each k)))
+replay-of_bytes m now (a ∷ log) bytes inside size each =
     let word : number_at m a.offset a.width ≡ a.old =
-    number_at-digits m a.offset a.width a.old room.0.small (λ i below. old_digit (a.offset + i) i refl below (each (a.offset + i)))
+    number_at-digits m a.offset a.width a.old inside.0.small (λ i below. old_digit (a.offset + i) i refl below (each (a.offset + i)))
     in
-    let fits : FindsOldValue m a = record { within = room.0.within; old_is = sym word } in
-    let rest = replay-of_bytes (after_access m a) now log (AreBytes-after_access m a bytes) (subst (λ n. AllLieIn n log) (sym (length-after_access m a)) room.1) (size ∙ sym (length-after_access m a)) (λ k. by_cover k (covers a k) refl (each k) (byte_after m a k room.0.within)) in
+    let fits : FindsOldValue m a = record { within = inside.0.within; old_is = sym word } in
+    let rest = replay-of_bytes (after_access m a) now log (AreBytes-after_access m a bytes) (subst (λ n. AllLieIn n log) (sym (length-after_access m a)) inside.1) (size ∙ sym (length-after_access m a)) (λ k. by_cover k (covers a k) refl (each k) (byte_after m a k inside.0.within)) in
     ((fits, rest.0), rest.1)
   where
     covered : (k i : ℕ) → k ≡ a.offset + i → i < a.width → covers a k ≡ true
     covered k i at below = grind (arith, nat_tests)
 
-    old_digit : (k i : ℕ) → k ≡ a.offset + i → i < a.width → IsByteChain (get_or m k 0) (byte_events k (a ∷ log)) (get_or now k 0) → digit a.old i ≡ get_or m (a.offset + i) 0
+    old_digit : (k i : ℕ) → k ≡ a.offset + i → i < a.width → IsByteChain (get_or m k 0) (byte_accesses k (a ∷ log)) (get_or now k 0) → digit a.old i ≡ get_or m (a.offset + i) 0
     old_digit k i at below chain =
         let cover = covered k i at below in
-        let open' : IsByteChain (get_or m k 0) ((digit a.old (k - a.offset), new_digit a.new (k - a.offset)) ∷ byte_events k log) (get_or now k 0) =
-        subst (λ b. IsByteChain (get_or m k 0) (cond b ((digit a.old (k - a.offset), new_digit a.new (k - a.offset)) ∷ byte_events k log) (byte_events k log)) (get_or now k 0)) cover chain
+        let open' : IsByteChain (get_or m k 0) ((digit a.old (k - a.offset), new_digit a.new (k - a.offset)) ∷ byte_accesses k log) (get_or now k 0) =
+        subst (λ b. IsByteChain (get_or m k 0) (cond b ((digit a.old (k - a.offset), new_digit a.new (k - a.offset)) ∷ byte_accesses k log) (byte_accesses k log)) (get_or now k 0)) cover chain
         in
         let place : k - a.offset ≡ i = omega arith in
         sym (ap (λ j. get_or m j 0) (sym at) ∙ open'.0 ∙ ap (digit a.old) place)
 
-    by_cover : (k : ℕ) (b : Bool) → covers a k ≡ b → IsByteChain (get_or m k 0) (byte_events k (a ∷ log)) (get_or now k 0) → get_or (after_access m a) k 0 ≡ cond (covers a k) (unwrap_or (new_digit a.new (k - a.offset)) (get_or m k 0)) (get_or m k 0) → IsByteChain (get_or (after_access m a) k 0) (byte_events k log) (get_or now k 0)
+    by_cover : (k : ℕ) (b : Bool) → covers a k ≡ b → IsByteChain (get_or m k 0) (byte_accesses k (a ∷ log)) (get_or now k 0) → get_or (after_access m a) k 0 ≡ cond (covers a k) (unwrap_or (new_digit a.new (k - a.offset)) (get_or m k 0)) (get_or m k 0) → IsByteChain (get_or (after_access m a) k 0) (byte_accesses k log) (get_or now k 0)
     by_cover k true e chain after =
-        let chain' : IsByteChain (get_or m k 0) ((digit a.old (k - a.offset), new_digit a.new (k - a.offset)) ∷ byte_events k log) (get_or now k 0) =
-        subst (λ b. IsByteChain (get_or m k 0) (cond b ((digit a.old (k - a.offset), new_digit a.new (k - a.offset)) ∷ byte_events k log) (byte_events k log)) (get_or now k 0)) e chain
+        let chain' : IsByteChain (get_or m k 0) ((digit a.old (k - a.offset), new_digit a.new (k - a.offset)) ∷ byte_accesses k log) (get_or now k 0) =
+        subst (λ b. IsByteChain (get_or m k 0) (cond b ((digit a.old (k - a.offset), new_digit a.new (k - a.offset)) ∷ byte_accesses k log) (byte_accesses k log)) (get_or now k 0)) e chain
         in
         let after' : get_or (after_access m a) k 0 ≡ unwrap_or (new_digit a.new (k - a.offset)) (get_or m k 0) = after ∙ ap (λ b. cond b (unwrap_or (new_digit a.new (k - a.offset)) (get_or m k 0)) (get_or m k 0)) e in
-        subst (λ x. IsByteChain x (byte_events k log) (get_or now k 0)) (sym after') chain'.1
+        subst (λ x. IsByteChain x (byte_accesses k log) (get_or now k 0)) (sym after') chain'.1
     by_cover k false e chain after =
-        let chain' : IsByteChain (get_or m k 0) (byte_events k log) (get_or now k 0) =
-        subst (λ b. IsByteChain (get_or m k 0) (cond b ((digit a.old (k - a.offset), new_digit a.new (k - a.offset)) ∷ byte_events k log) (byte_events k log)) (get_or now k 0)) e chain
+        let chain' : IsByteChain (get_or m k 0) (byte_accesses k log) (get_or now k 0) =
+        subst (λ b. IsByteChain (get_or m k 0) (cond b ((digit a.old (k - a.offset), new_digit a.new (k - a.offset)) ∷ byte_accesses k log) (byte_accesses k log)) (get_or now k 0)) e chain
         in
         let after' : get_or (after_access m a) k 0 ≡ get_or m k 0 = after ∙ ap (λ b. cond b (unwrap_or (new_digit a.new (k - a.offset)) (get_or m k 0)) (get_or m k 0)) e in
-        subst (λ x. IsByteChain x (byte_events k log) (get_or now k 0)) (sym after') chain'
+        subst (λ x. IsByteChain x (byte_accesses k log) (get_or now k 0)) (sym after') chain'

@@ -1,4 +1,4 @@
--- A law of numbers kept in bytes, beyond those of the log's crate.
+-- A lemma on numbers kept in bytes, beyond those of the log's crate.
 use Rattle.std.proofs.Common.{ℕ, zero, suc, ◌+◌, ◌^◌, ◌<◌, List, arith}
 use Rattle.std.proofs.Math.Nat.{pow-suc}
 use Rattle.undo_log.specs.Number.{number_at, AreBytes}

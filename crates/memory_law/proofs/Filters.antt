@@ -26,7 +26,7 @@ wrote_first note notes is = grind (arith, nat_tests)
 wrote_rest : (note : Note) (notes : List Note) (at : ℕ) → wrote_in notes at ≡ true → wrote_in (note ∷ notes) at ≡ true
 wrote_rest note notes at is = grind (arith, nat_tests)
 
--- what names all notes names all but the first
+-- what names all notes names all behind the first
 rest_too : (touched wrote : ℕ → Bool) (note : Note) (notes : List Note) → NameAll touched wrote (note ∷ notes) → NameAll touched wrote notes
 rest_too touched wrote note notes all =
     record {

@@ -1,4 +1,4 @@
--- A task joins the ids where it is dispatched, and the first one leaves it where it commits.
+-- A task joins the ids where it is dispatched, and the first one leaves them where it commits.
 use Rattle.std.proofs.Common.{◌≡◌, ◌≢◌, ◌⊎◌, ℕ, false, List, [], ◌∷◌, ◌++◌, length, Option, Some, refl, sym, ap, subst, ◌∙◌, inl, inr}
 use Rattle.std.proofs.lemmas.Bool.{cases_eq}
 use Rattle.fractal_vt.specs.Levels.{level_cmp}
@@ -9,7 +9,7 @@ use Rattle.memory_law.proofs.Joins.{AreBytes-after_accesses, length-after_access
 use Rattle.memory_law.specs.Tasks.{Logged, IsNoted, AreNotedInFilter, log_of, logs, In, Earlier, Ascends}
 use Rattle.memory_law.specs.Chain.{IsReplay}
 use Rattle.memory_law.specs.Events.{DispatchesInLogs, CommitsInLogs}
-use Rattle.memory_law.proofs.Latest.{not_self, member_runs}
+use Rattle.memory_law.proofs.Latest.{not_self, member_dispatched}
 
 pub record Inserts (old new : ℕ → Option Logged) (id : ℕ) (ids : List ℕ) : Type 0 where
   pub longer : List ℕ
@@ -20,10 +20,10 @@ pub record Inserts (old new : ℕ → Option Logged) (id : ℕ) (ids : List ℕ)
   pub only : (k : ℕ) → In k longer → (k ≡ id) ⊎ In k ids
 
 module _ (old new : ℕ → Option Logged) (id : ℕ) (now : Logged) (starts : DispatchesInLogs old new id now) where
-  -- no listed task is the one that starts
+  -- no listed task is the one that is dispatched
   listed_other : (k : ℕ) (ids : List ℕ) → Ascends old ids → In k ids → k ≢ id
   listed_other k ids up at here =
-      let runs = member_runs old k ids at up in
+      let runs = member_dispatched old k ids at up in
       let off : runs.0.dispatched ≡ false = starts.idle runs.0 (ap old (sym here) ∙ runs.1) in
       cc (runs.2, off)
 

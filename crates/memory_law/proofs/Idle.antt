@@ -5,7 +5,7 @@ use Rattle.memory_law.specs.Accesses.{after_accesses, Replays}
 use Rattle.memory_law.specs.Tasks.{Logged, IsNoted, AreNotedInFilter, logs, In, Ascends}
 use Rattle.memory_law.specs.Chain.{IsReplay}
 use Rattle.memory_law.specs.Events.{KeepsDispatched}
-use Rattle.memory_law.proofs.Latest.{member_runs}
+use Rattle.memory_law.proofs.Latest.{member_dispatched}
 
 -- an empty log is noted by any filter
 pub noted_empty : (size line : ℕ) (task : Logged) → task.log ≡ [] → IsNoted size line task
@@ -14,7 +14,7 @@ noted_empty size line task empty = subst (AreNotedInFilter size line task.touche
 module _ (old new : ℕ → Option Logged) (keeps : KeepsDispatched old new) where
   stays_there : (id : ℕ) (ids : List ℕ) → Ascends old ids → In id ids → (task : Logged) × (old id ≡ Some task) × (new id ≡ Some task)
   stays_there id ids up at =
-      let runs = member_runs old id ids at up in
+      let runs = member_dispatched old id ids at up in
       (runs.0, runs.1, (keeps.stay id runs.0 runs.2).0 runs.1)
 
   was_there : (id : ℕ) (other : Logged) (ids : List ℕ) → Ascends old ids → In id ids → new id ≡ Some other → old id ≡ Some other

@@ -13,10 +13,10 @@ pub not_self : (x : Logged) → Earlier x x → ⊥
 not_self x e = not_both level_cmp level_cmp_total x.levels x.levels e e
 
 -- a listed task is there and dispatched
-pub member_runs : (tasks : ℕ → Option Logged) (id : ℕ) (ids : List ℕ) → In id ids → Ascends tasks ids → (task : Logged) × (tasks id ≡ Some task) × (task.dispatched ≡ true)
-member_runs tasks id [] at up = absurd at
-member_runs tasks id (k ∷ ids) (inl here) up = (up.0, ap tasks here ∙ up.1, up.2)
-member_runs tasks id (k ∷ ids) (inr later) up = member_runs tasks id ids later up.4
+pub member_dispatched : (tasks : ℕ → Option Logged) (id : ℕ) (ids : List ℕ) → In id ids → Ascends tasks ids → (task : Logged) × (tasks id ≡ Some task) × (task.dispatched ≡ true)
+member_dispatched tasks id [] at up = absurd at
+member_dispatched tasks id (k ∷ ids) (inl here) up = (up.0, ap tasks here ∙ up.1, up.2)
+member_dispatched tasks id (k ∷ ids) (inr later) up = member_dispatched tasks id ids later up.4
 
 -- a set with none of these takes nothing back
 none_back : (set : ℕ → Bool) (tasks : ℕ → Option Logged) (ids memory : List ℕ) → ((k : ℕ) → In k ids → set k ≡ false) → undone_set set tasks ids memory ≡ memory
@@ -42,7 +42,7 @@ module _ (set : ℕ → Bool) (tasks : ℕ → Option Logged) (id : ℕ) (task :
           let both : Some up.0 ≡ Some task = sym up.1 ∙ ap tasks here ∙ latest.there in
           let eq : up.0 ≡ task = cc in
           let above : (j : ℕ) (other : Logged) → In j ids → tasks j ≡ Some other → Earlier task other = λ j other at' there. subst (λ t. Earlier t other) eq (up.3 j other at' there) in
-          let none : (j : ℕ) → In j ids → set j ≡ false = λ j at'. let y = member_runs tasks j ids at' up.4 in latest.none_later j y.0 y.1 y.2 (above j y.0 at' y.1) in
+          let none : (j : ℕ) → In j ids → set j ≡ false = λ j at'. let y = member_dispatched tasks j ids at' up.4 in latest.none_later j y.0 y.1 y.2 (above j y.0 at' y.1) in
           let differs : (j : ℕ) → In j ids → j ≢ id = λ j at' e. not_self task (above j task at' (ap tasks e ∙ latest.there)) in
           let none' : (j : ℕ) → In j ids → without_one id set j ≡ false = λ j at'. other_one id j set (differs j at') ∙ none j at' in
           let log : log_of (tasks k) ≡ task.log = ap log_of (ap tasks here ∙ latest.there) in

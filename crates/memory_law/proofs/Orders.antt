@@ -3,7 +3,7 @@ use Rattle.std.proofs.Common.{◌≡◌, ◌≢◌, ℕ, List, [], ◌∷◌, Op
 use Rattle.fractal_vt.specs.Levels.{level_cmp}
 use Rattle.fractal_vt.proofs.Proved.{level_cmp_total, not_both}
 use Rattle.memory_law.specs.Tasks.{Logged, In, Ascends, IsByKey}
-use Rattle.memory_law.proofs.Latest.{not_self, member_runs}
+use Rattle.memory_law.proofs.Latest.{not_self, member_dispatched}
 
 -- each of the first is one of the second
 abbrev pub Within : List ℕ → List ℕ → Type 0
@@ -44,7 +44,7 @@ module _ (tasks : ℕ → Option Logged) where
   -- each list of all dispatched tasks holds the tasks of another
   all_within : (ids others : List ℕ) → IsByKey tasks ids → IsByKey tasks others → Within ids others
   all_within ids others one two k at =
-      let runs = member_runs tasks k ids at one.ascends in
+      let runs = member_dispatched tasks k ids at one.ascends in
       two.complete k runs.0 runs.1 runs.2
 
   pub one_order : (ids others : List ℕ) → IsByKey tasks ids → IsByKey tasks others → ids ≡ others

@@ -1,13 +1,13 @@
 -- The laws, over the chain of each byte.
 use Rattle.std.proofs.Common.{Bool, ◌≡◌, ℕ, true, refl, List, length, Option, sym, ap, subst, ◌∙◌, false, Some}
 use Rattle.std.specs.Prelude.{slice_index}
-use Rattle.memory_law.specs.ByteChain.{byte_events, IsByteChain}
+use Rattle.memory_law.specs.ByteChain.{byte_accesses, IsByteChain}
 use Rattle.memory_law.specs.Accesses.{after_accesses}
 use Rattle.memory_law.specs.Tasks.{Logged, logs, undone_set}
 use Rattle.memory_law.specs.Chain.{IsChained, IsReplay}
 use Rattle.memory_law.specs.Laws.{ChainIsReplay, LoadKeepsChain, StoreKeepsChain, AbortKeepsChain, DispatchKeepsChain, CommitKeepsChain, AllLogsUndoneIsSerial, UndispatchedIsChained, IdleTasksKeepChain, LatestFirst, LinesShareNoByte, NoConflictIsLeft}
 use Rattle.memory_law.proofs.Joins.{length-after_accesses}
-use Rattle.memory_law.proofs.ByteChains.{room-of_replay, bytes-of_replay, replay-of_bytes}
+use Rattle.memory_law.proofs.ByteChains.{inside-of_replay, bytes-of_replay, replay-of_bytes}
 use Rattle.memory_law.proofs.Orders.{one_order}
 use Rattle.memory_law.proofs.Aborts.{taken_back, all_back}
 use Rattle.memory_law.proofs.Access.{load_keeps, store_keeps}
@@ -19,7 +19,7 @@ use Rattle.memory_law.proofs.Heads.{dispatch_keeps, commit_keeps}
 module _ (line : ℕ) (tasks : ℕ → Option Logged) (serial memory : List ℕ) where
   pub to_replay : IsChained line tasks serial memory → IsReplay line tasks serial memory
   to_replay c =
-      let both = replay-of_bytes serial memory (logs tasks c.ids) c.bytes c.room c.size c.chain in
+      let both = replay-of_bytes serial memory (logs tasks c.ids) c.bytes c.inside c.size c.chain in
       record { ids = c.ids; by_key = c.by_key; replays = both.0; memory_is = both.1; noted = c.noted; bytes = c.bytes }
 
   pub to_chain : IsReplay line tasks serial memory → IsChained line tasks serial memory
@@ -27,9 +27,9 @@ module _ (line : ℕ) (tasks : ℕ → Option Logged) (serial memory : List ℕ)
       record {
         ids = r.ids;
         by_key = r.by_key;
-        room = room-of_replay serial (logs tasks r.ids) r.bytes r.replays;
+        inside = inside-of_replay serial (logs tasks r.ids) r.bytes r.replays;
         size = ap length r.memory_is ∙ length-after_accesses serial (logs tasks r.ids);
-        chain = λ k. subst (λ m. IsByteChain (slice_index serial k) (byte_events k (logs tasks r.ids)) (slice_index m k)) (sym r.memory_is) (bytes-of_replay serial (logs tasks r.ids) k r.bytes r.replays);
+        chain = λ k. subst (λ m. IsByteChain (slice_index serial k) (byte_accesses k (logs tasks r.ids)) (slice_index m k)) (sym r.memory_is) (bytes-of_replay serial (logs tasks r.ids) k r.bytes r.replays);
         noted = r.noted;
         bytes = r.bytes;
       }

@@ -18,12 +18,12 @@ new_digit None place = None
 new_digit (Some value) place = Some (digit value place)
 
 -- what each access to the byte found there, and what it put there, in the order of the log
-abbrev pub byte_events : ℕ → List Access → List (ℕ × Option ℕ)
-byte_events k [] = []
-byte_events k (access ∷ log) =
+abbrev pub byte_accesses : ℕ → List Access → List (ℕ × Option ℕ)
+byte_accesses k [] = []
+byte_accesses k (access ∷ log) =
     if covers access k
-    then (digit access.old (k - access.offset), new_digit access.new (k - access.offset)) ∷ byte_events k log
-    else byte_events k log
+    then (digit access.old (k - access.offset), new_digit access.new (k - access.offset)) ∷ byte_accesses k log
+    else byte_accesses k log
 
 -- the first old value is the byte as it was, each further one is what the access before it left, and the last one
 -- left the byte as it is

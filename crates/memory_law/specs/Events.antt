@@ -11,7 +11,7 @@ pub record AccessesInLogs (line : ℕ) (memory : List ℕ) (old new : ℕ → Op
   pub there : old id ≡ Some was
   pub changed : new id ≡ Some now
   pub others : (k : ℕ) → k ≢ id → new k ≡ old k
-  pub runs : was.dispatched ≡ true
+  pub was_dispatched : was.dispatched ≡ true
   pub levels : now.levels ≡ was.levels
   pub dispatched : now.dispatched ≡ was.dispatched
   pub log : now.log ≡ was.log ++ access ∷ []
@@ -64,7 +64,7 @@ pub record DispatchesInLogs (old new : ℕ → Option Logged) (id : ℕ) (now : 
   pub ordered : (k : ℕ) (other : Logged) → k ≢ id → old k ≡ Some other → other.dispatched ≡ true
       → Earlier other now ⊎ Earlier now other
 
--- the least task leaves, which is dispatched and earlier than all other dispatched tasks, and all of them stay
+-- a dispatched task leaves, which is earlier than all other dispatched ones, and all other tasks stay
 pub record CommitsInLogs (old new : ℕ → Option Logged) (id : ℕ) (task : Logged) : Type 0 where
   pub there : old id ≡ Some task
   pub dispatched : task.dispatched ≡ true

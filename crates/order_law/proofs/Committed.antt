@@ -33,11 +33,11 @@ module _ (old new : ℕ → Option Keyed) (path : List Open) (next id n : ℕ) (
 
   -- the least task has no creator here
   pub least_is_free : task.creator ≡ None
-  least_is_free = by_parent task.creator refl
+  least_is_free = by_creator task.creator refl
     where
-      by_parent : (p : Option ℕ) → task.creator ≡ p → task.creator ≡ None
-      by_parent None is = is
-      by_parent (Some c) is =
+      by_creator : (p : Option ℕ) → task.creator ≡ p → task.creator ≡ None
+      by_creator None is = is
+      by_creator (Some c) is =
           let has = ordered.creators id task c there is in
           elim (cases_eq c id) [
             | inl here ↦
@@ -70,7 +70,7 @@ module _ (old new : ℕ → Option Keyed) (path : List Open) (next id n : ℕ) (
   task_on_path : OnPath level_cmp path task.domain task.last
   task_on_path = ordered.on_path id task there least_is_free
 
-  -- the numbers of the new path are those of the old one, and the task's own
+  -- no other task has a number of the new path: each is one of the old path or the task's own
   off_new_path : (k : ℕ) (x : Keyed) (m : ℕ) → k ≢ id → old k ≡ Some x → HasNumber x m
       → IsNumberOf m (levels_of task) → ⊥
   off_new_path k x m other at has on = elim (number_in task.domain task.last m on) [

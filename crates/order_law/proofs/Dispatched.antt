@@ -53,7 +53,7 @@ module _ (old new : ℕ → Option Keyed) (path : List Open) (next id : ℕ) (ta
   open_last : task.last ≡ record { ts = task.last.ts; tb = None }
   open_last = ap (λ tie. record { ts = task.last.ts; tb = tie }) idle
 
-  -- a creator is not the task that gets the number
+  -- a creator stays one, since it is not the task that gets the number
   kept_creator : (creator : ℕ) (child : Keyed) → HasCreator old creator child → HasCreator new creator child
   kept_creator creator child has =
       let other : creator ≢ id = λ here. absurd (cc (has.there, has.dispatched, there, idle, ap old here)) in

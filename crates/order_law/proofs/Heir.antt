@@ -14,7 +14,7 @@ use Rattle.order_law.specs.Heir.{IsHeirInKeys}
 use Rattle.order_law.proofs.Numbers.{LevelsBelow-append}
 use Rattle.order_law.proofs.Dispatched.{cmp_alike, levels_alike}
 use Rattle.order_law.proofs.Aborted.{below_reopened, rises}
-use Rattle.order_law.proofs.Spawned.{spawned_creator}
+use Rattle.order_law.proofs.Spawned.{enqueued_creator}
 use Rattle.order_law.proofs.Least.{least_is_below}
 use Rattle.order_law.proofs.Moved.{Renames, moved_renames}
 
@@ -33,9 +33,9 @@ less_upto a b c less upto = by_order (levels_cmp b c) refl
         tied one two same = one ∙ ap Rattle.std.specs.Ordering.ordering_reverse same ∙ sym two ∙ less
     by_order Greater is = absurd (upto is)
 
--- its number is below the open tiebreaker that it had
-pub started_heir : (old new : ℕ → Option Keyed) (next : ℕ) (d : DispatchesInKeys old new next) → IsLeastInKeys old d.id d.task → IsHeirInKeys new d.id (with_dispatch_number d.task next)
-started_heir old new next d least =
+-- a dispatch makes the least task the heir: its number is below the open tiebreaker that it had
+pub dispatched_least_heir : (old new : ℕ → Option Keyed) (next : ℕ) (d : DispatchesInKeys old new next) → IsLeastInKeys old d.id d.task → IsHeirInKeys new d.id (with_dispatch_number d.task next)
+dispatched_least_heir old new next d least =
     record {
       there = d.changes.changed;
       number = next;
@@ -75,8 +75,8 @@ module _ (old new : ℕ → Option Keyed) (path : List Open) (next heir : ℕ) (
       }
 
   -- a new child
-  pub spawn_keeps_heir : (id creator : ℕ) (child : Keyed) → old id ≡ None → Changes old new id (Some child) → HasCreator old creator child → IsHeirInKeys new heir task
-  spawn_keeps_heir id creator child vacant changes has =
+  pub enqueue_leaves_heir : (id creator : ℕ) (child : Keyed) → old id ≡ None → Changes old new id (Some child) → HasCreator old creator child → IsHeirInKeys new heir task
+  enqueue_leaves_heir id creator child vacant changes has =
       let differs : heir ≢ id = λ here. absurd (cc (is.there, ap old here, vacant)) in
       record {
         there = changes.others heir differs ∙ is.there;
@@ -133,10 +133,10 @@ module _ (old new : ℕ → Option Keyed) (path : List Open) (next heir : ℕ) (
 pub dispatch_heir : (old new : ℕ → Option Keyed) (path : List Open) (next heir : ℕ) (task : Keyed) → DispatchesInKeys old new next → IsOrdered old path next → IsHeirInKeys old heir task → IsHeirInKeys new heir task
 dispatch_heir old new path next heir task d ordered is = dispatch_keeps_heir old new path next heir task ordered is d.id d.task d.there d.idle d.changes
 
-pub spawn_heir : (old new : ℕ → Option Keyed) (path : List Open) (next heir : ℕ) (task : Keyed) → EnqueuesInKeys old new → IsOrdered old path next → IsHeirInKeys old heir task → IsHeirInKeys new heir task
-spawn_heir old new path next heir task s ordered is =
-    let stands = spawned_creator old new path next s ordered in
-    spawn_keeps_heir old new path next heir task ordered is s.id s.creator s.child s.vacant s.changes
+pub enqueue_heir : (old new : ℕ → Option Keyed) (path : List Open) (next heir : ℕ) (task : Keyed) → EnqueuesInKeys old new → IsOrdered old path next → IsHeirInKeys old heir task → IsHeirInKeys new heir task
+enqueue_heir old new path next heir task s ordered is =
+    let stands = enqueued_creator old new path next s ordered in
+    enqueue_leaves_heir old new path next heir task ordered is s.id s.creator s.child s.vacant s.changes
     (record { task = s.task; there = s.there; number = s.number; dispatched = s.dispatched; below = stands.below; kin = stands.kin })
 
 pub abort_heir : (set : ℕ → Bool) (old new : ℕ → Option Keyed) (path : List Open) (next heir : ℕ) (task : Keyed) → AbortsInKeys set old new → set heir ≡ false → IsOrdered old path next → IsHeirInKeys old heir task → IsHeirInKeys new heir task

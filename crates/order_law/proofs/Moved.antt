@@ -1,4 +1,4 @@
--- A coalescing and a split keep the order: tasks that are no creators only change their ids.
+-- A coalescing and a split keep the order: they only change ids, and that of no dispatched task.
 use Rattle.std.proofs.Common.{◌≡◌, ◌⊎◌, ℕ, ◌+◌, ◌-◌, ◌<◌, Bool, true, false, List, Option, Some, ap, ◌∙◌, inl, inr, arith, slice_get, if◌then◌else◌, nat_lt}
 use Rattle.std.proofs.lemmas.Bool.Decides.{nat_tests}
 use Rattle.std.proofs.lemmas.Bool.{lt-ltb}
@@ -33,42 +33,50 @@ pub high_test : (bound j : ℕ) → nat_lt (bound + j) bound ≡ false
 high_test bound j = grind (arith, nat_tests)
 
 -- what is there is a queued task or a spilled one
-module _ (bound : ℕ) (tasks : ℕ → Option Keyed) (entries : List Keyed) where
-  which : (k : ℕ) (x : Keyed) → beside bound tasks entries k ≡ Some x → (tasks k ≡ Some x) ⊎ IsAmongSpilled x entries
-  which k x at = by_test (nat_lt k bound) at
+module _ (bound : ℕ) (tasks : ℕ → Option Keyed) (spilled_list : List Keyed) where
+  -- what stands under an id is a queued task or a spilled one
+  pub beside_which : (k : ℕ) (x : Keyed) → beside bound tasks spilled_list k ≡ Some x
+      → (tasks k ≡ Some x) ⊎ IsAmongSpilled x spilled_list
+  beside_which k x at = by_test (nat_lt k bound) at
     where
-      by_test : (b : Bool) → (if b then tasks k else slice_get entries (k - bound)) ≡ Some x → (tasks k ≡ Some x) ⊎ IsAmongSpilled x entries
+      by_test : (b : Bool) → (if b then tasks k else slice_get spilled_list (k - bound)) ≡ Some x → (tasks k ≡ Some x) ⊎ IsAmongSpilled x spilled_list
       by_test true e = inl e
       by_test false e = inr (k - bound, e)
 
-  task_there : (k : ℕ) (x : Keyed) → k < bound → tasks k ≡ Some x → beside bound tasks entries k ≡ Some x
-  task_there k x low at = ap (λ b. if b then tasks k else slice_get entries (k - bound)) (lt-ltb k bound low) ∙ at
+  -- and each of both stands there
+  pub beside_task : (k : ℕ) (x : Keyed) → k < bound → tasks k ≡ Some x → beside bound tasks spilled_list k ≡ Some x
+  beside_task k x low at = ap (λ b. if b then tasks k else slice_get spilled_list (k - bound)) (lt-ltb k bound low) ∙ at
 
-  entry_there : (x : Keyed) → IsAmongSpilled x entries → (j : ℕ) × (beside bound tasks entries j ≡ Some x)
-  entry_there x is =
+  pub beside_spilled : (x : Keyed) → IsAmongSpilled x spilled_list
+      → (j : ℕ) × (beside bound tasks spilled_list j ≡ Some x)
+  beside_spilled x is =
       let same : bound + is.0 - bound ≡ is.0 = omega arith in
-      (bound + is.0, ap (λ b. if b then tasks (bound + is.0) else slice_get entries (bound + is.0 - bound)) (high_test bound is.0) ∙ ap (slice_get entries) same ∙ is.1)
+      (bound + is.0, ap (λ b. if b then tasks (bound + is.0) else slice_get spilled_list (bound + is.0 - bound)) (high_test bound is.0) ∙ ap (slice_get spilled_list) same ∙ is.1)
 
 -- each queued or spilled task was one before, and the dispatched tasks have kept their ids
 pub moved_renames : (bound : ℕ) (old new : ℕ → Option Keyed) (before after : List Keyed) → MovesInKeys bound old new before after → Renames (beside bound old before) (beside bound new after)
 moved_renames bound old new before after moves =
     record {
-      from = λ k x at. elim (which bound new after k x at) [
+      from = λ k x at. elim (beside_which bound new after k x at) [
         | inl task ↦ elim (moves.queued k x task) [
-          | inl was ↦ (k, task_there bound old before k x (moves.kept_before.bounded k x was) was)
-          | inr entry ↦ entry_there bound old before x entry
+          | inl was ↦ (k, beside_task bound old before k x (moves.kept_before.bounded k x was) was)
+          | inr entry ↦ beside_spilled bound old before x entry
         ]
         | inr entry ↦ elim (moves.spilled x entry) [
-          | inl was ↦ entry_there bound old before x was
-          | inr task ↦ (task.0, task_there bound old before task.0 x (moves.kept_before.bounded task.0 x task.1) task.1)
+          | inl was ↦ beside_spilled bound old before x was
+          | inr task ↦ (
+            task.0,
+            beside_task bound old before task.0 x
+                (moves.kept_before.bounded task.0 x task.1) task.1,
+          )
         ]
       ];
-      stays = λ k n x at has. elim (which bound old before k x at) [
-        | inl task ↦ (let now = (moves.dispatched k n x has).0 task in task_there bound new after k x (moves.kept_after.bounded k x now) now)
+      stays = λ k n x at has. elim (beside_which bound old before k x at) [
+        | inl task ↦ (let now = (moves.dispatched k n x has).0 task in beside_task bound new after k x (moves.kept_after.bounded k x now) now)
         | inr entry ↦ absurd (cc (moves.kept_before.idle x entry, has))
       ];
-      was = λ k n x at has. elim (which bound new after k x at) [
-        | inl task ↦ (let then' = (moves.dispatched k n x has).1 task in task_there bound old before k x (moves.kept_before.bounded k x then') then')
+      was = λ k n x at has. elim (beside_which bound new after k x at) [
+        | inl task ↦ (let then' = (moves.dispatched k n x has).1 task in beside_task bound old before k x (moves.kept_before.bounded k x then') then')
         | inr entry ↦ absurd (cc (moves.kept_after.idle x entry, has))
       ];
     }

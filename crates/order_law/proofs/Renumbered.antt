@@ -1,12 +1,11 @@
 -- Renumbering keeps every comparison, every path and the order of the tasks.
-use Rattle.std.proofs.Common.{◌≡◌, ℕ, suc, ◌<◌, Bool, List, [], ◌∷◌, ◌++◌, length, Option, Some, None, map, option_map, refl, sym, ap, subst, ◌∙◌, inl, inr, arith}
-use Rattle.std.proofs.lemmas.Bool.Decides.{nat_tests}
+use Rattle.std.proofs.Common.{◌≡◌, ℕ, ◌<◌, Bool, List, [], ◌∷◌, ◌++◌, length, Option, Some, None, map, option_map, refl, sym, ap, subst, ◌∙◌, inl, inr, arith}
+use Rattle.std.proofs.lemmas.List.{length-map, map-append}
 use Rattle.std.specs.List.{AllByRecursion, AllZip, Contains}
 use Rattle.std.specs.Option.{IfSome}
 use Rattle.std.specs.Ordering.{nat_cmp, ordering_then}
 use Rattle.std.specs.FinMap.{nat_cmp-IsAntisymmetric}
 use Rattle.std.specs.declared.cmp.Ordering.{Ordering}
-use Rattle.std.specs.declared.cmp.Ordering.TheVariants.{Equal}
 use Rattle.std.specs.Cmp.Lexicographic.{slice_cmp}
 use Rattle.fractal_vt.specs.Levels.{Open, tie_cmp, level_cmp, levels_cmp}
 use Rattle.fractal_vt.specs.Paths.{OnPath}
@@ -14,7 +13,7 @@ use Rattle.fractal_vt.specs.declared.vt.TheConstants.{MAX_LEVELS}
 use Rattle.order_law.specs.Tasks.{Keyed, levels_of, HasNumber, IsTimely, Kin}
 use Rattle.order_law.specs.Ordered.{TieBelow, LevelsBelow, IsNumberOf, NumbersDiffer, HasCreator, IsShaped, IsOrdered}
 use Rattle.fractal_vt.specs.Renumbered.{place_in, with_number}
-use Rattle.fractal_vt.proofs.Proved.{place_cmp, place_within}
+use Rattle.fractal_vt.proofs.Proved.{place_cmp, place_within, same_number as ties_itself}
 use Rattle.order_law.specs.Renumber.{new_task, renumbered_keyed_tasks, LevelsIn, IsTableOf}
 
 -- for any elements and any order
@@ -32,17 +31,9 @@ module _ {X : Type 0} (R : X → X → Ordering) (g : X → X) (Ok : X → Type 
   path_map [] (d ∷ ds) l one ok on = absurd on
   path_map (p ∷ path) (d ∷ ds) l one ok on = (ap g on.0, path_map path ds l one.1 ok on.1)
 
-pub map_append : {X : Type 0} (g : X → X) (xs ys : List X) → map g (xs ++ ys) ≡ map g xs ++ map g ys
-map_append g [] ys = refl
-map_append g (x ∷ xs) ys = ap (λ zs. g x ∷ zs) (map_append g xs ys)
-
 each_front : {X : Type 0} (Ok : X → Type 0) (xs : List X) (y : X) → AllByRecursion Ok (xs ++ y ∷ []) → AllByRecursion Ok xs × Ok y
 each_front Ok [] y each = (tt, each.0)
 each_front Ok (x ∷ xs) y each = let rest = each_front Ok xs y each.1 in ((each.0, rest.0), rest.1)
-
-length_mapped : {X : Type 0} (g : X → X) (xs : List X) → length (map g xs) ≡ length xs
-length_mapped g [] = refl
-length_mapped g (x ∷ xs) = ap suc (length_mapped g xs)
 
 timely_mapped : (f : ℕ → ℕ) (kinds : List Bool) (xs : List Open) → AllZip IsTimely kinds xs → AllZip IsTimely kinds (map (with_number f) xs)
 timely_mapped f [] [] all = tt
@@ -69,13 +60,10 @@ module _ (used : ℕ → Type 0) (f : ℕ → ℕ) (next next' : ℕ) (keeps : K
   renumber_cmp = cmp_map level_cmp (with_number f) (λ l. IfSome l.tb used) level_alike
 
   levels_new : (task : Keyed) → levels_of (new_task f task) ≡ map (with_number f) (levels_of task)
-  levels_new task = sym (map_append (with_number f) task.domain (task.last ∷ []))
+  levels_new task = sym (map-append (with_number f) task.domain (task.last ∷ []))
 
   same_number : (a b : ℕ) → used a → used b → f a ≡ f b → a ≡ b
-  same_number a b in_a in_b same = nat_cmp-IsAntisymmetric a b (sym (keeps.alike a b in_a in_b) ∙ ap (λ n. nat_cmp n (f b)) same ∙ self (f b))
-    where
-      self : (n : ℕ) → nat_cmp n n ≡ Equal
-      self n = grind (arith, nat_tests)
+  same_number a b in_a in_b same = nat_cmp-IsAntisymmetric a b (sym (keeps.alike a b in_a in_b) ∙ ap (λ n. nat_cmp n (f b)) same ∙ ties_itself (f b))
 
   all_below : (xs : List Open) → LevelsBelow next xs → LevelsIn used xs → LevelsBelow next' (map (with_number f) xs)
   all_below [] below each = tt
@@ -122,8 +110,8 @@ module _ (used : ℕ → Type 0) (f : ℕ → ℕ) (next next' : ℕ) (keeps : K
 
     new_kin : (c x : Keyed) → Kin c x → Kin (new_task f c) (new_task f x)
     new_kin c x (inl same) = inl (ap (map (with_number f)) same.0, same.1, same.2)
-    new_kin c x (inr (inl sub)) = inr (inl (ap (map (with_number f)) sub.0 ∙ map_append (with_number f) c.domain (c.last ∷ []), sub.1))
-    new_kin c x (inr (inr super)) = inr (inr (with_number f super.0, (ap (map (with_number f)) super.1.0 ∙ map_append (with_number f) x.domain (super.0 ∷ []), super.1.1)))
+    new_kin c x (inr (inl sub)) = inr (inl (ap (map (with_number f)) sub.0 ∙ map-append (with_number f) c.domain (c.last ∷ []), sub.1))
+    new_kin c x (inr (inr super)) = inr (inr (with_number f super.0, (ap (map (with_number f)) super.1.0 ∙ map-append (with_number f) x.domain (super.0 ∷ []), super.1.1)))
 
     new_creator : (c : ℕ) (id : ℕ) (y : Keyed) → tasks id ≡ Some y → HasCreator tasks c y → HasCreator (renumbered_keyed_tasks f tasks) c (new_task f y)
     new_creator c id y was has =
@@ -139,7 +127,7 @@ module _ (used : ℕ → Type 0) (f : ℕ → ℕ) (next next' : ℕ) (keeps : K
     pub renumber_keeps_order : IsOrdered (renumbered_keyed_tasks f tasks) (map (with_number f) path) next'
     renumber_keeps_order =
         record {
-          path_short = (let same = length_mapped (with_number f) path in let short = ordered.path_short in omega (arith, same, short));
+          path_short = (let same = length-map path (with_number f) in let short = ordered.path_short in omega (arith, same, short));
           path_numbers = all_below path ordered.path_numbers in_path;
           path_differs = all_differ path in_path ordered.path_differs;
           off_path = λ id x n at has on.
@@ -151,7 +139,7 @@ module _ (used : ℕ → Type 0) (f : ℕ → ℕ) (next next' : ℕ) (keeps : K
           shaped = λ id x at.
               (let w = which id x at in
               let was = ordered.shaped id w.0 w.1 in
-              subst IsShaped (sym w.2) (subst (λ n. n < MAX_LEVELS) (sym (length_mapped (with_number f) w.0.domain)) was.0, timely_mapped f w.0.kinds w.0.domain was.1, was.2));
+              subst IsShaped (sym w.2) (subst (λ n. n < MAX_LEVELS) (sym (length-map w.0.domain (with_number f))) was.0, timely_mapped f w.0.kinds w.0.domain was.1, was.2));
           domain_numbers = λ id x at. (let w = which id x at in subst (λ z. LevelsBelow next' z.domain) (sym w.2) (all_below w.0.domain (ordered.domain_numbers id w.0 w.1) (in_domains id w.0 w.1).0));
           number_below = λ id x n at has. (let w = which id x at in let m = number_of id x w.0 n w.1 w.2 has in subst (λ k. k < next') (sym m.3) (keeps.below m.0 m.2));
           numbers_differ = λ a b x y n at at' has has'.

@@ -30,8 +30,8 @@ module _ (old new : ℕ → Option Keyed) (path : List Open) (next id : ℕ) (ch
   no_number : (x : Keyed) (n : ℕ) → x ≡ child → HasNumber x n → ⊥
   no_number x n is number = absurd (cc (ap (λ z. z.last.tb) is, number, open'))
 
-  pub spawn_keeps_order : IsOrdered new path next
-  spawn_keeps_order =
+  pub enqueue_in_order : IsOrdered new path next
+  enqueue_in_order =
       record {
         path_numbers = ordered.path_numbers;
         path_short = ordered.path_short;
@@ -130,7 +130,7 @@ bound_holds child level allowed timely = by_kind child.ordered refl
     by_kind true is = allowed.late is
     by_kind false is = let zero_ts : level.ts ≡ 0 = timely is in omega (arith, zero_ts)
 
--- what a child has by its place
+-- what a child has, in whichever of the three domains (`Place`) it is
 pub record Stands (next : ℕ) (creator child : Keyed) : Type 0 where
   pub below : levels_cmp (levels_of creator) (levels_of child) ≡ Less
   pub kin : Kin creator child
@@ -185,13 +185,13 @@ module _ (next n : ℕ) (creator child : Keyed) (number : HasNumber creator n) (
   stands (inr (inl sub)) = sub_stands sub.0 sub.1 sub.2
   stands (inr (inr super)) = super_stands super.0 super.1 super.2
 
--- a new child has what a child has by its place
-pub spawned_creator : (old new : ℕ → Option Keyed) (path : List Open) (next : ℕ) (s : EnqueuesInKeys old new) → IsOrdered old path next → Stands next s.task s.child
-spawned_creator old new path next s ordered =
+-- a new child has this, in whichever of the three domains (`Place`) it is
+pub enqueued_creator : (old new : ℕ → Option Keyed) (path : List Open) (next : ℕ) (s : EnqueuesInKeys old new) → IsOrdered old path next → Stands next s.task s.child
+enqueued_creator old new path next s ordered =
     stands next s.number s.task s.child s.dispatched (ordered.number_below s.creator s.task s.number s.there s.dispatched) (ordered.domain_numbers s.creator s.task s.there) (ordered.shaped s.creator s.task s.there) s.idle s.placed
 
-pub spawn_law : (old new : ℕ → Option Keyed) (path : List Open) (next : ℕ) → EnqueuesInKeys old new → IsOrdered old path next → IsOrdered new path next
-spawn_law old new path next s ordered =
-    let is = spawned_creator old new path next s ordered in
-    spawn_keeps_order old new path next s.id s.child s.vacant s.changes s.idle is.numbers is.good s.creator s.made_by
+pub enqueue_law : (old new : ℕ → Option Keyed) (path : List Open) (next : ℕ) → EnqueuesInKeys old new → IsOrdered old path next → IsOrdered new path next
+enqueue_law old new path next s ordered =
+    let is = enqueued_creator old new path next s ordered in
+    enqueue_in_order old new path next s.id s.child s.vacant s.changes s.idle is.numbers is.good s.creator s.made_by
     (record { task = s.task; there = s.there; number = s.number; dispatched = s.dispatched; below = is.below; kin = is.kin }) ordered

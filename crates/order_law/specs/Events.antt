@@ -1,5 +1,5 @@
 -- What each event does to the tasks, as their order reads them: dispatch, abort, enqueue, commit and coalescing are
--- those of Swarm (Jeffrey et al. 2015), the three places of a child those of Fractal (Subramanian et al. 2017).
+-- those of Swarm (Jeffrey et al. 2015), the three domains of a child those of Fractal (Subramanian et al. 2017).
 use Rattle.std.specs.Prelude.{◌≡◌, ◌≢◌, ◌≤◌, ◌<◌, ◌⊎◌, ◌↔◌, ◌-◌, ℕ, nat_lt, Bool, true, false, List, length}
 use Rattle.std.specs.Prelude.{slice_get, Option, Some, None, if◌then◌else◌}
 use Rattle.std.specs.declared.cmp.Ordering.TheVariants.{Greater}
@@ -45,9 +45,9 @@ pub record IsAllowed (child : Keyed) (bound : ℕ) : Type 0 where
   pub late : child.ordered ≡ true → bound ≤ child.last.ts
   pub timely : IsTimely child.ordered child.last
 
--- the child stands in one of the three places, at a timestamp that its domain allows: from the creator's own
--- timestamp on in the creator's domain, at any in the subdomain if there may be one so deep, and from that of the
--- level that it shares on in the superdomain
+-- the child is in one of the three domains (`Place`), at a timestamp that its domain allows: from the creator's own
+-- timestamp on in the creator's domain, at any in the subdomain if there may be one so deep, and from the floor of the
+-- creator's domain on in the superdomain
 abbrev pub IsPlaced : Keyed → Keyed → Type 0
 IsPlaced creator child =
     (IsSame creator child × IsAllowed child creator.last.ts)

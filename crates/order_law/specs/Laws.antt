@@ -24,7 +24,7 @@ DispatchKeepsOrder =
     (old new : ℕ → Option Keyed) (path : List Open) (next : ℕ) → DispatchesInKeys old new next → IsOrdered old path next
     → IsOrdered new path (next + 1)
 
--- a new child, in any of the three places, keeps the order
+-- a new child, in any of the three domains (`Place`), keeps the order
 abbrev pub EnqueueKeepsOrder : Type 0
 EnqueueKeepsOrder =
     (old new : ℕ → Option Keyed) (path : List Open) (next : ℕ) → EnqueuesInKeys old new → IsOrdered old path next

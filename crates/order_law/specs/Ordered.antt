@@ -28,7 +28,7 @@ NumbersDiffer [] = Unit {0}
 NumbersDiffer (level ∷ levels) = ((number : ℕ) → level.tb ≡ Some number → IsNumberOf number levels → ⊥)
     × NumbersDiffer levels
 
--- the creator is a dispatched task below the child, which is placed in one of the three places
+-- the creator is a dispatched task below the child, which is in one of the three domains (`Place`)
 pub record HasCreator (tasks : ℕ → Option Keyed) (creator : ℕ) (child : Keyed) : Type 0 where
   pub task : Keyed
   pub there : tasks creator ≡ Some task

@@ -37,6 +37,6 @@ abbrev pub IsSuper : Keyed → Keyed → Open → Type 0
 IsSuper creator child level = (creator.domain ≡ child.domain ++ level ∷ [])
     × (creator.kinds ≡ child.kinds ++ child.ordered ∷ [])
 
--- a child is placed in one of the three places
+-- a child is in one of the three domains (`Place`)
 abbrev pub Kin : Keyed → Keyed → Type 0
 Kin creator child = IsSame creator child ⊎ IsSub creator child ⊎ ((level : Open) × IsSuper creator child level)

@@ -1,34 +1,29 @@
 -- Books that are alike have the same causes to refuse an event, and so the same replies.
-use Rattle.std.proofs.Common.{◌≡◌, ◌≢◌, ◌≤◌, ◌<◌, ◌+◌, ◌++◌, ◌/◌, zero, suc, ℕ, Bool, true, false, List, [], ◌∷◌, map, length, Option, Some, None, option_map, is_some, refl, sym, ap, subst, ◌∙◌, inl, inr, ◌⊎◌, arith}
+use Rattle.std.proofs.Common.{◌≡◌, ◌≢◌, ℕ, [], length, refl, sym, ap, subst, ◌∙◌, inl, inr, ◌⊎◌, arith}
 use Rattle.std.proofs.lemmas.List.{length-map}
 use Rattle.rv_core.specs.LegValue.{LegValue}
-use Rattle.task_desc.specs.declared.desc.Spawn.{Spawn}
-use Rattle.task_request.specs.Requests.{request_at}
 use Rattle.spec_state.specs.declared.task.Status.TheVariants.{Finished}
 use Rattle.spec_state.specs.declared.task.Task.{Task}
-use Rattle.spec_state.specs.View.{View, task_at, queue_at, finished_at, block_at}
-use Rattle.spec_state.specs.Tasks.{context_of}
-use Rattle.spec_state.specs.Least.{IsLeastTask, IsTheLeast, IsLeastSpilled}
-use Rattle.spec_state.specs.Queries.{IsIdle, IsDispatched, IsFinished, IsLater, IsLatestDispatched}
-use Rattle.spec_state.specs.Changes.{TakesLeg, request_of}
-use Rattle.spec_state.specs.Room.{Enqueuer, IsMovable, IsFull, NoneMoves, Stalls}
+use Rattle.spec_state.specs.View.{View, finished_at, block_at}
+use Rattle.spec_state.specs.Least.{IsLeastTask, IsTheLeast}
+use Rattle.spec_state.specs.Queries.{IsIdle, IsDispatched, IsLater}
+use Rattle.spec_state.specs.Changes.{TakesLeg}
+use Rattle.spec_state.specs.Room.{Enqueuer, IsMovable, Stalls}
 use Rattle.event_def.specs.Book.{BookView, picked_tile}
-use Rattle.event_def.specs.Causes.{AllCoresHeld, IsBusy, IsStale, StallsAtEnqueue, IsCommitFull, StallsAtEnd, LatestIsLeast, StallsAtSplit, Cause, IsRefused, IsGranted, refusal_rank}
-use Rattle.event_def.specs.End.{IsOver}
+use Rattle.event_def.specs.Causes.{IsBusy, IsStale, StallsAtEnqueue, IsCommitFull, StallsAtEnd, LatestIsLeast, StallsAtSplit, Cause, IsRefused, IsGranted}
 use Rattle.event_def.specs.declared.event.Event.{Event}
 use Rattle.event_def.specs.declared.event.Event.TheVariants as event
 use Rattle.event_def.specs.declared.event.Reply.{Reply}
 use Rattle.event_def.specs.declared.event.Reply.TheVariants as reply
-use Rattle.outcome_law.specs.Alike.{Renaming, inverse_of, renamed_creator, IsAlikeTask, IsAlikeAt, AreAlike}
+use Rattle.outcome_law.specs.Alike.{Renaming, inverse_of, AreAlike}
 use Rattle.outcome_law.specs.Alike.{AreAlikeBooks}
-use Rattle.outcome_law.proofs.Alike.{Partner, partner, none_there, alike_turned, task_turned}
-use Rattle.outcome_law.proofs.Changes.{version_same}
+use Rattle.outcome_law.proofs.Alike.{alike_turned, task_turned}
 use Rattle.outcome_law.proofs.Leasts.{least_too, the_least_too, spilled_too, over_too, block_too, finished_too}
 use Rattle.outcome_law.proofs.Moves.{movable_too}
 use Rattle.outcome_law.proofs.Picks.{task_one}
 use Rattle.outcome_law.proofs.Queries.{Too, idle_too, least_idle_too, running_too, dispatched_too, is_finished_too, later_too, latest_too, free_core_too}
-use Rattle.outcome_law.proofs.Rooms.{full_too, none_moves_too, asks_too}
-use Rattle.outcome_law.proofs.Events.{lengths_same, picked_alike}
+use Rattle.outcome_law.proofs.Rooms.{full_too, none_moves_too}
+use Rattle.outcome_law.proofs.Events.{picked_alike, request_same}
 
 pub books_turned : (r : Renaming) (a b : BookView) → AreAlikeBooks r a b → AreAlikeBooks (inverse_of r) b a
 books_turned r a b alike = record {
@@ -49,9 +44,6 @@ module _ (r : Renaming) (a b : View) (alike : AreAlike r a b) where
             record { runs = t.is; from = ap (λ t. t.core) t.alike.other_is ∙ is.from };
         alike = t.alike;
       }
-
-  pub request_too : (task task' : Task) → IsAlikeTask r.to task task' → (leg : LegValue) → request_of b task' leg ≡ request_of a task leg
-  request_too task task' like leg = λ i. request_at (context_of (version_same r a b alike i) (like.other_is i)) leg.to leg.stop
 
   pub commit_full_too : (tile : ℕ) → IsCommitFull a tile → IsCommitFull b tile
   commit_full_too tile full =
@@ -104,7 +96,7 @@ module _ (r : Renaming) (old other : BookView) (alike : AreAlikeBooks r old othe
         task = t.y;
         takes = t.is;
         spawn = is.spawn;
-        asks = request_too r a b views is.task t.y t.alike leg ∙ is.asks;
+        asks = request_same r a b views is.task t.y t.alike leg ∙ is.asks;
         stalls = subst (λ (to : ℕ). Stalls b to (Enqueuer (r.to is.id))) (sym (picked_alike r old other alike is.spawn.hint)) (stalls_too (picked_tile old is.spawn.hint) is.id is.stalls);
       })
   step_stall tile core leg (inr is) =
@@ -113,7 +105,7 @@ module _ (r : Renaming) (old other : BookView) (alike : AreAlikeBooks r old othe
         id = r.to is.id;
         task = t.y;
         takes = t.is;
-        asks = request_too r a b views is.task t.y t.alike leg ∙ is.asks;
+        asks = request_same r a b views is.task t.y t.alike leg ∙ is.asks;
         full = commit_full_too r a b views tile is.full;
         none_later = λ k x done later. (let f = is_finished_too (inverse_of r) b a back tile k x done in
             let l = later_too (inverse_of r) b a back t.y is.task (task_turned r is.task t.y t.alike) k x later in

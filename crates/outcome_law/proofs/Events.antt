@@ -13,28 +13,27 @@ use Rattle.task_request.specs.declared.request.Request.TheVariants.{Continue, Lo
 use Rattle.task_request.specs.Requests.{request_at}
 use Rattle.undo_log.specs.Number.{number_at}
 use Rattle.undo_log.specs.Undo as undo
-use Rattle.spec_state.specs.declared.task.Status.{Status}
 use Rattle.spec_state.specs.declared.task.Status.TheVariants as status
-use Rattle.spec_state.specs.declared.task.Status.TheVariants.{Idle, Running, Trapped, Finished}
+use Rattle.spec_state.specs.declared.task.Status.TheVariants.{Trapped}
 use Rattle.spec_state.specs.declared.task.Task.{Task}
 use Rattle.spec_state.specs.View.{View, task_at, loads}
 use Rattle.spec_state.specs.Tasks.{is_dispatched, context_of}
 use Rattle.spec_state.specs.Least.{IsLeastTask, IsTheLeast}
-use Rattle.spec_state.specs.Queries.{IsOnCore, IsFinished, IsDispatched, Conflicts}
+use Rattle.spec_state.specs.Queries.{IsDispatched, Conflicts}
 use Rattle.spec_state.specs.Aborts.{Aborts}
 use Rattle.spec_state.specs.Changes.{TakesLeg, request_of, task_past_leg, Enqueues}
 use Rattle.std.proofs.lemmas.List.{length-map}
 use Rattle.rv_table.specs.declared.instr.LoadWidth.{LoadWidth}
 use Rattle.spec_state.specs.Room.{Enqueuer, Splitter, MakesRoom, asker_of}
-use Rattle.spec_state.specs.Stored.{HasCore}
 use Rattle.spec_law.specs.RoomLaws.{AsksAsLeast}
-use Rattle.spec_law.specs.Sound.{Sound, StandsAs}
+use Rattle.spec_law.specs.Sound.{Sound}
 use Rattle.event_def.specs.Book.{BookView, picked_tile, placers_after_commit}
 use Rattle.event_def.specs.declared.event.Event.{Event}
 use Rattle.event_def.specs.declared.event.Event.TheVariants as event
 use Rattle.event_def.specs.Events.{DispatchEvent, LoadEvent, StoreEvent, EnqueueEvent, EndEvent, ComesTo, StepEvent, AbortEvent, SplitEvent, Makes}
 use Rattle.event_law.proofs.Proved.{running_is_dispatched, least_is_heir, room_follows, asker_is_there, spilled_asks, spilled_no_heir}
 use Rattle.event_law.proofs.Proved.{running_is_busy}
+use Rattle.event_lemma.proofs.Proved.{finished_is_dispatched, holder_is_dispatched}
 use Rattle.outcome_law.specs.Alike.{Renaming, inverse_of, IsAlikeTask, AreAlike}
 use Rattle.outcome_law.specs.Alike.{AreAlikeBooks}
 use Rattle.outcome_law.proofs.Alike.{alike_turned, task_turned}
@@ -48,29 +47,6 @@ use Rattle.outcome_law.proofs.Picks.{task_one}
 use Rattle.outcome_law.proofs.Queries.{running_too, dispatched_too, conflicts_too}
 use Rattle.outcome_law.proofs.Renumbers.{frees_number_alike}
 use Rattle.outcome_law.proofs.Rooms.{cores_alike, commit_alike, latest_taken, rooms_alike}
-
--- ---- what stands on a core, or is finished, is dispatched
-
-module _ (image : ImageValue) (view : View) (sound : Sound image view) where
-  by_status : (k : ℕ) (x : Task) → task_at view k ≡ Some x → (core : ℕ) (s : Status) → x.status ≡ s → HasCore s core → is_dispatched x ≡ true
-  by_status k x there core Idle is held = absurd held
-  by_status k x there core (Running c) is held = running_is_dispatched image view sound k c x there is
-  by_status k x there core (Trapped c cause) is held =
-      let stands : StandsAs image view.version view.settings.budget x (Trapped c cause) = subst (StandsAs image view.version view.settings.budget x) is (sound.tasks.stands k x there) in stands.0
-  by_status k x there core Finished is held = absurd held
-
-  pub on_core_runs : (tile core k : ℕ) (x : Task) → IsOnCore view tile core k x → is_dispatched x ≡ true
-  on_core_runs tile core k x is =
-      let has = (sound.sizes.held_are tile core k).0 is.held in
-      let same : has.0 ≡ x = task_one view k k has.0 x refl has.1 is.there in
-      by_status k x is.there core x.status refl (subst (λ (t : Task). HasCore t.status core) same has.3)
-
-  pub finished_runs : (tile k : ℕ) (x : Task) → IsFinished view tile k x → is_dispatched x ≡ true
-  finished_runs tile k x is =
-      let has = (sound.sizes.finished_are tile k).0 is.queued in
-      let same : has.0 ≡ x = task_one view k k has.0 x refl has.1 is.there in
-      let done : x.status ≡ Finished = subst (λ (t : Task). t.status ≡ Finished) same has.3 in
-      let stands : StandsAs image view.version view.settings.budget x Finished = subst (StandsAs image view.version view.settings.budget x) done (sound.tasks.stands k x is.there) in stands.0
 
 -- ---- a task that asks for room
 
@@ -115,10 +91,17 @@ pub record OneMade (n m : ℕ) (new new' : View) (left left' : List Policy) : Ty
   pub placers : left' ≡ left
   pub alike : AlikeSomehow new new'
 
+-- a task and its partner ask for the same
+module _ (r : Renaming) (a b : View) (alike : AreAlike r a b) where
+  pub request_same : (task task' : Task) → IsAlikeTask r.to task task' → (leg : LegValue)
+      → request_of b task' leg ≡ request_of a task leg
+  request_same task task' like leg =
+      λ i. request_at (context_of (version_same r a b alike i) (like.other_is i)) leg.to leg.stop
+
 module _ (image : ImageValue) (r : Renaming) (a b : View) (sound : Sound image a) (sound' : Sound image b) (alike : AreAlike r a b) where
   dispatch_one : (tile n m : ℕ) (a' b' : View) → DispatchEvent tile a n a' → DispatchEvent tile b m b' → AbortAlike r n m a' b'
   dispatch_one tile n m a' b' one two =
-      let core = cores_alike r a b alike sound'.heir sound'.order tile (on_core_runs image b sound' tile) one.forced two.forced in
+      let core = cores_alike r a b alike sound'.heir sound'.order tile (holder_is_dispatched image b sound' tile) one.forced two.forced in
       let ready = frees_number_alike r one.mid two.mid core.alike one.ready two.ready one.number two.number in
       record { aborted = core.aborted; alike = dispatches_alike r one.ready two.ready ready tile a' b' one.change two.change }
 
@@ -148,9 +131,6 @@ module _ (image : ImageValue) (r : Renaming) (a b : View) (sound : Sound image a
       let ids : Some (Some id') ≡ Some (Some (r.to id)) = sym two.runs.on.held ∙ t.is.on.held in
       let same : id' ≡ r.to id = cc in
       record { id_is = same; like = subst (λ z. IsAlikeTask r.to task z) (sym (task_one b id' (r.to id) task' t.y same two.runs.on.there t.is.on.there)) t.alike }
-
-  pub request_same : (task task' : Task) → IsAlikeTask r.to task task' → (leg : LegValue) → request_of b task' leg ≡ request_of a task leg
-  request_same task task' like leg = λ i. request_at (context_of (version_same r a b alike i) (like.other_is i)) leg.to leg.stop
 
 -- an abort of the tasks in conflict with an access takes as many back, and leaves views that are alike
 module _ (image : ImageValue) (r : Renaming) (a b : View) (sound : Sound image a) (sound' : Sound image b) (alike : AreAlike r a b) where
@@ -206,7 +186,7 @@ module _ (image : ImageValue) (r : Renaming) (old other : BookView) (sound : Sou
 
     end_one : EndEvent tile core leg id task old.view n new → EndEvent tile core leg (r.to id) task' other.view m new' → AbortAlike r n m new new'
     end_one one two =
-        let freed = commit_alike r old.view other.view alike.view sound'.heir sound'.order tile task task' (finished_runs image other.view sound' tile) one.forced two.forced in
+        let freed = commit_alike r old.view other.view alike.view sound'.heir sound'.order tile task task' (finished_is_dispatched image other.view sound' tile) one.forced two.forced in
         record { aborted = freed.aborted; alike = finishes_alike r one.mid two.mid freed.alike tile core id task task' leg like new new' one.change two.change }
 
     pub comes_one : (request : Request) → ComesTo tile core leg id task request old n new p → ComesTo tile core leg (r.to id) task' request other m new' p' → OneMade n m new new' p p'
@@ -229,7 +209,7 @@ module _ (image : ImageValue) (r : Renaming) (old other : BookView) (sound : Sou
   step_one tile core leg n m new new' p p' one two =
       let same = takers image r old.view other.view sound sound' alike.view tile core leg one.id two.id one.task two.task one.takes two.takes in
       let takes' : TakesLeg other.view tile core leg (r.to one.id) two.task = subst (λ k. TakesLeg other.view tile core leg k two.task) same.id_is two.takes in
-      let request = request_same image r old.view other.view sound sound' alike.view one.task two.task same.like leg in
+      let request = request_same r old.view other.view alike.view one.task two.task same.like leg in
       let comes' = subst (λ k. ComesTo tile core leg k two.task (request_of old.view one.task leg) other m new' p') same.id_is (subst (λ q. ComesTo tile core leg two.id two.task q other m new' p') request two.comes) in
       comes_one tile core leg one.id one.task two.task same.like one.takes takes' n m new new' p p' (request_of old.view one.task leg) one.comes comes'
 

@@ -138,7 +138,7 @@ module _ (r : Renaming) (a b : View) (alike : AreAlike r a b) where
   pub over_too : IsOver a → IsOver b
   over_too over = (over.0, end_too over.0 over.1)
 
--- of two tasks of a tile one comes before the other
+-- where one task of a tile comes before another, the partner of the one comes before that of the other
 pub precedes_too : (r : Renaming) (a b : View) → AreAlike r a b → (tile k j : ℕ) → Precedes a tile k j → Precedes b tile (r.to k) (r.to j)
 precedes_too r a b alike tile k j before p q x y first second =
     let back = alike_turned r a b alike in

@@ -1,4 +1,4 @@
--- Tasks that move between queues and blocks leave views that are alike.
+-- Tasks that move from a task queue into a block leave views that are alike.
 use Rattle.std.proofs.Common.{◌≡◌, ◌≤◌, ◌<◌, ℕ, List, [], ◌∷◌, map, None, option_map, refl, sym, ap, subst, ◌∙◌, inl, inr, arith}
 use Rattle.std.specs.Prelude.{slice_set, Contains}
 use Rattle.std.specs.List.{AllZip}

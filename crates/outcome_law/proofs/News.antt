@@ -1,8 +1,8 @@
 -- A task that comes to be, under whatever id, leaves views that are alike.
-use Rattle.std.proofs.Common.{◌≡◌, ◌≢◌, ◌≤◌, ◌<◌, ◌+◌, ◌++◌, zero, suc, ℕ, Bool, true, false, List, [], ◌∷◌, map, take, length, Option, Some, None, option_map, is_some, refl, sym, ap, subst, ◌∙◌, inl, inr, ◌⊎◌, arith}
-use Rattle.std.specs.Prelude.{slice_get, slice_index_or, slice_set, Contains, remove}
+use Rattle.std.proofs.Common.{◌≡◌, ◌≢◌, ◌<◌, ◌+◌, ◌++◌, zero, suc, ℕ, List, [], ◌∷◌, map, take, length, Some, option_map, refl, sym, ap, subst, ◌∙◌, inl, inr, arith}
+use Rattle.std.specs.Prelude.{slice_get, slice_set, remove}
 use Rattle.std.specs.Ordering.{ordering_reverse}
-use Rattle.std.specs.declared.cmp.Ordering.TheVariants.{Less, Equal, Greater}
+use Rattle.std.specs.declared.cmp.Ordering.TheVariants.{Less, Greater}
 use Rattle.std.proofs.lemmas.Bool.{cases_eq}
 use Rattle.std.proofs.lemmas.List.Elements.{All-contains}
 use Rattle.fractal_vt.specs.declared.key.Key.{Key}
@@ -10,21 +10,21 @@ use Rattle.fractal_vt.specs.Keys.{key_cmp}
 use Rattle.fractal_vt.specs.Least.{IsFirstLeast}
 use Rattle.fractal_vt.proofs.Proved.{key_cmp_total}
 use Rattle.rv_core.specs.LegValue.{LegValue}
-use Rattle.spill_store.specs.SpilledTasks.{Spilled, open_key, IsLeastInBlock, TakesLeast}
+use Rattle.spill_store.specs.SpilledTasks.{Spilled, open_key, IsLeastInBlock}
 use Rattle.task_desc.specs.declared.desc.Name.{Name}
 use Rattle.task_desc.specs.declared.desc.Spawn.{Spawn}
 use Rattle.spec_state.specs.declared.task.Creator.{Creator}
 use Rattle.spec_state.specs.declared.task.Creator.TheVariants.{Committed, Live}
 use Rattle.spec_state.specs.declared.task.Task.{Task}
-use Rattle.spec_state.specs.View.{View, task_at, queue_at, block_at, queued_last, ChangesTask}
+use Rattle.spec_state.specs.View.{View, task_at, block_at, queued_last, ChangesTask}
 use Rattle.spec_state.specs.Tasks.{Descriptor, idle_task, spilled_descriptor, child_descriptor}
 use Rattle.spec_state.specs.Changes.{Enqueues, task_past_leg}
-use Rattle.spec_state.specs.Least.{IsHeir, HasName}
+use Rattle.spec_state.specs.Least.{HasName}
 use Rattle.spec_state.specs.Room.{Splits}
 use Rattle.spec_state.proofs.Proved.{one_least}
 use Rattle.spec_law.proofs.Tasks.Places.{get_contains}
-use Rattle.outcome_law.specs.Alike.{Renaming, inverse_of, renamed_creator, IsAlikeTask, IsAlikeAt, AreAlike}
-use Rattle.outcome_law.proofs.Alike.{Partner, partner, none_there, alike_turned}
+use Rattle.outcome_law.specs.Alike.{Renaming, renamed_creator, IsAlikeTask, IsAlikeAt, AreAlike}
+use Rattle.outcome_law.proofs.Alike.{partner}
 use Rattle.outcome_law.proofs.Aborts.{one_to}
 use Rattle.outcome_law.proofs.Anew.{with_new, named_so, HoldsTasks, alike_anew, keeps_name}
 use Rattle.outcome_law.proofs.Leasts.{block_too, name_too}
@@ -134,8 +134,8 @@ module _ (r : Renaming) (a b : View) (alike : AreAlike r a b) (holds : HoldsTask
       ≡ idle_task a.version (child_descriptor task spawn) (Live (record { 0 = s.to id }) (length task.spawns)) tile =
       (λ i. idle_task (version_same s a b now i) (child_descriptor (like.other_is i) spawn) (Live (record { 0 = sym own i }) (length (like.other_is i).spawns)) tile) in
       let tasks : (k : ℕ) → IsAlikeAt s.to (task_at a' k) (task_at b' (s.to k)) = λ k. elim (cases_eq k id) [
-        | inl here ↦ subst (λ u. IsAlikeAt s.to u (task_at b' (s.to k))) (sym (ap (task_at a') here ∙ one.parent))
-            (subst (λ u. IsAlikeAt s.to (Some (record (task_past_leg task leg) { spawns = task.spawns ++ spawn ∷ [] })) u) (sym (ap (λ j. task_at b' (s.to j)) here ∙ (ap (task_at b') own ∙ two.parent))) passed_on)
+        | inl here ↦ subst (λ u. IsAlikeAt s.to u (task_at b' (s.to k))) (sym (ap (task_at a') here ∙ one.creator))
+            (subst (λ u. IsAlikeAt s.to (Some (record (task_past_leg task leg) { spawns = task.spawns ++ spawn ∷ [] })) u) (sym (ap (λ j. task_at b' (s.to j)) here ∙ (ap (task_at b') own ∙ two.creator))) passed_on)
         | inr not_id ↦ elim (cases_eq k one.child) [
           | inl here ↦ subst (λ u. IsAlikeAt s.to u (task_at b' (s.to k))) (sym (ap (task_at a') here ∙ one.made))
               (subst (λ u. IsAlikeAt s.to (Some (idle_task a.version (child_descriptor task spawn) (Live (record { 0 = id }) (length task.spawns)) tile)) u)

@@ -34,7 +34,7 @@ module _ {N : Type 0} (image : ImageValue) (r : Renaming) (a b : View) (sound : 
   record_one (event.Dispatch tile) n m new new' seen seen' count commits one two = two ∙ ((λ i. record { deed = deed.Dispatch; tile = tile; line = None; aborted = count i; commits = commits i }) ∙ sym one)
   record_one (event.Step tile core leg) n m new new' seen seen' count commits one two =
       let same = takers image r a b sound sound' alike tile core leg one.0 two.0 one.1 two.1 one.2 two.2 in
-      let request = request_same image r a b sound sound' alike one.1 two.1 same.like leg in
+      let request = request_same r a b alike one.1 two.1 same.like leg in
       two.3 ∙ ((λ i. record { deed = deed_of (request i); tile = tile; line = line_of_request (settings_same r a b alike i).line (request i); aborted = count i; commits = commits i }) ∙ sym one.3)
   record_one (event.Abort tile) n m new new' seen seen' count commits one two = two ∙ ((λ i. record { deed = deed.Abort; tile = tile; line = None; aborted = count i; commits = commits i }) ∙ sym one)
   record_one event.Commit n m new new' seen seen' count commits one two =

@@ -96,7 +96,7 @@ module _ (r : Renaming) (a b : View) (alike : AreAlike r a b) where
       let l = later_too task task' same k is.other is.later in
       record { other = l.y; later = l.is; has_line = line_too write is.other l.y line l.alike is.has_line }
 
--- the latest of a kind is the latest of the kind of the partners
+-- the partner of the latest of a kind is the latest of the kind of the partners
 pub latest_too : (r : Renaming) (kind kind' : ℕ → Task → Type 0)
     → ((k : ℕ) (x : Task) → kind k x → Too r.to kind' k x) → ((k : ℕ) (x : Task) → kind' k x → Too r.from kind k x)
     → (k : ℕ) (x : Task) → IsLatest kind k x → Too r.to (IsLatest kind') k x

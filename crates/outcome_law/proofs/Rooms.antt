@@ -28,7 +28,7 @@ use Rattle.outcome_law.proofs.Moves.{movable_too, coalesces_alike}
 use Rattle.outcome_law.proofs.Queries.{Too, is_queued_too, on_core_too, is_finished_too, free_core_too, latest_too}
 use Rattle.outcome_law.proofs.Picks.{latest_one, task_one}
 
--- who asks, under the other name
+-- who asks, under the other id
 abbrev pub asker_too : (ℕ → ℕ) → Asker → Asker
 asker_too to (Enqueuer id) = Enqueuer (to id)
 asker_too to Splitter = Splitter
@@ -53,14 +53,14 @@ module _ (r : Renaming) (a b : View) (alike : AreAlike r a b) where
   pub queue_length : (tile : ℕ) → length (queue_at b tile) ≡ length (queue_at a tile)
   queue_length tile = ap length (queue_too r a b alike tile) ∙ length-map (queue_at a tile) r.to
 
-  pub room_is : b.settings.task_queue ≡ a.settings.task_queue
-  room_is = ap (λ v. v.settings.task_queue) alike.frame
+  pub queue_size_is : b.settings.task_queue ≡ a.settings.task_queue
+  queue_size_is = ap (λ v. v.settings.task_queue) alike.frame
 
   pub has_room_too : (tile : ℕ) → QueueHasRoom a tile → QueueHasRoom b tile
-  has_room_too tile free = let n = queue_length tile in let m = room_is in omega arith
+  has_room_too tile free = let n = queue_length tile in let m = queue_size_is in omega arith
 
   pub full_too : (tile : ℕ) → IsFull a tile → IsFull b tile
-  full_too tile full = let n = queue_length tile in let m = room_is in omega arith
+  full_too tile full = let n = queue_length tile in let m = queue_size_is in omega arith
 
   pub asks_too : (tile : ℕ) (asker : Asker) → IsLeastAsker a tile asker → IsLeastAsker b tile (asker_too r.to asker)
   asks_too tile (Enqueuer id) is = the_least_too r a b alike id is
@@ -80,7 +80,7 @@ enqueuer_back r k = ap Enqueuer (r.forth k)
 same_enqueuer : (k j : ℕ) → Enqueuer k ≡ Enqueuer j → k ≡ j
 same_enqueuer k j e = cc
 
--- who asks is this one where it is so under the other names
+-- who asks is this one where it is so under the other ids
 asker_is : (r : Renaming) (asker : Asker) (k : ℕ) → asker_too r.to asker ≡ Enqueuer (r.to k) → asker ≡ Enqueuer k
 asker_is r (Enqueuer id) k e = ap Enqueuer (one_to r id k (same_enqueuer (r.to id) (r.to k) e))
 asker_is r Splitter k e = absurd (cc (e))

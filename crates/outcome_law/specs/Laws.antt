@@ -55,7 +55,8 @@ OutcomeIsOne N =
 abbrev pub HasMemory : Applied → Type 0
 HasMemory applied = applied.reply ≢ reply.Memory
 
--- the same events on sound books that are alike have the same answers, and leave books that are alike
+-- the same events on sound books that are alike have the same answers, want of memory aside, and leave books that
+-- are alike
 abbrev pub HistoryIsOne : Type 0 → Type 0
 HistoryIsOne N =
     (image : ImageValue) (old other_old new other_new : BookView) (events : List (Event N))

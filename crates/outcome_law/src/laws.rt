@@ -1,4 +1,4 @@
-//! Laws of views that are alike. Each is the contract of a function that does nothing.
+//! Laws of views and books that are alike. Each is the contract of a function that does nothing.
 
 ghost use Rattle.outcome_law.specs.Laws.{CloseIsOne, EndIsAlike, HistoryIsOne, LeastRunIsOne, OutcomeIsOne};
 ghost use Rattle.outcome_law.specs.Laws.{OpeningIsOne, PlayIsOne, ScriptIsOne};
@@ -16,7 +16,8 @@ pub fn outcome_is_one<N: Naming>()
     ensures { OutcomeIsOne N }
 {}
 
-/// The same events have the same answers, and leave books that are alike.
+/// The same events on sound books that are alike have the same answers, want of memory aside, and leave books that
+/// are alike.
 pub fn history_is_one<N: Naming>()
     ensures { HistoryIsOne N }
 {}

@@ -105,7 +105,8 @@ static LISTING: [(u32, &str); 93] = [
     (0x8330_000f, "fence"),
 ];
 
-/// Words outside the table: of other extensions, by the same assembler, and words of the table with one field changed.
+/// Words outside the table: of other extensions, by the same assembler; all zeros and all ones; and words of the table
+/// with one field changed.
 static OUTSIDE: [(u32, &str); 56] = [
     (0x0003_3283, "ld x5,0(x6)"),
     (0x0003_6283, "lwu x5,0(x6)"),
@@ -223,7 +224,7 @@ fn reg_op_name(op: RegOp) -> &'static str {
     }
 }
 
-/// An offset with its sign, as it follows the dot of the current place.
+/// An offset with its sign, as it follows the dot, which is the current address.
 fn offset_text(alloc: Global, imm: i32) -> Result<String, AllocError> {
     if imm < 0 {
         format!(in alloc; ".{imm}")
@@ -388,7 +389,7 @@ static GOING_ON: [(u32, u32, u32, u32, u32, u8, u32); 6] = [
     ),
 ];
 
-/// A word at a pc with a value of x5, which goes to a misaligned place.
+/// A word at a pc with a value of x5, whose target is misaligned.
 static MISALIGNED: [(u32, u32, u32); 2] = [
     // jalr x1,2(x5)
     (0x0022_80e7, 0x0001_0008, 0x0001_0010),

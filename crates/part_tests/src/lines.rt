@@ -5,7 +5,7 @@ use line_table::{Exact, Filter, Signature, signatures_agree};
 use std::alloc::{AllocError, Global};
 use std::test::Fail;
 
-/// Whether the lines 3, 5 and 4 are touched, and whether they are wrote.
+/// Whether the lines 3, 5 and 4 were touched, and whether they were written.
 fn answers<F: Filter>(filter: &F) -> [(bool, bool); 3] {
     [3, 5, 4].map(|line| (filter.touched(line), filter.wrote(line)))
 }

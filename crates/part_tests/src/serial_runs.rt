@@ -99,7 +99,7 @@ const FINDS_ZERO: [u32; 7] = [
 ];
 
 /// A task that enqueues as many children as its first argument tells, each of which ends at once.
-const MOTHER: [u32; 10] = [
+const CREATOR: [u32; 10] = [
     0x0005_0493,
     0x0001_0537,
     0x0205_0513,
@@ -233,7 +233,7 @@ static RUNS: [Run; 14] = [
     },
     Run {
         what: "64 children in version 1",
-        text: &MOTHER,
+        text: &CREATOR,
         tasks: &[0x0001_0000, 0, 64, 0, 0],
         version: 1,
         commits: MAX_COMMITS,
@@ -244,7 +244,7 @@ static RUNS: [Run; 14] = [
     },
     Run {
         what: "65 children in version 1",
-        text: &MOTHER,
+        text: &CREATOR,
         tasks: &[0x0001_0000, 0, 65, 0, 0],
         version: 1,
         commits: MAX_COMMITS,
@@ -262,7 +262,7 @@ static RUNS: [Run; 14] = [
     },
     Run {
         what: "65 children in version 2",
-        text: &MOTHER,
+        text: &CREATOR,
         tasks: &[0x0001_0000, 0, 65, 0, 0],
         version: 2,
         commits: MAX_COMMITS,
@@ -273,7 +273,7 @@ static RUNS: [Run; 14] = [
     },
     Run {
         what: "256 children in version 2",
-        text: &MOTHER,
+        text: &CREATOR,
         tasks: &[0x0001_0000, 0, 256, 0, 0],
         version: 2,
         commits: MAX_COMMITS,
@@ -284,7 +284,7 @@ static RUNS: [Run; 14] = [
     },
     Run {
         what: "257 children in version 2",
-        text: &MOTHER,
+        text: &CREATOR,
         tasks: &[0x0001_0000, 0, 257, 0, 0],
         version: 2,
         commits: MAX_COMMITS,

@@ -76,7 +76,7 @@ fn a_sink_goes_on_behind_a_failed_call_and_fails_where_it_is_full(
 }
 
 /// How many bytes a sink takes a call at most, which of its calls fails, and how many of ten bytes it has in the end.
-/// No more calls are made than it wants for all ten, so none is handed less than it takes.
+/// No more calls are made than it wants for all ten, so each is handed as much as it takes of what is left.
 static HANDED: [(usize, u32, usize); 8] = [
     (10, 1, 0),
     (10, 2, 10),

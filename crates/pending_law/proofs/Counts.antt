@@ -1,5 +1,5 @@
--- How often a name stands in a list of pending tasks.
-use Rattle.std.proofs.Common.{◌≡◌, ◌≢◌, refl, sym, ap, ◌∙◌, subst, zero, suc, ℕ, ◌+◌, ◌≤◌, ◌<◌, ◌==◌, ◌&&◌, Bool, true, false, List, [], ◌∷◌, ◌++◌, length, All, AllPairs, ◌⊎◌, inl, inr, sum_by, zero-add, slice_index_or, arith}
+-- How often a name stands in a list of pending tasks, and what holds of lists in which none stands twice.
+use Rattle.std.proofs.Common.{◌≡◌, refl, sym, ap, ◌∙◌, subst, zero, suc, ℕ, ◌+◌, ◌≤◌, ◌==◌, ◌&&◌, Bool, true, false, List, [], ◌∷◌, ◌++◌, AllPairs, ◌⊎◌, inl, inr, sum_by, zero-add, slice_index_or, arith}
 use Rattle.std.specs.Prelude.{IsPermutation}
 use Rattle.std.specs.List.{AllByRecursion}
 use Rattle.std.specs.List.Sorted.{IsSortedBy}
@@ -123,12 +123,12 @@ strictly (p ∷ ps) sorted few =
 -- ---- the same tasks
 
 -- the task stands behind these and before those
-record IsSplit (qs : List Pending) (p : Pending) : Type 0 where
+record IsParted (qs : List Pending) (p : Pending) : Type 0 where
   pub front : List Pending
   pub back : List Pending
   pub is : qs ≡ front ++ p ∷ back
 
-split_at : (qs : List Pending) (p : Pending) → Holds qs p → IsSplit qs p
+split_at : (qs : List Pending) (p : Pending) → Holds qs p → IsParted qs p
 split_at [] p held = absurd held
 split_at (q ∷ qs) p (inl same) = record { front = []; back = qs; is = ap (λ x. x ∷ qs) same }
 split_at (q ∷ qs) p (inr held) =
@@ -161,7 +161,7 @@ permuted [] [] first second there back = IsPermutation-refl []
 permuted [] (q ∷ qs) first second there back = absurd (back q (inl refl))
 permuted (p ∷ ps) qs first second there back = go (split_at qs p (there p (inl refl))) (permuted ps)
   where
-    go : IsSplit qs p
+    go : IsParted qs p
         → ((rs : List Pending) → AreApart ps → AreApart rs → ((r : Pending) → Holds ps r → Holds rs r) → ((r : Pending) → Holds rs r → Holds ps r) → IsPermutation ps rs)
         → IsPermutation (p ∷ ps) qs
     go split rest =

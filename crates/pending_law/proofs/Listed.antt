@@ -1,5 +1,5 @@
 -- The pending tasks of a view, and those of the serial machine's bags, as lists: which they are, and how often a name stands there.
-use Rattle.std.proofs.Common.{◌≡◌, ◌≢◌, refl, sym, ap, ◌∙◌, subst, zero, suc, ℕ, ◌+◌, ◌≤◌, ◌==◌, nat_le, Bool, true, false, List, [], ◌∷◌, ◌++◌, length, map, Option, Some, None, slice_index_or, option_map, if◌then◌else◌, ◌⊎◌, inl, inr, zero-add, arith}
+use Rattle.std.proofs.Common.{◌≡◌, refl, sym, ap, ◌∙◌, subst, zero, suc, ℕ, ◌+◌, ◌≤◌, nat_le, Bool, true, false, List, [], ◌∷◌, ◌++◌, length, map, Option, Some, None, slice_index_or, option_map, if◌then◌else◌, ◌⊎◌, inl, inr, zero-add, arith}
 use Rattle.std.specs.List.{filter_map, cons_option}
 use Rattle.std.proofs.lemmas.Bool.Decides.{nat_tests}
 use Rattle.task_desc.specs.declared.desc.Desc.{Desc}
@@ -20,8 +20,8 @@ use Rattle.spec_state.specs.View.{View, task_at}
 use Rattle.spec_state.specs.Tasks.{depth_of}
 use Rattle.spec_state.specs.Groups.{all_spilled, bag_creator, bag_spilled, bag_task, bag_tasks, bags_spilled}
 use Rattle.spec_state.specs.Pendings.{all_pending, pending_at, pending_by, pending_queued, pending_spilled, pendings_in, spilled_pending}
-use Rattle.spec_law.proofs.Proved.{mapped_some}
 use Rattle.pending_law.proofs.Counts.{AreApart, count, count-append, Holds, named, named_so}
+use Rattle.fractal_vt.proofs.Proved.{mapped_some}
 
 held_cons : (o : Option Pending) (ps : List Pending) (p : Pending) → Holds ps p → Holds (cons_option o ps) p
 held_cons None ps p held = held
@@ -192,7 +192,7 @@ module _ (turns : ℕ) where
               omega (arith, others)
           by false other = omega (arith, rest)
 
-  -- the name is that of none of the spilled tasks, or of one of them
+  -- the name is that of none of those that pend, or of a spilled task
   pub some_spilled : (name : Name) (ss : List Spilled)
       → (count name (spilled_pending turns ss) ≡ 0) ⊎ ((e : SpilledBagTask) × In e (map bag_spilled ss) × (e.task.name ≡ name))
   some_spilled name [] = inl refl

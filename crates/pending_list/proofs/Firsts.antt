@@ -10,7 +10,7 @@ use Rattle.pending_list.specs.Pending.{earlier, first_least}
 use Rattle.pending_list.specs.Slots.{present, slot_at, vacant, rank_of, AreRanked}
 use Rattle.pending_list.specs.Tournament.{no_rank, IsLeastOf}
 
--- the slot at a place is there, those before it have greater timestamps, and those behind it none that is smaller
+-- a task is there at this place, those before it have greater timestamps, and those behind it none that is smaller
 pub record IsFirstAt (xs : List Slot) (at : ℕ) : Type 0 where
   pub within : at < length xs
   pub here : (slot_at xs at).here ≡ true
@@ -77,10 +77,11 @@ pub record HasFirst (xs : List Slot) (place : ℕ) : Type 0 where
   pub some : place < length xs → first_least (present xs) ≡ Some (slot_at xs place).task
   pub none : length xs ≤ place → first_least (present xs) ≡ None
 
--- by ranks, a task comes first where its timestamp is smaller, or its place
-pub first_of_least : (xs : List Slot) (ranks : List ℕ) (room rank : ℕ) → AreRanked xs ranks room → IsLeastOf ranks rank
+-- the lower half of the least rank is the place of the first of the tasks with the least timestamp, if there is one
+pub first_of_least : (xs : List Slot) (ranks : List ℕ) (capacity rank : ℕ) → AreRanked xs ranks capacity
+    → IsLeastOf ranks rank
     → HasFirst xs (rank % 2 ^ 32)
-first_of_least xs ranks room rank is least = go least.stands where
+first_of_least xs ranks capacity rank is least = go least.stands where
   above : (k : ℕ) → k < length xs → (slot_at xs k).here ≡ true → rank ≤ (slot_at xs k).task.ts * 2 ^ 32 + k
   above k inside here =
       let within = is.within in

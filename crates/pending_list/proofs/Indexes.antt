@@ -34,10 +34,10 @@ first_not_before name xs place within point = record {
 }
 
 -- a name behind those of the tasks that are there is behind those of all slots
-each_before : (name : Name) (xs : List Slot) (ranks : List ℕ) (room : ℕ) → AreRanked xs ranks room
+each_before : (name : Name) (xs : List Slot) (ranks : List ℕ) (capacity : ℕ) → AreRanked xs ranks capacity
     → AllBefore name (present xs)
     → (k : ℕ) → k < length xs → name_before (slot_at xs k).task.name name ≡ true
-each_before name xs ranks room is all k inside = go (cases_eq k (length xs - 1)) where
+each_before name xs ranks capacity is all k inside = go (cases_eq k (length xs - 1)) where
   last : name_before (slot_at xs (length xs - 1)).task.name name ≡ true
   last = present-All (λ t. name_before t.name name ≡ true) xs all (length xs - 1) (omega arith) (is.ends (omega arith))
 
@@ -58,11 +58,11 @@ push_other xs s k other = go (cases_lt k (length xs)) where
       get_or_past (xs ++ s ∷ []) k vacant (omega (arith, length_push xs s)) ∙ sym (get_or_past xs k vacant past)
 
 -- a task joins at the end
-pub pushed : (xs ys : List Slot) (ranks after : List ℕ) (room more : ℕ) (s : Slot) → AreRanked xs ranks room
+pub pushed : (xs ys : List Slot) (ranks after : List ℕ) (capacity more : ℕ) (s : Slot) → AreRanked xs ranks capacity
     → length xs < length ranks
     → s.here ≡ true → s.task.ts < 2 ^ 32 → AllBefore s.task.name (present xs) → ys ≡ xs ++ s ∷ []
-    → after ≡ set ranks (length xs) (s.task.ts * 2 ^ 32 + length xs) → room ≤ more → AreRanked ys after more
-pushed xs ys ranks after room more s is some here stamp all joined ranked wider =
+    → after ≡ set ranks (length xs) (s.task.ts * 2 ^ 32 + length xs) → capacity ≤ more → AreRanked ys after more
+pushed xs ys ranks after capacity more s is some here stamp all joined ranked wider =
     subst (λ zs. AreRanked zs after more) (sym joined)
     (subst (λ rs. AreRanked (xs ++ s ∷ []) rs more) (sym ranked) index) where
       longer : length (xs ++ s ∷ []) ≡ length xs + 1
@@ -101,7 +101,7 @@ pushed xs ys ranks after room more s is some here stamp all joined ranked wider 
       rises i j order inside (inl end) =
           ap (λ t. name_before t.task.name (slot_at (xs ++ s ∷ []) j).task.name) (before_end i (omega arith))
           ∙ ap (λ t. name_before (slot_at xs i).task.name t.task.name) (at_end j end)
-          ∙ each_before s.task.name xs ranks room is all i (omega arith)
+          ∙ each_before s.task.name xs ranks capacity is all i (omega arith)
       rises i j order inside (inr other) =
           ap (λ t. name_before t.task.name (slot_at (xs ++ s ∷ []) j).task.name) (before_end i (omega (arith, longer)))
           ∙ ap (λ t. name_before (slot_at xs i).task.name t.task.name) (push_other xs s j other)
@@ -118,7 +118,7 @@ pushed xs ys ranks after room more s is some here stamp all joined ranked wider 
         ends = λ some. ap (λ t. t.here) (at_end (length (xs ++ s ∷ []) - 1) (omega (arith, longer))) ∙ here;
       }
 
--- the vacant slots at the end are dropped
+-- where the vacant slots at the end are dropped, the same tasks are there
 pub trimmed_same : (xs ys : List Slot) → IsTrimmed xs ys → present ys ≡ present xs
 trimmed_same xs ys is =
     sym (append-nil (present ys))
@@ -131,11 +131,11 @@ trimmed_same xs ys is =
     gone k = ap (λ s. s.here) (get_or-drop (length ys) xs k vacant) ∙ is.vacant (length ys + k) (omega arith)
 
 -- a task leaves its slot
-pub left_slot : (name : Name) (xs ys zs : List Slot) (ranks after : List ℕ) (room more at : ℕ) (s : Slot)
-    → AreRanked xs ranks room
+pub left_slot : (name : Name) (xs ys zs : List Slot) (ranks after : List ℕ) (capacity more at : ℕ) (s : Slot)
+    → AreRanked xs ranks capacity
     → IsPlaceOfName name xs at → s.here ≡ false → s.task ≡ (slot_at xs at).task → ys ≡ set xs at s → IsTrimmed ys zs
-    → after ≡ set ranks at no_rank → room ≤ more → AreRanked zs after more
-left_slot name xs ys zs ranks after room more at s is place gone kept set_is trimmed ranked wider = record {
+    → after ≡ set ranks at no_rank → capacity ≤ more → AreRanked zs after more
+left_slot name xs ys zs ranks after capacity more at s is place gone kept set_is trimmed ranked wider = record {
   within = (let within = is.within in let fewer = trimmed.fewer in omega (arith, long, wide));
   held = (let held = is.held in omega (arith, wide));
   few = (let few = is.few in omega (arith, wide));

@@ -7,7 +7,7 @@ use Rattle.pending_list.specs.declared.task.PendingTask.{PendingTask}
 -- the pending tasks, and how many more can join them before memory is taken again
 pub record PendingValue : Type 0 where
   pub tasks : List PendingTask
-  pub room : ℕ
+  pub spare : ℕ
 
 -- whether a task has a name
 abbrev pub is_named : Name → PendingTask → Bool
@@ -30,7 +30,7 @@ name_before a b = nat_lt a.creator b.creator || ((a.creator == b.creator) && nat
 abbrev pub AllBefore : Name → List PendingTask → Type 0
 AllBefore name tasks = All (λ t. name_before t.name name ≡ true) tasks
 
--- the second task where its timestamp is smaller
+-- the second task where its timestamp is smaller or there is no first, and else the first
 abbrev pub earlier : Option PendingTask → Option PendingTask → Option PendingTask
 earlier None found = found
 earlier (Some a) None = Some a

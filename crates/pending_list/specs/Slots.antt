@@ -62,9 +62,9 @@ abbrev pub rank_of : ℕ → Slot → ℕ
 rank_of k slot = if slot.here then slot.task.ts * 2 ^ 32 + k else no_rank
 
 -- slots in order, and the rank of each; behind them is no task
-pub record AreRanked (slots : List Slot) (ranks : List ℕ) (room : ℕ) : Type 0 where
+pub record AreRanked (slots : List Slot) (ranks : List ℕ) (capacity : ℕ) : Type 0 where
   pub within : length slots ≤ length ranks
-  pub held : length ranks ≤ room
+  pub held : length ranks ≤ capacity
   pub few : length ranks < 2 ^ 32
   pub stamps : (k : ℕ) → k < length slots → (slot_at slots k).task.ts < 2 ^ 32
   pub ranked : (k : ℕ) → k < length ranks → slice_index_or ranks k no_rank ≡ rank_of k (slot_at slots k)

@@ -35,7 +35,7 @@ impl Model for PendingList {
 
     ghost Value = { PendingValue };
 
-    ghost view = { λ p. record { tasks = present p.slots.items; room = length p.ranks - length p.slots.items } };
+    ghost view = { λ p. record { tasks = present p.slots.items; spare = length p.ranks - length p.slots.items } };
 
     ghost invariant = { λ p. AreRanked p.slots.items p.ranks (vec_capacity p.slots) };
 }
@@ -43,7 +43,7 @@ impl Model for PendingList {
 impl PendingList {
     /// No tasks, and no memory for any.
     pub fn new(alloc: Global) -> PendingList
-        ensures { result ≡ record { tasks = []; room = 0 } }
+        ensures { result ≡ record { tasks = []; spare = 0 } }
     {
         PendingList {
             alloc,
@@ -53,12 +53,12 @@ impl PendingList {
     }
 
     /// No tasks, with memory for so many.
-    fn with_spare(alloc: Global, room: usize) -> Result<PendingList, AllocError>
-        requires { room < 2 ^ 32 }
-        ensures { IfOk result (λ list. list ≡ record { tasks = []; room = room }) }
+    fn with_spare(alloc: Global, places: usize) -> Result<PendingList, AllocError>
+        requires { places < 2 ^ 32 }
+        ensures { IfOk result (λ list. list ≡ record { tasks = []; spare = places }) }
     {
-        let slots = Vec::with_capacity(alloc, room)?;
-        let ranks = Tournament::with_width(alloc, room as u32)?;
+        let slots = Vec::with_capacity(alloc, places)?;
+        let ranks = Tournament::with_width(alloc, places as u32)?;
         Ok(PendingList {
             alloc,
             slots,
@@ -68,7 +68,7 @@ impl PendingList {
 
     /// How many tasks can join before memory is taken again.
     pub fn spare_capacity(&self) -> usize
-        ensures { result ≡ self.now.room }
+        ensures { result ≡ self.now.spare }
     {
         self.ranks.len() - self.slots.len()
     }
@@ -85,7 +85,7 @@ impl PendingList {
     /// refused as out of memory.
     pub fn reserve(&mut self, more: usize) -> Result<(), AllocError>
         ensures tasks { self.new.tasks ≡ self.old.tasks }
-        ensures room { OnOk result (more ≤ self.new.room) }
+        ensures spare { OnOk result (more ≤ self.new.spare) }
         ensures unchanged { OnErr result (self.new ≡ self.old) }
     {
         if self.spare_capacity() < more {
@@ -97,7 +97,7 @@ impl PendingList {
     /// The same tasks in fresh slots, with memory for so many more.
     fn larger_list(&self, more: usize) -> Result<PendingList, AllocError>
         ensures tasks { IfOk result (λ list. list.tasks ≡ self.now.tasks) }
-        ensures room { IfOk result (λ list. more ≤ list.room) }
+        ensures spare { IfOk result (λ list. more ≤ list.spare) }
     {
         let live = count(&self.slots);
         let width = live.saturating_add(live.max(more));
@@ -111,10 +111,10 @@ impl PendingList {
 
     /// A task joins at the end. No memory.
     pub fn push(&mut self, task: PendingTask)
-        requires room { 0 < self.old.room }
+        requires spare { 0 < self.old.spare }
         requires later { AllBefore task.name self.old.tasks }
         ensures tasks { self.new.tasks ≡ self.old.tasks ++ task ∷ [] }
-        ensures room { self.new.room + 1 ≡ self.old.room }
+        ensures spare { self.new.spare + 1 ≡ self.old.spare }
     {
         let place = self.slots.len();
         self.ranks.set(place, rank(task.ts, place));
@@ -141,7 +141,7 @@ impl PendingList {
     /// The task of a name leaves, if it is pending. No memory.
     pub fn remove(&mut self, name: Name)
         ensures tasks { self.new.tasks ≡ without_name name self.old.tasks }
-        ensures room { self.old.room ≤ self.new.room }
+        ensures spare { self.old.spare ≤ self.new.spare }
     {
         if let Some(place) = place_of(&self.slots, name, slot_of(self.ranks.least())) {
             self.slots[place].here = false;
@@ -181,9 +181,9 @@ fn slot_of(rank: u64) -> usize
 fn copy(slots: &[Slot], list: &mut PendingList)
     requires rises { NamesRise slots.now }
     requires empty { list.old.tasks ≡ [] }
-    requires room { length (present slots.now) ≤ list.old.room }
+    requires spare { length (present slots.now) ≤ list.old.spare }
     ensures tasks { list.new.tasks ≡ present slots.now }
-    ensures room { list.new.room + length (present slots.now) ≡ list.old.room }
+    ensures spare { list.new.spare + length (present slots.now) ≡ list.old.spare }
 {
     for slot in slots {
         if slot.here {

@@ -18,7 +18,7 @@ pub struct Outcome {
     /// The bytes that the run emitted; empty where there is none.
     pub output: Bytes,
     /// The end of the run, or of the report that was accepted, or how the run stands where its acts end; None where
-    /// there is none of these, and where memory ran out or a sink failed on the way.
+    /// there is none of these, where memory ran out, and where the sink failed in a call of `fractal_watch`.
     pub end: Option<End>,
     /// How many events made the run, up to 2^64 - 1; None where no image was run, and where workers ran it.
     pub steps: Option<u64>,

@@ -5,16 +5,15 @@ use Rattle.std.specs.List.{list_all, flat_map}
 use Rattle.std.specs.Char.{is_ascii_digit}
 use Rattle.std.specs.Int.{IsInRange}
 use Rattle.std.specs.Str.{bytes_eq}
-use Rattle.std.proofs.lemmas.Bool.{eqb-true, and_parts}
+use Rattle.std.proofs.lemmas.Bool.{and_parts, and_right, eqb-true}
 use Rattle.std.proofs.lemmas.Str.Parse.{not_in_digits}
 use Rattle.std.proofs.lemmas.List.{take_at, drop_at}
 use Rattle.report_text.specs.Hex.{byte_hex, word_hex}
 use Rattle.text_lines.specs.Lines.{cut, behind, lines_of}
 use Rattle.text_lines.specs.Numerals.{field}
-use Rattle.text_lines.proofs.Proved.{lines_cut, own, all_digits, number_back, Free, free_both}
-use Rattle.text_lines.proofs.Proved.{cut_free}
+use Rattle.text_lines.proofs.Proved.{lines_cut, own, all_digits, number_back, IsWithout, without_both}
+use Rattle.text_lines.proofs.Proved.{cut_without}
 use Rattle.report_text.proofs.HexBack.{digit-free}
-use Rattle.fractal_vt.proofs.Proved.{and_false}
 
 -- a list that has no c is cut off whole before a c
 cut_before : (c : ℕ) (xs rest : List ℕ) → ((k : ℕ) → k < length xs → get_or xs k 0 ≢ c) → cut c (xs ++ c ∷ rest) ≡ Some (xs, rest)
@@ -42,33 +41,33 @@ digit_free : (x : ℕ) (b : Bool) → (x == 10) ≡ b → is_ascii_digit x ≡ t
 digit_free x false is digit = refl
 digit_free x true is digit = let bad : is_ascii_digit 10 ≡ true = subst (λ k. is_ascii_digit k ≡ true) (eqb-true x 10 is) digit in cc
 
-digits_free : (xs : List ℕ) → list_all is_ascii_digit xs ≡ true → Free 10 xs
+digits_free : (xs : List ℕ) → list_all is_ascii_digit xs ≡ true → IsWithout 10 xs
 digits_free [] h = refl
 digits_free (x ∷ xs) h = let both = and_parts (is_ascii_digit x) _ h in let e : (x == 10) ≡ false = digit_free x (x == 10) refl both.0 in rw (e, digits_free xs both.1) refl
 
-pub number_free : (n : ℕ) → n < 2 ^ 32 → Free 10 (decimal n)
+pub number_free : (n : ℕ) → n < 2 ^ 32 → IsWithout 10 (decimal n)
 number_free n small = digits_free (decimal n) (all_digits n (omega (arith, small)))
 
-pub byte_free : (c b : ℕ) → c < 48 → Free c (byte_hex b)
+pub byte_free : (c b : ℕ) → c < 48 → IsWithout c (byte_hex b)
 byte_free c b lt = rw (digit-free c (b / 16) lt, digit-free c (b % 16) lt) refl
 
-pub bytes_free : (c : ℕ) (bytes : List ℕ) → c < 48 → Free c (flat_map byte_hex bytes)
+pub bytes_free : (c : ℕ) (bytes : List ℕ) → c < 48 → IsWithout c (flat_map byte_hex bytes)
 bytes_free c [] lt = refl
-bytes_free c (b ∷ bs) lt = free_both c (byte_hex b) (flat_map byte_hex bs) (byte_free c b lt) (bytes_free c bs lt)
+bytes_free c (b ∷ bs) lt = without_both c (byte_hex b) (flat_map byte_hex bs) (byte_free c b lt) (bytes_free c bs lt)
 
-pub word_free : (c w : ℕ) → c < 48 → Free c (word_hex w)
+pub word_free : (c w : ℕ) → c < 48 → IsWithout c (word_hex w)
 word_free c w lt =
     let b3 = byte_hex (w / 2 ^ 24) in
     let b2 = byte_hex (w / 2 ^ 16 % 2 ^ 8) in
     let b1 = byte_hex (w / 2 ^ 8 % 2 ^ 8) in
     let b0 = byte_hex (w % 2 ^ 8) in
-    free_both c (b3 ++ b2 ++ b1) b0
-    (free_both c (b3 ++ b2) b1 (free_both c b3 b2 (byte_free c (w / 2 ^ 24) lt) (byte_free c (w / 2 ^ 16 % 2 ^ 8) lt)) (byte_free c (w / 2 ^ 8 % 2 ^ 8) lt))
+    without_both c (b3 ++ b2 ++ b1) b0
+    (without_both c (b3 ++ b2) b1 (without_both c b3 b2 (byte_free c (w / 2 ^ 24) lt) (byte_free c (w / 2 ^ 16 % 2 ^ 8) lt)) (byte_free c (w / 2 ^ 8 % 2 ^ 8) lt))
     (byte_free c (w % 2 ^ 8) lt)
 
 -- a line with its newline, and more lines
-pub lines_on : (line rest : List ℕ) → Free 10 line → lines_of (line ++ 10 ∷ rest) ≡ line ∷ lines_of rest
-lines_on line rest free = lines_cut (line ++ 10 ∷ rest) line rest (cut_free 10 line rest free)
+pub lines_on : (line rest : List ℕ) → IsWithout 10 line → lines_of (line ++ 10 ∷ rest) ≡ line ∷ lines_of rest
+lines_on line rest free = lines_cut (line ++ 10 ∷ rest) line rest (cut_without 10 line rest free)
 
 bytes_eq-self : (xs : List ℕ) → bytes_eq xs xs ≡ true
 bytes_eq-self [] = refl
@@ -84,4 +83,4 @@ behind_front front rest =
 -- nothing stands behind a front that begins otherwise
 pub behind_other : (f x : ℕ) (front rest : List ℕ) → (x == f) ≡ false → behind (f ∷ front) (x ∷ rest) ≡ None
 unfolding behind
-behind_other f x front rest ne = rw (ne, and_false (nat_le (length (f ∷ front)) (length (x ∷ rest)))) refl
+behind_other f x front rest ne = rw (ne, and_right (nat_le (length (f ∷ front)) (length (x ∷ rest))) false refl) refl

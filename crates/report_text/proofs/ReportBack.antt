@@ -4,7 +4,7 @@ use Rattle.std.specs.Fmt.{decimal}
 use Rattle.std.specs.declared.option.Option.{Option}
 use Rattle.std.specs.Char.{is_ascii_digit}
 use Rattle.std.specs.List.{list_all, flat_map, enumerate_from, range_with_len, AllByRecursion}
-use Rattle.std.proofs.lemmas.Bool.{eqb-true, and_parts}
+use Rattle.std.proofs.lemmas.Bool.{and_parts, and_right, eqb-true}
 use Rattle.std.proofs.lemmas.Bool.Decides.{nat_tests}
 use Rattle.std.proofs.lemmas.Fmt.{decimal_nonempty}
 use Rattle.guest_image.specs.ImageValue.{ImageValue, IsImage}
@@ -17,7 +17,7 @@ use Rattle.report_text.specs.declared.limits.TheConstants.{MAX_ENTRIES, MAX_DEPT
 use Rattle.report_text.specs.declared.report.WindowWord.{WindowWord}
 use Rattle.report_text.specs.Hex.{byte_hex, word_hex, hex_digit, hex_bytes}
 use Rattle.text_lines.specs.Lines.{behind, lines_of, cut}
-use Rattle.text_lines.proofs.Proved.{all_digits, number_back, Free, free_both, cut_free}
+use Rattle.text_lines.proofs.Proved.{all_digits, number_back, IsWithout, without_both, cut_without}
 use Rattle.report_text.specs.Grammar.{entry_in, output_in, output_bytes, window_in, trap_in, end_in, onto_journal, onto_window, with_output, entries_at, window_at, report_of}
 use Rattle.report_text.specs.Report.{name_text, entry_line, entry_lines, output_digits, output_line, window_word, window_of, window_line, body_lines, end_line, report}
 use Rattle.report_text.specs.ReadBack.{IsName, EntryFits, TrapFits, EndFits, ReportReadsBack}
@@ -25,7 +25,6 @@ use Rattle.undo_log.specs.Number.{AreBytes}
 use Rattle.report_text.proofs.Steps.{onto_journal_both, onto_journal_none, entry_step, output_step, onto_window_both, onto_window_none, word_step}
 use Rattle.report_text.proofs.HexBack.{word-back, bytes-back}
 use Rattle.report_text.proofs.NumberBack.{field_back, space, dot, number_free, bytes_free, word_free, lines_on, behind_front, behind_other}
-use Rattle.fractal_vt.proofs.Proved.{and_false}
 
 -- ---- entries
 
@@ -49,21 +48,21 @@ entry_back n e small fits =
     ap (entry_in n) (entry_regrouped n e)
     ∙ rw (field_back n 32 _ (omega (arith, small)) space, field_back e.name.creator 46 _ fits.name.creator dot, field_back e.name.index 32 _ fits.name.index space, field_back e.depth 32 _ (omega (arith, fits.greatest)) space, number_back e.ts fits.ts, eq-eqb n n refl, few, least, greatest) refl
 
-name_free : (name : Name) → IsName name → Free 10 (name_text name)
+name_free : (name : Name) → IsName name → IsWithout 10 (name_text name)
 name_free name fits =
-    free_both 10 (decimal name.creator ++ codes ".") (decimal name.index)
-    (free_both 10 (decimal name.creator) (codes ".") (number_free name.creator fits.creator) refl)
+    without_both 10 (decimal name.creator ++ codes ".") (decimal name.index)
+    (without_both 10 (decimal name.creator) (codes ".") (number_free name.creator fits.creator) refl)
     (number_free name.index fits.index)
 
-entry_free : (n : ℕ) (e : Entry) → n ≤ MAX_ENTRIES → EntryFits e → Free 10 (entry_text n e)
+entry_free : (n : ℕ) (e : Entry) → n ≤ MAX_ENTRIES → EntryFits e → IsWithout 10 (entry_text n e)
 entry_free n e small fits =
     let a = decimal n ++ codes " " in
     let b = a ++ name_text e.name ++ codes " " in
     let c = b ++ decimal e.depth ++ codes " " in
-    let free_a = free_both 10 (decimal n) (codes " ") (number_free n (omega (arith, small))) refl in
-    let free_b = free_both 10 (a ++ name_text e.name) (codes " ") (free_both 10 a (name_text e.name) free_a (name_free e.name fits.name)) refl in
-    let free_c = free_both 10 (b ++ decimal e.depth) (codes " ") (free_both 10 b (decimal e.depth) free_b (number_free e.depth (omega (arith, fits.greatest)))) refl in
-    free_both 10 c (decimal e.ts) free_c (number_free e.ts fits.ts)
+    let free_a = without_both 10 (decimal n) (codes " ") (number_free n (omega (arith, small))) refl in
+    let free_b = without_both 10 (a ++ name_text e.name) (codes " ") (without_both 10 a (name_text e.name) free_a (name_free e.name fits.name)) refl in
+    let free_c = without_both 10 (b ++ decimal e.depth) (codes " ") (without_both 10 b (decimal e.depth) free_b (number_free e.depth (omega (arith, fits.greatest)))) refl in
+    without_both 10 c (decimal e.ts) free_c (number_free e.ts fits.ts)
 
 -- a digit is no o
 digit_other : (x : ℕ) (b : Bool) → (x == 111) ≡ b → is_ascii_digit x ≡ true → b ≡ false
@@ -102,7 +101,7 @@ entries_back n (e ∷ es) rest all few =
 two_digits : (x y : ℕ) (digits : List ℕ) (found : Option (List ℕ)) → hex_bytes (x ∷ y ∷ digits) ≡ found → output_bytes (x ∷ y ∷ digits) ≡ found
 two_digits x y digits found is =
     let some : (length (x ∷ y ∷ digits) == 0) ≡ false = grind (arith, nat_tests) in
-    rw (and_false (x == 45), some) is
+    rw (and_right (x == 45) false refl, some) is
 
 digits_back : (output : List ℕ) → AreBytes output → output_bytes (output_digits output) ≡ Some output
 digits_back [] all = refl
@@ -112,7 +111,7 @@ output_back : (output : List ℕ) → AreBytes output → output_in (codes "outp
 unfolding output_in
 output_back output all = rw (behind_front (codes "output ") (output_digits output)) (digits_back output all)
 
-digits_free : (output : List ℕ) → Free 10 (output_digits output)
+digits_free : (output : List ℕ) → IsWithout 10 (output_digits output)
 digits_free [] = refl
 digits_free (b ∷ bs) = bytes_free 10 (b ∷ bs) (omega arith)
 
@@ -121,7 +120,7 @@ unfolding output_line
 output_line_back n output rest all =
     let text = codes "output " ++ output_digits output in
     ap (λ t. entries_at n (lines_of t)) (append_assoc text (codes "\n") rest)
-    ∙ ap (entries_at n) (lines_on text rest (free_both 10 (codes "output ") (output_digits output) refl (digits_free output)))
+    ∙ ap (entries_at n) (lines_on text rest (without_both 10 (codes "output ") (output_digits output) refl (digits_free output)))
     ∙ output_step n text (lines_of rest) output (output_back output all)
 
 -- ---- the window
@@ -143,13 +142,13 @@ unfolding window_in
 window_back w fits =
     let words = word_hex w.addr ++ 32 ∷ word_hex w.value in
     let front : behind (codes "window ") (window_text w) ≡ Some words = behind_front (codes "window ") words in
-    let parts : cut 32 words ≡ Some (word_hex w.addr, word_hex w.value) = cut_free 32 (word_hex w.addr) (word_hex w.value) (word_free 32 w.addr (omega arith)) in
+    let parts : cut 32 words ≡ Some (word_hex w.addr, word_hex w.value) = cut_without 32 (word_hex w.addr) (word_hex w.value) (word_free 32 w.addr (omega arith)) in
     rw (front, parts, word-back w.addr fits.addr, word-back w.value fits.value) refl
 
-window_free : (w : WindowWord) → Free 10 (window_text w)
+window_free : (w : WindowWord) → IsWithout 10 (window_text w)
 window_free w =
-    free_both 10 (codes "window " ++ word_hex w.addr ++ codes " ") (word_hex w.value)
-    (free_both 10 (codes "window " ++ word_hex w.addr) (codes " ") (free_both 10 (codes "window ") (word_hex w.addr) refl (word_free 10 w.addr (omega arith))) refl)
+    without_both 10 (codes "window " ++ word_hex w.addr ++ codes " ") (word_hex w.value)
+    (without_both 10 (codes "window " ++ word_hex w.addr) (codes " ") (without_both 10 (codes "window ") (word_hex w.addr) refl (word_free 10 w.addr (omega arith))) refl)
     (word_free 10 w.value (omega arith))
 
 window_no_end : (w : WindowWord) → end_in (window_text w) ≡ None
@@ -182,7 +181,7 @@ unfolding trap_in trap_rest
 trap_back name cause pc fits =
     let least : nat_le 1 cause ≡ true = search (rules, fits.least) in
     let greatest : nat_le cause MAX_CAUSE ≡ true = search (rules, fits.greatest) in
-    rw (field_back cause 32 _ (omega (arith, fits.greatest)) space, cut_free 32 (word_hex pc) _ (word_free 32 pc (omega arith)), word-back pc fits.pc_fits, field_back name.creator 46 _ fits.name_fits.creator dot, number_back name.index fits.name_fits.index, least, greatest) refl
+    rw (field_back cause 32 _ (omega (arith, fits.greatest)) space, cut_without 32 (word_hex pc) _ (word_free 32 pc (omega arith)), word-back pc fits.pc_fits, field_back name.creator 46 _ fits.name_fits.creator dot, number_back name.index fits.name_fits.index, least, greatest) refl
 
 trap_text : Name → ℕ → ℕ → List ℕ
 trap_text name cause pc = codes "end trap " ++ decimal cause ++ codes " " ++ word_hex pc ++ codes " " ++ name_text name
@@ -200,14 +199,14 @@ trap_end : (rest : List ℕ) (end : End) → trap_in rest ≡ Some end → end_i
 unfolding end_in
 trap_end rest end is = rw (behind_front (codes "end trap ") rest) is
 
-trap_free : (name : Name) (cause pc : ℕ) → TrapFits name cause pc → Free 10 (trap_text name cause pc)
+trap_free : (name : Name) (cause pc : ℕ) → TrapFits name cause pc → IsWithout 10 (trap_text name cause pc)
 unfolding trap_text
 trap_free name cause pc fits =
     let a = codes "end trap " ++ decimal cause ++ codes " " in
     let b = a ++ word_hex pc ++ codes " " in
-    let free_a = free_both 10 (codes "end trap " ++ decimal cause) (codes " ") (free_both 10 (codes "end trap ") (decimal cause) refl (number_free cause (omega (arith, fits.greatest)))) refl in
-    let free_b = free_both 10 (a ++ word_hex pc) (codes " ") (free_both 10 a (word_hex pc) free_a (word_free 10 pc (omega arith))) refl in
-    free_both 10 b (name_text name) free_b (name_free name fits.name_fits)
+    let free_a = without_both 10 (codes "end trap " ++ decimal cause) (codes " ") (without_both 10 (codes "end trap ") (decimal cause) refl (number_free cause (omega (arith, fits.greatest)))) refl in
+    let free_b = without_both 10 (a ++ word_hex pc) (codes " ") (without_both 10 a (word_hex pc) free_a (word_free 10 pc (omega arith))) refl in
+    without_both 10 b (name_text name) free_b (name_free name fits.name_fits)
 
 one_end : (k : ℕ) (line : List ℕ) (end : End) → end_in line ≡ Some end → window_at k (line ∷ []) ≡ Ok ([], end)
 one_end k line end is = rw is refl

@@ -4,6 +4,7 @@ use Rattle.std.specs.declared.option.Option.{Option}
 use Rattle.std.specs.List.{list_any, slice_get}
 use Rattle.std.specs.Option.{unwrap_or}
 use Rattle.std.proofs.lemmas.Option.{slice_get_within, same_Some}
+use Rattle.std.proofs.lemmas.Bool.{or_parts}
 use Rattle.guest_image.specs.ImageValue.{ImageValue}
 use Rattle.task_desc.specs.declared.desc.Name.{Name}
 use Rattle.pending_list.specs.declared.task.PendingTask.{PendingTask}
@@ -88,13 +89,9 @@ find-none name (t ∷ ts) h = go (is_named name t) h (find-none name ts) where
   go true h ih = cc
   go false h ih = ih h
 
-first-false : (a b : Bool) → (a || b) ≡ false → a ≡ false
-first-false true b h = cc
-first-false false b h = refl
-
 unpending-none : (image : ImageValue) (budget : ℕ) (s : SerialState) (name : Name) (stack : List BagValue) → is_pending name stack ≡ false → turn_from_stack image budget s name stack ≡ None
 unpending-none image budget s name [] h = refl
-unpending-none image budget s name (bag ∷ outer) h = rw (find-none name bag.tasks (first-false _ _ h)) refl
+unpending-none image budget s name (bag ∷ outer) h = rw (find-none name bag.tasks (or_parts _ _ h).0) refl
 
 least-false : (ts u : ℕ) (tasks : List PendingTask) (b : Bool) → is_least ts tasks ≡ b → (is_least ts tasks ≡ true → ⊥) → is_least ts tasks ≡ false
 least-false ts u tasks true is never = absurd (never is)
@@ -133,7 +130,7 @@ entry-stops image commits budget journal line why w n after run lt below =
     (turn-in-run image budget (opening image) (take n journal) after w.state w.place w.entry run
     (slice_get-front journal w.place n lt ∙ w.stands) (subst P (sym (take-front journal w.place n lt)) w.run))
 
--- nor is a journal with a wrong entry a run
+-- nor is a journal with a wrong entry a run within the limit
 entry-run : (image : ImageValue) (commits budget : ℕ) (journal : List Entry) (line : ℕ) (why : Option TurnFault) (after : SerialState)
     → IsWrongEntry image commits budget journal line why → IsReplayed image commits budget journal after → ⊥
 entry-run image commits budget journal line why after w r =

@@ -9,13 +9,13 @@ use crate::hexing::byte_digits;
 use arrayvec::ArrayVec;
 use itoa::Buffer;
 
-/// Room for the longest line but that of the output.
+/// Space for the longest line but that of the output.
 pub type Line = ArrayVec<u8, 72>;
 
-/// Room for the digits of the output that go out at once.
+/// Space for the digits of the output that go out at once.
 pub(crate) type Digits = ArrayVec<u8, 512>;
 
-/// Adds a text for which there is room.
+/// Adds a text that fits.
 pub fn put(line: &mut Line, text: &[u8])
     requires { array_vec_len line.old + length text.now ≤ 72 }
     ensures text { line.new.items ≡ line.old.items ++ text.now }

@@ -1,5 +1,6 @@
 -- A run and one that went on from its saved image are one run.
 use Rattle.std.proofs.Common.{◌≡◌, refl, sym, ap, ◌∙◌, subst, ℕ, ◌<◌, ◌||◌, Bool, true, false, List, [], ◌∷◌, ◌++◌, length, map, All}
+use Rattle.std.proofs.lemmas.Bool.{or_left, or_right}
 use Rattle.std.specs.List.{list_any}
 use Rattle.guest_image.specs.ImageValue.{ImageValue, IsImage}
 use Rattle.task_desc.specs.declared.desc.Name.{Name}
@@ -33,22 +34,15 @@ module _ (turns : ℕ) (pendings : List Pending) where
   either true b is P one other = one refl
   either false b is P one other = other is
 
-  right_holds : (a b : Bool) → b ≡ true → (a || b) ≡ true
-  right_holds true b is = refl
-  right_holds false b is = is
-
-  left_holds : (a b : Bool) → a ≡ true → (a || b) ≡ true
-  left_holds a b is = ap (λ x. x || b) is
-
   bag_back : (name : Name) (ts : List PendingTask) → list_any (is_named name) (map (shifted_task turns pendings) ts) ≡ true
       → Pends (λ own. list_any (is_named own) ts) name
   bag_back name [] is = absurd (cc (is))
   bag_back name (t ∷ ts) is =
       either (is_named name (shifted_task turns pendings t)) (list_any (is_named name) (map (shifted_task turns pendings) ts)) is
       (Pends (λ own. list_any (is_named own) (t ∷ ts)) name)
-      (λ here. (t.name, left_holds (is_named t.name t) (list_any (is_named t.name) ts) (same_named t.name t refl), sym (named_same name (shifted_task turns pendings t) here)))
+      (λ here. (t.name, or_left (is_named t.name t) (list_any (is_named t.name) ts) (same_named t.name t refl), sym (named_same name (shifted_task turns pendings t) here)))
       (λ there. (let rest = bag_back name ts there in
-      (rest.0, right_holds (is_named rest.0 t) (list_any (is_named rest.0) ts) rest.1, rest.2)))
+      (rest.0, or_right (is_named rest.0 t) (list_any (is_named rest.0) ts) rest.1, rest.2)))
 
   bag_there : (own : Name) (ts : List PendingTask) → list_any (is_named own) ts ≡ true
       → list_any (is_named (shifted_name turns pendings own)) (map (shifted_task turns pendings) ts) ≡ true
@@ -56,8 +50,8 @@ module _ (turns : ℕ) (pendings : List Pending) where
   bag_there own (t ∷ ts) is =
       either (is_named own t) (list_any (is_named own) ts) is
       (list_any (is_named (shifted_name turns pendings own)) (map (shifted_task turns pendings) (t ∷ ts)) ≡ true)
-      (λ here. left_holds _ _ (same_named (shifted_name turns pendings own) (shifted_task turns pendings t) (ap (shifted_name turns pendings) (named_same own t here))))
-      (λ there. right_holds (is_named (shifted_name turns pendings own) (shifted_task turns pendings t)) _ (bag_there own ts there))
+      (λ here. or_left _ _ (same_named (shifted_name turns pendings own) (shifted_task turns pendings t) (ap (shifted_name turns pendings) (named_same own t here))))
+      (λ there. or_right (is_named (shifted_name turns pendings own) (shifted_task turns pendings t)) _ (bag_there own ts there))
 
   stack_back : (name : Name) (xs ys : List BagValue) → AreShifted turns pendings xs ys → is_pending name xs ≡ true → Pends (λ own. is_pending own ys) name
   stack_back name [] [] same is = absurd (cc (is))
@@ -66,9 +60,9 @@ module _ (turns : ℕ) (pendings : List Pending) where
   stack_back name (x ∷ xs) (y ∷ ys) same is =
       either (list_any (is_named name) x.tasks) (is_pending name xs) is (Pends (λ own. is_pending own (y ∷ ys)) name)
       (λ here. (let one = bag_back name y.tasks (sym (ap (λ (b : BagValue). list_any (is_named name) b.tasks) same.0) ∙ here) in
-      (one.0, left_holds (list_any (is_named one.0) y.tasks) (is_pending one.0 ys) one.1, one.2)))
+      (one.0, or_left (list_any (is_named one.0) y.tasks) (is_pending one.0 ys) one.1, one.2)))
       (λ there. (let rest = stack_back name xs ys same.1 there in
-      (rest.0, right_holds (list_any (is_named rest.0) y.tasks) (is_pending rest.0 ys) rest.1, rest.2)))
+      (rest.0, or_right (list_any (is_named rest.0) y.tasks) (is_pending rest.0 ys) rest.1, rest.2)))
 
   stack_there : (own : Name) (xs ys : List BagValue) → AreShifted turns pendings xs ys → is_pending own ys ≡ true
       → is_pending (shifted_name turns pendings own) xs ≡ true
@@ -77,8 +71,8 @@ module _ (turns : ℕ) (pendings : List Pending) where
   stack_there own (x ∷ xs) [] same is = absurd same
   stack_there own (x ∷ xs) (y ∷ ys) same is =
       either (list_any (is_named own) y.tasks) (is_pending own ys) is (is_pending (shifted_name turns pendings own) (x ∷ xs) ≡ true)
-      (λ here. left_holds _ _ (ap (λ (b : BagValue). list_any (is_named (shifted_name turns pendings own)) b.tasks) same.0 ∙ bag_there own y.tasks here))
-      (λ there. right_holds (list_any (is_named (shifted_name turns pendings own)) x.tasks) _ (stack_there own xs ys same.1 there))
+      (λ here. or_left _ _ (ap (λ (b : BagValue). list_any (is_named (shifted_name turns pendings own)) b.tasks) same.0 ∙ bag_there own y.tasks here))
+      (λ there. or_right (list_any (is_named (shifted_name turns pendings own)) x.tasks) _ (stack_there own xs ys same.1 there))
 
 pub runs_join : (image : ImageValue) → IsImage image → (budget : ℕ) → (one two : List Entry) → (memory output : List ℕ) → (pendings : List Pending)
     → RunLeaves image budget one memory output pendings → 0 < length pendings

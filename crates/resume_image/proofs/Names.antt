@@ -24,7 +24,7 @@ IsKnown pendings name = name.creator ≡ 0 → name.index < length pendings
 abbrev pub Know : List Pending → List PendingTask → Type 0
 Know pendings tasks = AllByRecursion (λ (t : PendingTask). IsKnown pendings t.name) tasks
 
--- the pending tasks are sorted by their names, and were made by so many turns
+-- the pending tasks are sorted by their names, and were made by the image or by so many turns
 pub record AreSaved (turns : ℕ) (pendings : List Pending) : Type 0 where
   pub sorted : AllPairs IsBefore pendings
   pub made : All (λ p. p.name.creator ≤ turns) pendings
@@ -69,7 +69,7 @@ module _ (turns : ℕ) (pendings : List Pending) (saved : AreSaved turns pending
     ]
   ]
 
-  -- a pending task was made before each child of the run that goes on
+  -- a pending task is told apart from each child of the run that goes on, which was made later
   place_child : (i c k : ℕ) → i < length pendings → c ≢ 0 → is_one (stands_at i) (record { creator = turns + c; index = k }) ≡ false
   place_child i c k inside some =
       let made : (stands_at i).creator ≤ turns = saved.made i some_task inside in

@@ -30,7 +30,7 @@ use Rattle.pending_law.proofs.Proved.{Holds}
 use Rattle.resume_image.proofs.Sorted.{AreInOrder, holds_permuted, in_order, one_list}
 use Rattle.resume_image.proofs.Standing.{IsRooted, Stands, rooted_inner, run_stands}
 
--- emptied bags hold nothing
+-- without the emptied innermost bags the same pends
 pending_inner : (stack : List BagValue) → all_pending (inner stack) ≡ all_pending stack
 pending_inner [] = refl
 pending_inner (bag ∷ outer) = go (length bag.tasks == 0) refl (pending_inner outer)
@@ -42,7 +42,7 @@ pending_inner (bag ∷ outer) = go (length bag.tasks == 0) refl (pending_inner o
         rest ∙ ap (λ ts. map (pending_at bag.depth) ts ++ all_pending outer) (sym none)
     go false is rest = refl
 
--- the innermost bag that isn't empty isn't empty
+-- the first bag that `inner` leaves isn't empty
 inner_some : (stack : List BagValue) (bag : BagValue) (outer : List BagValue) → inner stack ≡ bag ∷ outer → length bag.tasks ≢ 0
 inner_some [] bag outer top = absurd (cc (top))
 inner_some (b ∷ bs) bag outer top = go (length b.tasks == 0) refl top (inner_some bs bag outer)
@@ -162,7 +162,7 @@ tasks_back turns count kind pendings front (t ∷ ts) is old =
     ∙ ap (λ us. shifted_task turns pendings (image_task kind (length front, saved_task (pending_at 1 t))) ∷ us)
     (rest ∙ ap (λ k. map (shifted_task turns pendings) (map (image_task kind) (enumerate_from k (map saved_task (map (pending_at 1) ts))))) long)
 
--- the pending tasks are sorted, and were made by the turns so far
+-- the pending tasks are sorted, and were made by the image or by the turns so far
 made_before : (count : ℕ) (kind : Kind) (ts : List PendingTask) → AllByRecursion (IsOld count kind) ts
     → AllByRecursion (λ (p : Pending). p.name.creator ≤ count) (map (pending_at 1) ts)
 made_before count kind [] old = tt
@@ -216,7 +216,7 @@ opened_memory image memory pendings sized =
     let none : image.data_size - length memory ≡ 0 = omega (arith, sized) in
     sym (append-nil memory) ∙ ap (λ k. memory ++ replicate k 0) (sym none)
 
--- what a run of the saved image begins with
+-- the pending tasks are sorted and were made by then, and this state goes on as the opening of the saved image does
 pub record IsOpened (image : ImageValue) (one : List Entry) (memory output : List ℕ) (pendings : List Pending) (s : SerialState) : Type 0 where
   pub saved : AreSaved (length one) pendings
   pub follows : Follows (length one) output pendings s (opening (saved_image image memory pendings))

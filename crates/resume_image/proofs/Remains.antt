@@ -1,4 +1,4 @@
--- What a stopped run leaves fits its image.
+-- A stopped run leaves no task of depth 0, and a memory as long as the image's data.
 use Rattle.std.proofs.Common.{◌≡◌, ℕ, ◌≤◌, List, [], ◌∷◌, ◌++◌, length, map, ap, ◌∙◌, All, arith}
 use Rattle.std.specs.List.{AllByRecursion}
 use Rattle.std.proofs.lemmas.List.Elements.{All-from_recursion}

@@ -1,5 +1,5 @@
--- The tasks of each bag stand in the order of their names, were made by turns that were taken, and have timestamps
--- that their domain takes for what they are.
+-- The tasks of each bag stand in the order of their names, were made by the image or by turns that were taken, and
+-- have timestamps that their domain takes for what they are.
 use Rattle.std.proofs.Common.{◌≡◌, refl, subst, ℕ, ◌+◌, ◌≤◌, ◌==◌, Bool, true, false, not, List, [], ◌∷◌, ◌++◌, map, Option, Some, if◌then◌else◌, arith}
 use Rattle.std.specs.List.{AllByRecursion, enumerate_from}
 use Rattle.std.specs.Prelude.{filter}
@@ -19,7 +19,7 @@ use Rattle.serial_machine.specs.Turn.{child, children, is_for, is_named, kind_ou
 use Rattle.resume_image.proofs.Bags.{AreGood, good_after}
 use Rattle.resume_image.proofs.Settled.{IsSettled, Settle, SettlesIn, settled_ts}
 
--- each task stands before those behind it
+-- the task stands before each of these; and in a list that rises each does before those behind it
 abbrev pub AllBehind : PendingTask → List PendingTask → Type 0
 AllBehind t ts = AllByRecursion (λ (u : PendingTask). name_before t.name u.name ≡ true) ts
 
@@ -27,7 +27,7 @@ abbrev pub Rise : List PendingTask → Type 0
 Rise [] = Unit {0}
 Rise (t ∷ ts) = AllBehind t ts × Rise ts
 
--- made by one of so many turns, or by the image, for a domain of this kind
+-- made by one of so many turns, or by the image, and a domain of this kind takes its timestamp for what it is
 abbrev pub IsOld : ℕ → Kind → PendingTask → Type 0
 IsOld count kind t = (t.name.creator ≤ count) × IsSettled kind t.ts
 
@@ -109,9 +109,9 @@ later_numbered n k ts rest = record {
       (λ u holds. (holds.0, omega (arith, holds.1))) rest.each;
 }
 
-kids_numbered : (place : Place) (n k : ℕ) (spawns : List Spawn) → AreNumbered n k (map (child n) (filter (is_for place) (enumerate_from k spawns)))
-kids_numbered place n k [] = record { rise = tt; each = tt }
-kids_numbered place n k (s ∷ ss) = go (is_for place (k, s)) (kids_numbered place n (k + 1) ss)
+children_numbered : (place : Place) (n k : ℕ) (spawns : List Spawn) → AreNumbered n k (map (child n) (filter (is_for place) (enumerate_from k spawns)))
+children_numbered place n k [] = record { rise = tt; each = tt }
+children_numbered place n k (s ∷ ss) = go (is_for place (k, s)) (children_numbered place n (k + 1) ss)
   where
     go : (b : Bool) → AreNumbered n (k + 1) (map (child n) (filter (is_for place) (enumerate_from (k + 1) ss)))
         → AreNumbered n k (map (child n) (if b then (k, s) ∷ filter (is_for place) (enumerate_from (k + 1) ss) else filter (is_for place) (enumerate_from (k + 1) ss)))
@@ -143,10 +143,10 @@ module _ (place : Place) (kind own : Kind) (outer sub : Option Kind) (fits : (ts
       go Super Same is here = absurd (cc (is))
       go Super Sub is here = absurd (cc (is))
 
-  kids_settled : (n k : ℕ) (spawns : List Spawn) → Settle own outer sub spawns
+  children_settled : (n k : ℕ) (spawns : List Spawn) → Settle own outer sub spawns
       → AllByRecursion (λ (t : PendingTask). IsSettled kind t.ts) (map (child n) (filter (is_for place) (enumerate_from k spawns)))
-  kids_settled n k [] each = tt
-  kids_settled n k (s ∷ ss) each = go (is_for place (k, s)) refl (kids_settled n (k + 1) ss each.1)
+  children_settled n k [] each = tt
+  children_settled n k (s ∷ ss) each = go (is_for place (k, s)) refl (children_settled n (k + 1) ss each.1)
     where
       go : (b : Bool) → is_for place (k, s) ≡ b
           → AllByRecursion (λ (t : PendingTask). IsSettled kind t.ts) (map (child n) (filter (is_for place) (enumerate_from (k + 1) ss)))
@@ -157,8 +157,8 @@ module _ (place : Place) (kind own : Kind) (outer sub : Option Kind) (fits : (ts
   pub children_old : (count : ℕ) (spawns : List Spawn) → Settle own outer sub spawns → AreOld (count + 1) kind (children place (count + 1) spawns)
   unfolding children
   children_old count spawns each =
-      let numbered = kids_numbered place (count + 1) 0 spawns in
-      record { rise = numbered.rise; each = join _ numbered.each (kids_settled (count + 1) 0 spawns each) }
+      let numbered = children_numbered place (count + 1) 0 spawns in
+      record { rise = numbered.rise; each = join _ numbered.each (children_settled (count + 1) 0 spawns each) }
     where
       join : (ts : List PendingTask) → AllByRecursion (λ (t : PendingTask). (t.name.creator ≡ count + 1) × (0 ≤ t.name.index)) ts
           → AllByRecursion (λ (t : PendingTask). IsSettled kind t.ts) ts → AllByRecursion (IsOld (count + 1) kind) ts
@@ -169,7 +169,7 @@ module _ (place : Place) (kind own : Kind) (outer sub : Option Kind) (fits : (ts
       → AreOld (count + 1) kind (tasks ++ children place (count + 1) spawns)
   unfolding children
   old_more count spawns tasks each old =
-      let numbered = kids_numbered place (count + 1) 0 spawns in
+      let numbered = children_numbered place (count + 1) 0 spawns in
       let made = children_old count spawns each in
       record {
         rise = rise_more count kind tasks _ old.rise old.each numbered.rise

@@ -14,12 +14,12 @@ use Rattle.serial_machine.specs.BagValue.{BagValue}
 use Rattle.serial_machine.specs.State.{SerialState}
 use Rattle.serial_machine.specs.TaskRun.{task_run, Done}
 use Rattle.serial_machine.specs.Turn.{context_in_bag, kind_outside, run_in_bag}
-use Rattle.serial_machine.proofs.Proved.{EndHolds, StepHolds, task_run-holds}
+use Rattle.serial_machine.proofs.Proved.{EndHolds, HoldsAfter, task_run-holds}
 use Rattle.task_request.specs.declared.request.Request.{Request}
 use Rattle.task_request.specs.declared.request.Request.TheVariants as request
 use Rattle.task_request.specs.Effects.{after_request}
 use Rattle.task_request.specs.TaskState.{TaskState, context}
-use Rattle.task_request.proofs.Proved.{AllowedBy, sub_allowed-room}
+use Rattle.task_request.proofs.Proved.{AllowedBy, sub_allowed-limits}
 
 -- a domain of this kind takes the timestamp for what it is
 abbrev pub IsSettled : Kind → ℕ → Type 0
@@ -85,7 +85,7 @@ abbrev AreSettled : Ctx → TaskState → Type 0
 AreSettled ctx task = Settle ctx.own ctx.outer task.sub task.spawns
 
 request_settles : (ctx : Ctx) (task : TaskState) (asked : Request) → AllowedBy (context ctx task) asked → AreSettled ctx task
-    → StepHolds (AreSettled ctx) (after_request task asked)
+    → HoldsAfter (AreSettled ctx) (after_request task asked)
 request_settles ctx task request.Continue allows each = each
 request_settles ctx task (request.Load width rd offset) allows each = each
 request_settles ctx task (request.Store offset bytes value) allows each = each
@@ -95,7 +95,7 @@ request_settles ctx task (request.Enqueue made) allows each =
     settle_more ctx.own ctx.outer task.sub task.spawns made each
     (subst (λ place. SettlesIn ctx.own ctx.outer task.sub place made.ts) (sym (ap (λ (s : Spawn). s.place) is)) there)
 request_settles ctx task (request.MakeSub kind) allows each =
-    settle_sub ctx.own ctx.outer task.sub kind task.spawns (sub_allowed-room (context ctx task) allows.0 kind allows.1).0 each
+    settle_sub ctx.own ctx.outer task.sub kind task.spawns (sub_allowed-limits (context ctx task) allows.0 kind allows.1).0 each
 request_settles ctx task (request.Emit byte) allows each = each
 request_settles ctx task request.End allows each = each
 request_settles ctx task (request.Trap cause) allows each = tt

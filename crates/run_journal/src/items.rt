@@ -55,19 +55,19 @@ impl<T: Drop> Items<T> {
         Ok(())
     }
 
-    /// Adds an item at the end, by the buffer's room where the list has none. It takes no memory.
-    pub fn push_with(&mut self, room: &mut Buffer<T>, item: T)
-        requires { length self.old < room.old }
+    /// Adds an item at the end, by what is spare in the buffer where the list has none. It takes no memory.
+    pub fn push_with(&mut self, spare: &mut Buffer<T>, item: T)
+        requires { length self.old < spare.old }
         ensures { self.new ≡ self.old ++ item ∷ [] }
     {
-        room.lend_spare(&mut self.items, 1);
+        spare.lend_spare(&mut self.items, 1);
         match self.items.push(item) {
             Ok(()) => {}
             Err(_) => unreachable!(),
         }
     }
 
-    /// Forgets all items, and keeps the room for them.
+    /// Forgets all items, and keeps the memory for them.
     pub fn clear(&mut self)
         ensures { self.new ≡ [] }
     {
@@ -76,12 +76,12 @@ impl<T: Drop> Items<T> {
 }
 
 impl<T: Copy + Drop> Items<T> {
-    /// Adds these items at the end, by the buffer's room where the list has none. It takes no memory.
-    pub fn append_with(&mut self, room: &mut Buffer<T>, more: &[T])
-        requires { length self.old + length more.now ≤ room.old }
+    /// Adds these items at the end, by what is spare in the buffer where the list has none. It takes no memory.
+    pub fn append_with(&mut self, spare: &mut Buffer<T>, more: &[T])
+        requires { length self.old + length more.now ≤ spare.old }
         ensures { self.new ≡ self.old ++ more.now }
     {
-        room.lend_spare(&mut self.items, more.len());
+        spare.lend_spare(&mut self.items, more.len());
         match self.items.extend_from_slice(more) {
             Ok(()) => {}
             Err(_) => unreachable!(),

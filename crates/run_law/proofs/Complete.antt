@@ -1,4 +1,4 @@
--- Where no task is pending, the names that were made are those that took a turn, and each took one.
+-- Only names that were made take a turn, and where no task is pending each of them took one.
 use Rattle.std.proofs.Common.{◌≡◌, refl, sym, ap, ◌∙◌, subst, ◌≤◌, ◌<◌, ◌+◌, ◌==◌, ◌&&◌, ◌⊎◌, inl, inr, nat_le, nat_lt, ℕ, zero, suc, Bool, true, false, List, [], ◌∷◌, ◌++◌, length, arith, append_assoc}
 use Rattle.std.proofs.lemmas.Grind.{common_steps}
 use Rattle.std.proofs.lemmas.Bool.Decides.{nat_tests}
@@ -11,7 +11,7 @@ use Rattle.serial_machine.specs.State.{SerialState}
 use Rattle.serial_machine.specs.Names.{one, times, times_in}
 use Rattle.serial_machine.specs.Turn.{child}
 use Rattle.serial_machine.specs.Run.{Runs, IsRun, opening, image_task}
-use Rattle.serial_machine.proofs.Proved.{AreNamed-opening, kids, times_in-inner, turn-done}
+use Rattle.serial_machine.proofs.Proved.{AreNamed-opening, all_children, times_in-inner, turn-done}
 use Rattle.run_law.specs.Laws.{is_same, turns_of, NameIsOfImage, IsChild, NameIsMade, IsCompleteRun}
 use Rattle.run_law.proofs.Turned.{Turned, turn-did}
 use Rattle.run_law.proofs.RunSteps.{Runs-more, turn-taken}
@@ -19,13 +19,13 @@ use Rattle.run_law.proofs.Distinct.{turn-at-most, distinct}
 use Rattle.run_law.proofs.Counted.{times-numbered, turn-at-least, AreNamed-turn, AreNamed-run, times_in-runs, count-run}
 
 -- the children of a turn, and the tasks of the image, by their names
-times-kids : (x : Name) (n : ℕ) (spawns : List Spawn) → times x (kids n 0 spawns) ≡ one ((n == x.creator) && (nat_le 0 x.index && nat_lt x.index (0 + length spawns)))
-times-kids x n spawns = times-numbered n (child n) (λ k a. refl) x 0 spawns
+times-children : (x : Name) (n : ℕ) (spawns : List Spawn) → times x (all_children n 0 spawns) ≡ one ((n == x.creator) && (nat_le 0 x.index && nat_lt x.index (0 + length spawns)))
+times-children x n spawns = times-numbered n (child n) (λ k a. refl) x 0 spawns
 
 times-image : (x : Name) (image : ImageValue) → times_in x (opening image).stack ≡ one ((0 == x.creator) && (nat_le 0 x.index && nat_lt x.index (0 + length image.tasks))) + 0
 times-image x image = ap (λ n. n + 0) (times-numbered 0 (image_task image.kind) (λ k a. refl) x 0 image.tasks)
 
--- what a count of a name says, and what follows from it
+-- what a count of a name says, and from what it follows
 one-parts : (n c i size : ℕ) → 1 ≤ one ((n == c) && (nat_le 0 i && nat_lt i (0 + size))) → (c ≡ n) × (i < size)
 one-parts n c i size h = (grind (arith, nat_tests, common_steps), grind (arith, nat_tests, common_steps))
 
@@ -36,7 +36,7 @@ turns_of-append : (x : Name) (es more : List Entry) → turns_of x (es ++ more) 
 turns_of-append x [] more = omega arith
 turns_of-append x (e ∷ es) more = omega (arith, turns_of-append x es more)
 
--- of two counts that are not both zero, the first is at least one or the second is
+-- of two counts that are not both zero, the first is at least one, or what follows from the second holds
 one-of : (a k : ℕ) (P : Type 0) → 1 ≤ a + k → (1 ≤ k → P) → (1 ≤ a) ⊎ P
 one-of zero k P h make = inr (make (omega (arith, h)))
 one-of (suc a) k P h make = inl (omega arith)
@@ -48,7 +48,7 @@ from-turn false a k m c P le h later make = go (later (omega (arith, h))) where
   go (inl pending) = one-of a k P (omega (arith, le, pending)) make
   go (inr made) = inr made
 
--- a name that takes a turn is pending now, or a later turn makes it
+-- a name that takes a turn is pending now, or a turn of the journal makes it
 made-before : (x : Name) (image : ImageValue) (budget : ℕ) (front : List Entry) (s : SerialState) → IsRun image budget front s → (es : List Entry) (after : SerialState) → Runs image budget s es after
     → 1 ≤ turns_of x es → (1 ≤ times_in x s.stack) ⊎ IsChild image budget (front ++ es) x
 made-before x image budget front s run [] after on h = absurd (omega (arith, h))
@@ -59,8 +59,8 @@ made-before x image budget front s run (e ∷ es) after (mid, t, rest) h =
     let later : 1 ≤ turns_of x es → (1 ≤ times_in x mid.stack) ⊎ IsChild image budget (front ++ e ∷ es) x =
     λ more. subst (λ j. (1 ≤ times_in x mid.stack) ⊎ IsChild image budget j x) (append_assoc front (e ∷ []) es)
     (made-before x image budget (front ++ e ∷ []) mid (Runs-more image budget front (opening image) s mid e run t) es after rest more) in
-    let make : 1 ≤ times x (kids (s.count + 1) 0 d.done.spawns) → IsChild image budget (front ++ e ∷ es) x =
-    λ one. let parts = one-parts (s.count + 1) x.creator x.index (length d.done.spawns) (omega (arith, one, times-kids x (s.count + 1) d.done.spawns)) in
+    let make : 1 ≤ times x (all_children (s.count + 1) 0 d.done.spawns) → IsChild image budget (front ++ e ∷ es) x =
+    λ one. let parts = one-parts (s.count + 1) x.creator x.index (length d.done.spawns) (omega (arith, one, times-children x (s.count + 1) d.done.spawns)) in
     record {
       before = front;
       state = s;
@@ -103,7 +103,7 @@ child-taken image budget journal state run x made =
     let kept = times_in-runs x image budget taken.after made.stands.entries_behind state (AreNamed-turn image budget made.state taken.after made.entry named d) taken.on in
     let whole = ap (turns_of x) made.stands.stands
     ∙ turns_of-append x made.before (made.entry ∷ made.stands.entries_behind) in
-    omega (arith, step, kid, kept, whole, times-kids x (made.state.count + 1) made.done.spawns)
+    omega (arith, step, kid, kept, whole, times-children x (made.state.count + 1) made.done.spawns)
 
 made-taken : (image : ImageValue) (budget : ℕ) (journal : List Entry) (state : SerialState) → IsRun image budget journal state → (x : Name) → NameIsMade image budget journal x → 1 ≤ turns_of x journal + times_in x state.stack
 made-taken image budget journal state run x (inl of) = image-taken image budget journal state run x of

@@ -17,7 +17,7 @@ use Rattle.serial_machine.specs.State.{SerialState}
 use Rattle.serial_machine.specs.Names.{one, times, times_in, AreNamed}
 use Rattle.serial_machine.specs.Turn.{is_named, without_name, stack_after, children, sub_bags, with_super, kind_outside}
 use Rattle.serial_machine.specs.Run.{Runs, IsRun, opening}
-use Rattle.serial_machine.proofs.Proved.{AreNamed-after, AreNamed-opening, kids, kids_for, once-in-first, times-append, times-kids, times_in-inner, without_name-none}
+use Rattle.serial_machine.proofs.Proved.{AreNamed-after, AreNamed-opening, all_children, children_for, once-in-first, times-append, times-children, times_in-inner, without_name-none}
 use Rattle.run_law.specs.Laws.{is_same, turns_of}
 use Rattle.run_law.proofs.Distinct.{one-same}
 use Rattle.run_law.proofs.Placed.{HasDomain, HaveDomains, done-placed}
@@ -49,52 +49,54 @@ times-left x name (t ∷ ts) once = go (is_named name t) refl once (times-left x
   go true e once ih = rw (without_name-none name ts (omega (arith, once))) (omega (arith, one-same x name t.name e))
   go false e once ih = omega (arith, ih (omega (arith, once)))
 
--- where there is no domain at a place, no child is for it
-no-super : (x : Name) (n k : ℕ) (sub : Option Kind) (spawns : List Spawn) → HaveDomains None sub spawns → times x (kids_for Super n k spawns) ≡ 0
+-- where there is no superdomain, or no subdomain, no child is for it
+no-super : (x : Name) (n k : ℕ) (sub : Option Kind) (spawns : List Spawn) → HaveDomains None sub spawns → times x (children_for Super n k spawns) ≡ 0
 no-super x n k sub [] h = refl
 no-super x n k sub (s ∷ ss) h = go s.place refl h.0 (no-super x n (k + 1) sub ss h.1) where
-  go : (p : Place) → s.place ≡ p → HasDomain None sub p → times x (kids_for Super n (k + 1) ss) ≡ 0 → times x (kids_for Super n k (s ∷ ss)) ≡ 0
+  go : (p : Place) → s.place ≡ p → HasDomain None sub p → times x (children_for Super n (k + 1) ss) ≡ 0 → times x (children_for Super n k (s ∷ ss)) ≡ 0
   go Same e here ih = rw e ih
   go Sub e here ih = rw e ih
   go Super e here ih = let z : ⊥ = cc in absurd z
 
-no-sub : (x : Name) (n k : ℕ) (outer : Option Kind) (spawns : List Spawn) → HaveDomains outer None spawns → times x (kids_for Sub n k spawns) ≡ 0
+no-sub : (x : Name) (n k : ℕ) (outer : Option Kind) (spawns : List Spawn) → HaveDomains outer None spawns → times x (children_for Sub n k spawns) ≡ 0
 no-sub x n k outer [] h = refl
 no-sub x n k outer (s ∷ ss) h = go s.place refl h.0 (no-sub x n (k + 1) outer ss h.1) where
-  go : (p : Place) → s.place ≡ p → HasDomain outer None p → times x (kids_for Sub n (k + 1) ss) ≡ 0 → times x (kids_for Sub n k (s ∷ ss)) ≡ 0
+  go : (p : Place) → s.place ≡ p → HasDomain outer None p → times x (children_for Sub n (k + 1) ss) ≡ 0 → times x (children_for Sub n k (s ∷ ss)) ≡ 0
   go Same e here ih = rw e ih
   go Sub e here ih = let z : ⊥ = cc in absurd z
   go Super e here ih = rw e ih
 
 super-all : (x : Name) (n : ℕ) (sub : Option Kind) (spawns : List Spawn) (outer : List BagValue) → HaveDomains (kind_outside outer) sub spawns
-    → times x (kids_for Super n 0 spawns) + times_in x outer ≤ times_in x (with_super (kids_for Super n 0 spawns) outer)
+    → times x (children_for Super n 0 spawns) + times_in x outer
+    ≤ times_in x (with_super (children_for Super n 0 spawns) outer)
 super-all x n sub spawns [] h = omega (arith, no-super x n 0 sub spawns h)
-super-all x n sub spawns (b ∷ bs) h = omega (arith, times-append x b.tasks (kids_for Super n 0 spawns))
+super-all x n sub spawns (b ∷ bs) h = omega (arith, times-append x b.tasks (children_for Super n 0 spawns))
 
 sub-all : (x : Name) (depth floor n : ℕ) (outer sub : Option Kind) (spawns : List Spawn) (rest : List BagValue) → HaveDomains outer sub spawns
-    → times x (kids_for Sub n 0 spawns) + times_in x rest ≤ times_in x (sub_bags depth floor n (kids_for Sub n 0 spawns) sub ++ rest)
+    → times x (children_for Sub n 0 spawns) + times_in x rest ≤ times_in x (sub_bags depth floor n (children_for Sub n 0 spawns) sub ++ rest)
 sub-all x depth floor n outer None spawns rest h = omega (arith, no-sub x n 0 outer spawns h)
-sub-all x depth floor n outer (Some kind) spawns rest h = go (kids_for Sub n 0 spawns) (length (kids_for Sub n 0 spawns) == 0) refl where
+sub-all x depth floor n outer (Some kind) spawns rest h = go (children_for Sub n 0 spawns) (length (children_for Sub n 0 spawns) == 0) refl where
   go : (tasks : List PendingTask) (b : Bool) → (length tasks == 0) ≡ b
       → times x tasks + times_in x rest ≤ times_in x ((if b then [] else record { depth = depth; kind = kind; floor = floor; owner = n; tasks = tasks } ∷ []) ++ rest)
   go tasks true e = let z : tasks ≡ [] = grind (arith, nat_tests, common_steps, nil_from_length) in rw z (omega arith)
   go tasks false e = omega arith
 
 after-left : (x : Name) (bag : BagValue) (outer : List BagValue) (name : Name) (n ts : ℕ) (spawns : List Spawn) (sub : Option Kind) → times name bag.tasks ≤ 1 → HaveDomains (kind_outside outer) sub spawns
-    → times_in x (bag ∷ outer) + times x (kids n 0 spawns) ≤ one (is_same name x) + times_in x (stack_after bag outer name n ts spawns sub)
+    → times_in x (bag ∷ outer) + times x (all_children n 0 spawns) ≤ one (is_same name x) + times_in x (stack_after bag outer name n ts spawns sub)
 unfolding stack_after children
 after-left x bag outer name n ts spawns sub once placed = omega (
   arith,
-  sub-all x (bag.depth + 1) ts n (kind_outside outer) sub spawns (record bag { tasks = without_name name bag.tasks ++ kids_for Same n 0 spawns } ∷ with_super (kids_for Super n 0 spawns) outer) placed,
-  times-append x (without_name name bag.tasks) (kids_for Same n 0 spawns),
+  sub-all x (bag.depth + 1) ts n (kind_outside outer) sub spawns (record bag { tasks = without_name name bag.tasks ++ children_for Same n 0 spawns } ∷ with_super (children_for Super n 0 spawns) outer) placed,
+  times-append x (without_name name bag.tasks) (children_for Same n 0 spawns),
   times-left x name bag.tasks once,
   super-all x n sub spawns outer placed,
-  times-kids x n 0 spawns,
+  times-children x n 0 spawns,
 )
 
 -- a turn takes away no name but the one that took it, and loses no child
 pub turn-at-least : (x : Name) (image : ImageValue) (budget : ℕ) (s mid : SerialState) (e : Entry) → AreNamed s.count s.stack → (d : Turned image budget s mid e.name e)
-    → times_in x s.stack + times x (kids (s.count + 1) 0 d.done.spawns) ≤ one (is_same e.name x) + times_in x mid.stack
+    → times_in x s.stack + times x (all_children (s.count + 1) 0 d.done.spawns)
+    ≤ one (is_same e.name x) + times_in x mid.stack
 turn-at-least x image budget s mid e named d =
     let top : times_in x s.stack ≡ times_in x (d.bag ∷ d.outer) = sym (times_in-inner x s.stack) ∙ ap (times_in x) d.may.top in
     let once = once-in-first s.count e.name s.stack named d.bag d.outer d.may.top in

@@ -1,4 +1,4 @@
--- While a domain has a task, what commits after its creator is deeper than the creator.
+-- While a domain has a task, what commits after the task that made the domain is deeper than that task.
 use Rattle.std.proofs.Common.{◌≡◌, refl, sym, ap, ◌∙◌, subst, ◌≤◌, ◌<◌, ◌+◌, ◌==◌, ℕ, Bool, true, false, List, [], ◌∷◌, ◌++◌, length, Option, Some, None, if◌then◌else◌, arith, append_assoc, append-nil, length-append}
 use Rattle.std.specs.List.{AllByRecursion}
 use Rattle.guest_image.specs.ImageValue.{ImageValue}
@@ -16,15 +16,15 @@ use Rattle.run_law.specs.Laws.{AreDeeper}
 use Rattle.run_law.proofs.Turned.{turn-did}
 use Rattle.run_law.proofs.RunSteps.{turn-taken}
 
--- the entry that committed as the owner stands one level further out than a bag, and all behind it are deeper than it is
+-- the entry of a bag's owner is less deep than the bag by one, and all behind it are deeper than it is
 record HasOwner (journal : List Entry) (owner depth : ℕ) : Type 0 where
   earlier : List Entry
-  creator : Entry
+  owner_entry : Entry
   between : List Entry
-  stands : journal ≡ earlier ++ creator ∷ between
+  stands : journal ≡ earlier ++ owner_entry ∷ between
   number : owner ≡ length earlier + 1
-  outside : creator.depth + 1 ≡ depth
-  deeper : AllByRecursion (λ e. creator.depth < e.depth) between
+  outside : owner_entry.depth + 1 ≡ depth
+  deeper : AllByRecursion (λ e. owner_entry.depth < e.depth) between
 
 -- each bag but the root's has its owner in the journal
 abbrev AreOwned : List Entry → List BagValue → Type 0
@@ -62,12 +62,12 @@ deeper-more d (x ∷ xs) e h lt = (h.0, deeper-more d xs e h.1 lt)
 HasOwner-more : (journal : List Entry) (e : Entry) (owner depth : ℕ) → HasOwner journal owner depth → depth ≤ e.depth → HasOwner (journal ++ e ∷ []) owner depth
 HasOwner-more journal e owner depth h le = record {
   earlier = h.earlier;
-  creator = h.creator;
+  owner_entry = h.owner_entry;
   between = h.between ++ e ∷ [];
-  stands = ap (λ j. j ++ e ∷ []) h.stands ∙ append_assoc h.earlier (h.creator ∷ h.between) (e ∷ []);
+  stands = ap (λ j. j ++ e ∷ []) h.stands ∙ append_assoc h.earlier (h.owner_entry ∷ h.between) (e ∷ []);
   number = h.number;
   outside = h.outside;
-  deeper = deeper-more h.creator.depth h.between e h.deeper (omega (arith, h.outside, le));
+  deeper = deeper-more h.owner_entry.depth h.between e h.deeper (omega (arith, h.outside, le));
 }
 
 AreOwned-more : (journal : List Entry) (e : Entry) (d : ℕ) (stack : List BagValue) → AreOwned journal stack → AreBelow d stack → d ≤ e.depth → AreOwned (journal ++ e ∷ []) stack
@@ -82,14 +82,14 @@ AreBelow-super : (d : ℕ) (tasks : List PendingTask) (stack : List BagValue) �
 AreBelow-super d tasks [] h = tt
 AreBelow-super d tasks (b ∷ bs) h = h
 
--- a new domain is its creator's
+-- the bag of a new domain has as its owner the task that made the domain
 AreOwned-sub : (journal : List Entry) (e : Entry) (depth floor n : ℕ) (tasks : List PendingTask) (sub : Option Kind) (rest : List BagValue) → n ≡ length journal + 1 → e.depth + 1 ≡ depth
     → AreOwned (journal ++ e ∷ []) rest → AreOwned (journal ++ e ∷ []) (sub_bags depth floor n tasks sub ++ rest)
 AreOwned-sub journal e depth floor n tasks None rest count is h = h
 AreOwned-sub journal e depth floor n tasks (Some kind) rest count is h = go (length tasks == 0) where
   go : (b : Bool) → AreOwned (journal ++ e ∷ []) ((if b then [] else record { depth = depth; kind = kind; floor = floor; owner = n; tasks = tasks } ∷ []) ++ rest)
   go true = h
-  go false = (λ one. record { earlier = journal; creator = e; between = []; stands = refl; number = count; outside = is; deeper = tt }, h)
+  go false = (λ one. record { earlier = journal; owner_entry = e; between = []; stands = refl; number = count; outside = is; deeper = tt }, h)
 
 AreBelow-sub : (depth floor n : ℕ) (tasks : List PendingTask) (sub : Option Kind) (rest : List BagValue) → AreBelow depth rest → AreBelow depth (sub_bags depth floor n tasks sub ++ rest)
 AreBelow-sub depth floor n tasks None rest h = h
@@ -155,9 +155,10 @@ deeper image budget journal state run before s entry t bag outer top one =
     let owner = (subst (AreOwned before) top (AreOwned-inner before s.stack nested.owned)).0 one in
     record {
       earlier = owner.earlier;
-      creator = owner.creator;
+      owner_entry = owner.owner_entry;
       between = owner.between;
       stands = owner.stands;
       number = owner.number;
-      deeper = deeper-more owner.creator.depth owner.between entry owner.deeper (omega (arith, owner.outside, depth));
+      deeper = deeper-more owner.owner_entry.depth owner.between entry owner.deeper
+          (omega (arith, owner.outside, depth));
     }

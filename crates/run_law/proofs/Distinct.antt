@@ -15,7 +15,7 @@ use Rattle.serial_machine.specs.State.{SerialState}
 use Rattle.serial_machine.specs.Names.{one, times, times_in}
 use Rattle.serial_machine.specs.Turn.{is_named, without_name, stack_after, children, with_super, find_named}
 use Rattle.serial_machine.specs.Run.{Runs, IsRun, opening}
-use Rattle.serial_machine.proofs.Proved.{AreNamed-opening, kids, kids-fresh, kids_for, times-append, times-kids, times-without_name, times_in-inner, times_in-sub, times_in-super}
+use Rattle.serial_machine.proofs.Proved.{AreNamed-opening, all_children, children-fresh, children_for, times-append, times-children, times-without_name, times_in-inner, times_in-sub, times_in-super}
 use Rattle.run_law.specs.Laws.{is_same, turns_of, TurnsAreDistinct}
 use Rattle.run_law.proofs.Turned.{Turned, turn-did}
 
@@ -23,7 +23,7 @@ use Rattle.run_law.proofs.Turned.{Turned, turn-did}
 pub one-same : (x name own : Name) → is_same own name ≡ true → one (is_same own x) ≡ one (is_same name x)
 one-same x name own h = grind (arith, nat_tests, common_steps)
 
--- a name that is found stands there, and is taken away whole
+-- without a name that is found the tasks have it at least once less, and no name more often
 times-taken : (x name : Name) (tasks : List PendingTask) (t : PendingTask) → find_named name tasks ≡ Some t
     → one (is_same name x) + times x (without_name name tasks) ≤ times x tasks
 times-taken x name [] t found = absurd (none-some _ found)
@@ -36,26 +36,28 @@ times-taken x name (u ∷ us) t found = go (is_named name u) refl found (times-t
 
 -- a turn adds to a stack, without the name that took it, at most its children
 after-taken : (x : Name) (bag : BagValue) (outer : List BagValue) (name : Name) (n ts : ℕ) (spawns : List Spawn) (sub : Option Kind) (t : PendingTask) → find_named name bag.tasks ≡ Some t
-    → one (is_same name x) + times_in x (stack_after bag outer name n ts spawns sub) ≤ times_in x (bag ∷ outer) + times x (kids n 0 spawns)
+    → one (is_same name x) + times_in x (stack_after bag outer name n ts spawns sub) ≤ times_in x (bag ∷ outer) + times x (all_children n 0 spawns)
 unfolding stack_after children
 after-taken x bag outer name n ts spawns sub t found = omega (
   arith,
-  times_in-sub x (bag.depth + 1) ts n (kids_for Sub n 0 spawns) sub (record bag { tasks = without_name name bag.tasks ++ kids_for Same n 0 spawns } ∷ with_super (kids_for Super n 0 spawns) outer),
-  times-append x (without_name name bag.tasks) (kids_for Same n 0 spawns),
+  times_in-sub x (bag.depth + 1) ts n (children_for Sub n 0 spawns) sub (record bag { tasks = without_name name bag.tasks ++ children_for Same n 0 spawns } ∷ with_super (children_for Super n 0 spawns) outer),
+  times-append x (without_name name bag.tasks) (children_for Same n 0 spawns),
   times-taken x name bag.tasks t found,
-  times_in-super x (kids_for Super n 0 spawns) outer,
-  times-kids x n 0 spawns,
+  times_in-super x (children_for Super n 0 spawns) outer,
+  times-children x n 0 spawns,
 )
 
 pub turn-at-most : (x : Name) (image : ImageValue) (budget : ℕ) (s mid : SerialState) (e : Entry) → (d : Turned image budget s mid e.name e)
-    → one (is_same e.name x) + times_in x mid.stack ≤ times_in x s.stack + times x (kids (s.count + 1) 0 d.done.spawns)
+    → one (is_same e.name x) + times_in x mid.stack
+    ≤ times_in x s.stack + times x (all_children (s.count + 1) 0 d.done.spawns)
 turn-at-most x image budget s mid e d =
     let top : times_in x s.stack ≡ times_in x (d.bag ∷ d.outer) = sym (times_in-inner x s.stack) ∙ ap (times_in x) d.may.top in
     let le = after-taken x d.bag d.outer e.name (s.count + 1) d.task.ts d.done.spawns d.done.sub d.task d.may.found in
     let stack = ap (λ m. times_in x m.stack) d.state in
     omega (arith, top, le, stack)
 
--- a turn makes a name at most once, and that is one of its own number
+-- names up to a count, each at most once, and what the next turn makes, its own at most once, are names up to the
+-- next count, each at most once
 one-more : (c i n m k : ℕ) → m ≡ n + 1 → k ≤ one ((n + 1 == c) && nat_le 0 i) → one (nat_le c n) + k ≤ one (nat_le c m)
 one-more c i n m k e h = grind (arith, nat_tests, common_steps)
 
@@ -66,7 +68,7 @@ turns-fit x image budget s (e ∷ es) after k (mid, t, rest) h =
     let d = turn-did image budget s mid e.name e t in
     let count : mid.count ≡ s.count + 1 = ap (λ m. m.count) d.state in
     let step = turn-at-most x image budget s mid e d in
-    let more = one-more x.creator x.index s.count mid.count _ count (kids-fresh x (s.count + 1) 0 d.done.spawns) in
+    let more = one-more x.creator x.index s.count mid.count _ count (children-fresh x (s.count + 1) 0 d.done.spawns) in
     let ih = turns-fit x image budget mid es after (k + one (is_same e.name x)) rest (omega (arith, h, step, more)) in
     omega (arith, ih)
 

@@ -12,7 +12,7 @@ use Rattle.pending_list.specs.declared.task.PendingTask.{PendingTask}
 use Rattle.serial_machine.specs.BagValue.{BagValue}
 use Rattle.serial_machine.specs.State.{SerialState}
 use Rattle.serial_machine.specs.TaskRun.{task_run, Done}
-use Rattle.serial_machine.proofs.Proved.{EndHolds, StepHolds, task_run-holds}
+use Rattle.serial_machine.proofs.Proved.{EndHolds, HoldsAfter, task_run-holds}
 use Rattle.task_request.specs.declared.request.Request.{Request}
 use Rattle.task_request.specs.declared.request.Request.TheVariants as request
 use Rattle.task_request.specs.Effects.{after_request}
@@ -20,7 +20,7 @@ use Rattle.task_request.specs.TaskState.{TaskState, context}
 use Rattle.task_request.proofs.Proved.{AllowedBy}
 use Rattle.serial_machine.specs.Turn.{run_in_bag, context_in_bag, kind_outside}
 
--- there is a domain at a place, by the kinds of the superdomain and the subdomain
+-- there is the domain that a child is for (`Place`), by the kinds of the superdomain and the subdomain
 abbrev pub HasDomain : Option Kind → Option Kind → Place → Type 0
 HasDomain outer sub Same = Unit {0}
 HasDomain outer sub Sub = IsSome sub
@@ -67,7 +67,7 @@ allowed_spawn-placed ctx spawn ts allows = by_place spawn.place allows
 
 -- each request that is allowed keeps it
 pub request-placed : (ctx : Ctx) (task : TaskState) (asked : Request) → AllowedBy (context ctx task) asked → IsPlaced ctx.outer task
-    → StepHolds (IsPlaced ctx.outer) (after_request task asked)
+    → HoldsAfter (IsPlaced ctx.outer) (after_request task asked)
 request-placed ctx task request.Continue allows placed = placed
 request-placed ctx task (request.Load width rd offset) allows placed = placed
 request-placed ctx task (request.Store offset bytes value) allows placed = placed

@@ -65,11 +65,11 @@ pub record IsCompleteRun (image : ImageValue) (budget : ℕ) (journal : List Ent
 -- this one are deeper than it
 pub record IsInsideTurns (owner : ℕ) (before : List Entry) (entry : Entry) : Type 0 where
   pub earlier : List Entry
-  pub creator : Entry
+  pub owner_entry : Entry
   pub between : List Entry
-  pub stands : before ≡ earlier ++ creator ∷ between
+  pub stands : before ≡ earlier ++ owner_entry ∷ between
   pub number : owner ≡ length earlier + 1
-  pub deeper : AllByRecursion (λ e. creator.depth < e.depth) (between ++ entry ∷ [])
+  pub deeper : AllByRecursion (λ e. owner_entry.depth < e.depth) (between ++ entry ∷ [])
 
 -- where a task takes its turn from a domain that another task made, all turns behind that other task's up to and
 -- with this one are deeper (Subramanian et al. 2017, section 3: a task and its subdomain run as one unit)

@@ -1,4 +1,4 @@
-pub mod Steps
+pub mod Effects
 pub mod Runs
 pub mod Unreached
 pub mod Ops

@@ -2,7 +2,7 @@
 use Rattle.std.proofs.Common.{◌≡◌, ℕ, ◌+◌, ◌*◌, ◌-◌, ◌/◌, ◌%◌, ◌^◌, ◌<◌, ◌≤◌, ◌==◌, ◌&&◌, List, length, slice_get, slice_index, Option, Some, None, Bool, true, false, nat_lt, if◌then◌else◌, zero, suc, refl, sym, ◌∙◌, ap, subst, arith, rules, ◌++◌, ◌∷◌, [], IfSome, add-zero, get_or}
 use Rattle.std.proofs.lemmas.List.{get_or_push, length_push}
 use Rattle.std.proofs.Math.ListN.{get_or-append}
-use Rattle.std.proofs.lemmas.Bool.{ltb-false, ltb-true, leb-true, eqb-true, lt-ltb}
+use Rattle.std.proofs.lemmas.Bool.{and_parts, eqb-true, leb-true, lt-ltb, ltb-false, ltb-true}
 use Rattle.std.proofs.lemmas.Option.{slice_get_within, slice_get_past, slice_get-get_or, get_or_from_slice_get}
 use Rattle.guest_image.specs.ImageValue.{ImageValue}
 use Rattle.guest_image.specs.Fetch.{fetched_word, text_loaded}
@@ -30,7 +30,7 @@ use Rattle.undo_log.specs.Number.{number_at, after_write}
 use Rattle.std.specs.Option.{option_or}
 use Rattle.std.specs.Prelude.{nat_le, option_map}
 
--- a word's offset of the address of a word is that of the words between
+-- the address of the word so many words on is this word's address and their offset in bytes
 address_next : (index : ℕ) → address (plus index 1) ≡ plus (address index) 4
 address_next index = omega arith
 
@@ -174,11 +174,7 @@ accessed true false within one found is = cc
 accessed false below within one found is = cc
 
 low_of : (size addr n : ℕ) → is_within DATA_START size addr n ≡ true → DATA_START ≤ addr
-low_of size addr n within = leb-true _ _ (first _ _ within)
-  where
-    first : (a b : Bool) → (a && b) ≡ true → a ≡ true
-    first true b is = refl
-    first false b is = cc
+low_of size addr n within = leb-true _ _ (and_parts _ _ within).0
 
 load_stops : (image : ImageValue) (size : ℕ) (core : Core) (found : Stop) (width : LoadWidth) (rd addr : ℕ) → length image.text ≤ 65536
     → access size addr (load_width width) (stop.Load width rd addr) ≡ Some found → effect_next image size core (does.Load width rd addr) ≡ Stops found
@@ -359,7 +355,7 @@ ops_go image size budget core ops (suc n) index to made here used (mid, front, l
       (op_goes image size budget (core_at_point core mid n) ops mid.cursor.index to made refl (omega arith) last),
 )
 
--- the same of what may stop
+-- what the operation found there stops at, if at anything, is what stands next
 pub if_stops : (image : ImageValue) (size : ℕ) (core : Core) (ops : List Op) (index : ℕ) (at : Option Op) (found : Option Stop) → AreDecoded image ops → core.pc ≡ address index
     → slice_get ops index ≡ at → found ≡ found_stop size at core.regs → IfSome found (λ found. (budget : ℕ) → core.used < budget → next_at image size budget core ≡ Stops found)
 if_stops image size core ops index at None made here there is = tt

@@ -1,4 +1,4 @@
--- What follows from plain instructions: each is counted and within the budget, and what stops a run lies inside the data.
+-- Each plain instruction is counted and within the budget, and an access that stops a run lies inside the data.
 use Rattle.std.proofs.Common.{◌≡◌, ◌≢◌, ℕ, ◌+◌, ◌<◌, ◌≤◌, ◌%◌, ◌==◌, not, Option, Some, None, Bool, true, false, nat_lt, if◌then◌else◌, zero, suc, refl, subst, arith, add-zero, add-suc}
 use Rattle.std.proofs.lemmas.Bool.{ltb-true, leb-true, eqb-true, and_parts}
 use Rattle.guest_image.specs.ImageValue.{ImageValue}
@@ -18,7 +18,7 @@ use Rattle.guest_image.specs.declared.memory_map.TheConstants.{DATA_START}
 use Rattle.rv_core.specs.Memory.{load_width, store_width, is_within, is_in_stack}
 use Rattle.rv_core.specs.Legs.{next_at, word_next, instr_next, effect_next, load_next, store_next, after_store_of, plain_loaded, traps, PlainInstruction, PlainInstructions, StopIsInData}
 
--- what stands next at a core is counted where it goes on, and lies inside the data and is no quantum where it stops
+-- what stands next is counted where it goes on; where it stops it is no quantum, and an access lies inside the data
 abbrev Keeps : ℕ → Core → Next → Type 0
 Keeps size core (Goes to) = to.used ≡ core.used + 1
 Keeps size core (Stops found) = StopIsInData size found × (found ≢ stop.Quantum)
@@ -134,4 +134,4 @@ PlainInstructions-append image size budget m zero from mid to front same =
 PlainInstructions-append image size budget m (suc n) from mid to front (late, more, last) =
     rw add-suc (late, PlainInstructions-append image size budget m n from mid late front more, last)
 
-pub ruleset step_facts = (next_at-inside, next_at-other, PlainInstruction-counted, PlainInstruction-within)
+pub ruleset plain_facts = (next_at-inside, next_at-other, PlainInstruction-counted, PlainInstruction-within)

@@ -89,17 +89,17 @@ stack_of (Goes core) = core.stack
 stack_of (Stops found) = []
 
 -- a plain instruction of version 1 leaves the stack as it was
-step_keeps : (image : ImageValue) (size budget : ℕ) (from to : Core) → image.version ≡ 1 → PlainInstruction image size budget from to
+plain_keeps : (image : ImageValue) (size budget : ℕ) (from to : Core) → image.version ≡ 1 → PlainInstruction image size budget from to
     → to.stack ≡ from.stack
-step_keeps image size budget from to first step =
+plain_keeps image size budget from to first step =
     ap stack_of (sym step ∙ no_address_reaches image size budget from from.stack first ∙ ap (next_with_stack from.stack) step)
 
 -- so do any number of them
-pub steps_keep : (image : ImageValue) (size budget n : ℕ) (from to : Core) → image.version ≡ 1 → PlainInstructions image size budget n from to
+pub all_plain_keep : (image : ImageValue) (size budget n : ℕ) (from to : Core) → image.version ≡ 1 → PlainInstructions image size budget n from to
     → to.stack ≡ from.stack
-steps_keep image size budget zero from to first same = ap (λ (core : Core). core.stack) (sym same)
-steps_keep image size budget (suc n) from to first (mid, front, last) =
-    step_keeps image size budget mid to first last ∙ steps_keep image size budget n from mid first front
+all_plain_keep image size budget zero from to first same = ap (λ (core : Core). core.stack) (sym same)
+all_plain_keep image size budget (suc n) from to first (mid, front, last) =
+    plain_keeps image size budget mid to first last ∙ all_plain_keep image size budget n from mid first front
 
 pub legs_keep_the_stack : LegsKeepTheStack
-legs_keep_the_stack image budget leg run first = steps_keep image image.data_size budget leg.steps leg.from leg.to first run.run
+legs_keep_the_stack image budget leg run first = all_plain_keep image image.data_size budget leg.steps leg.from leg.to first run.run

@@ -14,7 +14,8 @@ pub record LegValue : Type 0 where
   pub steps : ℕ
   pub stop : Stop
 
--- the leg is a run of plain instructions of this image with this budget, and it stopped at what stands next
+-- the leg is a run of plain instructions of this image with this budget; it stopped at what stands next, or at its
+-- quantum
 pub record IsLegOfImage (image : ImageValue) (budget : ℕ) (leg : LegValue) : Type 0 where
   pub run : PlainInstructions image image.data_size budget leg.steps leg.from leg.to
   pub next : leg.stop ≢ stop.Quantum → next_at image image.data_size budget leg.to ≡ Stops leg.stop

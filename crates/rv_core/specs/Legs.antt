@@ -125,8 +125,8 @@ pub record IsLeg (image : ImageValue) (size budget quantum : ℕ) (from to : Cor
   pub next : steps < quantum → next_at image size budget to ≡ Stops found
   pub other : steps < quantum → found ≢ stop.Quantum
 
--- a load or a store that stands next is aligned and lies wholly in data of this size, so that the serial machine
--- reaches memory without a test
+-- a load or a store that stands next is aligned and lies wholly in data of this size, so that both machines reach
+-- memory without a test
 abbrev pub StopIsInData : ℕ → Stop → Type 0
 StopIsInData size (stop.Load width rd addr) =
     (DATA_START ≤ addr) × (addr + load_width width ≤ DATA_START + size) × (addr % load_width width ≡ 0)

@@ -154,7 +154,7 @@ abbrev pub access : ℕ → ℕ → ℕ → Stop → Option Stop
 access size addr n found =
     if (addr % n == 0) && (nat_lt addr STACK_START && is_within DATA_START size addr n) then Some found else None
 
--- what an operation stops at, where its shape alone tells it
+-- what an operation stops at, where it is a call or an access to the data below the stack that doesn't trap
 abbrev pub shape_stop : ℕ → Shape → List ℕ → Option Stop
 shape_stop size (Load width rd rs1 imm) regs =
     access size (plus (slice_index regs rs1) imm) (load_width width)

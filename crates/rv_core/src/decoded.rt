@@ -88,7 +88,7 @@ impl<N: Naming> Decoded<N> {
         steps
     }
 
-    /// What a run stops at here, where that is a call or an access to the data that doesn't trap.
+    /// What a run stops at here, where a decoded word tells it: a call, or an access to the data that doesn't trap.
     fn stop_at(&self, data_size: u32, core: &Core) -> Option<Stop>
         ensures { IfSome result (λ found. (budget : ℕ) → core.now.used < budget
             → next_at N.image data_size budget core.now ≡ Stops found) }
@@ -207,28 +207,29 @@ fn execute_here<N: Naming>(
     found
 }
 
-/// Runs plain instructions, at least one and at most `room`, or up to what stops the run: how many they were.
-#[tactic(auto, using(crate::proofs::Runs::step_facts))]
-fn turn<N: Naming>(
+/// Runs plain instructions, at least one and at most `most`, or up to what stops the run: how many they were, and what
+/// stopped it, if anything did.
+#[tactic(auto, using(crate::proofs::Runs::plain_facts))]
+fn run_some<N: Naming>(
     decoded: &Decoded<N>,
     image: &Image,
     data_size: u32,
     core: &mut Core,
-    room: u32,
+    most: u32,
     budget: u32,
 ) -> (u32, Option<Stop>)
     requires image { image.now ≡ N.image }
-    requires room { 1 ≤ room }
-    requires used { core.old.used + room ≤ budget }
+    requires some { 1 ≤ most }
+    requires used { core.old.used + most ≤ budget }
     ensures run { PlainInstructions image.now data_size budget result.0 core.old core.new }
-    ensures bound { result.0 ≤ room }
+    ensures bound { result.0 ≤ most }
     ensures used { core.new.used ≡ core.old.used + result.0 }
     ensures some { result.1 ≡ None → 1 ≤ result.0 }
     ensures stopped { IfSome result.1 (λ found.
-        (result.0 < room) × (next_at image.now data_size budget core.new ≡ Stops found)) }
+        (result.0 < most) × (next_at image.now data_size budget core.new ≡ Stops found)) }
 {
-    let steps = decoded.run_ops(image.version(), core, room);
-    if steps == room {
+    let steps = decoded.run_ops(image.version(), core, most);
+    if steps == most {
         return (steps, None);
     }
     match execute_here(decoded, image, data_size, core, budget) {
@@ -239,7 +240,7 @@ fn turn<N: Naming>(
 
 /// Runs plain instructions on the decoded text, on a core in place, as `run_plain_within` does: how many they were,
 /// and what the run stopped at.
-#[tactic(auto, using(crate::proofs::Runs::step_facts, crate::proofs::Ops::ops_facts))]
+#[tactic(auto, using(crate::proofs::Runs::plain_facts, crate::proofs::Ops::ops_facts))]
 pub fn run_decoded<N: Naming>(
     decoded: &Decoded<N>,
     image: &Image,
@@ -258,7 +259,7 @@ pub fn run_decoded<N: Naming>(
     let limit = limit_of(quantum, budget, core.used);
     let mut steps = 0;
     while steps < limit {
-        let (more, stop) = turn(decoded, image, data_size, core, limit - steps, budget);
+        let (more, stop) = run_some(decoded, image, data_size, core, limit - steps, budget);
         steps += more;
         if let Some(stop) = stop {
             return (steps, stop);

@@ -1,4 +1,4 @@
-//! Runs of plain instructions.
+//! Runs of plain instructions, how many bytes an access takes, and the core after an instruction at which a run stops.
 
 ghost use Rattle.rv_table.specs.Regs.{set_word};
 ghost use Rattle.std.specs.Prelude.{◌≡◌, ◌+◌, ◌%◌, ◌^◌, ◌-◌, ◌⊎◌, ◌<◌, ◌≤◌, OnSome};
@@ -101,7 +101,7 @@ fn load(
     rd: Reg,
     addr: u32,
 ) -> Option<Stop>
-    requires room { head.old.used + 1 < 2 ^ 32 }
+    requires counts { head.old.used + 1 < 2 ^ 32 }
     requires aligned { addr % load_width width ≡ 0 }
     ensures next { let raw = plain_loaded image.now stack.now addr (load_width width) in
         next_given (core_of_parts head.new stack.now) result
@@ -136,7 +136,7 @@ fn store(
     addr: u32,
     value: u32,
 ) -> Option<Stop>
-    requires room { head.old.used + 1 < 2 ^ 32 }
+    requires counts { head.old.used + 1 < 2 ^ 32 }
     requires aligned { addr % store_width width ≡ 0 }
     ensures next { let from = core_of_parts head.old stack.old in
         next_given (core_of_parts head.new stack.new) result
@@ -165,7 +165,7 @@ fn obey(
     stack: &mut [u8; 1024],
     effect: Effect,
 ) -> Option<Stop>
-    requires room { head.old.used + 1 < 2 ^ 32 }
+    requires counts { head.old.used + 1 < 2 ^ 32 }
     ensures next { let from = core_of_parts head.old stack.old in
         next_given (core_of_parts head.new stack.new) result ≡ effect_next image.now data_size from effect }
     ensures stopped { OnSome result (core_of_parts head.new stack.new ≡ core_of_parts head.old stack.old) }
@@ -223,7 +223,7 @@ pub(crate) fn execute<const CALLER: usize>(
 }
 
 /// Runs plain instructions from a core on, whose stack stands beside it.
-#[tactic(auto, using(crate::proofs::Runs::step_facts))]
+#[tactic(auto, using(crate::proofs::Runs::plain_facts))]
 fn run_head(
     image: &Image,
     data_size: u32,

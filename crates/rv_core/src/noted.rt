@@ -1,4 +1,4 @@
-//! Cores that stay in their places, and note whether their stack is known to be empty: of a core that is put in the
+//! Cores that stay in their places, and keep whether their stack is known to be empty: of a core that is put in the
 //! place of another, the stack is copied only where one of both isn't.
 
 ghost use Rattle.std.specs.Prelude.{◌≡◌, ◌+◌, ◌^◌, ◌-◌, ◌<◌, ◌≤◌, ◌↔◌, true, IsTrue};

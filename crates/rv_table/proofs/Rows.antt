@@ -1,4 +1,5 @@
--- The rows of the table are apart: a test on each pair of them finds a fixed field in which they differ.
+-- The rows of the table are apart: a test on each pair of them finds a fixed field in which they differ. So each row
+-- gives the instruction of every word that fits it.
 use Rattle.std.proofs.Common.{◌≡◌, ℕ, ◌==◌, ◌&&◌, ◌||◌, not, Bool, true, false, Option, Some, None, List, [], ◌∷◌, refl, ap, arith, suc, ◌<◌, length}
 use Rattle.std.specs.List.{list_all, All, AllPairs}
 use Rattle.std.proofs.lemmas.List.Sums.{AllPass-from_list_all}

@@ -11,31 +11,31 @@ use Rattle.task_request.specs.Requests.{request_at}
 use Rattle.task_request.specs.TaskState.{TaskState}
 use Rattle.task_request.specs.Effects.{after_request}
 use Rattle.task_request.proofs.Proved.{after_request-size, AllowedBy, HasSize, request_at-allowed_spawn}
-use Rattle.task_request.proofs.Proved.{sub_allowed-room}
+use Rattle.task_request.proofs.Proved.{sub_allowed-limits}
 use Rattle.serial_machine.specs.Legs.{SubFits}
 use Rattle.serial_machine.specs.TaskRun.{context, task_at_start, after_next, after_instruction, task_end_after, after_instructions, task_run, Continuation, Continues, Ends, Traps, TaskEnd, Done, Trapped}
 
 module _ (Holds : TaskState → Type 0) where
   -- where the task goes on or ends behind an instruction, this holds of it
-  abbrev pub StepHolds : Continuation → Type 0
-  StepHolds (Continues task) = Holds task
-  StepHolds (Ends task) = Holds task
-  StepHolds (Traps cause pc) = Unit {0}
+  abbrev pub HoldsAfter : Continuation → Type 0
+  HoldsAfter (Continues task) = Holds task
+  HoldsAfter (Ends task) = Holds task
+  HoldsAfter (Traps cause pc) = Unit {0}
 
   -- where the run is done, this holds of the task
   abbrev pub EndHolds : TaskEnd → Type 0
   EndHolds (Done task) = Holds task
   EndHolds (Trapped cause pc) = Unit {0}
 
-  task_end_after-holds : (rest : TaskState → TaskEnd) (x : Continuation) → StepHolds x → ((t : TaskState) → Holds t → EndHolds (rest t)) → EndHolds (task_end_after rest x)
+  task_end_after-holds : (rest : TaskState → TaskEnd) (x : Continuation) → HoldsAfter x → ((t : TaskState) → Holds t → EndHolds (rest t)) → EndHolds (task_end_after rest x)
   task_end_after-holds rest (Continues task) here on = on task here
   task_end_after-holds rest (Ends task) here on = here
   task_end_after-holds rest (Traps cause pc) here on = tt
 
   -- each plain instruction keeps it, and so does each request that the rules of calls allow
   module _ (image : ImageValue) (budget : ℕ) (ctx : Ctx) (moves : (task : TaskState) (core : Core) → Holds task → Holds (record task { core = core }))
-      (asks : (task : TaskState) (asked : Request) → AllowedBy (context ctx task) asked → Holds task → StepHolds (after_request task asked)) where
-    pub after_instruction-holds : (task : TaskState) (next : Next) → Holds task → StepHolds (after_next ctx task next)
+      (asks : (task : TaskState) (asked : Request) → AllowedBy (context ctx task) asked → Holds task → HoldsAfter (after_request task asked)) where
+    pub after_instruction-holds : (task : TaskState) (next : Next) → Holds task → HoldsAfter (after_next ctx task next)
     after_instruction-holds task (Goes core) here = moves task core here
     after_instruction-holds task (Stops found) here =
         asks task (request_at (context ctx task) task.core found) (request_at-allowed_spawn (context ctx task) task.core found) here
@@ -56,12 +56,12 @@ module _ (Holds : TaskState → Type 0) where
 
 -- a task at the greatest depth makes no subdomain
 pub request-sub_fits : (ctx : Ctx) (task : TaskState) (asked : Request) → AllowedBy (context ctx task) asked → SubFits ctx.depth task.sub
-    → StepHolds (λ t. SubFits ctx.depth t.sub) (after_request task asked)
+    → HoldsAfter (λ t. SubFits ctx.depth t.sub) (after_request task asked)
 request-sub_fits ctx task request.Continue allows fits = fits
 request-sub_fits ctx task (request.Load width rd offset) allows fits = fits
 request-sub_fits ctx task (request.Store offset bytes value) allows fits = fits
 request-sub_fits ctx task (request.Enqueue child) allows fits = fits
-request-sub_fits ctx task (request.MakeSub kind) allows fits = (sub_allowed-room (context ctx task) allows.0 kind allows.1).1
+request-sub_fits ctx task (request.MakeSub kind) allows fits = (sub_allowed-limits (context ctx task) allows.0 kind allows.1).1
 request-sub_fits ctx task (request.Emit byte) allows fits = fits
 request-sub_fits ctx task request.End allows fits = fits
 request-sub_fits ctx task (request.Trap cause) allows fits = tt
@@ -81,10 +81,10 @@ task_run-size image budget ctx entry args memory =
     Sized : TaskState → Type 0
     Sized task = length task.memory ≡ length memory
 
-    same : (x : Continuation) (size : ℕ) → size ≡ length memory → HasSize size x → StepHolds Sized x
+    same : (x : Continuation) (size : ℕ) → size ≡ length memory → HasSize size x → HoldsAfter Sized x
     same (Continues task) size e has = has ∙ e
     same (Ends task) size e has = has ∙ e
     same (Traps cause pc) size e has = tt
 
-    asks : (task : TaskState) (asked : Request) → AllowedBy (context ctx task) asked → Sized task → StepHolds Sized (after_request task asked)
+    asks : (task : TaskState) (asked : Request) → AllowedBy (context ctx task) asked → Sized task → HoldsAfter Sized (after_request task asked)
     asks task asked allows sized = same (after_request task asked) (length task.memory) sized (after_request-size task asked)

@@ -1,4 +1,4 @@
--- Names stand at most once.
+-- Names stand at most once, and the first of the least may take the next turn.
 use Rattle.std.proofs.Common.{◌≡◌, refl, sym, ap, ◌∙◌, ◌≢◌, ◌≤◌, ◌<◌, ◌+◌, ◌==◌, ◌&&◌, not, ℕ, zero, suc, Bool, true, false, List, [], ◌∷◌, ◌++◌, length, get_or, subst, map, filter, Option, Some, None, if◌then◌else◌, nat_le, nat_lt, arith}
 use Rattle.std.specs.List.{enumerate_from}
 use Rattle.std.proofs.lemmas.Grind.{common_steps}
@@ -38,27 +38,27 @@ times-without_name x name (t ∷ ts) = go (times-without_name x name ts) (is_nam
   go ih false = omega (arith, ih)
 
 -- the children for a domain, from a place among the spawns on
-abbrev pub kids_for : Place → ℕ → ℕ → List Spawn → List PendingTask
-kids_for place n k spawns = map (child n) (filter (is_for place) (enumerate_from k spawns))
+abbrev pub children_for : Place → ℕ → ℕ → List Spawn → List PendingTask
+children_for place n k spawns = map (child n) (filter (is_for place) (enumerate_from k spawns))
 
-abbrev pub kids : ℕ → ℕ → List Spawn → List PendingTask
-kids n k spawns = map (child n) (enumerate_from k spawns)
+abbrev pub all_children : ℕ → ℕ → List Spawn → List PendingTask
+all_children n k spawns = map (child n) (enumerate_from k spawns)
 
-pub times-kids : (x : Name) (n k : ℕ) (spawns : List Spawn)
-    → times x (kids_for Same n k spawns) + times x (kids_for Sub n k spawns) + times x (kids_for Super n k spawns) ≡ times x (kids n k spawns)
-times-kids x n k [] = refl
-times-kids x n k (s ∷ ss) = go (times-kids x n (k + 1) ss) s.place refl where
-  go : times x (kids_for Same n (k + 1) ss) + times x (kids_for Sub n (k + 1) ss) + times x (kids_for Super n (k + 1) ss) ≡ times x (kids n (k + 1) ss)
-      → (p : Place) → s.place ≡ p → times x (kids_for Same n k (s ∷ ss)) + times x (kids_for Sub n k (s ∷ ss)) + times x (kids_for Super n k (s ∷ ss)) ≡ times x (kids n k (s ∷ ss))
+pub times-children : (x : Name) (n k : ℕ) (spawns : List Spawn)
+    → times x (children_for Same n k spawns) + times x (children_for Sub n k spawns) + times x (children_for Super n k spawns) ≡ times x (all_children n k spawns)
+times-children x n k [] = refl
+times-children x n k (s ∷ ss) = go (times-children x n (k + 1) ss) s.place refl where
+  go : times x (children_for Same n (k + 1) ss) + times x (children_for Sub n (k + 1) ss) + times x (children_for Super n (k + 1) ss) ≡ times x (all_children n (k + 1) ss)
+      → (p : Place) → s.place ≡ p → times x (children_for Same n k (s ∷ ss)) + times x (children_for Sub n k (s ∷ ss)) + times x (children_for Super n k (s ∷ ss)) ≡ times x (all_children n k (s ∷ ss))
   go ih Same e = rw e (omega (arith, ih))
   go ih Sub e = rw e (omega (arith, ih))
   go ih Super e = rw e (omega (arith, ih))
 
-pub kids-fresh : (x : Name) (n k : ℕ) (spawns : List Spawn) → times x (kids n k spawns) ≤ one ((n == x.creator) && nat_le k x.index)
-kids-fresh x n k [] = omega arith
-kids-fresh x n k (s ∷ ss) = go (kids-fresh x n (k + 1) ss) (n == x.creator) where
-  go : times x (kids n (k + 1) ss) ≤ one ((n == x.creator) && nat_le (k + 1) x.index) → (b : Bool)
-      → one ((n == x.creator) && (k == x.index)) + times x (kids n (k + 1) ss) ≤ one ((n == x.creator) && nat_le k x.index)
+pub children-fresh : (x : Name) (n k : ℕ) (spawns : List Spawn) → times x (all_children n k spawns) ≤ one ((n == x.creator) && nat_le k x.index)
+children-fresh x n k [] = omega arith
+children-fresh x n k (s ∷ ss) = go (children-fresh x n (k + 1) ss) (n == x.creator) where
+  go : times x (all_children n (k + 1) ss) ≤ one ((n == x.creator) && nat_le (k + 1) x.index) → (b : Bool)
+      → one ((n == x.creator) && (k == x.index)) + times x (all_children n (k + 1) ss) ≤ one ((n == x.creator) && nat_le k x.index)
   go ih b = grind (arith, nat_tests, common_steps)
 
 pub times_in-super : (x : Name) (tasks : List PendingTask) (outer : List BagValue) → times_in x (with_super tasks outer) ≤ times x tasks + times_in x outer
@@ -74,15 +74,16 @@ times_in-sub x depth floor owner tasks (Some kind) rest = go (length tasks == 0)
   go false = omega arith
 
 pub times_in-after : (x : Name) (bag : BagValue) (outer : List BagValue) (name : Name) (n ts : ℕ) (spawns : List Spawn) (sub : Option Kind)
-    → times_in x (stack_after bag outer name n ts spawns sub) ≤ times_in x (bag ∷ outer) + times x (kids n 0 spawns)
+    → times_in x (stack_after bag outer name n ts spawns sub)
+    ≤ times_in x (bag ∷ outer) + times x (all_children n 0 spawns)
 unfolding stack_after children
 times_in-after x bag outer name n ts spawns sub = omega (
   arith,
-  times_in-sub x (bag.depth + 1) ts n (kids_for Sub n 0 spawns) sub (record bag { tasks = without_name name bag.tasks ++ kids_for Same n 0 spawns } ∷ with_super (kids_for Super n 0 spawns) outer),
-  times-append x (without_name name bag.tasks) (kids_for Same n 0 spawns),
+  times_in-sub x (bag.depth + 1) ts n (children_for Sub n 0 spawns) sub (record bag { tasks = without_name name bag.tasks ++ children_for Same n 0 spawns } ∷ with_super (children_for Super n 0 spawns) outer),
+  times-append x (without_name name bag.tasks) (children_for Same n 0 spawns),
   times-without_name x name bag.tasks,
-  times_in-super x (kids_for Super n 0 spawns) outer,
-  times-kids x n 0 spawns,
+  times_in-super x (children_for Super n 0 spawns) outer,
+  times-children x n 0 spawns,
 )
 
 one-more : (c n i : ℕ) → one (nat_le c n) + one ((n + 1 == c) && nat_le 0 i) ≤ one (nat_le c (n + 1))
@@ -92,7 +93,7 @@ pub AreNamed-after : (stack : List BagValue) (bag : BagValue) (outer : List BagV
     → inner stack ≡ bag ∷ outer → AreNamed n stack → AreNamed (n + 1) (stack_after bag outer name (n + 1) ts spawns sub)
 AreNamed-after stack bag outer name n ts spawns sub e h x =
     let top : times_in x stack ≡ times_in x (bag ∷ outer) = sym (times_in-inner x stack) ∙ ap (times_in x) e in
-    omega (arith, times_in-after x bag outer name (n + 1) ts spawns sub, kids-fresh x (n + 1) 0 spawns, h x, top, one-more x.creator n x.index)
+    omega (arith, times_in-after x bag outer name (n + 1) ts spawns sub, children-fresh x (n + 1) 0 spawns, h x, top, one-more x.creator n x.index)
 
 pub image-fresh : (x : Name) (kind : Kind) (k : ℕ) (tasks : List ImageTask) → times x (map (image_task kind) (enumerate_from k tasks)) ≤ one ((0 == x.creator) && nat_le k x.index)
 image-fresh x kind k [] = omega arith

@@ -1,5 +1,5 @@
 -- The instructions of a task that are left come to the same behind a leg, and behind what stands at its end.
-use Rattle.std.proofs.Common.{◌≡◌, refl, sym, ◌∙◌, ap, ℕ, zero, suc, ◌+◌, ◌-◌, ◌^◌, ◌≤◌, ◌<◌, ◌≢◌, inl, inr, nat_lt, List, length, arith, false, subst}
+use Rattle.std.proofs.Common.{◌≡◌, refl, sym, ◌∙◌, ap, ℕ, zero, suc, ◌+◌, ◌-◌, ◌^◌, ◌≤◌, ◌<◌, ◌≢◌, inl, inr, nat_lt, length, arith, false, subst}
 use Rattle.std.proofs.lemmas.Bool.{cases_lt}
 use Rattle.std.proofs.lemmas.Bool.Decides.{nat_tests}
 use Rattle.guest_image.specs.ImageValue.{ImageValue}
@@ -81,41 +81,41 @@ request-can_count ctx core stop.Call can =
 request-can_count ctx core (stop.Trap cause pc) can = tt
 request-can_count ctx core stop.Quantum can = tt
 
--- the code can do what can be counted, lies in the memory and has room
+-- the code can do what can be counted, lies in the memory and keeps the limits
 can_do : (ctx : Ctx) (task : TaskState) (asked : Request) → RequestCanCount task.core.used asked → IsInData (length task.memory) asked
     → KeepsLimits (context ctx task) asked → CanPerform task asked
-can_do ctx task request.Continue count lies room = tt
-can_do ctx task (request.Load width rd offset) count lies room = (count, lies)
-can_do ctx task (request.Store offset bytes value) count lies room = (count, lies)
-can_do ctx task (request.Enqueue child) count lies room = (count, room)
-can_do ctx task (request.MakeSub kind) count lies room = count
-can_do ctx task (request.Emit byte) count lies room = (count, room)
-can_do ctx task request.End count lies room = count
-can_do ctx task (request.Trap cause) count lies room = tt
+can_do ctx task request.Continue count lies limits = tt
+can_do ctx task (request.Load width rd offset) count lies limits = (count, lies)
+can_do ctx task (request.Store offset bytes value) count lies limits = (count, lies)
+can_do ctx task (request.Enqueue child) count lies limits = (count, limits)
+can_do ctx task (request.MakeSub kind) count lies limits = count
+can_do ctx task (request.Emit byte) count lies limits = (count, limits)
+can_do ctx task request.End count lies limits = count
+can_do ctx task (request.Trap cause) count lies limits = tt
 
 -- it can do what a task asks for at its stop
 pub can_perform : (ctx : Ctx) (task : TaskState) (s : Stop) (asked : Request) → asked ≡ request_at (context ctx task) task.core s
     → StopCanCount task.core.used s → StopIsInData (length task.memory) s → ((size : ℕ) → StopIsInData size s → IsInData size asked)
     → KeepsLimits (context ctx task) asked → CanPerform task asked
-can_perform ctx task s asked is count inside lies room =
+can_perform ctx task s asked is count inside lies limits =
     let P : Request → Type 0 = RequestCanCount task.core.used in
-    can_do ctx task asked (subst P (sym is) (request-can_count (context ctx task) task.core s count)) (lies (length task.memory) inside) room
+    can_do ctx task asked (subst P (sym is) (request-can_count (context ctx task) task.core s count)) (lies (length task.memory) inside) limits
 
 module _ (image : ImageValue) (budget : ℕ) (ctx : Ctx) where
-  pub after_instructions-plain_step : (t : TaskState) (to : Core)
+  pub after_instructions-one_plain : (t : TaskState) (to : Core)
       → PlainInstruction image (length t.memory) budget t.core to
       → after_instructions image budget ctx (budget - t.core.used) t ≡ after_instructions image budget ctx (budget - to.used) (record t { core = to })
-  after_instructions-plain_step t to h =
+  after_instructions-one_plain t to h =
       let within = PlainInstruction-within image (length t.memory) budget t.core to h in
       let counted = PlainInstruction-counted image (length t.memory) budget t.core to h in
       let e : budget - t.core.used ≡ suc (budget - to.used) = omega arith in
       rw (e, h) refl
 
-  pub after_instructions-plain_steps : (n : ℕ) (t : TaskState) (to : Core)
+  pub after_instructions-all_plain : (n : ℕ) (t : TaskState) (to : Core)
       → PlainInstructions image (length t.memory) budget n t.core to
       → after_instructions image budget ctx (budget - t.core.used) t ≡ after_instructions image budget ctx (budget - to.used) (record t { core = to })
-  after_instructions-plain_steps zero t to e = rw (← e) refl
-  after_instructions-plain_steps (suc n) t to (mid, before, last) = after_instructions-plain_steps n t mid before ∙ after_instructions-plain_step (record t { core = mid }) to last
+  after_instructions-all_plain zero t to e = rw (← e) refl
+  after_instructions-all_plain (suc n) t to (mid, before, last) = after_instructions-all_plain n t mid before ∙ after_instructions-one_plain (record t { core = mid }) to last
 
   -- what stands at the end of a leg is followed, also where the budget is used up
   pub after_instructions-stop : (t : TaskState) (s : Stop) → next_at image (length t.memory) budget t.core ≡ Stops s → t.core.used ≤ budget
@@ -146,17 +146,17 @@ module _ (image : ImageValue) (budget : ℕ) (ctx : Ctx) where
       let mid : TaskState = record old { core = to } in
       let one = Leads-used (to.used + 1) (after_stop ctx mid s) new leads (after_stop-used ctx mid s other) in
       record {
-        same = ap (λ k. after_instructions image budget ctx (budget - k) new) one ∙ sym (after_instructions-plain_steps n old to run ∙ after_instructions-stop mid s next within ∙ task_end_after-Continues _ _ new leads);
+        same = ap (λ k. after_instructions image budget ctx (budget - k) new) one ∙ sym (after_instructions-all_plain n old to run ∙ after_instructions-stop mid s next within ∙ task_end_after-Continues _ _ new leads);
         used = omega arith;
         within = let lt = budget_left mid s new next leads in omega (arith, lt);
         memory = Leads-size (length old.memory) (after_stop ctx mid s) new leads (after_request-size mid (request_at (context ctx mid) to s));
       }
   leg-stopped old to n s flow.Ended new run used within next other leads =
       let P : TaskEnd → Type 0 = λ o. FinishesRun o ends.Done new in
-      subst P (sym (after_instructions-plain_steps n old to run ∙ after_instructions-stop (record old { core = to }) s next within)) (task_end_after-Ended _ _ new leads)
+      subst P (sym (after_instructions-all_plain n old to run ∙ after_instructions-stop (record old { core = to }) s next within)) (task_end_after-Ended _ _ new leads)
   leg-stopped old to n s (flow.Trapped cause pc) new run used within next other leads =
       let P : TaskEnd → Type 0 = λ o. FinishesRun o (ends.Trapped cause pc) new in
-      subst P (sym (after_instructions-plain_steps n old to run ∙ after_instructions-stop (record old { core = to }) s next within)) (task_end_after-Trapped _ _ cause pc new leads)
+      subst P (sym (after_instructions-all_plain n old to run ∙ after_instructions-stop (record old { core = to }) s next within)) (task_end_after-Trapped _ _ cause pc new leads)
 
   -- a leg that came to its quantum's end
   pub leg-full : (old : TaskState) (to : Core) (n : ℕ) (s : Stop) (f : Flow) (new : TaskState)
@@ -168,7 +168,7 @@ module _ (image : ImageValue) (budget : ℕ) (ctx : Ctx) where
     where
       goes : (f : Flow) → Leads (Continues (record old { core = to })) f new → LegLeads image budget ctx old f new
       goes flow.Continues same = rw same (record {
-        same = sym (after_instructions-plain_steps n old to run);
+        same = sym (after_instructions-all_plain n old to run);
         used = omega arith;
         within = within;
         memory = refl;

@@ -1,4 +1,4 @@
--- Names that a bag has not, bags that leave a stack, and room.
+-- Names that a bag has not, bags that leave a stack, and spare memory.
 use Rattle.std.proofs.Common.{◌≡◌, refl, sym, ap, ◌∙◌, ◌≤◌, ◌<◌, ◌+◌, ℕ, zero, suc, Bool, true, false, not, ◌||◌, List, [], ◌∷◌, length, take, drop, get_or, set, arith, if◌then◌else◌}
 use Rattle.std.proofs.lemmas.List.{drop-drop}
 use Rattle.std.specs.List.{list_any}
@@ -38,12 +38,12 @@ bags-set [] i bag other below same = refl
 bags-set (b ∷ stack) zero bag other below same = ap (λ v. v ∷ bags stack) same
 bags-set (b ∷ stack) (suc i) bag other below same = ap (λ r. bag_value b ∷ r) (bags-set stack i bag other (omega arith) same)
 
--- one more bag has room
-pub HaveSpare-set : (more : ℕ) (stack : List Bag) (i : ℕ) (bag : Bag) → i < length stack → more ≤ bag.tasks.room
+-- one more bag has spare memory
+pub HaveSpare-set : (more : ℕ) (stack : List Bag) (i : ℕ) (bag : Bag) → i < length stack → more ≤ bag.tasks.spare
     → HaveSpare more (take i stack) → HaveSpare more (take (suc i) (set stack i bag))
-HaveSpare-set more [] i bag below room h = absurd (omega arith)
-HaveSpare-set more (b ∷ stack) zero bag below room h = (room, tt)
-HaveSpare-set more (b ∷ stack) (suc i) bag below room h = (h.0, HaveSpare-set more stack i bag (omega arith) room h.1)
+HaveSpare-set more [] i bag below spare h = absurd (omega arith)
+HaveSpare-set more (b ∷ stack) zero bag below spare h = (spare, tt)
+HaveSpare-set more (b ∷ stack) (suc i) bag below spare h = (h.0, HaveSpare-set more stack i bag (omega arith) spare h.1)
 
 pub bags-drop : (k : ℕ) (stack : List Bag) → bags (drop k stack) ≡ drop k (bags stack)
 bags-drop zero stack = refl

@@ -49,7 +49,7 @@ IsStack-after bag outer name n ts spawns sub h fits =
     IsStack-sub bag.depth ts n (children Sub n spawns) sub _ (omega (arith, h.0, length-with_super (children Super n spawns) outer)) h.1 fits
     (omega (arith, h.0, length-with_super (children Super n spawns) outer), h.1, IsStack-with_super (children Super n spawns) outer h.2)
 
--- an empty bag holds no task
+-- the same names are pending in the stack from the innermost bag on that isn't empty
 pub is_pending-inner : (name : Name) (stack : List BagValue) → is_pending name (inner stack) ≡ is_pending name stack
 is_pending-inner name [] = refl
 is_pending-inner name (bag ∷ outer) = go (is_pending-inner name outer) (length bag.tasks == 0) refl where

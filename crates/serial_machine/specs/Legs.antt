@@ -54,8 +54,8 @@ StopCanCount used stop.Call = CanCount used
 StopCanCount used (stop.Trap cause pc) = Unit {0}
 StopCanCount used stop.Quantum = Unit {0}
 
--- the code can do what a task asks for: an instruction can be counted, an access lies in the memory, and there is
--- room for a child or a byte
+-- the code can do what a task asks for: an instruction can be counted, an access lies in the memory, and one child or
+-- byte more is within the limits
 abbrev pub CanPerform : TaskState → Request → Type 0
 CanPerform task request.Continue = Unit {0}
 CanPerform task (request.Load width rd offset) =
@@ -68,7 +68,7 @@ CanPerform task (request.Emit byte) = CanCount task.core.used × (length task.by
 CanPerform task request.End = CanCount task.core.used
 CanPerform task (request.Trap cause) = Unit {0}
 
--- the run is over so, and left this task
+-- the run is over so, and where it is done it left this task
 abbrev pub FinishesRun : TaskEnd → RunEnd → TaskState → Type 0
 FinishesRun (Done task) ends.Done new = new ≡ task
 FinishesRun (Trapped cause pc) (ends.Trapped found at) new = (found ≡ cause) × (at ≡ pc)

@@ -1,4 +1,4 @@
--- Contracts mean all but Stack, which serves this crate alone.
+-- Contracts mean all but Stack, which serves this crate alone, and Legs, of which proofs of crates above cite one.
 pub mod BagValue
 pub mod TaskState
 pub mod TaskRun

@@ -33,16 +33,16 @@ abbrev pub new_bags : Option Bag → List BagValue
 new_bags None = []
 new_bags (Some bag) = bag_value bag ∷ []
 
--- in each bag so many more tasks are spare
+-- in each bag memory for so many more tasks is spare
 abbrev pub HaveSpare : ℕ → List Bag → Type 0
 HaveSpare more [] = Unit {0}
-HaveSpare more (bag ∷ stack) = (more ≤ bag.tasks.room) × HaveSpare more stack
+HaveSpare more (bag ∷ stack) = (more ≤ bag.tasks.spare) × HaveSpare more stack
 
--- the tasks were made by turns before this one
+-- the tasks were made before this turn
 abbrev pub AreOlder : ℕ → List PendingTask → Type 0
 AreOlder turn tasks = All (λ t. t.name.creator < turn) tasks
 
--- the pending tasks were made by turns before this one
+-- the pending tasks were made before this turn
 abbrev pub AreAllOlder : ℕ → List BagValue → Type 0
 AreAllOlder turn [] = Unit {0}
 AreAllOlder turn (bag ∷ outer) = AreOlder turn bag.tasks × AreAllOlder turn outer

@@ -32,7 +32,7 @@ pub record IsTaken (image : ImageValue) (old new : SerialValue) (journal journal
   pub counted : new.state.count ≡ old.state.count + 1
   pub budget : new.budget ≡ old.budget
 
--- no task takes a turn any more: none is pending, or the next one traps
+-- the run stops here: no task is pending, or one that may take the next turn traps
 abbrev pub IsStop : ImageValue → SerialValue → End → Type 0
 IsStop image serial ends.Normal = inner serial.state.stack ≡ []
 IsStop image serial (ends.Trap name cause pc) = TrapsSo image serial.budget serial.state name cause pc

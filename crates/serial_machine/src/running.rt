@@ -90,7 +90,7 @@ fn request_now(task: &Progress, ctx: &Ctx, stop: &Stop) -> Request
     ensures request { let now = context ctx.now task.now.task in
         result ≡ request_at now task.now.task.core stop.now }
     ensures data { (size : ℕ) → StopIsInData size stop.now → IsInData size result }
-    ensures room { KeepsLimits (context ctx.now task.now.task) result }
+    ensures limits { KeepsLimits (context ctx.now task.now.task) result }
 {
     let now = context_now(task, ctx);
     request_of(&now, &task.core, stop)

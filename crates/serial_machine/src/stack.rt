@@ -96,7 +96,7 @@ fn number(place: Place) -> u8
 #[tactic(auto, unfolding(crate::specs::Turn::children))]
 fn join(tasks: &mut PendingList, place: Place, owner: u32, spawns: &[Spawn])
     requires few { length spawns.now ≤ MAX_CHILDREN }
-    requires room { length spawns.now ≤ tasks.old.room }
+    requires spare { length spawns.now ≤ tasks.old.spare }
     requires older { AreOlder owner tasks.old.tasks }
     ensures { tasks.new.tasks ≡ tasks.old.tasks ++ children place owner spawns.now }
 {
@@ -150,7 +150,7 @@ pub(crate) fn subdomain(
 pub(crate) fn reserve_tasks(stack: &mut Vec<Bag>, more: usize) -> Result<(), AllocError>
     ensures same { bags stack.new.items ≡ bags stack.old.items }
     ensures spare { OnOk result (vec_len stack.new < vec_capacity stack.new) }
-    ensures room { OnOk result (HaveSpare more stack.new.items) }
+    ensures each { OnOk result (HaveSpare more stack.new.items) }
 {
     stack.reserve(1)?;
     widen(stack, more)
@@ -158,7 +158,7 @@ pub(crate) fn reserve_tasks(stack: &mut Vec<Bag>, more: usize) -> Result<(), All
 
 fn widen(stack: &mut [Bag], more: usize) -> Result<(), AllocError>
     ensures same { bags stack.new ≡ bags stack.old }
-    ensures room { OnOk result (HaveSpare more stack.new) }
+    ensures each { OnOk result (HaveSpare more stack.new) }
 {
     for bag in stack.iter_mut() {
         bag.tasks.reserve(more)?;
@@ -171,17 +171,17 @@ fn take_first(stack: &mut Vec<Bag>) -> Bag
     requires { 0 < vec_len stack.old }
     ensures taken { stack.old.items ≡ result ∷ stack.new.items }
     ensures len { vec_len stack.new + 1 ≡ vec_len stack.old }
-    ensures room { vec_capacity stack.new ≡ vec_capacity stack.old }
+    ensures spare { vec_capacity stack.new ≡ vec_capacity stack.old }
 {
     stack.remove(0)
 }
 
-/// Puts a bag before the others, where there is room.
+/// Puts a bag before the others, in memory that is spare.
 fn put_first(stack: &mut Vec<Bag>, bag: Bag)
     requires { vec_len stack.old < vec_capacity stack.old }
     ensures put { stack.new.items ≡ bag ∷ stack.old.items }
     ensures len { vec_len stack.new ≡ vec_len stack.old + 1 }
-    ensures room { vec_capacity stack.old ≤ vec_capacity stack.new }
+    ensures spare { vec_capacity stack.old ≤ vec_capacity stack.new }
 {
     stack.insert(0, bag).unwrap();
 }
@@ -191,7 +191,7 @@ fn drop_first(stack: &mut Vec<Bag>, count: usize)
     requires { count ≤ vec_len stack.old }
     ensures dropped { stack.new.items ≡ drop count stack.old.items }
     ensures len { vec_len stack.new + count ≡ vec_len stack.old }
-    ensures room { vec_capacity stack.new ≡ vec_capacity stack.old }
+    ensures spare { vec_capacity stack.new ≡ vec_capacity stack.old }
 {
     for done in 0..count {
         let _empty = take_first(stack);
@@ -201,7 +201,7 @@ fn drop_first(stack: &mut Vec<Bag>, count: usize)
 /// The children for the superdomain join the first bag, if there is one.
 fn join_outside(stack: &mut Vec<Bag>, owner: u32, spawns: &[Spawn])
     requires few { length spawns.now ≤ MAX_CHILDREN }
-    requires room { HaveSpare (length spawns.now) stack.old.items }
+    requires each { HaveSpare (length spawns.now) stack.old.items }
     requires older { AreAllOlder owner (bags stack.old.items) }
     ensures joined { bags stack.new.items ≡ with_super (children Place.Super owner spawns.now) (bags stack.old.items) }
     ensures len { vec_len stack.new ≡ vec_len stack.old }
@@ -215,8 +215,8 @@ fn join_outside(stack: &mut Vec<Bag>, owner: u32, spawns: &[Spawn])
     put_first(stack, bag);
 }
 
-/// What a turn changes: the emptied bags go, the name leaves its bag, and the children join their domains. All room
-/// was made before.
+/// What a turn changes: the emptied bags go, the name leaves its bag, and the children join their domains. All memory
+/// was taken before.
 pub(crate) fn settle(
     stack: &mut Vec<Bag>,
     top: usize,
@@ -228,7 +228,7 @@ pub(crate) fn settle(
     requires top { top < vec_len stack.old }
     requires few { length spawns.now ≤ MAX_CHILDREN }
     requires spare { vec_len stack.old < vec_capacity stack.old }
-    requires room { HaveSpare (length spawns.now) stack.old.items }
+    requires each { HaveSpare (length spawns.now) stack.old.items }
     requires older { AreAllOlder owner (bags (drop top stack.old.items)) }
     ensures { bags stack.new.items
         ≡ stack_behind_turn name owner spawns.now (new_bags new) (bags (drop top stack.old.items)) }

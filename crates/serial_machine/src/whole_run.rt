@@ -98,7 +98,7 @@ fn take_one(image: &Image, serial: &mut Serial, journal: &mut Vec<Entry>) -> Tur
     }
     match serial.turn(image, name) {
         Ok(entry) => {
-            // There is room for it.
+            // Its memory was taken before.
             let _ = journal.push(entry);
             TurnAnswer::Taken
         }

@@ -1,4 +1,4 @@
--- One piece of a text after another.
+-- What two writes took of one piece, and the bytes from a place on, of which the first were copied.
 use Rattle.std.proofs.Common.{◌≡◌, ℕ, ◌+◌, ◌≤◌, List, ◌++◌, take, drop, length, ap, sym, ◌∙◌, arith}
 use Rattle.std.proofs.lemmas.List.{take_at, drop-drop, take-append-drop, length-drop, length-take-le}
 use Rattle.std.proofs.Math.Seq.{take-add}

@@ -15,7 +15,7 @@ pub record MemSourceValue : Type 0 where
 -- fail, and how many calls and how many faults there were
 pub record MemSinkValue : Type 0 where
   pub bytes : List ℕ
-  pub room : ℕ
+  pub most : ℕ
   pub piece : ℕ
   pub fail_at : List ℕ
   pub calls : ℕ
@@ -26,10 +26,10 @@ abbrev pub new_source : (bytes : List ℕ) (piece : ℕ) (fail_at : List ℕ) �
 new_source bytes piece fail_at = record { left = bytes; piece = piece; fail_at = fail_at; calls = 0; faults = 0 }
 
 -- a sink in memory that took nothing yet
-abbrev pub new_sink : (room piece : ℕ) (fail_at : List ℕ) → MemSinkValue
-new_sink room piece fail_at = record {
+abbrev pub new_sink : (most piece : ℕ) (fail_at : List ℕ) → MemSinkValue
+new_sink most piece fail_at = record {
   bytes = [];
-  room = room;
+  most = most;
   piece = piece;
   fail_at = fail_at;
   calls = 0;
@@ -44,6 +44,6 @@ one_more count = min (count + 1) (2 ^ 64 - 1)
 abbrev pub is_listed : ℕ → List ℕ → Bool
 is_listed calls fail_at = list_any (λ k. k == one_more calls) fail_at
 
--- the next write fails: its number is listed, or all the room is taken
+-- the next write fails: its number is listed, or the sink is full
 abbrev pub is_refused : MemSinkValue → Bool
-is_refused s = is_listed s.calls s.fail_at || nat_le s.room (length s.bytes)
+is_refused s = is_listed s.calls s.fail_at || nat_le s.most (length s.bytes)

@@ -123,7 +123,7 @@ impl Source for CleanSource {
 #[derive(Drop)]
 pub struct MemSink {
     bytes: Vec<u8>,
-    room: usize,
+    most: usize,
     piece: usize,
     fail_at: Vec<u32>,
     calls: u64,
@@ -138,31 +138,31 @@ impl Model for MemSink {
 
     ghost view = { λ s. record {
       bytes = s.bytes.items;
-      room = s.room;
+      most = s.most;
       piece = s.piece;
       fail_at = s.fail_at.items;
       calls = s.calls;
       faults = s.faults;
     } };
 
-    ghost invariant = { λ s. (vec_len s.bytes ≤ s.room) × (s.room ≤ vec_capacity s.bytes) × (1 ≤ s.piece) };
+    ghost invariant = { λ s. (vec_len s.bytes ≤ s.most) × (s.most ≤ vec_capacity s.bytes) × (1 ≤ s.piece) };
 }
 
 impl MemSink {
-    /// A sink with room for `room` bytes, which takes at most `piece` of them a call. The calls
+    /// A sink that takes at most `most` bytes, and at most `piece` of them a call. The calls
     /// whose numbers are in `fail_at`, counted from 1, fail. All its memory is taken here.
     pub fn new(
         alloc: Global,
-        room: usize,
+        most: usize,
         piece: usize,
         fail_at: Vec<u32>,
     ) -> Result<MemSink, AllocError>
         requires { 1 ≤ piece }
-        ensures { IfOk result (λ s. s ≡ new_sink room piece fail_at.items) }
+        ensures { IfOk result (λ s. s ≡ new_sink most piece fail_at.items) }
     {
         Ok(MemSink {
-            bytes: Vec::with_capacity(alloc, room)?,
-            room,
+            bytes: Vec::with_capacity(alloc, most)?,
+            most,
             piece,
             fail_at,
             calls: 0,
@@ -188,14 +188,14 @@ impl Sink for MemSink {
         ensures cause { HasCause self.old.faults self.new.faults result }
         ensures counted { self.new.faults ≡ (if is_ok result then self.old.faults else one_more self.old.faults) }
         ensures fails { is_err result ≡ is_refused self.old }
-        ensures most { let free = self.old.room - length self.old.bytes in
+        ensures most { let free = self.old.most - length self.old.bytes in
             IfOk result (λ n. n ≡ min (min (length piece.now) self.old.piece) free) }
         ensures calls { self.new.calls ≡ one_more self.old.calls }
-        ensures settings { (self.new.room ≡ self.old.room) × (self.new.piece ≡ self.old.piece)
+        ensures settings { (self.new.most ≡ self.old.most) × (self.new.piece ≡ self.old.piece)
             × (self.new.fail_at ≡ self.old.fail_at) }
     {
         self.calls = self.calls.saturating_add(1);
-        let free = self.room - self.bytes.len();
+        let free = self.most - self.bytes.len();
         if is_call_listed(&self.fail_at, self.calls) || free == 0 {
             self.faults = self.faults.saturating_add(1);
             return Err(Failed);
@@ -204,7 +204,7 @@ impl Sink for MemSink {
         let (front, _) = piece.split_at(count);
         match self.bytes.extend_from_slice(front) {
             Ok(()) => Ok(count),
-            // `new` took the memory for all the room.
+            // `new` took the memory for `most` bytes.
             Err(_) => unreachable!(),
         }
     }

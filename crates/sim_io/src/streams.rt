@@ -15,7 +15,7 @@ pub trait Source {
     /// The bytes that are left, where they are told, and how often it failed, which never falls.
     ghost state: { Self → SourceState };
 
-    /// Gives the first bytes that are left. `Ok(0)` on a buffer with room is the end of the input.
+    /// Gives the first bytes that are left. `Ok(0)` on a buffer that isn't empty is the end of the input.
     fn read(&mut self, buf: &mut [u8]) -> Result<usize, Failed>
         ensures bound { ReadsAtMost result buf.new }
         ensures bytes { ReadConsumes (state self.old).left (state self.new).left result buf.new }

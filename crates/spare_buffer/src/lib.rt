@@ -47,7 +47,7 @@ impl<T> Buffer<T> {
     /// Makes so many items spare. Where there is as much, no memory is taken; after an error there is as much as
     /// before.
     pub fn reserve(&mut self, items: usize) -> Result<(), AllocError>
-        ensures room { OnOk result (items ≤ self.new) }
+        ensures spare { OnOk result (items ≤ self.new) }
         ensures stays { self.old ≤ self.new }
         ensures enough { items ≤ self.old → IsOk result }
         ensures err { OnErr result (self.new ≡ self.old) }
@@ -60,7 +60,7 @@ impl<T> Buffer<T> {
     pub fn lend_spare(&mut self, list: &mut Vec<T>, more: usize)
         requires { vec_len list.old + more ≤ self.old }
         ensures items { list.new.items ≡ list.old.items }
-        ensures room { vec_len list.new + more ≤ vec_capacity list.new }
+        ensures spare { vec_len list.new + more ≤ vec_capacity list.new }
     {
         if list.capacity() - list.len() < more {
             swap_into(list, &mut self.empty, more);
@@ -71,9 +71,9 @@ impl<T> Buffer<T> {
 /// Moves the items into an empty vector that is large enough, and takes that one's place.
 fn swap_into<T>(items: &mut Vec<T>, empty: &mut Vec<T>, more: usize)
     requires empty { empty.old.items ≡ [] }
-    requires room { vec_len items.old + more ≤ vec_capacity empty.old }
+    requires spare { vec_len items.old + more ≤ vec_capacity empty.old }
     ensures items { items.new.items ≡ items.old.items }
-    ensures room { vec_len items.new + more ≤ vec_capacity items.new }
+    ensures spare { vec_len items.new + more ≤ vec_capacity items.new }
     ensures empty { empty.new.items ≡ [] }
 {
     match empty.append(items) {

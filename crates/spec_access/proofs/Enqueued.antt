@@ -43,12 +43,13 @@ asks_made view seen leg id spawn task asks same there place =
     sub_made (context_of view.version task) asked.ts spawn.ts task.sub
     (ap (allowed_at (context_of view.version task) asked.ts) (sym at) ∙ allows.1)
 
--- the depth of a child, and the kinds of its domains
-depth_at : (parent : Task) (place : Place) → depth_of parent ≤ MAX_DEPTH → (place ≡ Sub → depth_of parent < MAX_DEPTH)
-    → length (child_domain parent place) + 1 ≤ MAX_DEPTH
-depth_at parent Same deep sub = deep
-depth_at parent Sub deep sub = omega (arith, length_push parent.key.domain (own_level parent), sub refl)
-depth_at parent Super deep sub = omega (arith, length-take (length parent.key.domain - 1) parent.key.domain, deep)
+-- a child is no deeper than a task may be, and its kinds are below two to its depth
+depth_at : (creator : Task) (place : Place) → depth_of creator ≤ MAX_DEPTH
+    → (place ≡ Sub → depth_of creator < MAX_DEPTH)
+    → length (child_domain creator place) + 1 ≤ MAX_DEPTH
+depth_at creator Same deep sub = deep
+depth_at creator Sub deep sub = omega (arith, length_push creator.key.domain (own_level creator), sub refl)
+depth_at creator Super deep sub = omega (arith, length-take (length creator.key.domain - 1) creator.key.domain, deep)
 
 kinds_sub : (kinds n m : ℕ) (sub : Option Kind) → kinds < 2 ^ (n + 1) → m ≡ n + 1
     → kinds + sub_bit sub * 2 ^ (n + 1) < 2 ^ (m + 1)
@@ -70,27 +71,27 @@ kinds_super kinds n m is =
       | inr other ↦ (let more = pow-lt {i = n} {j = m + 1} (omega (arith, is, other)) in omega (arith, rest, more))
     ]
 
-kinds_at : (parent : Task) (place : Place) → parent.kinds < 2 ^ depth_of parent
-    → child_kinds parent place < 2 ^ (length (child_domain parent place) + 1)
-kinds_at parent Same below = below
-kinds_at parent Sub below =
-    kinds_sub parent.kinds (length parent.key.domain) (length (child_domain parent Sub)) parent.sub below
-    (length_push parent.key.domain (own_level parent))
-kinds_at parent Super below =
-    kinds_super parent.kinds (length parent.key.domain) (length (child_domain parent Super))
-    (length-take (length parent.key.domain - 1) parent.key.domain)
+kinds_at : (creator : Task) (place : Place) → creator.kinds < 2 ^ depth_of creator
+    → child_kinds creator place < 2 ^ (length (child_domain creator place) + 1)
+kinds_at creator Same below = below
+kinds_at creator Sub below =
+    kinds_sub creator.kinds (length creator.key.domain) (length (child_domain creator Sub)) creator.sub below
+    (length_push creator.key.domain (own_level creator))
+kinds_at creator Super below =
+    kinds_super creator.kinds (length creator.key.domain) (length (child_domain creator Super))
+    (length-take (length creator.key.domain - 1) creator.key.domain)
 
 -- a child is well formed, as its creator is
-pub child_formed : (size commits version tile index : ℕ) (parent child : Task) (spawn : Spawn) (id : ℕ)
-    → IsWellFormed size commits parent
-    → (spawn.place ≡ Sub → IsSome parent.sub)
-    → child ≡ idle_task version (child_descriptor parent spawn) (Live (record { 0 = id }) index) tile
+pub child_formed : (size commits version tile index : ℕ) (creator child : Task) (spawn : Spawn) (id : ℕ)
+    → IsWellFormed size commits creator
+    → (spawn.place ≡ Sub → IsSome creator.sub)
+    → child ≡ idle_task version (child_descriptor creator spawn) (Live (record { 0 = id }) index) tile
     → IsWellFormed size commits child
-child_formed size commits version tile index parent child spawn id formed made is = subst
+child_formed size commits version tile index creator child spawn id formed made is = subst
     (IsWellFormed size commits) (sym is)
     (record {
-      depth = depth_at parent spawn.place formed.depth (λ at. formed.inner (made at));
-      kinds = kinds_at parent spawn.place formed.kinds;
+      depth = depth_at creator spawn.place formed.depth (λ at. formed.inner (made at));
+      kinds = kinds_at creator spawn.place formed.kinds;
       inner = λ some. absurd (cc (some));
       children = omega arith;
       accesses = λ k d within. absurd (omega (arith, within));
@@ -113,7 +114,7 @@ enqueued old mid new id child task made leg spawn tile there keeps adds is =
     record {
       child = child;
       vacant = sym (keeps.changes.others child other) ∙ adds.vacant;
-      parent = adds.changes.others id (λ same. other (sym same)) ∙ keeps.changes.changed;
+      creator = adds.changes.others id (λ same. other (sym same)) ∙ keeps.changes.changed;
       made = adds.changes.changed ∙ ap Some is;
       others = λ k apart far. adds.changes.others k far ∙ keeps.changes.others k apart;
       queues = adds.queues ∙ queued;
@@ -123,12 +124,12 @@ enqueued old mid new id child task made leg spawn tile there keeps adds is =
 -- one child more is within the bound
 pub one_more : (spawns : List Spawn) (spawn : Spawn) (now : List Spawn) → now ≡ spawns ++ spawn ∷ []
     → length spawns < MAX_CHILDREN → length now ≤ MAX_CHILDREN
-one_more spawns spawn now is room = let long = ap length is ∙ length_push spawns spawn in omega (arith, long, room)
+one_more spawns spawn now is few = let long = ap length is ∙ length_push spawns spawn in omega (arith, long, few)
 
 -- the child of the task that was looked at is that of the one that asks, in one version
-pub child_of_same : (version at tile : ℕ) (parent task child : Task) (spawn : Spawn) (id : ℕ) → version ≡ at → parent ≡ task
-    → child ≡ idle_task version (child_descriptor parent spawn) (Live (record { 0 = id }) (length parent.spawns)) tile
+pub child_of_same : (version at tile : ℕ) (creator task child : Task) (spawn : Spawn) (id : ℕ) → version ≡ at → creator ≡ task
+    → child ≡ idle_task version (child_descriptor creator spawn) (Live (record { 0 = id }) (length creator.spawns)) tile
     → child ≡ idle_task at (child_descriptor task spawn) (Live (record { 0 = id }) (length task.spawns)) tile
-child_of_same version at tile parent task child spawn id one same is =
+child_of_same version at tile creator task child spawn id one same is =
     is ∙ ap (λ t. idle_task version (child_descriptor t spawn) (Live (record { 0 = id }) (length t.spawns)) tile) same
     ∙ ap (λ v. idle_task v (child_descriptor task spawn) (Live (record { 0 = id }) (length task.spawns)) tile) one

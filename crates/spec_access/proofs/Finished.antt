@@ -103,7 +103,7 @@ module _ (size : ℕ) (old : View) (id tile core : ℕ) (task now : Task) (store
           ((stored.finished_are t k).1 (has.0, sym (changes.others k other) ∙ has.1, has.2, has.3))
     ]
 
-    -- the core on which it ran is no place of another task
+    -- what a core holds is a task with that core; the one on which it ran holds none
     held_forth : (t c k : ℕ) → slice_get (cores_at new t) c ≡ Some (Some k)
         → HasTask new t k (λ status. HasCore status c)
     held_forth t c k held =
@@ -186,7 +186,7 @@ module _ (size : ℕ) (view : View) (id : ℕ) (task : Task) (stored : IsStored 
   pub is_core : (core : ℕ) → task.status ≡ Running core → core < length (cores_at view task.tile)
   is_core core runs = slice_get_within (cores_at view task.tile) core (Some id) (on_core core runs)
 
-  -- and in no commit queue
+  -- and not in the commit queue of its tile
   pub not_finished : (core : ℕ) → task.status ≡ Running core → Contains (finished_at view task.tile) id → ⊥
   not_finished core runs has =
       let was = (stored.finished_are task.tile id).0 has in
@@ -255,7 +255,7 @@ ends size old seen id core held tile found task leg at finished cores same store
     on_tile = sym (tile_is size seen id found stored there tile core
         (ap (λ v. slice_get (cores_at v tile) core) same ∙ takes.runs.on.held))
 
--- the commit queues are as many and as large as before, and so are the lists of cores
+-- the commit queues are as many and as large as before, and the lists of cores are as many
 pub tiles_kept : (settings : Settings) (queues finished now : List QueueValue) (cores cores_now blocks : ℕ)
     → HasTiles settings queues finished cores blocks
     → length now ≡ length finished → All (λ queue. queue.capacity ≡ settings.commit_queue) now → cores_now ≡ cores

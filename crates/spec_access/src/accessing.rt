@@ -23,7 +23,7 @@ use undo_log::{load_with, store_with};
 fn reserve_access<N: Naming>(state: &mut State<N>, id: TaskId) -> Result<(), AllocError>
     requires live { IsSome (task_at state.old.view id.0) }
     ensures view { state.new.view ≡ state.old.view }
-    ensures room { state.new.spare ≡ record state.old.spare { log = state.new.spare.log } }
+    ensures spare { state.new.spare ≡ record state.old.spare { log = state.new.spare.log } }
     ensures covers { OnOk result (CoversLog state.new id.0) }
     ensures enough { CoversLog state.old id.0 → IsOk result }
     ensures err { OnErr result (state.new ≡ state.old) }
@@ -48,7 +48,7 @@ fn load_reserved<N: Naming>(
         → TakesLeg state.old.view tile core leg.now id.0 task
         → HasNotes task.lines (notes_of state.old.view.settings.line task.log)
         → LoadsFrom id.0 task leg.now width rd offset state.old.view state.new.view }
-    ensures room { state.new.spare ≡ record state.old.spare { log = state.new.spare.log } }
+    ensures spare { state.new.spare ≡ record state.old.spare { log = state.new.spare.log } }
 {
     let _to = leg.to();
     let line = offset / state.settings.line;
@@ -82,7 +82,7 @@ pub fn load_at<N: Naming>(
         → LoadsFrom id.0 task leg.now width rd offset state.old.view state.new.view) }
     ensures err { OnErr result (state.new ≡ state.old) }
     ensures covered { CoversLog state.old id.0 → IsOk result }
-    ensures room { state.new.spare ≡ record state.old.spare { log = state.new.spare.log } }
+    ensures spare { state.new.spare ≡ record state.old.spare { log = state.new.spare.log } }
 {
     reserve_access(state, id)?;
     load_reserved(state, id, leg, width, rd, offset);
@@ -105,7 +105,7 @@ fn store_reserved<N: Naming>(
         → TakesLeg state.old.view tile core leg.now id.0 task
         → HasNotes task.lines (notes_of state.old.view.settings.line task.log)
         → StoresTo id.0 task leg.now offset width value state.old.view state.new.view }
-    ensures room { state.new.spare ≡ record state.old.spare { log = state.new.spare.log } }
+    ensures spare { state.new.spare ≡ record state.old.spare { log = state.new.spare.log } }
 {
     let budget = state.settings.budget;
     let to = leg.to();
@@ -141,7 +141,7 @@ pub fn store_at<N: Naming>(
         → StoresTo id.0 task leg.now offset width value state.old.view state.new.view) }
     ensures err { OnErr result (state.new ≡ state.old) }
     ensures covered { CoversLog state.old id.0 → IsOk result }
-    ensures room { state.new.spare ≡ record state.old.spare { log = state.new.spare.log } }
+    ensures spare { state.new.spare ≡ record state.old.spare { log = state.new.spare.log } }
 {
     reserve_access(state, id)?;
     store_reserved(state, id, leg, offset, width, value);

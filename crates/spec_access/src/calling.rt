@@ -29,7 +29,7 @@ pub(crate) fn held_core(status: Status) -> u32
 #[inline]
 pub(crate) fn put_behind<N: Naming>(core: &mut NotedCore, budget: u32, leg: &Leg<N>)
     requires budget { budget ≡ N.budget }
-    requires room { budget < 2 ^ 32 - 1 }
+    requires short { budget < 2 ^ 32 - 1 }
     ensures { core.new ≡ after_other_of leg.now.to }
 {
     let _to = leg.to();
@@ -43,7 +43,7 @@ pub fn end_quantum<N: Naming>(state: &mut State<N>, id: TaskId, leg: &Leg<N>)
     ensures goes_on { (tile core : ℕ) (task : Task)
         → TakesLeg state.old.view tile core leg.now id.0 task
         → KeepsQuantum id.0 task leg.now state.old.view state.new.view }
-    ensures room { state.new.spare ≡ state.old.spare }
+    ensures spare { state.new.spare ≡ state.old.spare }
 {
     leg.put_end(&mut state.tasks[id.0].core);
 }
@@ -54,7 +54,7 @@ pub fn call_trap<N: Naming>(state: &mut State<N>, id: TaskId, leg: &Leg<N>, caus
     ensures traps { (tile core : ℕ) (task : Task)
         → TakesLeg state.old.view tile core leg.now id.0 task
         → KeepsTrap id.0 task leg.now core cause state.old.view state.new.view }
-    ensures room { state.new.spare ≡ state.old.spare }
+    ensures spare { state.new.spare ≡ state.old.spare }
 {
     let task = &mut state.tasks[id.0];
     let core = held_core(task.status);
@@ -68,7 +68,7 @@ pub fn open_sub<N: Naming>(state: &mut State<N>, id: TaskId, leg: &Leg<N>, kind:
     ensures makes { (tile core : ℕ) (task : Task)
         → TakesLeg state.old.view tile core leg.now id.0 task
         → MakesSub id.0 task leg.now kind state.old.view state.new.view }
-    ensures room { state.new.spare ≡ state.old.spare }
+    ensures spare { state.new.spare ≡ state.old.spare }
 {
     let budget = state.settings.budget;
     let task = &mut state.tasks[id.0];
@@ -82,7 +82,7 @@ pub fn put_byte<N: Naming>(state: &mut State<N>, id: TaskId, leg: &Leg<N>, byte:
     ensures emits { (tile core : ℕ) (task : Task)
         → TakesLeg state.old.view tile core leg.now id.0 task
         → Emits id.0 task leg.now byte state.old.view state.new.view }
-    ensures room { state.new.spare ≡ state.old.spare }
+    ensures spare { state.new.spare ≡ state.old.spare }
 {
     let budget = state.settings.budget;
     let task = &mut state.tasks[id.0];

@@ -35,7 +35,7 @@ pub fn read<N: Naming>(state: &mut State<N>, task: TaskId, leg: &Leg<N>) -> Resu
         → LoadsFrom task.0 t leg.now width rd offset state.old.view state.new.view) }
     ensures err { OnErr result (state.new ≡ state.old) }
     ensures covered { CoversLog state.old task.0 → IsOk result }
-    ensures room { state.new.spare ≡ record state.old.spare { log = state.new.spare.log } }
+    ensures spare { state.new.spare ≡ record state.old.spare { log = state.new.spare.log } }
 {
     let (width, rd, offset) = load_of(request_of_task(state, task, leg));
     load_at(state, task, leg, width, rd, offset)
@@ -52,7 +52,7 @@ pub fn write<N: Naming>(state: &mut State<N>, task: TaskId, leg: &Leg<N>) -> Res
         → StoresTo task.0 t leg.now offset width value state.old.view state.new.view) }
     ensures err { OnErr result (state.new ≡ state.old) }
     ensures covered { CoversLog state.old task.0 → IsOk result }
-    ensures room { state.new.spare ≡ record state.old.spare { log = state.new.spare.log } }
+    ensures spare { state.new.spare ≡ record state.old.spare { log = state.new.spare.log } }
 {
     let (offset, width, value) = store_of(request_of_task(state, task, leg));
     store_at(state, task, leg, offset, width, value)
@@ -75,7 +75,7 @@ pub fn spawn<N: Naming>(
         → Enqueues task.0 t leg.now child tile state.old.view state.new.view) }
     ensures err { OnErr result (state.new ≡ state.old) }
     ensures covered { CoversChild state.old task.0 → IsOk result }
-    ensures room { state.new.spare ≡ record state.old.spare { spawns = state.new.spare.spawns } }
+    ensures spare { state.new.spare ≡ record state.old.spare { spawns = state.new.spare.spawns } }
 {
     let child = spawn_of(request_of_task(state, task, leg));
     enqueue_child(state, task, leg, child, tile)
@@ -88,7 +88,7 @@ pub fn make_sub<N: Naming>(state: &mut State<N>, task: TaskId, leg: &Leg<N>)
         → TakesLeg state.old.view tile core leg.now task.0 t
         → request_of state.old.view t leg.now ≡ MakeSub kind
         → MakesSub task.0 t leg.now kind state.old.view state.new.view }
-    ensures room { state.new.spare ≡ state.old.spare }
+    ensures spare { state.new.spare ≡ state.old.spare }
 {
     let kind = kind_of(request_of_task(state, task, leg));
     open_sub(state, task, leg, kind);
@@ -101,7 +101,7 @@ pub fn emit<N: Naming>(state: &mut State<N>, task: TaskId, leg: &Leg<N>)
         → TakesLeg state.old.view tile core leg.now task.0 t
         → request_of state.old.view t leg.now ≡ Emit byte
         → Emits task.0 t leg.now byte state.old.view state.new.view }
-    ensures room { state.new.spare ≡ state.old.spare }
+    ensures spare { state.new.spare ≡ state.old.spare }
 {
     let byte = byte_of(request_of_task(state, task, leg));
     put_byte(state, task, leg, byte);
@@ -119,7 +119,7 @@ pub fn keep<N: Naming>(state: &mut State<N>, task: TaskId, leg: &Leg<N>)
         → TakesLeg state.old.view tile core leg.now task.0 t
         → request_of state.old.view t leg.now ≡ Trap cause
         → KeepsTrap task.0 t leg.now core cause state.old.view state.new.view }
-    ensures room { state.new.spare ≡ state.old.spare }
+    ensures spare { state.new.spare ≡ state.old.spare }
 {
     match cause_of(request_of_task(state, task, leg)) {
         None => end_quantum(state, task, leg),

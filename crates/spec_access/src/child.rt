@@ -25,16 +25,16 @@ fn superdomain(domain: &Vt) -> Vt
 }
 
 /// The domain of a child.
-fn domain_of(parent: &Task, place: Place) -> Vt
-    requires formed { (size commits : ℕ) × IsWellFormed size commits parent.now }
-    requires dispatched { is_dispatched parent.now ≡ true }
-    requires made { place ≡ Sub → IsSome parent.now.sub }
-    ensures { result ≡ child_domain parent.now place }
+fn domain_of(creator: &Task, place: Place) -> Vt
+    requires formed { (size commits : ℕ) × IsWellFormed size commits creator.now }
+    requires dispatched { is_dispatched creator.now ≡ true }
+    requires made { place ≡ Sub → IsSome creator.now.sub }
+    ensures { result ≡ child_domain creator.now place }
 {
     match place {
-        Place::Same => parent.key.domain.copy(),
-        Place::Sub => as_domain(&parent.key),
-        Place::Super => superdomain(&parent.key.domain),
+        Place::Same => creator.key.domain.copy(),
+        Place::Sub => as_domain(&creator.key),
+        Place::Super => superdomain(&creator.key.domain),
     }
 }
 
@@ -50,39 +50,39 @@ fn bit_of(sub: Option<Kind>) -> u16
 }
 
 /// The kinds of the domains that a child is in.
-fn kinds_of(parent: &Task, place: Place) -> u16
-    requires formed { (size commits : ℕ) × IsWellFormed size commits parent.now }
-    requires made { place ≡ Sub → IsSome parent.now.sub }
-    ensures { result ≡ child_kinds parent.now place }
+fn kinds_of(creator: &Task, place: Place) -> u16
+    requires formed { (size commits : ℕ) × IsWellFormed size commits creator.now }
+    requires made { place ≡ Sub → IsSome creator.now.sub }
+    ensures { result ≡ child_kinds creator.now place }
 {
-    let outer = parent.key.domain.levels().len();
+    let outer = creator.key.domain.levels().len();
     match place {
-        Place::Same => parent.kinds,
-        Place::Sub => parent.kinds + (bit_of(parent.sub) << (outer + 1)),
-        Place::Super => parent.kinds % (1 << outer),
+        Place::Same => creator.kinds,
+        Place::Sub => creator.kinds + (bit_of(creator.sub) << (outer + 1)),
+        Place::Super => creator.kinds % (1 << outer),
     }
 }
 
 /// The child that a dispatched task asks for, idle, in a tile.
-pub(crate) fn child_of(version: u16, parent: &Task, id: TaskId, spawn: &Spawn, tile: u32) -> Fresh
-    requires formed { (size commits : ℕ) × IsWellFormed size commits parent.now }
-    requires dispatched { is_dispatched parent.now ≡ true }
-    requires made { spawn.now.place ≡ Sub → IsSome parent.now.sub }
-    ensures { let creator = Live (record { 0 = id.0 }) (length parent.now.spawns) in
-        let descriptor = child_descriptor parent.now spawn.now in
-        result ≡ idle_task version descriptor creator tile }
+pub(crate) fn child_of(version: u16, creator: &Task, id: TaskId, spawn: &Spawn, tile: u32) -> Fresh
+    requires formed { (size commits : ℕ) × IsWellFormed size commits creator.now }
+    requires dispatched { is_dispatched creator.now ≡ true }
+    requires made { spawn.now.place ≡ Sub → IsSome creator.now.sub }
+    ensures { let live = Live (record { 0 = id.0 }) (length creator.now.spawns) in
+        let descriptor = child_descriptor creator.now spawn.now in
+        result ≡ idle_task version descriptor live tile }
 {
     Fresh {
         version,
         entry: spawn.entry,
         args: spawn.args,
         hint: spawn.hint,
-        kinds: kinds_of(parent, spawn.place),
-        domain: domain_of(parent, spawn.place),
+        kinds: kinds_of(creator, spawn.place),
+        domain: domain_of(creator, spawn.place),
         ts: spawn.ts,
         creator: Creator::Live {
             task: id,
-            index: parent.spawns.as_slice().len() as u32,
+            index: creator.spawns.as_slice().len() as u32,
         },
         tile,
     }

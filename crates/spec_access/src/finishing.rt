@@ -62,7 +62,7 @@ pub fn finish<N: Naming>(state: &mut State<N>, id: TaskId, leg: &Leg<N>)
     ensures finishes { (tile core : ℕ) (task : Task)
         → TakesLeg state.old.view tile core leg.now id.0 task
         → Finishes tile core id.0 task leg.now state.old.view state.new.view }
-    ensures room { state.new.spare ≡ state.old.spare }
+    ensures spare { state.new.spare ≡ state.old.spare }
 {
     let budget = state.settings.budget;
     let task = &mut state.tasks[id.0];

@@ -1,4 +1,5 @@
-//! What a task asks for at the end of a leg, read off the leg's stop and the registers. No call takes memory.
+//! What a task asks for at the end of a leg, read off the leg's stop, and at a call off the registers and what the
+//! task's calls depend on. No function here takes memory.
 
 ghost use Rattle.std.specs.Prelude.{◌≡◌, ◌⊎◌, ℕ, IsNone, IfSome};
 ghost use Rattle.guest_image.specs.declared.image.Kind.{Kind};

@@ -10,78 +10,79 @@ use Rattle.tile_queues.specs.Queue.{QueueValue}
 use Rattle.spec_state.specs.declared.settings.Settings.{Settings}
 use Rattle.spec_state.specs.declared.task.Task.{Task}
 use Rattle.spec_state.specs.View.{View}
-use Rattle.spec_state.specs.Fits.{view_of_parts, entries_in}
+use Rattle.spec_state.specs.Fits.{view_of_parts}
+use Rattle.spill_store.specs.Fronts.{lists_in}
 use Rattle.spec_state.specs.StateValue.{Spare, HasNoLessSpare}
-use Rattle.spec_state.proofs.Proved.{same_entries, spare_at, spare_before, spare_grows}
+use Rattle.spec_state.proofs.Proved.{same_lists, spare_at, spare_before, spare_grows}
 use Rattle.spec_commit.specs.Spilling.{KeepsOtherSpare}
 
 -- what stands in the place of a block now
-pub entries_now : (blocks : List BlockValue) (tile : ℕ) (after : BlockValue) → tile < length blocks → slice_index_or (entries_in (slice_set blocks tile after)) tile [] ≡ after.entries
-entries_now blocks tile after within =
-    ap (λ lists. slice_index_or lists tile []) (map-set (λ b. b.entries) blocks tile after)
-    ∙ get_or-set_same (entries_in blocks) tile after.entries [] (subst (λ n. tile < n) (sym (Rattle.std.proofs.lemmas.List.length-map blocks (λ (b : BlockValue). b.entries))) within)
+pub tasks_now : (blocks : List BlockValue) (tile : ℕ) (after : BlockValue) → tile < length blocks → slice_index_or (lists_in (slice_set blocks tile after)) tile [] ≡ after.tasks
+tasks_now blocks tile after within =
+    ap (λ lists. slice_index_or lists tile []) (map-set (λ b. b.tasks) blocks tile after)
+    ∙ get_or-set_same (lists_in blocks) tile after.tasks [] (subst (λ n. tile < n) (sym (Rattle.std.proofs.lemmas.List.length-map blocks (λ (b : BlockValue). b.tasks))) within)
 
 -- and what stood there
-pub entries_was : (blocks : List BlockValue) (tile : ℕ) (block : BlockValue) → tile < length blocks → block ≡ slice_index_or blocks tile block → slice_index_or (entries_in blocks) tile [] ≡ block.entries
-entries_was blocks tile block within is = get_or-map (λ (b : BlockValue). b.entries) blocks tile block [] within ∙ ap (λ (b : BlockValue). b.entries) (sym is)
+pub tasks_was : (blocks : List BlockValue) (tile : ℕ) (block : BlockValue) → tile < length blocks → block ≡ slice_index_or blocks tile block → slice_index_or (lists_in blocks) tile [] ≡ block.tasks
+tasks_was blocks tile block within is = get_or-map (λ (b : BlockValue). b.tasks) blocks tile block [] within ∙ ap (λ (b : BlockValue). b.tasks) (sym is)
 
 -- the lists with this one in its place
-pub entries_set : (blocks : List BlockValue) (tile : ℕ) (after : BlockValue) → tile < length blocks
-    → entries_in (slice_set blocks tile after) ≡ slice_set (entries_in blocks) tile (slice_index_or (entries_in (slice_set blocks tile after)) tile [])
-entries_set blocks tile after within =
-    map-set (λ (b : BlockValue). b.entries) blocks tile after ∙ ap (slice_set (entries_in blocks) tile) (sym (entries_now blocks tile after within))
+pub tasks_set : (blocks : List BlockValue) (tile : ℕ) (after : BlockValue) → tile < length blocks
+    → lists_in (slice_set blocks tile after) ≡ slice_set (lists_in blocks) tile (slice_index_or (lists_in (slice_set blocks tile after)) tile [])
+tasks_set blocks tile after within =
+    map-set (λ (b : BlockValue). b.tasks) blocks tile after ∙ ap (slice_set (lists_in blocks) tile) (sym (tasks_now blocks tile after within))
 
 -- the least spilled task is taken out of that block
-pub taken_seen : (blocks : List BlockValue) (tile : ℕ) (block after : BlockValue) (s : Spilled) → tile < length blocks → block ≡ slice_index_or blocks tile block → TakesLeast block.entries after.entries s
-    → (lists : List (List Spilled)) → entries_in blocks ≡ lists → TakesLeast (slice_index_or lists tile []) (slice_index_or (entries_in (slice_set blocks tile after)) tile []) s
+pub taken_seen : (blocks : List BlockValue) (tile : ℕ) (block after : BlockValue) (s : Spilled) → tile < length blocks → block ≡ slice_index_or blocks tile block → TakesLeast block.tasks after.tasks s
+    → (lists : List (List Spilled)) → lists_in blocks ≡ lists → TakesLeast (slice_index_or lists tile []) (slice_index_or (lists_in (slice_set blocks tile after)) tile []) s
 taken_seen blocks tile block after s within is takes lists same =
-    subst (λ lists. TakesLeast (slice_index_or lists tile []) (slice_index_or (entries_in (slice_set blocks tile after)) tile []) s) same
-    (subst (λ entries. TakesLeast entries (slice_index_or (entries_in (slice_set blocks tile after)) tile []) s) (sym (entries_was blocks tile block within is))
-    (subst (λ entries. TakesLeast block.entries entries s) (sym (entries_now blocks tile after within)) takes))
+    subst (λ lists. TakesLeast (slice_index_or lists tile []) (slice_index_or (lists_in (slice_set blocks tile after)) tile []) s) same
+    (subst (λ entries. TakesLeast entries (slice_index_or (lists_in (slice_set blocks tile after)) tile []) s) (sym (tasks_was blocks tile block within is))
+    (subst (λ entries. TakesLeast block.tasks entries s) (sym (tasks_now blocks tile after within)) takes))
 
 -- all else of the view stays
 pub block_seen : (version : ℕ) (settings : Settings) (tasks : List (Option Task)) (memory : List ℕ) (history : List Entry) (output : List ℕ) (next : ℕ) (path : List Level)
     (queues finished : List QueueValue) (cores : List (List (Option ℕ))) (blocks : List BlockValue) (tile : ℕ) (after : BlockValue) → tile < length blocks
-    → (view : View) → view_of_parts version settings tasks memory history output next path queues finished cores (entries_in blocks) ≡ view
-    → view_of_parts version settings tasks memory history output next path queues finished cores (entries_in (slice_set blocks tile after))
-    ≡ record view { blocks = slice_set view.blocks tile (slice_index_or (entries_in (slice_set blocks tile after)) tile []) }
+    → (view : View) → view_of_parts version settings tasks memory history output next path queues finished cores (lists_in blocks) ≡ view
+    → view_of_parts version settings tasks memory history output next path queues finished cores (lists_in (slice_set blocks tile after))
+    ≡ record view { blocks = slice_set view.blocks tile (slice_index_or (lists_in (slice_set blocks tile after)) tile []) }
 block_seen version settings tasks memory history output next path queues finished cores blocks tile after within view same =
-    subst (λ (view : View). view_of_parts version settings tasks memory history output next path queues finished cores (entries_in (slice_set blocks tile after))
-    ≡ record view { blocks = slice_set view.blocks tile (slice_index_or (entries_in (slice_set blocks tile after)) tile []) }) same
-    (ap (view_of_parts version settings tasks memory history output next path queues finished cores) (entries_set blocks tile after within))
+    subst (λ (view : View). view_of_parts version settings tasks memory history output next path queues finished cores (lists_in (slice_set blocks tile after))
+    ≡ record view { blocks = slice_set view.blocks tile (slice_index_or (lists_in (slice_set blocks tile after)) tile []) }) same
+    (ap (view_of_parts version settings tasks memory history output next path queues finished cores) (tasks_set blocks tile after within))
 
 -- nothing spare is less where that block has no less to spare
-pub room_seen : (log spawns output : ℕ) (blocks : List BlockValue) (tile : ℕ) (block after : BlockValue) → block ≡ slice_index_or blocks tile block → block.spare ≤ after.spare
-    → (room : Spare) → record { log = log; spawns = spawns; output = output; blocks = map (λ b. b.spare) blocks } ≡ room
-    → HasNoLessSpare room (record { log = log; spawns = spawns; output = output; blocks = map (λ b. b.spare) (slice_set blocks tile after) })
-room_seen log spawns output blocks tile block after is more room same =
-    subst (λ (room : Spare). HasNoLessSpare room (record { log = log; spawns = spawns; output = output; blocks = map (λ (b : BlockValue). b.spare) (slice_set blocks tile after) })) same
+pub no_less_seen : (log spawns output : ℕ) (blocks : List BlockValue) (tile : ℕ) (block after : BlockValue) → block ≡ slice_index_or blocks tile block → block.spare ≤ after.spare
+    → (kept : Spare) → record { log = log; spawns = spawns; output = output; blocks = map (λ b. b.spare) blocks } ≡ kept
+    → HasNoLessSpare kept (record { log = log; spawns = spawns; output = output; blocks = map (λ b. b.spare) (slice_set blocks tile after) })
+no_less_seen log spawns output blocks tile block after is more kept same =
+    subst (λ (kept : Spare). HasNoLessSpare kept (record { log = log; spawns = spawns; output = output; blocks = map (λ (b : BlockValue). b.spare) (slice_set blocks tile after) })) same
     (record { log = omega arith; spawns = omega arith; output = omega arith; blocks = spare_grows blocks tile block after is more })
 
 -- a task is pushed into that block
 pub push_seen : (version : ℕ) (settings : Settings) (tasks : List (Option Task)) (memory : List ℕ) (history : List Entry) (output : List ℕ) (next : ℕ) (path : List Level)
     (queues finished : List QueueValue) (cores : List (List (Option ℕ))) (blocks : List BlockValue) (tile : ℕ) (block after : BlockValue) (s : Spilled) → tile < length blocks
-    → block ≡ slice_index_or blocks tile block → after.entries ≡ after_push block.entries s
-    → (view : View) → view_of_parts version settings tasks memory history output next path queues finished cores (entries_in blocks) ≡ view
-    → view_of_parts version settings tasks memory history output next path queues finished cores (entries_in (slice_set blocks tile after))
+    → block ≡ slice_index_or blocks tile block → after.tasks ≡ after_push block.tasks s
+    → (view : View) → view_of_parts version settings tasks memory history output next path queues finished cores (lists_in blocks) ≡ view
+    → view_of_parts version settings tasks memory history output next path queues finished cores (lists_in (slice_set blocks tile after))
     ≡ record view { blocks = slice_set view.blocks tile (after_push (slice_index_or view.blocks tile []) s) }
 push_seen version settings tasks memory history output next path queues finished cores blocks tile block after s within is pushes view same =
-    subst (λ (view : View). view_of_parts version settings tasks memory history output next path queues finished cores (entries_in (slice_set blocks tile after))
+    subst (λ (view : View). view_of_parts version settings tasks memory history output next path queues finished cores (lists_in (slice_set blocks tile after))
     ≡ record view { blocks = slice_set view.blocks tile (after_push (slice_index_or view.blocks tile []) s) }) same
     (ap (view_of_parts version settings tasks memory history output next path queues finished cores)
-    (map-set (λ (b : BlockValue). b.entries) blocks tile after
-    ∙ ap (slice_set (entries_in blocks) tile) (pushes ∙ ap (λ entries. after_push entries s) (sym (entries_was blocks tile block within is)))))
+    (map-set (λ (b : BlockValue). b.tasks) blocks tile after
+    ∙ ap (slice_set (lists_in blocks) tile) (pushes ∙ ap (λ entries. after_push entries s) (sym (tasks_was blocks tile block within is)))))
 
 -- its tasks stay
 pub same_seen : (version : ℕ) (settings : Settings) (tasks : List (Option Task)) (memory : List ℕ) (history : List Entry) (output : List ℕ) (next : ℕ) (path : List Level)
     (queues finished : List QueueValue) (cores : List (List (Option ℕ))) (blocks : List BlockValue) (tile : ℕ) (block after : BlockValue)
-    → block ≡ slice_index_or blocks tile block → after.entries ≡ block.entries
-    → (view : View) → view_of_parts version settings tasks memory history output next path queues finished cores (entries_in blocks) ≡ view
-    → view_of_parts version settings tasks memory history output next path queues finished cores (entries_in (slice_set blocks tile after)) ≡ view
+    → block ≡ slice_index_or blocks tile block → after.tasks ≡ block.tasks
+    → (view : View) → view_of_parts version settings tasks memory history output next path queues finished cores (lists_in blocks) ≡ view
+    → view_of_parts version settings tasks memory history output next path queues finished cores (lists_in (slice_set blocks tile after)) ≡ view
 same_seen version settings tasks memory history output next path queues finished cores blocks tile block after is stays view same =
-    ap (view_of_parts version settings tasks memory history output next path queues finished cores) (same_entries blocks tile block after is stays) ∙ same
+    ap (view_of_parts version settings tasks memory history output next path queues finished cores) (same_lists blocks tile block after is stays) ∙ same
 
--- how many pushes the block has to spare
+-- where the block has at most one push less to spare, so has its tile
 pub spare_seen : (blocks : List BlockValue) (tile : ℕ) (block after : BlockValue) → tile < length blocks → block ≡ slice_index_or blocks tile block → block.spare ≤ after.spare + 1
     → (spares : List ℕ) → map (λ (b : BlockValue). b.spare) blocks ≡ spares
     → slice_index_or spares tile 0 ≤ slice_index_or (map (λ (b : BlockValue). b.spare) (slice_set blocks tile after)) tile 0 + 1
@@ -94,11 +95,11 @@ covers_seen spares tile spare is (Ok done) enough = omega (arith, is, enough)
 covers_seen spares tile spare is (Err error) enough = tt
 
 -- what is spare for other tiles stays
-pub other_room : (log spawns output : ℕ) (blocks : List BlockValue) (tile : ℕ) (after : BlockValue) (room : Spare)
-    → record { log = log; spawns = spawns; output = output; blocks = map (λ (b : BlockValue). b.spare) blocks } ≡ room
-    → KeepsOtherSpare tile room (record { log = log; spawns = spawns; output = output; blocks = map (λ (b : BlockValue). b.spare) (slice_set blocks tile after) })
-other_room log spawns output blocks tile after room same =
-    subst (λ (room : Spare). KeepsOtherSpare tile room (record { log = log; spawns = spawns; output = output; blocks = map (λ (b : BlockValue). b.spare) (slice_set blocks tile after) })) same
+pub other_spare : (log spawns output : ℕ) (blocks : List BlockValue) (tile : ℕ) (after : BlockValue) (kept : Spare)
+    → record { log = log; spawns = spawns; output = output; blocks = map (λ (b : BlockValue). b.spare) blocks } ≡ kept
+    → KeepsOtherSpare tile kept (record { log = log; spawns = spawns; output = output; blocks = map (λ (b : BlockValue). b.spare) (slice_set blocks tile after) })
+other_spare log spawns output blocks tile after kept same =
+    subst (λ (kept : Spare). KeepsOtherSpare tile kept (record { log = log; spawns = spawns; output = output; blocks = map (λ (b : BlockValue). b.spare) (slice_set blocks tile after) })) same
     (record {
       other_blocks = λ t other.
           ap (λ spares. slice_index_or spares t 0) (map-set (λ (b : BlockValue). b.spare) blocks tile after)
@@ -109,20 +110,20 @@ other_room log spawns output blocks tile after room same =
 -- blocks that are an equal list
 pub in_blocks : (version : ℕ) (settings : Settings) (tasks : List (Option Task)) (memory : List ℕ) (history : List Entry) (output : List ℕ) (next : ℕ) (path : List Level)
     (queues finished : List QueueValue) (cores : List (List (Option ℕ))) (new blocks : List BlockValue) → new ≡ blocks
-    → view_of_parts version settings tasks memory history output next path queues finished cores (entries_in new) ≡ view_of_parts version settings tasks memory history output next path queues finished cores (entries_in blocks)
+    → view_of_parts version settings tasks memory history output next path queues finished cores (lists_in new) ≡ view_of_parts version settings tasks memory history output next path queues finished cores (lists_in blocks)
 in_blocks version settings tasks memory history output next path queues finished cores new blocks same =
     ap (λ bs. view_of_parts version settings tasks memory history output next path queues finished cores
-    (entries_in bs)) same
+    (lists_in bs)) same
 
 pub in_spares : (new blocks : List BlockValue) (P : List ℕ → Type 0) → new ≡ blocks → P (map (λ (b : BlockValue). b.spare) blocks) → P (map (λ (b : BlockValue). b.spare) new)
 in_spares new blocks P same = subst (λ bs. P (map (λ (b : BlockValue). b.spare) bs)) (sym same)
 
-pub in_room : (log spawns output : ℕ) (new blocks : List BlockValue) (P : Spare → Type 0) → new ≡ blocks
+pub in_spare : (log spawns output : ℕ) (new blocks : List BlockValue) (P : Spare → Type 0) → new ≡ blocks
     → P (record { log = log; spawns = spawns; output = output; blocks = map (λ (b : BlockValue). b.spare) blocks })
     → P (record { log = log; spawns = spawns; output = output; blocks = map (λ (b : BlockValue). b.spare) new })
-in_room log spawns output new blocks P same = subst (λ bs. P (record { log = log; spawns = spawns; output = output; blocks = map (λ (b : BlockValue). b.spare) bs })) (sym same)
+in_spare log spawns output new blocks P same = subst (λ bs. P (record { log = log; spawns = spawns; output = output; blocks = map (λ (b : BlockValue). b.spare) bs })) (sym same)
 
--- the block of an Ok
+-- where by an Ok the tile's block has 8 pushes to spare, the block that was put there has them
 pub on_after : (result : Result (Unit {0}) AllocError) (new blocks : List BlockValue) (tile : ℕ) (after : BlockValue) → new ≡ slice_set blocks tile after → tile < length blocks
     → OnOk result ((block : BlockValue) → block ≡ slice_index_or new tile block → 8 ≤ block.spare) → OnOk result (8 ≤ after.spare)
 on_after (Ok done) new blocks tile after is within all = all after (sym (ap (λ bs. slice_index_or bs tile after) is ∙ get_or-set_same blocks tile after after within))
@@ -130,11 +131,11 @@ on_after (Err error) new blocks tile after is within all = tt
 
 pub rest_seen : (version : ℕ) (settings : Settings) (tasks : List (Option Task)) (memory : List ℕ) (history : List Entry) (output : List ℕ) (next : ℕ) (path : List Level)
     (queues finished : List QueueValue) (cores : List (List (Option ℕ))) (blocks new : List BlockValue) (tile : ℕ) (after : BlockValue) → new ≡ slice_set blocks tile after → tile < length blocks
-    → (view : View) → view_of_parts version settings tasks memory history output next path queues finished cores (entries_in blocks) ≡ view
-    → view_of_parts version settings tasks memory history output next path queues finished cores (entries_in new)
-    ≡ record view { blocks = slice_set view.blocks tile (slice_index_or (entries_in new) tile []) }
+    → (view : View) → view_of_parts version settings tasks memory history output next path queues finished cores (lists_in blocks) ≡ view
+    → view_of_parts version settings tasks memory history output next path queues finished cores (lists_in new)
+    ≡ record view { blocks = slice_set view.blocks tile (slice_index_or (lists_in new) tile []) }
 rest_seen version settings tasks memory history output next path queues finished cores blocks new tile after is within view same =
     subst (λ bs. view_of_parts version settings tasks memory history output next path queues finished cores
-    (entries_in bs)
-    ≡ record view { blocks = slice_set view.blocks tile (slice_index_or (entries_in bs) tile []) }) (sym is)
+    (lists_in bs)
+    ≡ record view { blocks = slice_set view.blocks tile (slice_index_or (lists_in bs) tile []) }) (sym is)
     (block_seen version settings tasks memory history output next path queues finished cores blocks tile after within view same)

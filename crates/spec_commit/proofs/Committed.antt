@@ -33,7 +33,7 @@ stored_longer size view history output path stored longer =
     (kept_all KeepsPlace (λ t. same_place t t refl refl) view.tasks) refl refl refl stored.memory
     (λ id task at. formed_later size (length view.history) (length history) task longer (stored.tasks id task at))
 
--- what stands where a child is adopted
+-- a task, once the children of the one of this id are adopted
 abbrev child_of : ℕ → ℕ → Task → Task
 child_of id n task = record task { creator = creator_after id n task.creator }
 
@@ -314,8 +314,8 @@ commits size id old made left noted new task entry same stored there leaves note
     committed_task size id old left noted new task entry (subst (IsStored size) same stored) there_old (subst (λ v. TaskLeaves id v left) same leaves) noted_is adopts rest named
     (subst (IsLeastTask old id) one least.1) (ap (λ (t : Task). t.status) (sym one) ∙ least.2) least.3.0 least.3.1 (ap (λ (t : Task). t.creator) (sym one) ∙ least.3.2)
 
--- a commit that is recorded before its task leaves
-pub commits_recorded : (size id : ℕ) (old made recorded left new : View) (task : Task) (entry : Entry) → made ≡ old → IsStored size made → task_at made id ≡ Some task
+-- a commit whose entry joins the history before its task leaves
+pub commits_entered : (size id : ℕ) (old made recorded left new : View) (task : Task) (entry : Entry) → made ≡ old → IsStored size made → task_at made id ≡ Some task
     → recorded ≡ record made { history = made.history ++ entry ∷ []; output = made.output ++ task.bytes; path = task.key.domain ++ own_level task ∷ [] }
     → TaskLeaves id recorded left
     → ((k : ℕ) → task_at new k ≡ after_adoption id (length left.history) (task_at left k))
@@ -323,7 +323,7 @@ pub commits_recorded : (size id : ℕ) (old made recorded left new : View) (task
     → ((turn index : ℕ) → task.creator ≡ Committed turn index → entry ≡ record { name = record { creator = turn; index = index }; depth = depth_of task; ts = task.key.ts })
     → (t : Task) × IsLeastTask old id t × (t.status ≡ Finished) × ((turn : ℕ) × (index : ℕ) × (t.creator ≡ Committed turn index))
     → Commits old new × (new.history ≡ old.history ++ entry ∷ [])
-commits_recorded size id old made recorded left new task entry same stored there recorded_is leaves adopts rest named least =
+commits_entered size id old made recorded left new task entry same stored there recorded_is leaves adopts rest named least =
     let noted = record made { history = made.history ++ entry ∷ []; output = made.output ++ task.bytes; path = task.key.domain ++ own_level task ∷ [] } in
     let goes : TaskLeaves id noted left = subst (λ v. TaskLeaves id v left) recorded_is leaves in
     let before : View = record left { history = made.history; output = made.output; path = made.path } in

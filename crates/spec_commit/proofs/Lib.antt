@@ -5,6 +5,6 @@ pub mod Latest
 pub mod Choices
 pub mod Victims
 pub mod Moving
-pub mod Room
+pub mod Spare
 pub mod Committed
 pub mod Finishing

@@ -14,7 +14,7 @@ use arrayvec::ArrayVec;
 use rv_core::Naming;
 use spec_state::{Creator, MAX_MOVED, State, Status, Task, TaskId};
 
-/// Room for the ids that move, and for one more.
+/// As many ids as move at once, and one more.
 const MAX_LISTED: usize = MAX_MOVED + 1;
 
 /// The ids of the tasks that move, the least first.

@@ -47,7 +47,7 @@ fn reserve_pushes<N: Naming>(state: &mut State<N>, tile: u32) -> Result<(), Allo
     ensures covers { OnOk result (CoversPushes state.new tile MAX_MOVED) }
     ensures enough { CoversPushes state.old tile MAX_MOVED → IsOk result }
     ensures err { OnErr result (state.new ≡ state.old) }
-    ensures room { KeepsOtherSpare tile state.old.spare state.new.spare }
+    ensures others { KeepsOtherSpare tile state.old.spare state.new.spare }
 {
     state.blocks.reserve(tile, MAX_MOVED)
 }
@@ -63,7 +63,7 @@ fn push_spilled<N: Naming>(state: &mut State<N>, tile: u32, desc: &Desc, domain:
           (after_push (block_at state.old.view tile) (record { desc = desc.now; domain = domain.now }));
     } }
     ensures spare { slice_index_or state.old.spare.blocks tile 0 ≤ slice_index_or state.new.spare.blocks tile 0 + 1 }
-    ensures room { KeepsOtherSpare tile state.old.spare state.new.spare }
+    ensures others { KeepsOtherSpare tile state.old.spare state.new.spare }
 {
     state.blocks.push(tile, desc, domain);
 }
@@ -75,7 +75,7 @@ fn spill<N: Naming>(state: &mut State<N>, tile: u32, id: TaskId)
     requires spare { CoversPushes state.old tile 1 }
     ensures spills { Spills tile id.0 state.old.view state.new.view }
     ensures spare { slice_index_or state.old.spare.blocks tile 0 ≤ slice_index_or state.new.spare.blocks tile 0 + 1 }
-    ensures room { KeepsOtherSpare tile state.old.spare state.new.spare }
+    ensures others { KeepsOtherSpare tile state.old.spare state.new.spare }
 {
     state.is_stored();
     let count = state.history.count();
@@ -93,7 +93,7 @@ fn spill_all<N: Naming>(state: &mut State<N>, tile: u32, ids: &[usize])
     requires some { ids.now ≢ [] }
     requires spare { CoversPushes state.old tile MAX_MOVED }
     ensures coalesces { (c : Coalesces tile state.old.view state.new.view) × (c.ids ≡ ids.now) }
-    ensures room { KeepsOtherSpare tile state.old.spare state.new.spare }
+    ensures others { KeepsOtherSpare tile state.old.spare state.new.spare }
 {
     state.is_stored();
     for id in ids {
@@ -110,7 +110,7 @@ pub fn coalesce<N: Naming>(state: &mut State<N>, tile: u32) -> Result<u32, Alloc
         × (n ≡ length moved.ids)) }
     ensures err { OnErr result (state.new ≡ state.old) }
     ensures covered { CoversPushes state.old tile MAX_MOVED → IsOk result }
-    ensures room { KeepsOtherSpare tile state.old.spare state.new.spare }
+    ensures others { KeepsOtherSpare tile state.old.spare state.new.spare }
 {
     reserve_pushes(state, tile)?;
     let ids = chosen_tasks(state, tile);

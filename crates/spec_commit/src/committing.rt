@@ -93,7 +93,7 @@ fn adopt_children<N: Naming>(state: &mut State<N>, id: TaskId)
     ensures each { (k : ℕ) → task_at state.new.view k
         ≡ after_adoption id.0 (length state.old.view.history) (task_at state.old.view k) }
     ensures rest { state.new.view ≡ record state.old.view { tasks = state.new.view.tasks } }
-    ensures room { state.new.spare ≡ state.old.spare }
+    ensures spare { state.new.spare ≡ state.old.spare }
 {
     let turn = state.history.count();
     adopt(&mut state.tasks, &state.children, id.0, turn);
@@ -132,14 +132,15 @@ fn reserve_output<N: Naming>(state: &mut State<N>, id: TaskId) -> Result<(), All
         length state.old.view.output + length t.bytes ≤ state.new.spare.output)) }
     ensures enough { CoversOutput state.old id.0 → IsOk result }
     ensures err { OnErr result (state.new ≡ state.old) }
-    ensures room { state.new.spare ≡ record state.old.spare { output = state.new.spare.output } }
+    ensures spare { state.new.spare ≡ record state.old.spare { output = state.new.spare.output } }
 {
     let wanted = state.output.as_slice().len() + state.task(id).bytes.as_slice().len();
     state.buffers.output.reserve(wanted)
 }
 
-/// Adds a task to the history and its bytes to the output, for which there is room, and makes its levels the path.
-fn record_commit<N: Naming>(state: &mut State<N>, id: TaskId) -> Entry
+/// Adds a task's entry to the history and the task's bytes to the output, for which memory is spare, and makes its
+/// levels the path.
+fn enter_commit<N: Naming>(state: &mut State<N>, id: TaskId) -> Entry
     requires firm { IfSome (task_at state.old.view id.0) (λ task.
         (turn : ℕ) × (index : ℕ) × (task.creator ≡ Committed turn index)) }
     requires live { IsSome (task_at state.old.view id.0) }
@@ -158,7 +159,7 @@ fn record_commit<N: Naming>(state: &mut State<N>, id: TaskId) -> Entry
       output = state.old.view.output ++ task.bytes;
       path = task.key.domain ++ own_level task ∷ [];
     }) }
-    ensures room { state.new.spare ≡ record state.old.spare { output = state.new.spare.output } }
+    ensures spare { state.new.spare ≡ record state.old.spare { output = state.new.spare.output } }
 {
     let task = &state.tasks[id.0];
     let entry = entry_of(task);
@@ -171,8 +172,8 @@ fn record_commit<N: Naming>(state: &mut State<N>, id: TaskId) -> Entry
 }
 
 /// Commits the least task, which is finished and was made by the image or a committed task: its entry joins the
-/// history, its bytes the output, and its levels are the path. `AllocError` where the output has no room for the
-/// bytes and memory runs out; nothing has changed then.
+/// history, its bytes the output, and its levels are the path. `AllocError` where memory for the bytes isn't spare
+/// in the output and runs out; nothing has changed then.
 pub fn commit_task<N: Naming>(state: &mut State<N>, id: TaskId) -> Result<Entry, AllocError>
     requires least { (task : Task) × IsLeastTask state.old.view id.0 task × (task.status ≡ Finished)
         × ((turn : ℕ) × (index : ℕ) × (task.creator ≡ Committed turn index)) }
@@ -181,11 +182,11 @@ pub fn commit_task<N: Naming>(state: &mut State<N>, id: TaskId) -> Result<Entry,
         × (state.new.view.history ≡ state.old.view.history ++ entry ∷ [])) }
     ensures err { OnErr result (state.new ≡ state.old) }
     ensures enough { CoversOutput state.old id.0 → IsOk result }
-    ensures room { state.new.spare ≡ record state.old.spare { output = state.new.spare.output } }
+    ensures spare { state.new.spare ≡ record state.old.spare { output = state.new.spare.output } }
 {
     reserve_output(state, id)?;
     state.is_stored();
-    let entry = record_commit(state, id);
+    let entry = enter_commit(state, id);
     state.take_out(id);
     adopt_children(state, id);
     Ok(entry)

@@ -38,7 +38,8 @@ fn has_committed_creator(task: &Task) -> bool
 }
 
 /// Commits the least task, which is finished: its entry joins the history, its bytes the output, and its levels are
-/// the path. `AllocError` where the output has no room for the bytes and memory runs out; nothing has changed then.
+/// the path. `AllocError` where memory for the bytes isn't spare in the output and runs out; nothing has changed
+/// then.
 /// A task whose creator has not committed has no name in the history; of a sound state the least task is none, and
 /// here it isn't committed either, which is answered in the same way.
 pub fn commit<N: Naming>(state: &mut State<N>) -> Result<Entry, AllocError>
@@ -49,7 +50,7 @@ pub fn commit<N: Naming>(state: &mut State<N>) -> Result<Entry, AllocError>
     ensures err { OnErr result (state.new ≡ state.old) }
     ensures enough { (id : ℕ) (task : Task) → IsLeastTask state.old.view id task → task.status ≡ status.Finished
         → HasCommittedCreator task → CoversOutput state.old id → IsOk result }
-    ensures room { state.new.spare ≡ record state.old.spare { output = state.new.spare.output } }
+    ensures spare { state.new.spare ≡ record state.old.spare { output = state.new.spare.output } }
 {
     state.is_stored();
     let id = finished_least(state);

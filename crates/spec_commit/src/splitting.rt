@@ -67,7 +67,7 @@ fn take_spilled<N: Naming>(state: &mut State<N>, tile: u32) -> (Desc, Vt)
     ensures rest { state.new.view ≡ record state.old.view {
       blocks = slice_set state.old.view.blocks tile (block_at state.new.view tile);
     } }
-    ensures room { KeepsOtherSpare tile state.old.spare state.new.spare }
+    ensures others { KeepsOtherSpare tile state.old.spare state.new.spare }
     ensures stays { HasNoLessSpare state.old.spare state.new.spare }
 {
     match state.blocks.take_least(tile) {
@@ -87,7 +87,7 @@ pub fn split<N: Naming>(state: &mut State<N>, tile: u32) -> Result<(), AllocErro
     ensures ok { OnOk result (Splits tile state.old.view state.new.view) }
     ensures err { OnErr result (state.new ≡ state.old) }
     ensures covered { IsOk result }
-    ensures room { KeepsOtherSpare tile state.old.spare state.new.spare }
+    ensures others { KeepsOtherSpare tile state.old.spare state.new.spare }
     ensures stays { HasNoLessSpare state.old.spare state.new.spare }
 {
     let heir = state.heir();

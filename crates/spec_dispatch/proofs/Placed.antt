@@ -80,17 +80,17 @@ open_here old view same size tile id task was least there stored =
 pub open_in : (tasks : List (Option Task)) (lists : List (List ℕ)) (arrivals : List ℕ) (next id : ℕ) (entries : List Candidate) (task : Task)
     → IsIndexed tasks lists arrivals next entries → slice_index_or tasks id None ≡ Some task → task.key.tb ≡ None → IsOpenIn id entries
 open_in tasks lists arrivals next id entries task is there none = record {
-  entry = candidate_of arrivals id task;
+  candidate = candidate_of arrivals id task;
   there = is.all id task there;
   id_is = refl;
   open_tie = none;
 }
 
 -- and closed
-pub indexed_closed : (version : ℕ) (tasks : List (Option Task)) (lists : List (List ℕ)) (arrivals : List ℕ) (next id core number : ℕ) (entries entries_now : List Candidate) (task now : Task)
-    → IsIndexed tasks lists arrivals next entries → slice_index_or tasks id None ≡ Some task → now ≡ started_task version core number task → IsTied id (Some number) entries entries_now
-    → IsIndexed (slice_set tasks id (Some now)) lists arrivals next entries_now
-indexed_closed version tasks lists arrivals next id core number entries entries_now task now is there starts tie =
+pub indexed_closed : (version : ℕ) (tasks : List (Option Task)) (lists : List (List ℕ)) (arrivals : List ℕ) (next id core number : ℕ) (entries tasks_now : List Candidate) (task now : Task)
+    → IsIndexed tasks lists arrivals next entries → slice_index_or tasks id None ≡ Some task → now ≡ started_task version core number task → IsTied id (Some number) entries tasks_now
+    → IsIndexed (slice_set tasks id (Some now)) lists arrivals next tasks_now
+indexed_closed version tasks lists arrivals next id core number entries tasks_now task now is there starts tie =
     subst (IsIndexed (slice_set tasks id (Some now)) lists arrivals next)
     (sym (tie (candidate_of arrivals id task) (is.all id task there) refl ∙ ap (λ (t : Task). after_insert candidate_cmp (candidate_of arrivals id t) (without_candidate id entries)) (sym starts)))
     (rekeyed tasks (slice_set tasks id (Some now)) lists arrivals next id entries now is (task_set tasks id task now there) (others_set tasks id now))

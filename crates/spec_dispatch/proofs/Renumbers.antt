@@ -7,6 +7,7 @@ use Rattle.std.proofs.lemmas.List.Elements.{All-nil, All-cons, Contains-append_l
 use Rattle.std.proofs.lemmas.List.Sums.{sum_by-cons}
 use Rattle.commit_arbiter.specs.declared.candidate.Candidate.{Candidate}
 use Rattle.commit_arbiter.specs.Indexed.{HoldsCandidates, renumbered_candidate}
+use Rattle.fractal_vt.proofs.Proved.{is_some_mapped, mapped_some}
 use Rattle.fractal_vt.specs.declared.level.Level.{Level}
 use Rattle.run_journal.specs.declared.journal.Entry.{Entry}
 use Rattle.fractal_vt.specs.Renumbered.{place_in, renumbered_levels, renumbered_level, HoldsKey}
@@ -27,15 +28,6 @@ use Rattle.spec_state.proofs.Proved.{noted_back, table_holds_spilled, table_hold
 use Rattle.spec_dispatch.specs.Table.{held_numbers}
 use Rattle.spec_dispatch.proofs.Tabled.{held_are}
 
--- what a mapped option holds comes from what the option holds
-mapped_some : (f : Task → Task) (o : Option Task) (y : Task) → option_map f o ≡ Some y → (x : Task) × (o ≡ Some x) × (y ≡ f x)
-mapped_some f None y at = absurd (cc (at))
-mapped_some f (Some x) y at = (x, refl, cc)
-
-still_some : {X Y : Type 0} (f : X → Y) (o : Option X) → is_some (option_map f o) ≡ is_some o
-still_some f None = refl
-still_some f (Some n) = refl
-
 -- as many slots are in use
 pub as_many_mapped : (f : Task → Task) (tasks : List (Option Task)) → count_by is_some (map (option_map f) tasks) ≡ count_by is_some tasks
 as_many_mapped f [] = refl
@@ -43,7 +35,7 @@ as_many_mapped f (t ∷ tasks) =
     let weight : Option Task → ℕ = λ slot. cond (is_some slot) 1 0 in
     let now = sum_by-cons weight (option_map f t) (map (option_map f) tasks) in
     let was = sum_by-cons weight t tasks in
-    let same : weight (option_map f t) ≡ weight t = ap (λ b. cond b 1 0) (still_some f t) in
+    let same : weight (option_map f t) ≡ weight t = ap (λ b. cond b 1 0) (is_some_mapped f t) in
     let rest = as_many_mapped f tasks in
     omega (arith, now, was, same, rest)
 
@@ -145,7 +137,7 @@ module _ (old new : View) (r : Renumbers old new) where
         inner = λ sub. (let less = is.inner sub in omega (arith, deep, less));
         children = is.children;
         accesses = is.accesses;
-        dispatched = still_some (place_in r.table) t.key.tb ∙ is.dispatched;
+        dispatched = is_some_mapped (place_in r.table) t.key.tb ∙ is.dispatched;
         turn = is.turn;
       }
 
@@ -199,11 +191,11 @@ indexed_renumbered table tasks lists arrivals next entries is = record {
     from (x ∷ es) e (zero, low, at) = (x, (zero, omega arith, refl), sym at)
     from (x ∷ es) e (suc k, low, at) = (let more = from es e (k, omega (arith, low), at) in (more.0, (suc more.1.0, (let below = more.1.1 in omega (arith, below)), more.1.2), more.2))
 
-pub indexed_after : (table : List ℕ) (tasks now : List (Option Task)) (lists : List (List ℕ)) (arrivals : List ℕ) (next : ℕ) (entries entries_now : List Candidate)
-    → IsIndexed tasks lists arrivals next entries → now ≡ map (option_map (renumbered_task table)) tasks → entries_now ≡ map (renumbered_candidate table) entries
-    → IsIndexed now lists arrivals next entries_now
-indexed_after table tasks now lists arrivals next entries entries_now is tasks_are entries_are =
-    subst (λ ts. IsIndexed ts lists arrivals next entries_now) (sym tasks_are)
+pub indexed_after : (table : List ℕ) (tasks now : List (Option Task)) (lists : List (List ℕ)) (arrivals : List ℕ) (next : ℕ) (entries tasks_now : List Candidate)
+    → IsIndexed tasks lists arrivals next entries → now ≡ map (option_map (renumbered_task table)) tasks → tasks_now ≡ map (renumbered_candidate table) entries
+    → IsIndexed now lists arrivals next tasks_now
+indexed_after table tasks now lists arrivals next entries tasks_now is tasks_are entries_are =
+    subst (λ ts. IsIndexed ts lists arrivals next tasks_now) (sym tasks_are)
     (subst (IsIndexed (map (option_map (renumbered_task table)) tasks) lists arrivals next) (sym entries_are) (indexed_renumbered table tasks lists arrivals next entries is))
 
 -- children stay noted

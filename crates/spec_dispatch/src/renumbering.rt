@@ -3,7 +3,7 @@
 ghost use Rattle.std.specs.Prelude.{◌≡◌, ◌≤◌, ℕ, All, map, length, option_map};
 ghost use Rattle.std.specs.List.Sorted.{IsStrictlyIncreasing};
 ghost use Rattle.spec_state.specs.declared.numbers.TheConstants.{MAX_NUMBERS_IN_USE};
-ghost use Rattle.spec_state.specs.Fits.{entries_in};
+ghost use Rattle.spill_store.specs.Fronts.{lists_in};
 ghost use Rattle.spec_state.specs.Numbers.{Renumbers, renumbered_task};
 ghost use Rattle.spill_store.specs.SpilledTasks.{renumbered_spilled, HoldsSpilled};
 ghost use Rattle.spec_dispatch.specs.Numbered.{AreNumbersHeld};
@@ -39,9 +39,9 @@ fn renumber_tasks(tasks: &mut KeptSlab<Task>, table: &[u64])
 /// Replaces the tiebreakers of all spilled tasks by their places in the table.
 fn renumber_blocks(blocks: &mut Blocks, table: &[u64])
     requires rising { IsStrictlyIncreasing table.now }
-    requires held { All (HoldsSpilled table.now) (entries_in blocks.old.items) }
-    ensures entries { let was = entries_in blocks.old.items in
-        entries_in blocks.new.items ≡ map (map (renumbered_spilled table.now)) was }
+    requires held { All (HoldsSpilled table.now) (lists_in blocks.old.items) }
+    ensures spilled { let was = lists_in blocks.old.items in
+        lists_in blocks.new.items ≡ map (map (renumbered_spilled table.now)) was }
     ensures count { length blocks.new.items ≡ length blocks.old.items }
     ensures spare { map (λ block. block.spare) blocks.new.items ≡ map (λ block. block.spare) blocks.old.items }
 {
@@ -54,7 +54,7 @@ pub(crate) fn renumber<N: Naming>(state: &mut State<N>)
     requires held { AreNumbersHeld state.old.view }
     ensures renumbers { Renumbers state.old.view state.new.view }
     ensures few { state.new.view.next ≤ MAX_NUMBERS_IN_USE }
-    ensures room { state.new.spare ≡ state.old.spare }
+    ensures spare { state.new.spare ≡ state.old.spare }
 {
     fill(&mut state.numbers, &state.path, &state.tasks);
     let table = state.numbers.as_slice();

@@ -11,9 +11,9 @@ use fractal_vt::Vt;
 use kept_slab::KeptSlab;
 use spec_state::Task;
 
-/// Adds a number at the end, where there is room.
+/// Adds a number at the end of a list that has the memory for it.
 fn note(numbers: &mut Vec<u64>, number: u64)
-    requires room { vec_len numbers.old < vec_capacity numbers.old }
+    requires spare { vec_len numbers.old < vec_capacity numbers.old }
     ensures items { numbers.new.items ≡ numbers.old.items ++ number ∷ [] }
     ensures capacity { vec_capacity numbers.old ≤ vec_capacity numbers.new }
 {
@@ -25,7 +25,7 @@ fn note(numbers: &mut Vec<u64>, number: u64)
 
 /// Adds the tiebreakers of the path.
 fn note_path(numbers: &mut Vec<u64>, path: &Vt)
-    requires room { vec_len numbers.old + length path.now ≤ vec_capacity numbers.old }
+    requires spare { vec_len numbers.old + length path.now ≤ vec_capacity numbers.old }
     ensures items { numbers.new.items ≡ numbers.old.items ++ map (λ level. level.tb) path.now }
     ensures capacity { vec_capacity numbers.old ≤ vec_capacity numbers.new }
 {
@@ -36,7 +36,7 @@ fn note_path(numbers: &mut Vec<u64>, path: &Vt)
 
 /// Adds the numbers of the dispatched tasks.
 fn note_tasks(numbers: &mut Vec<u64>, tasks: &KeptSlab<Task>)
-    requires room { vec_len numbers.old + slab_len tasks.now ≤ vec_capacity numbers.old }
+    requires spare { vec_len numbers.old + slab_len tasks.now ≤ vec_capacity numbers.old }
     ensures items { numbers.new.items ≡ numbers.old.items ++ dispatch_numbers_of (entries tasks.now) }
     ensures few { vec_len numbers.new ≤ vec_len numbers.old + slab_len tasks.now }
     ensures capacity { vec_capacity numbers.old ≤ vec_capacity numbers.new }
@@ -60,9 +60,9 @@ fn arrange(numbers: &mut Vec<u64>)
 }
 
 /// Fills the table with the numbers of the path and of the dispatched tasks, in rising order, each once. It has
-/// room for them.
+/// the memory for them.
 pub(crate) fn fill(table: &mut Vec<u64>, path: &Vt, tasks: &KeptSlab<Task>)
-    requires room { MAX_LEVELS + slab_len tasks.now ≤ vec_capacity table.old }
+    requires spare { MAX_LEVELS + slab_len tasks.now ≤ vec_capacity table.old }
     ensures rising { IsStrictlyIncreasing table.new.items }
     ensures exact { (number : ℕ) → Contains table.new.items number ↔ Contains (held_numbers path.now tasks.now) number }
     ensures few { vec_len table.new ≤ MAX_LEVELS + slab_len tasks.now }

@@ -36,10 +36,10 @@ pub use Rattle.spec_law.proofs.Rooms.Made.{leaves_place}
 pub use Rattle.spec_law.proofs.Rooms.Returned.{split_keeps_least}
 pub use Rattle.spec_law.proofs.Steps.Heir.{step_keeps_heir}
 pub use Rattle.spec_law.proofs.Steps.Laws.{byte_stays_sound, end_stays_sound, quantum_stays_sound, sub_stays_sound, trap_stays_sound}
-pub use Rattle.spec_law.proofs.Steps.One.{StepsOne, worked}
+pub use Rattle.spec_law.proofs.Steps.One.{StepsOne, stepped_task}
 pub use Rattle.spec_law.proofs.Steps.Sound.{keeps_steps}
-pub use Rattle.spec_law.proofs.Tasks.Beside.{id_below, mapped_some, queued_stands, spilled_key, spilled_stands, which}
-pub use Rattle.spec_law.proofs.Tasks.Contained.{some_first, decided}
+pub use Rattle.spec_law.proofs.Tasks.Beside.{id_below, queued_stands, spilled_in_keys, spilled_stands, which}
+pub use Rattle.spec_law.proofs.Tasks.Contained.{some_first, some_in, decided}
 pub use Rattle.spec_law.proofs.Tasks.Distinct.{distinct_at}
 pub use Rattle.spec_law.proofs.Tasks.Filtered.{filter_leaves, list_mapped}
 pub use Rattle.spec_law.proofs.Tasks.Firm.{spilled_are_firm}
@@ -48,7 +48,7 @@ pub use Rattle.spec_law.proofs.Tasks.Leasts.{makes_least}
 pub use Rattle.spec_law.proofs.Tasks.Lowest.{lowest}
 pub use Rattle.spec_law.proofs.Tasks.Next.{firm_is_committed, in_spilled, least_is_next, none_is_committed, spot_of}
 pub use Rattle.spec_law.proofs.Tasks.Places.{contains_get, get_contains, place_in_all}
-pub use Rattle.spec_law.proofs.Tasks.Ranked.{first_not_greater, least_is_one, ranked_turned, same_spot}
+pub use Rattle.spec_law.proofs.Tasks.Ranked.{least_is_one, ranked_turned, same_spot}
 pub use Rattle.spec_law.proofs.Tasks.Turned.{not_both_ways, one_least_idle}
 pub use Rattle.spec_law.proofs.Tasks.Rebound.{below_all}
 pub use Rattle.spec_law.proofs.Tasks.Stacked.{run_stack}

@@ -1,4 +1,4 @@
--- Each change keeps a sound view sound, but for an abort and a renumbering (`AbortLaws`, `Renumbering`).
+-- Each change keeps a sound view sound; of an abort and a renumbering `AbortLaws` and `Renumbering` say it.
 use Rattle.std.specs.Prelude.{◌≡◌, ◌/◌, ℕ, ◌<◌, Bool, true, false, length, Some}
 use Rattle.guest_image.specs.declared.image.Kind.{Kind}
 use Rattle.guest_image.specs.ImageValue.{ImageValue}

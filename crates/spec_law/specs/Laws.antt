@@ -45,7 +45,8 @@ LeastSpilledIsNext =
     → slice_get (block_at view tile) place ≡ Some s
     → (s.desc.name.creator ≤ length view.history) × HasTurn sound.serial.stack s.desc.depth (bag_spilled s).task
 
--- each spilled task is firm: its name is that of a child of a committed task, or of the least one, which is dispatched
+-- each spilled task is firm: its name is that of a task of the image, or of a child of a committed task or of the
+-- least one, which is dispatched
 abbrev pub SpilledAreFirm : Type 0
 SpilledAreFirm =
     (image : ImageValue) (view : View) → Sound image view → (s : Spilled) → Contains (all_spilled view) s

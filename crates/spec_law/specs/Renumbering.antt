@@ -1,4 +1,5 @@
--- A renumbered view says what the view before it said: numbers are read by comparison alone.
+-- Which dispatch numbers are in use, and that few are; a renumbered view says what the view before it said: numbers are
+-- read by comparison alone.
 use Rattle.std.specs.Prelude.{◌≡◌, ◌↔◌, ℕ, ◌≤◌, Bool, List, length, Option, Some}
 use Rattle.abort_cascade.specs.Cascade.{Marked}
 use Rattle.guest_image.specs.ImageValue.{ImageValue}

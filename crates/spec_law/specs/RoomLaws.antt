@@ -1,4 +1,5 @@
--- How the words on room in a task queue fit the laws of room, and how a child's key fits the law of order.
+-- How the words on room in a task queue fit the laws of room, what is left once room is made or a block is split, and
+-- how a child's key fits the law of order.
 use Rattle.std.specs.Prelude.{◌≡◌, ◌≢◌, ◌↔◌, ℕ, ◌<◌, ◌≤◌, true, length, Option, Some, None, slice_get}
 use Rattle.std.specs.declared.cmp.Ordering.TheVariants.{Less}
 use Rattle.fractal_vt.specs.declared.key.Key.{Key}
@@ -104,8 +105,8 @@ abbrev pub child_of : ℕ → ℕ → Task → Spawn → ℕ → Task
 child_of version id task spawn tile =
     idle_task version (child_descriptor task spawn) (Live (record { 0 = id }) (length task.spawns)) tile
 
--- in a sound view, where a running task asks for a child, the child stands in one of the places that the law of
--- order has for it, and its key is above its creator's
+-- in a sound view, where a running task asks for a child, the child stands where the law of order lets it, and its
+-- key is above its creator's
 abbrev pub ChildIsAbove : Type 0
 ChildIsAbove =
     (image : ImageValue) (view : View) (tile core id to : ℕ) (leg : LegValue) (task : Task) (spawn : Spawn)

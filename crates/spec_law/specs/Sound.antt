@@ -54,7 +54,7 @@ module _ (image : ImageValue) (version budget : ℕ) where
   abbrev pub AsksNext : Task → TaskState → Request → Type 0
   AsksNext task = Asks image budget image.data_size (start_context version task)
 
-  -- the task's next instruction is this trap
+  -- the task's run led to what it has done so far, and what stands next is this trap
   pub record TrapsNext (task : Task) (cause : ℕ) : Type 0 where
     pub ran : RanTo task (done_so_far task)
     pub traps : AsksNext task (done_so_far task) (Trap cause)
@@ -118,10 +118,10 @@ pub record SoundOrder (view : View) (heir : Option ℕ) : Type 0 where
   pub order : IsOrdered (all_keyed view heir) (map closed_level view.path) view.next
   pub numbers : view.next ≤ DISPATCH_NUMBERS
 
--- the group of sizes: the settings are in their ranges; each tile has its lists, none of which holds more than it
--- may, nor one task twice; its task queue holds its tasks, its commit queue the finished ones of them, and its
--- cores those that run or are trapped; and kinds and bytes have room. All but the bounds of the lists is kept for
--- the proof alone
+-- the group of sizes: the settings are in their ranges; each tile has its lists, of which its task queue, its commit
+-- queue and its cores hold no more than they may, nor one task twice; its task queue holds its tasks, its commit queue
+-- the finished ones of them, and its cores those that run or are trapped; and kinds, bytes and the descriptors of
+-- spilled tasks fit. All but the bounds of the lists is kept for the proof alone
 pub record SoundSizes (view : View) : Type 0 where
   pub settings : IsValid view.settings
   pub queues : length view.queues ≡ view.settings.tiles

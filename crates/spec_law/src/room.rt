@@ -1,4 +1,5 @@
-//! Laws of room in a task queue. Each is the contract of a function that does nothing.
+//! Laws of room in a task queue, of the task that a split brings back, and of a child's key. Each is the contract of
+//! a function that does nothing.
 
 ghost use Rattle.spec_law.specs.RoomLaws.{ChildIsAbove, CoalesceMakesRoom, FirmIsFirm, MovableIsMovable};
 ghost use Rattle.spec_law.specs.RoomLaws.{RoomIsMade, SplitKeepsLeast, SplitReturnsLeast, VictimIsLater};
@@ -48,8 +49,8 @@ pub fn split_keeps_least()
     ensures { SplitKeepsLeast }
 {}
 
-/// In a sound view the child of an enqueue that is allowed stands in one of the places that the law of order has
-/// for it, and its key is above its creator's.
+/// In a sound view the child of an enqueue that is allowed stands where the law of order lets it, and its key is
+/// above its creator's.
 pub fn child_is_above()
     ensures { ChildIsAbove }
 {}

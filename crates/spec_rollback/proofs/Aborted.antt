@@ -153,7 +153,7 @@ nothing_aborted size view stored firsts none =
     nothing_by size view stored firsts none marks
     (let long = length-replicate (length view.tasks) false in omega (arith, long)) (off_marks (length view.tasks))
 
--- the task of this id, where it is there, has an abort of its access
+-- where the task of this id is there, the cascades of the first tasks that it gives are taken back
 abbrev AbortsFor : (Task → ℕ → Type 0) → View → View → ℕ → ℕ → Type 0
 AbortsFor firsts old new aborted id = IfSome (task_at old id)
     (λ t. (ids : List ℕ) → IsByKey (logged_tasks old) ids → Aborts (firsts t) old aborted new)

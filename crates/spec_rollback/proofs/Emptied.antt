@@ -1,11 +1,11 @@
--- Lists that hold no task.
+-- Lists that hold no task, and what is left once all uncommitted tasks are taken back.
 use Rattle.std.proofs.Common.{◌≡◌, ◌∷◌, ℕ, suc, List, [], length, map, replicate, Option, Some, None, refl, sym}
 use Rattle.std.proofs.Common.{ap, ◌∙◌, arith, slice_index_or, slice_get}
 use Rattle.std.specs.Prelude.{Contains, All, IsSome, Bool, true, false, option_map, if◌then◌else◌}
 use Rattle.std.proofs.lemmas.List.Elements.{All-tail, All-head, All-cons}
 use Rattle.std.proofs.lemmas.List.{length-map}
 use Rattle.memory_law.specs.Tasks.{Logged, IsByKey, undone_set}
-use Rattle.memory_law.proofs.Proved.{member_runs}
+use Rattle.memory_law.proofs.Proved.{member_dispatched}
 use Rattle.spill_store.specs.SpilledTasks.{Spilled}
 use Rattle.spec_state.specs.declared.task.Status.{Status}
 use Rattle.spec_state.specs.declared.task.Status.TheVariants.{Finished}
@@ -123,7 +123,7 @@ module _ (size : ℕ) (old undone removed last : View) (marks : List Bool) (list
       memory_is =
           kept ∙ memory ids by_key
           ∙ same_set (is_marked marks) (λ id. true) (logged_tasks old) ids old.memory
-          (λ k at. (let runs = member_runs (logged_tasks old) k ids at by_key.ascends in marked k
+          (λ k at. (let runs = member_dispatched (logged_tasks old) k ids at by_key.ascends in marked k
           (is_there (task_at old k) runs.0 runs.1)));
     };
     frame =

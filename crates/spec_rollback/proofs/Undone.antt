@@ -7,7 +7,7 @@ use Rattle.std.specs.Cmp.{both_ways}
 use Rattle.std.proofs.lemmas.Bool.{cases_eq}
 use Rattle.memory_law.specs.Events.{IsLatestInLogs, without_one}
 use Rattle.memory_law.specs.Tasks.{Logged, log_of, In, Earlier, Ascends, IsByKey, undone_set}
-use Rattle.memory_law.proofs.Proved.{latest_first, member_runs, not_self}
+use Rattle.memory_law.proofs.Proved.{latest_first, member_dispatched, not_self}
 use Rattle.undo_log.specs.Undo.{undone}
 use Rattle.spec_state.specs.declared.task.Task.{Task}
 use Rattle.spec_state.specs.Groups.{logged_tasks, logged_task}
@@ -113,7 +113,7 @@ module _ (tasks : List (Option Task)) where
     not_these : (x : ℕ) → ((task : Logged) → read x ≡ Some task → task.dispatched ≡ true → ⊥) → (k : ℕ) → In k ids
         → k ≢ x
     not_these x none k at same =
-        let runs = member_runs read k ids at up in none runs.0 (ap read (sym same) ∙ runs.1) runs.2
+        let runs = member_dispatched read k ids at up in none runs.0 (ap read (sym same) ∙ runs.1) runs.2
 
     module _ (x : ℕ) (list : List ℕ) (falls : Falls tasks (x ∷ list)) (once : AllPairs (λ a b. a ≢ b) (x ∷ list)) where
       without_first : (k : ℕ) → without_one x (among (x ∷ list)) k ≡ among list k

@@ -1,4 +1,4 @@
--- Where no access of a task conflicts no marks are told.
+-- Where no access of a task conflicts, it is true that none was found, whatever the marks.
 use Rattle.std.proofs.Common.{◌≡◌, ℕ, Bool, true, false, List, Option, Some, None}
 use Rattle.std.specs.Prelude.{IfSome}
 use Rattle.spec_state.specs.declared.task.Task.{Task}

@@ -1,4 +1,4 @@
--- What is taken back with a task, as a test.
+-- What is taken back with a task, as a test; and a list of the marked ids.
 use Rattle.std.specs.Prelude.{◌≡◌, ◌↔◌, ℕ, ◌≤◌, ◌==◌, ◌&&◌, ◌||◌, Bool, false, List, Contains, Option, None, Some}
 use Rattle.std.specs.Prelude.{count_by, length, slice_index_or, take}
 use Rattle.std.specs.Ordering.{is_lt}

@@ -2,7 +2,7 @@
 use Rattle.std.specs.Prelude.{◌≡◌, ℕ, Bool, length, map, None, if◌then◌else◌}
 use Rattle.spec_state.specs.View.{View, task_at}
 
--- these tasks are gone, and their lists are as many as they were
+-- these tasks are gone, and the tiles' lists and cores are as many as they were
 pub record RemovesThese (these : ℕ → Bool) (old new : View) : Type 0 where
   pub each : (id : ℕ) → task_at new id ≡ (if these id then None else task_at old id)
   pub queues : length new.queues ≡ length old.queues

@@ -15,8 +15,7 @@ use crate::undoing::undo_marked;
 use rv_core::Naming;
 use spec_state::{State, TaskId};
 
-/// Takes back the cascade of a dispatched task, and tells how many tasks that were. It takes no
-/// memory.
+/// Takes back the cascade of a task, and tells how many tasks that were. It takes no memory.
 pub fn abort<N: Naming>(state: &mut State<N>, task: TaskId) -> u32
     requires live { IsSome (task_at state.old.view task.0) }
 
@@ -24,7 +23,7 @@ pub fn abort<N: Naming>(state: &mut State<N>, task: TaskId) -> u32
     ensures aborts { let old = state.old.view in
         let new = state.new.view in
         (ids : List ℕ) → IsByKey (logged_tasks old) ids → Aborts (OnlyNode task.0) old result new }
-    ensures room { state.new.spare ≡ state.old.spare }
+    ensures spare { state.new.spare ≡ state.old.spare }
 {
     mark_one(state, task);
     abort_marked(state)
@@ -38,7 +37,7 @@ pub fn abort_conflicts<N: Naming>(state: &mut State<N>, task: TaskId, line: u32,
         let new = state.new.view in
         IfSome (task_at old task.0) (λ t. (ids : List ℕ) → IsByKey (logged_tasks old) ids
         → Aborts (Conflicts old t line write) old result new) }
-    ensures room { state.new.spare ≡ state.old.spare }
+    ensures spare { state.new.spare ≡ state.old.spare }
 {
     state.is_stored();
     if mark_conflicts(state, task, line, write) {
@@ -55,7 +54,7 @@ fn abort_marked<N: Naming>(state: &mut State<N>) -> u32
     ensures aborts { let firsts = Marked state.old.scratch.marks in
         let old = state.old.view in
         (ids : List ℕ) → IsByKey (logged_tasks old) ids → Aborts firsts old result state.new.view }
-    ensures room { state.new.spare ≡ state.old.spare }
+    ensures spare { state.new.spare ≡ state.old.spare }
 {
     let found = close_marks(state);
     undo_marked(state, found);

@@ -81,7 +81,7 @@ pub(crate) fn close_marks<N: Naming>(state: &mut State<N>) -> usize
     ensures listed { ListsMarked state.new.scratch result }
     ensures few { result ≤ 4096 }
     ensures view { state.new.view ≡ state.old.view }
-    ensures room { state.new.spare ≡ state.old.spare }
+    ensures spare { state.new.spare ≡ state.old.spare }
 {
     // Each id is below the number of slots, and there are as many marks.
     let _slots = state.tasks.capacity();

@@ -171,7 +171,7 @@ pub(crate) fn mark_one<N: Naming>(state: &mut State<N>, task: TaskId)
     requires live { IsSome (task_at state.old.view task.0) }
     ensures marks { (id : ℕ) → Marked state.new.scratch.marks id ↔ (id ≡ task.0) }
     ensures view { state.new.view ≡ state.old.view }
-    ensures room { state.new.spare ≡ state.old.spare }
+    ensures spare { state.new.spare ≡ state.old.spare }
 {
     // Each id is below the number of slots, and there are as many marks.
     let _slots = state.tasks.capacity();
@@ -192,7 +192,7 @@ pub(crate) fn mark_conflicts<N: Naming>(
         let view = state.old.view in
         IfSome (task_at view task.0) (λ t. FindsConflicts view t line write result marks) }
     ensures view { state.new.view ≡ state.old.view }
-    ensures room { state.new.spare ≡ state.old.spare }
+    ensures spare { state.new.spare ≡ state.old.spare }
 {
     // The tasks of a run without workers are dispatched one at a time.
     if state.is_alone(task) {

@@ -34,7 +34,7 @@ fn release<N: Naming>(state: &mut State<N>, id: usize)
     requires live { IsSome (task_at state.old.view id) }
     ensures takes { TakesOne state.old.scratch.marks id state.old.view state.new.view }
     ensures scratch { state.new.scratch ≡ state.old.scratch }
-    ensures room { state.new.spare ≡ state.old.spare }
+    ensures spare { state.new.spare ≡ state.old.spare }
 {
     if has_marked_creator(&state.tasks[id], state.marks.as_slice()) {
         state.take_out(TaskId(id));
@@ -61,7 +61,7 @@ pub(crate) fn release_marked<N: Naming>(state: &mut State<N>, found: usize)
     ensures takes { let marks = state.old.scratch.marks in
         TakesThese marks (is_marked marks) state.old.view state.new.view }
     ensures scratch { state.new.scratch ≡ state.old.scratch }
-    ensures room { state.new.spare ≡ state.old.spare }
+    ensures spare { state.new.spare ≡ state.old.spare }
 {
     state.is_stored();
     for place in 0..found {

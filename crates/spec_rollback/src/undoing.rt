@@ -101,7 +101,7 @@ pub(crate) fn undo_marked<N: Naming>(state: &mut State<N>, found: usize)
     ensures marks { state.new.scratch.marks ≡ state.old.scratch.marks }
     ensures listed { ListsMarked state.new.scratch found }
     ensures once { AllPairs (λ a b. a ≢ b) (take found state.new.scratch.members) }
-    ensures room { state.new.spare ≡ state.old.spare }
+    ensures spare { state.new.spare ≡ state.old.spare }
 {
     undo_latest_first(
         &state.tasks,

@@ -1,4 +1,4 @@
--- The kinds of the domains that a task is in, by the bits of a number.
+-- The kinds of the domains that a task is in, by the bits of a number; and the floor of a domain.
 use Rattle.std.proofs.Common.{◌≡◌, ◌/◌, ◌%◌, ◌^◌, ◌∷◌, ◌++◌, ℕ, zero, suc, true, false, List, [], refl, sym, ap, ◌∙◌, arith, ◌==◌}
 use Rattle.std.proofs.Math.Nat.{div-div-eq-div-mul, mul_comm, pow-suc, div-one}
 use Rattle.fractal_vt.specs.declared.level.Level.{Level}

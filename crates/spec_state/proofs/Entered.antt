@@ -13,13 +13,7 @@ use Rattle.fractal_vt.specs.Sorted.{after_insert}
 use Rattle.fractal_vt.proofs.Proved.{after_insert-permutes}
 use Rattle.spec_state.specs.declared.task.Task.{Task}
 use Rattle.spec_state.specs.Stored.{IsIndexed, candidate_of}
-
--- what stands at a place of a longer list stood there, or is the last one
-get_cases : (xs : List ℕ) (x i y : ℕ) → slice_get (xs ++ x ∷ []) i ≡ Some y → (slice_get xs i ≡ Some y) ⊎ ((i ≡ length xs) × (x ≡ y))
-get_cases [] x zero y at = let same : x ≡ y = cc in inr (refl, same)
-get_cases [] x (suc i) y at = absurd (cc)
-get_cases (a ∷ xs) x zero y at = inl at
-get_cases (a ∷ xs) x (suc i) y at = elim (get_cases xs x i y at) [ inl was ↦ inl was | inr last ↦ inr (ap suc last.0, last.1) ]
+use Rattle.task_law.proofs.Proved.{get_cases}
 
 -- what a list holds is its head, or stands behind it
 pub head_or_tail : {X : Type 0} (x : X) (xs : List X) (y : X) → Contains (x ∷ xs) y → (x ≡ y) ⊎ Contains xs y
@@ -37,9 +31,9 @@ pub held_at : (ids : List ℕ) (p id : ℕ) → slice_get ids p ≡ Some id → 
 held_at ids p id at = (p, slice_get_within ids p id at, get_or_from_slice_get ids p id id at)
 
 -- the index holds no candidate of an id that is no task's
-pub no_entry : (tasks : List (Option Task)) (queues : List (List ℕ)) (arrivals : List ℕ) (next id : ℕ) (entries : List Candidate) → IsIndexed tasks queues arrivals next entries
+pub no_candidate : (tasks : List (Option Task)) (queues : List (List ℕ)) (arrivals : List ℕ) (next id : ℕ) (entries : List Candidate) → IsIndexed tasks queues arrivals next entries
     → slice_index_or tasks id None ≡ None → HasId id entries → ⊥
-no_entry tasks queues arrivals next id entries is vacant (k, e, below, at, same) =
+no_candidate tasks queues arrivals next id entries is vacant (k, e, below, at, same) =
     let was = is.each e (k, below, at) in
     absurd (cc (was.1, ap (λ j. slice_index_or tasks j None) same, vacant))
 
@@ -68,22 +62,22 @@ module _ (tasks after : List (Option Task)) (queues : List (List ℕ)) (arrivals
   other_number : (k : ℕ) → k ≢ id → slice_index_or numbers k 0 ≡ slice_index_or arrivals k 0
   other_number k other = get_or-set_other arrivals id k next 0 other
 
-  own_entry : candidate_of numbers id task ≡ own
-  own_entry = λ i. record { key = task.key; tile = task.tile; arrival = own_number i; id = id }
+  own_candidate : candidate_of numbers id task ≡ own
+  own_candidate = λ i. record { key = task.key; tile = task.tile; arrival = own_number i; id = id }
 
-  other_entry : (k : ℕ) (t : Task) → k ≢ id → candidate_of numbers k t ≡ candidate_of arrivals k t
-  other_entry k t other = λ i. record { key = t.key; tile = t.tile; arrival = other_number k other i; id = k }
+  other_candidate : (k : ℕ) (t : Task) → k ≢ id → candidate_of numbers k t ≡ candidate_of arrivals k t
+  other_candidate k t other = λ i. record { key = t.key; tile = t.tile; arrival = other_number k other i; id = k }
 
   all_in : (k : ℕ) (t : Task) → slice_index_or after k None ≡ Some t → Contains (after_insert candidate_cmp own entries) (candidate_of numbers k t)
   all_in k t at = elim (cases_eq k id) [
     | inl same ↦
         let both : Some t ≡ Some task = sym at ∙ ap (λ j. slice_index_or after j None) same ∙ changed in
         let it : t ≡ task = cc in
-        let e : candidate_of numbers k t ≡ own = ap (λ j. candidate_of numbers j t) same ∙ ap (candidate_of numbers id) it ∙ own_entry in
+        let e : candidate_of numbers k t ≡ own = ap (λ j. candidate_of numbers j t) same ∙ ap (candidate_of numbers id) it ∙ own_candidate in
         subst (Contains (after_insert candidate_cmp own entries)) (sym e) (Contains-permutation (own ∷ entries) (after_insert candidate_cmp own entries) own permutes (has_head own entries))
     | inr other ↦
         let was = is.all k t (sym (others k other) ∙ at) in
-        subst (Contains (after_insert candidate_cmp own entries)) (sym (other_entry k t other))
+        subst (Contains (after_insert candidate_cmp own entries)) (sym (other_candidate k t other))
         (Contains-permutation (own ∷ entries) (after_insert candidate_cmp own entries) (candidate_of arrivals k t) permutes (in_tail own entries (candidate_of arrivals k t) was))
   ]
 
@@ -93,11 +87,11 @@ module _ (tasks after : List (Option Task)) (queues : List (List ℕ)) (arrivals
   each_is : (e : Candidate) → Contains (after_insert candidate_cmp own entries) e → Has e
   each_is e has =
       elim (head_or_tail own entries e (Contains-permutation (after_insert candidate_cmp own entries) (own ∷ entries) e (IsPermutation-sym (own ∷ entries) (after_insert candidate_cmp own entries) permutes) has)) [
-        | inl head ↦ subst Has head (task, changed, sym own_entry)
+        | inl head ↦ subst Has head (task, changed, sym own_candidate)
         | inr tail ↦
             let was = is.each e tail in
             let other : e.id ≢ id = λ same. absurd (cc (was.1, ap (λ j. slice_index_or tasks j None) same, vacant)) in
-            (was.0, others e.id other ∙ was.1, was.2 ∙ sym (other_entry e.id was.0 other))
+            (was.0, others e.id other ∙ was.1, was.2 ∙ sym (other_candidate e.id was.0 other))
       ]
 
   own_list : slice_index_or lists task.tile [] ≡ own_queue ++ id ∷ []

@@ -84,9 +84,9 @@ module _ (blocks : List (List Spilled)) (n : ℕ) where
 
     own_key : least.least.least.key ≡ key
     own_key =
-        let both : Some least.least.least.key ≡ Some (open_key least.entry) = sym least.least.least.there ∙ keys_at least.place least.entry least.least.there in
-        let same : least.least.least.key ≡ open_key least.entry = cc in
-        same ∙ sym least.of_entry
+        let both : Some least.least.least.key ≡ Some (open_key least.task) = sym least.least.least.there ∙ keys_at least.place least.task least.least.there in
+        let same : least.least.least.key ≡ open_key least.task = cc in
+        same ∙ sym least.of_task
 
     -- its key is above none of the block
     key_first : (p : ℕ) (x : Spilled) → slice_get next p ≡ Some x → key_cmp key (open_key x) ≢ Greater
@@ -113,9 +113,9 @@ module _ (blocks : List (List Spilled)) (n : ℕ) where
     begins before = record {
       below = omega arith;
       place = least.place;
-      spilled = least.entry;
+      spilled = least.task;
       there = least.least.there;
-      of_task = least.of_entry;
+      of_task = least.of_task;
       first = λ t p x less at. elim (cases_eq t n) [
         | inl same ↦ subst (λ j. ranked_cmp key (Spilled_at n least.place) (open_key x) (Spilled_at j p) ≢ Greater) (sym same) (own_first p x (subst (λ j. Found j p x) same at))
         | inr other ↦ lesser_key key (open_key x) n least.place t p (before t p x (omega (arith, less, other)) at)

@@ -21,7 +21,7 @@ use Rattle.spec_state.specs.Stored.{IsStored}
 use Rattle.spec_state.specs.Fronts.{IsFirmBy, dispatched_in, name_given}
 use Rattle.spec_state.proofs.Leasts.{equal_numbers}
 
--- of two orders each way neither above, both are ties
+-- where two orders, one after the other, are above neither way, the second is a tie
 both_ties : (a b c d : Ordering) → c ≡ ordering_reverse a → d ≡ ordering_reverse b → ordering_then a b ≢ Greater → ordering_then c d ≢ Greater → b ≡ Equal
 both_ties Less b c d ca db up down = absurd (down (ap (λ o. ordering_then o d) ca))
 both_ties Equal Less c d ca db up down = absurd (down (ap (λ o. ordering_then o d) ca ∙ db))

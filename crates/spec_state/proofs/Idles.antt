@@ -11,7 +11,7 @@ use Rattle.std.proofs.lemmas.List.{take_all}
 use Rattle.std.proofs.lemmas.List.Elements.{Contains-get_or}
 use Rattle.std.proofs.lemmas.Option.{slice_get-get_or, slice_get_within, get_or_from_slice_get}
 use Rattle.fractal_vt.specs.Keys.{key_cmp}
-use Rattle.fractal_vt.proofs.Proved.{key_cmp_total, less_from, same_number, less_then}
+use Rattle.fractal_vt.proofs.Proved.{key_cmp_total, less_from, same_number, less_then, less_upto}
 use Rattle.tile_queues.specs.Queue.{AreDistinct}
 use Rattle.spec_state.specs.declared.task.Status.TheVariants.{Idle}
 use Rattle.spec_state.specs.declared.task.Task.{Task}
@@ -68,13 +68,10 @@ module _ (view : View) (ids : List ℕ) (count id : ℕ) (task : Task) (at : sli
     least = λ p k x below is. elim (cases_eq p count) [
       | inl same ↦ subst (λ (t : Task). key_cmp task.key t.key ≢ Greater) (sym (is_next p k x same is))
           (by_key.itself task.key)
-      | inr other ↦ less_not (key_cmp task.key x.key) (before p k x (omega (arith, below, other)) is)
+      | inr other ↦ less_upto (key_cmp task.key x.key) (before p k x (omega (arith, below, other)) is)
     ];
     first = before;
   }
-    where
-      less_not : (o : Ordering) → o ≡ Less → o ≢ Greater
-      less_not o less greater = cc
 
   pub picks_only : task.status ≡ Idle → (best : Option TaskId) → best ≡ None → IsIdlePick view ids count best
       → IsFirstIdle view ids (count + 1) id

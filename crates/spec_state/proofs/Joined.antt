@@ -34,7 +34,7 @@ module _ (old new : View) (id : ℕ) (task : Task) (adds : Adds id task old new)
   pub still_there : (k : ℕ) (t : Task) → task_at old k ≡ Some t → task_at new k ≡ Some t
   still_there k t at = adds.changes.others k (other_id k t at) ∙ at
 
-  -- the new task stands under its own id alone
+  -- under its own id the new task stands, and under any other what was there
   pub is_new : (k : ℕ) (t : Task) → k ≡ id → task_at new k ≡ Some t → t ≡ task
   is_new k t same at = let both : Some t ≡ Some task = sym at ∙ ap (task_at new) same ∙ adds.changes.changed in cc
 

@@ -135,14 +135,14 @@ stored_but_one size old now id task changed stored there changes queues finished
 pub indexed_kept : (old now : List (Option Task)) (queues : List (List ℕ)) (arrivals : List ℕ) (next : ℕ) (entries : List Candidate) → AreKept KeepsKey old now
     → IsIndexed old queues arrivals next entries → IsIndexed now queues arrivals next entries
 indexed_kept old now queues arrivals next entries kept is = record {
-  all = λ id n at. (let t = kept.back id n at in subst (Contains entries) (sym (same_entry id t.0 n t.2)) (is.all id t.0 t.1));
-  each = λ e has. (let was = is.each e has in let n = kept.forth e.id was.0 was.1 in (n.0, n.1, was.2 ∙ sym (same_entry e.id was.0 n.0 n.2)));
+  all = λ id n at. (let t = kept.back id n at in subst (Contains entries) (sym (same_candidate id t.0 n t.2)) (is.all id t.0 t.1));
+  each = λ e has. (let was = is.each e has in let n = kept.forth e.id was.0 was.1 in (n.0, n.1, was.2 ∙ sym (same_candidate e.id was.0 n.0 n.2)));
   early = is.early;
   rising = is.rising;
 }
   where
-    same_entry : (id : ℕ) (t n : Task) → KeepsKey t n → candidate_of arrivals id n ≡ candidate_of arrivals id t
-    same_entry id t n keeps = λ i. record { key = keeps.key i; tile = keeps.tile i; arrival = slice_index_or arrivals id 0; id = id }
+    same_candidate : (id : ℕ) (t n : Task) → KeepsKey t n → candidate_of arrivals id n ≡ candidate_of arrivals id t
+    same_candidate id t n keeps = λ i. record { key = keeps.key i; tile = keeps.tile i; arrival = slice_index_or arrivals id 0; id = id }
 
 -- where one task is another with its key, in its tile
 pub indexed_but_one : (old now : List (Option Task)) (queues : List (List ℕ)) (arrivals : List ℕ) (next : ℕ) (entries : List Candidate) (id : ℕ) (task changed : Task)

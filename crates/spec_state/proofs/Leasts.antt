@@ -1,5 +1,5 @@
 -- The least task is the first of the queued ones or the first of the spilled ones.
-use Rattle.std.proofs.Common.{◌≡◌, ◌≢◌, ◌<◌, ◌∷◌, ℕ, List, [], length, Some, None, refl, sym, ap, subst, ◌∙◌, inl, inr, arith, slice_get, slice_index_or}
+use Rattle.std.proofs.Common.{◌≡◌, ◌≢◌, ◌∷◌, ℕ, List, [], length, Some, None, refl, sym, ap, subst, ◌∙◌, inl, inr, arith, slice_get, slice_index_or}
 use Rattle.std.specs.Prelude.{Contains}
 use Rattle.std.specs.Ordering.{nat_cmp, ordering_then, ordering_reverse, is_lt}
 use Rattle.std.proofs.Common.{true, false}
@@ -8,12 +8,11 @@ use Rattle.std.specs.declared.cmp.Ordering.TheVariants.{Less, Equal, Greater}
 use Rattle.std.proofs.lemmas.Bool.{cases_eq, cases_lt}
 use Rattle.std.proofs.lemmas.Bool.Decides.{nat_tests}
 use Rattle.std.proofs.lemmas.Cmp.{tied_itself}
-use Rattle.std.proofs.lemmas.List.{get_or_past}
 use Rattle.std.proofs.lemmas.List.Elements.{All-contains}
 use Rattle.std.proofs.lemmas.Option.{slice_get-get_or}
 use Rattle.commit_arbiter.specs.declared.candidate.Candidate.{Candidate}
 use Rattle.commit_arbiter.specs.Indexed.{candidate_cmp, first_id}
-use Rattle.commit_arbiter.proofs.Proved.{entry_cmp_total}
+use Rattle.commit_arbiter.proofs.Proved.{candidate_cmp_total}
 use Rattle.fractal_vt.specs.declared.key.Key.{Key}
 use Rattle.fractal_vt.specs.Keys.{key_cmp}
 use Rattle.fractal_vt.specs.Sorted.{IsInOrder}
@@ -30,11 +29,12 @@ use Rattle.spec_state.specs.Stored.{IsStored, IsIndexed, candidate_of}
 use Rattle.spec_state.specs.Fronts.{IsFirstQueued, IsFirstSpilled, HoldNone, IsStanding}
 use Rattle.spec_state.proofs.Entered.{head_or_tail, has_head, held_at}
 use Rattle.spec_state.proofs.Fronts.{not_above, upto_place}
+use Rattle.spec_state.proofs.Cored.{at_within}
 
 -- the head of a list in order comes before all of it
 head_upto : (e : Candidate) (es : List Candidate) → IsInOrder candidate_cmp (e ∷ es) → (x : Candidate) → Contains (e ∷ es) x → candidate_cmp e x ≢ Greater
 head_upto e es order x has = elim (head_or_tail e es x has) [
-  | inl same ↦ subst (λ y. candidate_cmp e y ≢ Greater) same (subst (λ o. o ≢ Greater) (sym (tied_itself entry_cmp_total e)) (λ is. cc))
+  | inl same ↦ subst (λ y. candidate_cmp e y ≢ Greater) same (subst (λ o. o ≢ Greater) (sym (tied_itself candidate_cmp_total e)) (λ is. cc))
   | inr tail ↦ All-contains (λ y. candidate_cmp e y ≢ Greater) es x (AllPairs-head (λ a b. candidate_cmp a b ≢ Greater) e es order) tail
 ]
 
@@ -100,13 +100,6 @@ module _ (size : ℕ) (view : View) (arrivals : List ℕ) (next : ℕ) (stored :
       absurd (omega (arith, found.1))
   none_queued (e ∷ es) is none tile id has = cc
 
--- a task of a block is one of the first blocks, as many as there are
-within_blocks : (blocks : List (List Spilled)) (t p : ℕ) (s : Spilled) → slice_get (slice_index_or blocks t []) p ≡ Some s → t < length blocks
-within_blocks blocks t p s at = elim (cases_lt t (length blocks)) [
-  | inl within ↦ within
-  | inr past ↦ absurd (cc (ap (λ (es : List Spilled). slice_get es p) (get_or_past blocks t [] past), at))
-]
-
 module _ (view : View) where
   -- the first queued task is the least where no spilled one has a lesser key
   pub least_queued : (id : ℕ) (task : Task) → IsFirstQueued view id task → ((t p : ℕ) (s : Spilled) → slice_get (block_at view t) p ≡ Some s → key_cmp task.key (open_key s) ≢ Greater)
@@ -134,12 +127,12 @@ module _ (view : View) where
       least (Queued t p) other (k, x, at, same) = subst (λ y. ranked_cmp key (Spilled_at tile first.place) y (Queued t p) ≢ Greater) (sym same)
           (subst (λ o. ordering_then o Greater ≢ Greater) (sym (queued t p k x at)) (λ is. cc))
       least (Spilled_at t p) other (s, at, same) = subst (λ y. ranked_cmp key (Spilled_at tile first.place) y (Spilled_at t p) ≢ Greater) (sym same)
-          (first.first t p s (within_blocks view.blocks t p s at) at)
+          (first.first t p s (at_within view.blocks t p s at) at)
 
   -- no key of a spilled task is less than the first one's
   pub above_front : (tile : ℕ) (key : Key) → IsFirstSpilled view.blocks (length view.blocks) tile key → (t p : ℕ) (s : Spilled) → slice_get (block_at view t) p ≡ Some s → key_cmp key (open_key s) ≢ Greater
   above_front tile key first t p s at same =
-      first.first t p s (within_blocks view.blocks t p s at) at (ap (λ o. ordering_then o (ordering_then (nat_cmp tile t) (nat_cmp first.place p))) same)
+      first.first t p s (at_within view.blocks t p s at) at (ap (λ o. ordering_then o (ordering_then (nat_cmp tile t) (nat_cmp first.place p))) same)
 
   -- no key of a queued task is less than the first one's
   pub above_first : (id : ℕ) (task : Task) → IsFirstQueued view id task → (t p k : ℕ) (x : Task) → IsQueuedAt view t p k x → key_cmp task.key x.key ≢ Greater
@@ -147,7 +140,7 @@ module _ (view : View) where
 
   pub all_committed : ((tile id : ℕ) → IsQueued view tile id → ⊥) → HoldNone view.blocks (length view.blocks) → IsAllCommitted view
   all_committed queued spilled (Queued tile p) key has = queued tile has.0 (held_at (queue_at view tile) p has.0 has.2.queued)
-  all_committed queued spilled (Spilled_at t p) key has = spilled t p has.0 (within_blocks view.blocks t p has.0 has.1) has.1
+  all_committed queued spilled (Spilled_at t p) key has = spilled t p has.0 (at_within view.blocks t p has.0 has.1) has.1
 
   pub not_all_queued : (id : ℕ) (task : Task) → IsFirstQueued view id task → IsAllCommitted view → ⊥
   not_all_queued id task first all = all (Queued task.tile first.place) task.key (id, task, first.queued_at, refl)
@@ -164,7 +157,7 @@ module _ (view : View) where
   stands (where_.Spilled k) id task is least = absurd is
 
 no_spilled : (blocks : List (List Spilled)) → HoldNone blocks (length blocks) → (t p : ℕ) (s : Spilled) → slice_get (slice_index_or blocks t []) p ≡ Some s → ⊥
-no_spilled blocks none t p s at = none t p s (within_blocks blocks t p s at) at
+no_spilled blocks none t p s at = none t p s (at_within blocks t p s at) at
 
 -- the first queued task, as it stands, where no spilled one has a lesser key
 stands_first : (view : View) (w : Where) (id : TaskId) (found : (task : Task) × IsFirstQueued view id.0 task) (now : Task) → task_at view id.0 ≡ Some now → IsStanding w id now

@@ -146,12 +146,12 @@ slots_left settings tasks now queues counts slots_now indexed_now capacity_now t
 
 module _ (tasks after : List (Option Task)) (queues : List (List ℕ)) (arrivals : List ℕ) (next : ℕ) (entries : List Candidate) (id : ℕ)
     (is : IsIndexed tasks queues arrivals next entries) (others : (k : ℕ) → k ≢ id → slice_index_or after k None ≡ slice_index_or tasks k None) where
-  -- a candidate of another id is that of its task
+  -- the candidate is that of the task of its id
   abbrev Has : Candidate → Type 0
   Has e = (t : Task) × (slice_index_or after e.id None ≡ Some t) × (e ≡ candidate_of arrivals e.id t)
 
-  other_entry : (e : Candidate) → Contains (without_candidate id entries) e → Has e
-  other_entry e has =
+  other_candidate : (e : Candidate) → Contains (without_candidate id entries) e → Has e
+  other_candidate e has =
       let more = from_without id entries e has in
       let was = is.each e more.0 in
       (was.0, others e.id more.1 ∙ was.1, was.2)
@@ -183,16 +183,16 @@ module _ (tasks after : List (Option Task)) (queues : List (List ℕ)) (arrivals
     indexed_left : IsIndexed after (map (ids_but id) queues) arrivals next (without_candidate id entries)
     indexed_left = record {
       all = λ k t at. other_in k t (λ same. cc (at, ap (λ j. slice_index_or after j None) same, vacant)) at;
-      each = other_entry;
+      each = other_candidate;
       early = λ tile k has. is.early tile k (from_ids id k (slice_index_or queues tile []) (subst (λ ids. Contains ids k) (queue_left tile) has)).0;
       rising = λ tile p q a b less at bt.
           rising_left tile p q a b less (ap (λ ids. slice_get ids p) (sym (queue_left tile)) ∙ at) (ap (λ ids. slice_get ids q) (sym (queue_left tile)) ∙ bt);
     }
 
-    pub indexed_gone : (queues_now : List (List ℕ)) (entries_now : List Candidate) → queues_now ≡ map (ids_but id) queues → entries_now ≡ without_candidate id entries
-        → IsIndexed after queues_now arrivals next entries_now
-    indexed_gone queues_now entries_now queues_are entries_are =
-        subst (λ lists. IsIndexed after lists arrivals next entries_now) (sym queues_are)
+    pub indexed_gone : (queues_now : List (List ℕ)) (tasks_now : List Candidate) → queues_now ≡ map (ids_but id) queues → tasks_now ≡ without_candidate id entries
+        → IsIndexed after queues_now arrivals next tasks_now
+    indexed_gone queues_now tasks_now queues_are entries_are =
+        subst (λ lists. IsIndexed after lists arrivals next tasks_now) (sym queues_are)
         (subst (IsIndexed after (map (ids_but id) queues) arrivals next) (sym entries_are) indexed_left)
 
   -- the index with another key of a task, under its number
@@ -219,18 +219,18 @@ module _ (tasks after : List (Option Task)) (queues : List (List ℕ)) (arrivals
         elim (head_or_tail own (without_candidate id entries) e
         (Contains-permutation (after_insert candidate_cmp own (without_candidate id entries)) (own ∷ without_candidate id entries) e (IsPermutation-sym (own ∷ without_candidate id entries) (after_insert candidate_cmp own (without_candidate id entries)) permutes) has)) [
           | inl head ↦ subst Has head (now, changed, refl)
-          | inr tail ↦ other_entry e tail
+          | inr tail ↦ other_candidate e tail
         ]
 
-    pub indexed_again : (entries_now : List Candidate) → entries_now ≡ after_insert candidate_cmp own (without_candidate id entries) → IsIndexed after queues arrivals next entries_now
-    indexed_again entries_now entries_are =
+    pub indexed_again : (tasks_now : List Candidate) → tasks_now ≡ after_insert candidate_cmp own (without_candidate id entries) → IsIndexed after queues arrivals next tasks_now
+    indexed_again tasks_now entries_are =
         subst (IsIndexed after queues arrivals next) (sym entries_are) (record { all = all_again; each = each_again; early = is.early; rising = is.rising })
 
-    pub again_put : (kept : Task) (arrival : ℕ) (entries_now : List Candidate) → slice_index_or after id None ≡ Some kept → arrival ≡ slice_index_or arrivals id 0
-        → entries_now ≡ after_insert candidate_cmp (record { key = kept.key; tile = kept.tile; arrival = arrival; id = id }) (without_candidate id entries)
-        → IsIndexed after queues arrivals next entries_now
-    again_put kept arrival entries_now found same_arrival entries_are =
+    pub again_put : (kept : Task) (arrival : ℕ) (tasks_now : List Candidate) → slice_index_or after id None ≡ Some kept → arrival ≡ slice_index_or arrivals id 0
+        → tasks_now ≡ after_insert candidate_cmp (record { key = kept.key; tile = kept.tile; arrival = arrival; id = id }) (without_candidate id entries)
+        → IsIndexed after queues arrivals next tasks_now
+    again_put kept arrival tasks_now found same_arrival entries_are =
         let both : Some kept ≡ Some now = sym found ∙ changed in
         let same : kept ≡ now = cc in
-        indexed_again entries_now (entries_are
+        indexed_again tasks_now (entries_are
         ∙ λ i. after_insert candidate_cmp (record { key = (same i).key; tile = (same i).tile; arrival = same_arrival i; id = id }) (without_candidate id entries))

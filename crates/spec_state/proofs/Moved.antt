@@ -72,7 +72,7 @@ no_more id entries new e has is =
     let less = fewer id entries has in
     omega (arith, long, less)
 
--- something stands before what stands in a list
+-- something stands before what isn't first in a list
 before : (xs : List ℕ) (q b : ℕ) → slice_get xs (suc q) ≡ Some b → (a : ℕ) × (slice_get xs q ≡ Some a)
 before [] q b at = absurd (cc)
 before (x ∷ xs) zero b at = (x, refl)
@@ -114,21 +114,21 @@ module _ (tasks : List (Option Task)) (lists : List (List ℕ)) (arrivals : List
     other_number : (k : ℕ) → k ≢ id → slice_index_or numbers k 0 ≡ slice_index_or arrivals k 0
     other_number k other = get_or-set_other arrivals id k place 0 other
 
-    own_entry : candidate_of numbers id task ≡ own
-    own_entry = λ i. record { key = task.key; tile = task.tile; arrival = own_number i; id = id }
+    own_candidate : candidate_of numbers id task ≡ own
+    own_candidate = λ i. record { key = task.key; tile = task.tile; arrival = own_number i; id = id }
 
-    other_entry : (k : ℕ) (t : Task) → k ≢ id → candidate_of numbers k t ≡ candidate_of arrivals k t
-    other_entry k t other = λ i. record { key = t.key; tile = t.tile; arrival = other_number k other i; id = k }
+    other_candidate : (k : ℕ) (t : Task) → k ≢ id → candidate_of numbers k t ≡ candidate_of arrivals k t
+    other_candidate k t other = λ i. record { key = t.key; tile = t.tile; arrival = other_number k other i; id = k }
 
     all_in : (k : ℕ) (t : Task) → slice_index_or tasks k None ≡ Some t → Contains left (candidate_of numbers k t)
     all_in k t found = elim (cases_eq k id) [
       | inl same ↦
           let both : Some t ≡ Some task = sym found ∙ ap (λ j. slice_index_or tasks j None) same ∙ there in
           let it : t ≡ task = cc in
-          let e : candidate_of numbers k t ≡ own = ap (λ j. candidate_of numbers j t) same ∙ ap (candidate_of numbers id) it ∙ own_entry in
+          let e : candidate_of numbers k t ≡ own = ap (λ j. candidate_of numbers j t) same ∙ ap (candidate_of numbers id) it ∙ own_candidate in
           subst (Contains left) (sym e) (Contains-permutation (own ∷ without_candidate id entries) left own permutes (has_head own (without_candidate id entries)))
       | inr other ↦
-          subst (Contains left) (sym (other_entry k t other))
+          subst (Contains left) (sym (other_candidate k t other))
           (Contains-permutation (own ∷ without_candidate id entries) left (candidate_of arrivals k t) permutes
           (in_tail own (without_candidate id entries) (candidate_of arrivals k t) (in_without id entries (candidate_of arrivals k t) other (is.all k t found))))
     ]
@@ -139,11 +139,11 @@ module _ (tasks : List (Option Task)) (lists : List (List ℕ)) (arrivals : List
     each_is : (e : Candidate) → Contains left e → Has e
     each_is e has =
         elim (head_or_tail own (without_candidate id entries) e (Contains-permutation left (own ∷ without_candidate id entries) e (IsPermutation-sym (own ∷ without_candidate id entries) left permutes) has)) [
-          | inl head ↦ subst Has head (task, there, sym own_entry)
+          | inl head ↦ subst Has head (task, there, sym own_candidate)
           | inr tail ↦
               let more = from_without id entries e tail in
               let was = is.each e more.0 in
-              (was.0, was.1, was.2 ∙ sym (other_entry e.id was.0 more.1))
+              (was.0, was.1, was.2 ∙ sym (other_candidate e.id was.0 more.1))
         ]
 
     upto : place ≤ slice_index_or arrivals id 0

@@ -1,5 +1,5 @@
 -- Pending tasks: by their names, and as a list that grows.
-use Rattle.std.proofs.Common.{◌≡◌, refl, sym, ap, ◌∙◌, zero, suc, ℕ, ◌+◌, ◌<◌, ◌==◌, ◌&&◌, ◌||◌, nat_lt, Bool, true, false, List, [], ◌∷◌, ◌++◌, length, map, take, flat_map, cond, slice_index_or, slice_get, option_map, option_to_list, Option, Some, None, arith}
+use Rattle.std.proofs.Common.{◌≡◌, refl, sym, ap, ◌∙◌, zero, suc, ℕ, ◌+◌, ◌<◌, ◌==◌, ◌&&◌, ◌||◌, nat_lt, Bool, true, false, List, [], ◌∷◌, ◌++◌, length, take, flat_map, cond, slice_index_or, slice_get, option_map, option_to_list, Option, Some, None, arith}
 use Rattle.std.specs.List.{filter_map, cons_option}
 use Rattle.std.specs.List.Sorted.{IsSortedBy, IsSortedByKey}
 use Rattle.std.specs.Ordering.{is_lt, nat_cmp, ordering_then}
@@ -12,7 +12,7 @@ use Rattle.task_desc.specs.declared.desc.Desc.{Desc}
 use Rattle.spill_store.specs.SpilledTasks.{Spilled, BlockValue}
 use Rattle.spec_state.specs.declared.pending.Pending.{Pending}
 use Rattle.spec_state.specs.declared.task.Task.{Task}
-use Rattle.spec_state.specs.Fits.{entries_in}
+use Rattle.spill_store.specs.Fronts.{lists_in}
 use Rattle.spec_state.specs.Pendings.{pending_before, pending_queued, pending_spilled, spilled_pending}
 
 -- by creator, then by place
@@ -91,25 +91,25 @@ more_spilled count old now then spilled k d was at is =
 
 -- the spilled tasks of these blocks
 abbrev pub in_blocks : List BlockValue → List Spilled
-in_blocks blocks = flat_map (λ block. block) (entries_in blocks)
+in_blocks blocks = flat_map (λ block. block) (lists_in blocks)
 
 block_more : (blocks : List BlockValue) (k : ℕ) (b : BlockValue) → k < length blocks → slice_index_or blocks k b ≡ b
-    → in_blocks (take (k + 1) blocks) ≡ in_blocks (take k blocks) ++ b.entries
+    → in_blocks (take (k + 1) blocks) ≡ in_blocks (take k blocks) ++ b.tasks
 block_more blocks k b inside there =
     ap in_blocks (take_more blocks k b inside)
     ∙ ap (λ (x : BlockValue). in_blocks (take k blocks ++ x ∷ [])) there
-    ∙ ap (flat_map (λ block. block)) (map-append (λ (block : BlockValue). block.entries) (take k blocks) (b ∷ []))
-    ∙ flat_map-append (λ block. block) (entries_in (take k blocks)) (b.entries ∷ [])
-    ∙ ap (λ xs. in_blocks (take k blocks) ++ xs) (append-nil b.entries)
+    ∙ ap (flat_map (λ block. block)) (map-append (λ (block : BlockValue). block.tasks) (take k blocks) (b ∷ []))
+    ∙ flat_map-append (λ block. block) (lists_in (take k blocks)) (b.tasks ∷ [])
+    ∙ ap (λ xs. in_blocks (take k blocks) ++ xs) (append-nil b.tasks)
 
 -- the tasks of one block more
 pub more_blocks : (count : ℕ) (old now then : List Pending) (blocks : List BlockValue) (k : ℕ) (b : BlockValue) → k < length blocks
     → slice_index_or blocks k b ≡ b → now ≡ old ++ spilled_pending count (in_blocks (take k blocks))
-    → then ≡ now ++ spilled_pending count b.entries
+    → then ≡ now ++ spilled_pending count b.tasks
     → then ≡ old ++ spilled_pending count (in_blocks (take (k + 1) blocks))
 more_blocks count old now then blocks k b inside there was is =
     let front = in_blocks (take k blocks) in
-    is ∙ ap (λ xs. xs ++ spilled_pending count b.entries) was
-    ∙ append_assoc old (spilled_pending count front) (spilled_pending count b.entries)
-    ∙ ap (λ xs. old ++ xs) (sym (filter_map-append (λ (s : Spilled). pending_spilled count s.desc) front b.entries))
+    is ∙ ap (λ xs. xs ++ spilled_pending count b.tasks) was
+    ∙ append_assoc old (spilled_pending count front) (spilled_pending count b.tasks)
+    ∙ ap (λ xs. old ++ xs) (sym (filter_map-append (λ (s : Spilled). pending_spilled count s.desc) front b.tasks))
     ∙ ap (λ xs. old ++ spilled_pending count xs) (sym (block_more blocks k b inside there))

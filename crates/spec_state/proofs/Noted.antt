@@ -63,7 +63,7 @@ pub noted_others : (old now : List (Option Task)) (children : ChildrenValue) (id
 noted_others old now children id others noted complete k c place other is =
     noted complete k c place (subst (IsChildAt c place) (others k other) is)
 
--- no task is a child
+-- where there is no task
 pub none_noted : (tasks : List (Option Task)) (children : ChildrenValue) → tasks ≡ [] → AreNoted tasks children
 none_noted tasks children none complete k c place is =
     absurd (cc (is.there, ap (λ (ts : List (Option Task)). slice_index_or ts k None) none))

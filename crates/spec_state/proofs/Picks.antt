@@ -198,7 +198,7 @@ pub no_pick : {X : Type 0} (R : Key → Key → Ordering) (kind : X → ℕ → 
     → IsPick R (IsAmong kind (take 0 items)) None
 no_pick R kind items k t (y, has, of) = absurd (omega (arith, has.1))
 
--- what is picked is of its kind, and what holds of all of the kind holds of it
+-- what is picked is there, where all of its kind are
 pub picked_live : (R : Key → Key → Ordering) (view : View) (kind : ℕ → Task → Type 0)
     → ((k : ℕ) (t : Task) → kind k t → task_at view k ≡ Some t) → (picked : Option TaskId) → IsPick R kind picked
     → IfSome picked (λ id. IsSome (task_at view id.0))

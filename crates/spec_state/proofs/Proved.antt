@@ -10,7 +10,7 @@ pub use Rattle.spec_state.proofs.Moved.{from_without, in_without}
 pub use Rattle.spec_state.proofs.Noted.{noted_back, noted_but_one, noted_set, same_child}
 pub use Rattle.spec_state.proofs.Put.{few_indexed}
 pub use Rattle.spec_state.proofs.Renumbered.{below_slots}
-pub use Rattle.spec_state.proofs.Reserved.{same_entries, spare_at, spare_before, spare_grows}
+pub use Rattle.spec_state.proofs.Reserved.{same_lists, spare_at, spare_before, spare_grows}
 pub use Rattle.spec_state.proofs.Without.{all_same, freed_other, held_place, keeps_none, map_at, seen_at, same_test}
 pub use Rattle.spec_state.proofs.Counted.{few_tasks}
 pub use Rattle.spec_state.proofs.Cored.{at_within}

@@ -45,9 +45,9 @@ module _ (settings : Settings) (queues finished : List QueueValue) (core_lists b
     fits = subst (λ n. queued_count queues + 1 ≤ n * settings.task_queue) tiles.queue_count
         (has_room queues tile settings.task_queue id queue (record queue { ids = queue.ids ++ id ∷ [] }) has.short in_tiles is is_free refl)
 
-    -- the slab and the index have room
-    pub both_have_room : (count_by is_some tasks + 1 ≤ counts.slots) × (counts.indexed < counts.capacity)
-    both_have_room = (omega (arith, fits, has.used, has.enough), omega (arith, fits, has.indexed_are, has.index))
+    -- the slab has a free slot, and the index a free place
+    pub both_have_places : (count_by is_some tasks + 1 ≤ counts.slots) × (counts.indexed < counts.capacity)
+    both_have_places = (omega (arith, fits, has.used, has.enough), omega (arith, fits, has.indexed_are, has.index))
 
     -- slots and candidates are as many as they should be
     pub slots_after : (after : QueueValue) → after.ids ≡ queue.ids ++ id ∷ []
@@ -89,23 +89,23 @@ adds_seen version settings tasks memory history output next path queues finished
     })
 
 -- it enters the index
-pub entered_put : (tasks now : List (Option Task)) (queues : List QueueValue) (arrivals : List ℕ) (arrival : ℕ) (entries entries_now : List Candidate) (id : ℕ) (task kept : Task) (queue after : QueueValue)
+pub entered_put : (tasks now : List (Option Task)) (queues : List QueueValue) (arrivals : List ℕ) (arrival : ℕ) (entries tasks_now : List Candidate) (id : ℕ) (task kept : Task) (queue after : QueueValue)
     → IsIndexed tasks (map (λ q. q.ids) queues) arrivals arrival entries → task.tile < length queues → queue ≡ slice_index_or queues task.tile queue → after.ids ≡ queue.ids ++ id ∷ []
     → slice_index_or tasks id None ≡ None → slice_index_or now id None ≡ Some task → ((k : ℕ) → k ≢ id → slice_index_or now k None ≡ slice_index_or tasks k None) → id < length arrivals
     → ((tile k : ℕ) → Contains (slice_index_or (map (λ q. q.ids) queues) tile []) k → k ≢ id) → slice_index_or now id None ≡ Some kept
-    → entries_now
+    → tasks_now
     ≡ after_insert candidate_cmp (record { key = kept.key; tile = task.tile; arrival = arrival; id = id }) entries
-    → IsIndexed now (map (λ q. q.ids) (slice_set queues task.tile after)) (slice_set arrivals id arrival) (arrival + 1) entries_now
-entered_put tasks now queues arrivals arrival entries entries_now id task kept queue after is within there ids vacant changed others below unqueued found entries_are =
+    → IsIndexed now (map (λ q. q.ids) (slice_set queues task.tile after)) (slice_set arrivals id arrival) (arrival + 1) tasks_now
+entered_put tasks now queues arrivals arrival entries tasks_now id task kept queue after is within there ids vacant changed others below unqueued found entries_are =
     let same : kept ≡ task = same_Some kept task (sym found ∙ changed) in
     let in_map : task.tile < length (map (λ q. q.ids) queues) = omega (arith, length-map queues (λ (q : QueueValue). q.ids), within) in
-    let entries_is : after_insert candidate_cmp (record { key = task.key; tile = task.tile; arrival = arrival; id = id }) entries ≡ entries_now =
+    let entries_is : after_insert candidate_cmp (record { key = task.key; tile = task.tile; arrival = arrival; id = id }) entries ≡ tasks_now =
     sym (entries_are ∙ ap (λ (t : Task). after_insert candidate_cmp (record { key = t.key; tile = task.tile; arrival = arrival; id = id }) entries) same) in
-    subst (λ lists. IsIndexed now lists (slice_set arrivals id arrival) (arrival + 1) entries_now) (sym (queued queues task.tile id queue after within there ids))
+    subst (λ lists. IsIndexed now lists (slice_set arrivals id arrival) (arrival + 1) tasks_now) (sym (queued queues task.tile id queue after within there ids))
     (subst (IsIndexed now (slice_set (map (λ q. q.ids) queues) task.tile (slice_index_or (map (λ q. q.ids) queues) task.tile [] ++ id ∷ [])) (slice_set arrivals id arrival) (arrival + 1)) entries_is
     (entered tasks now (map (λ q. q.ids) queues) arrivals arrival entries id task is vacant changed others below in_map unqueued))
 
--- where a queue has a free place, the slab and the index have room
+-- where a queue has a free place, the slab has a free slot, and the index a free place
 pub has_slot : (settings : Settings) (queues finished : List QueueValue) (core_lists block_lists : ℕ) → HasTiles settings queues finished core_lists block_lists
     → (tile : ℕ) → tile < settings.tiles → length (slice_index_or (map (λ q. q.ids) queues) tile []) < settings.task_queue
     → (tasks : List (Option Task)) (counts : SlotCounts) → HasSlots settings tasks queues counts
@@ -114,7 +114,7 @@ has_slot settings queues finished core_lists block_lists tiles tile in_range fre
     let nothing : QueueValue = record { capacity = 0; ids = [] } in
     let queue : QueueValue = slice_index_or queues tile nothing in
     let within : tile < length queues = omega (arith, tiles.queue_count) in
-    both_have_room settings queues finished core_lists block_lists tiles tile in_range queue (sym (get_or_default queues tile queue nothing within)) free tasks counts has 0
+    both_have_places settings queues finished core_lists block_lists tiles tile in_range queue (sym (get_or_default queues tile queue nothing within)) free tasks counts has 0
 
 -- no more are indexed than the index has places for
 pub few_indexed : (settings : Settings) (tasks : List (Option Task)) (queues finished : List QueueValue)
@@ -143,7 +143,7 @@ root_formed version desc size commits tile task made is = subst (IsWellFormed si
       turn = λ turn index same. (let by : desc.name.creator ≡ turn = cc in omega (arith, by, is.by_image));
     })
 
--- the same where the tile is told by another name
+-- the same where the tile is given by itself
 pub adds_seen_at : (version : ℕ) (settings : Settings) (tasks : List (Option Task)) (memory : List ℕ) (history : List Entry) (output : List ℕ) (next : ℕ) (path : List Level)
     (queues finished : List QueueValue) (cores : List (List (Option ℕ))) (blocks : List (List Spilled)) (now : List (Option Task)) (id : ℕ) (task : Task) (queue after : QueueValue)
     (tile : ℕ) → tile ≡ task.tile → tile < length queues → queue ≡ slice_index_or queues tile queue → after.ids ≡ queue.ids ++ id ∷ []
@@ -156,15 +156,15 @@ adds_seen_at version settings tasks memory history output next path queues finis
     (adds_seen version settings tasks memory history output next path queues finished cores blocks now id task queue after (subst (λ (t : ℕ). t < length queues) is_tile within)
     (subst (λ (t : ℕ). queue ≡ slice_index_or queues t queue) is_tile is) ids vacant changed others view same)
 
-pub entered_put_at : (tasks now : List (Option Task)) (queues : List QueueValue) (arrivals : List ℕ) (arrival : ℕ) (entries entries_now : List Candidate) (id : ℕ) (task kept : Task) (queue after : QueueValue)
+pub entered_put_at : (tasks now : List (Option Task)) (queues : List QueueValue) (arrivals : List ℕ) (arrival : ℕ) (entries tasks_now : List Candidate) (id : ℕ) (task kept : Task) (queue after : QueueValue)
     (tile : ℕ) → tile ≡ task.tile → IsIndexed tasks (map (λ q. q.ids) queues) arrivals arrival entries → tile < length queues → queue ≡ slice_index_or queues tile queue → after.ids ≡ queue.ids ++ id ∷ []
     → slice_index_or tasks id None ≡ None → slice_index_or now id None ≡ Some task → ((k : ℕ) → k ≢ id → slice_index_or now k None ≡ slice_index_or tasks k None) → id < length arrivals
     → ((tile k : ℕ) → Contains (slice_index_or (map (λ q. q.ids) queues) tile []) k → k ≢ id) → slice_index_or now id None ≡ Some kept
-    → entries_now
+    → tasks_now
     ≡ after_insert candidate_cmp (record { key = kept.key; tile = tile; arrival = arrival; id = id }) entries
-    → IsIndexed now (map (λ q. q.ids) (slice_set queues tile after)) (slice_set arrivals id arrival) (arrival + 1) entries_now
-entered_put_at tasks now queues arrivals arrival entries entries_now id task kept queue after tile is_tile is within there ids vacant changed others below unqueued found entries_are =
-    subst (λ (t : ℕ). IsIndexed now (map (λ q. q.ids) (slice_set queues t after)) (slice_set arrivals id arrival) (arrival + 1) entries_now) (sym is_tile)
-    (entered_put tasks now queues arrivals arrival entries entries_now id task kept queue after is (subst (λ (t : ℕ). t < length queues) is_tile within)
+    → IsIndexed now (map (λ q. q.ids) (slice_set queues tile after)) (slice_set arrivals id arrival) (arrival + 1) tasks_now
+entered_put_at tasks now queues arrivals arrival entries tasks_now id task kept queue after tile is_tile is within there ids vacant changed others below unqueued found entries_are =
+    subst (λ (t : ℕ). IsIndexed now (map (λ q. q.ids) (slice_set queues t after)) (slice_set arrivals id arrival) (arrival + 1) tasks_now) (sym is_tile)
+    (entered_put tasks now queues arrivals arrival entries tasks_now id task kept queue after is (subst (λ (t : ℕ). t < length queues) is_tile within)
     (subst (λ (t : ℕ). queue ≡ slice_index_or queues t queue) is_tile there) ids vacant changed others below unqueued found
     (entries_are ∙ ap (λ (t : ℕ). after_insert candidate_cmp (record { key = kept.key; tile = t; arrival = arrival; id = id }) entries) is_tile))

@@ -1,8 +1,7 @@
 -- Lists of ids, and cores, without one id.
 use Rattle.std.proofs.Common.{◌≡◌, ◌≢◌, ◌⊎◌, ◌<◌, ◌+◌, ◌∷◌, ◌==◌, ℕ, zero, suc, Bool, true, false, cond, not, List, [], length, map, Option, Some, None, refl, sym, ap, subst, ◌∙◌, inl, inr, arith, slice_get, slice_index_or}
-use Rattle.std.specs.Prelude.{Contains, slice_set, ◌↔◌}
-use Rattle.std.specs.List.{remove}
-use Rattle.std.proofs.lemmas.Bool.{cases_eq, ne_eqb}
+use Rattle.std.specs.Prelude.{Contains, slice_set}
+use Rattle.std.proofs.lemmas.Bool.{cases_eq, false≢true, ne_eqb}
 use Rattle.std.proofs.lemmas.Bool.Decides.{nat_tests}
 use Rattle.std.proofs.lemmas.List.{length-map, map-set, get_or-map}
 use Rattle.std.proofs.lemmas.List.Edits.{length-remove}
@@ -37,13 +36,9 @@ one_fewer id ids distinct (k, below, at) =
 pub from_ids : (id k : ℕ) (ids : List ℕ) → Contains (ids_but id ids) k → Contains ids k × (k ≢ id)
 from_ids id k ids has = (
   All-contains (Contains ids) (ids_but id ids) k (All-filter (λ other. not (other == id)) (Contains ids) ids (All-contains_itself ids)) has,
-  λ same. apart (k == id) (ap (λ n. n == id) same ∙ same_test id)
-      (All-contains (λ other. not (other == id) ≡ true) (ids_but id ids) k (filter_passes (λ other. not (other == id)) ids) has),
+  λ same. false≢true (sym (ap not (ap (λ n. n == id) same ∙ same_test id))
+      ∙ All-contains (λ other. not (other == id) ≡ true) (ids_but id ids) k (filter_passes (λ other. not (other == id)) ids) has),
 )
-  where
-    apart : (b : Bool) → b ≡ true → not b ≡ true → ⊥
-    apart true sure kept = cc
-    apart false sure kept = cc
 
 pub in_ids : (id k : ℕ) (ids : List ℕ) → k ≢ id → Contains ids k → Contains (ids_but id ids) k
 in_ids id k [] other has = absurd (omega (arith, has.1))

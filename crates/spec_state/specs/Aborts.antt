@@ -70,8 +70,8 @@ abbrev pub freed_core : List Bool → Option ℕ → Option ℕ
 freed_core marks None = None
 freed_core marks (Some id) = if is_marked marks id then None else Some id
 
--- the cascades of these tasks are taken back, and so many tasks with them: memory is as they found it, and a member
--- whose creator is a member leaves its queue; all else stays
+-- the cascades of these tasks are taken back, and so many tasks with them: memory is as they found it, a member leaves
+-- its core or its commit queue, and one whose creator is a member its task queue; all else stays
 pub record Aborts (firsts : ℕ → Type 0) (old : View) (aborted : ℕ) (new : View) : Type 0 where
   pub marks : List Bool
   pub cascade : IsCascade old firsts marks

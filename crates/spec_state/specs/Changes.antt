@@ -101,7 +101,7 @@ StoresTo id task leg offset width value = Accesses id task (Store offset width v
 pub record Enqueues (id : ℕ) (task : Task) (leg : LegValue) (spawn : Spawn) (tile : ℕ) (old new : View) : Type 0 where
   pub child : ℕ
   pub vacant : task_at old child ≡ None
-  pub parent : task_at new id ≡ Some (record (task_past_leg task leg) { spawns = task.spawns ++ spawn ∷ [] })
+  pub creator : task_at new id ≡ Some (record (task_past_leg task leg) { spawns = task.spawns ++ spawn ∷ [] })
   pub made : task_at new child
       ≡ Some (idle_task old.version (child_descriptor task spawn) (Live (record { 0 = id }) (length task.spawns)) tile)
   pub others : (k : ℕ) → k ≢ id → k ≢ child → task_at new k ≡ task_at old k

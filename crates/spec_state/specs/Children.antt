@@ -55,4 +55,4 @@ pub record HasPlace (id creator place : ℕ) (children : ChildrenValue) : Type 0
 -- the child under this id can be noted at this place of this task
 pub record IsNotable (tasks : List (Option Task)) (id creator place : ℕ) (children : ChildrenValue) : Type 0 where
   pub free : IsFree tasks id creator place children
-  pub room : HasPlace id creator place children
+  pub has_place : HasPlace id creator place children

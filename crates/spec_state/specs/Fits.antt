@@ -2,7 +2,7 @@
 use Rattle.std.specs.Prelude.{◌≡◌, ◌≤◌, ◌*◌, ℕ, List, All, Option, is_some, count_by, sum_by, map, length}
 use Rattle.fractal_vt.specs.declared.level.Level.{Level}
 use Rattle.run_journal.specs.declared.journal.Entry.{Entry}
-use Rattle.spill_store.specs.SpilledTasks.{Spilled, BlockValue}
+use Rattle.spill_store.specs.SpilledTasks.{Spilled}
 use Rattle.tile_queues.specs.Queue.{QueueValue}
 use Rattle.spec_state.specs.declared.settings.Settings.{Settings}
 use Rattle.spec_state.specs.declared.task.Task.{Task}
@@ -18,10 +18,6 @@ pub record HistoryValue : Type 0 where
 -- the ids that each queue holds
 abbrev pub ids_in : List QueueValue → List (List ℕ)
 ids_in queues = map (λ queue. queue.ids) queues
-
--- the spilled tasks that each block holds
-abbrev pub entries_in : List BlockValue → List (List Spilled)
-entries_in blocks = map (λ block. block.entries) blocks
 
 -- the view of these parts
 abbrev pub view_of_parts : ℕ → Settings → List (Option Task) → List ℕ → List Entry → List ℕ → ℕ → List Level
@@ -61,8 +57,9 @@ pub record HasTiles (settings : Settings) (queues finished : List QueueValue) (c
 abbrev pub queued_count : List QueueValue → ℕ
 queued_count queues = sum_by (λ queue. length queue.ids) queues
 
--- how many slots a state has for tasks; how many candidates its index holds, and for how many it has room; how many
--- marks, places among the members and arrival numbers it keeps; and for how many dispatch numbers their table has room
+-- how many slots a state has for tasks; how many candidates its index holds, and for how many it has memory; how
+-- many marks, places among the members and arrival numbers it keeps; and for how many dispatch numbers their table
+-- has memory
 pub record SlotCounts : Type 0 where
   pub slots : ℕ
   pub indexed : ℕ
@@ -73,8 +70,8 @@ pub record SlotCounts : Type 0 where
   pub numbers : ℕ
 
 -- there is a slot and a candidate for each place of the task queues, of which no more are in use than ids are
--- queued; each slot has a mark, a place among the members and an arrival number, and the table of numbers has room
--- for all that may be in use
+-- queued; each slot has a mark, a place among the members and an arrival number, and the table of numbers has
+-- memory for all that may be in use
 pub record HasSlots (settings : Settings) (tasks : List (Option Task)) (queues : List QueueValue) (counts : SlotCounts)
     : Type 0 where
   pub enough : settings.tiles * settings.task_queue ≤ counts.slots

@@ -118,7 +118,7 @@ room_task task = record {
 abbrev pub room_tasks : View → ℕ → Option RoomTask
 room_tasks view id = option_map room_task (task_at view id)
 
--- the domains on a path behind these, the innermost first: each with its kind and floor
+-- the domains along these levels, with the outer ones, the innermost first: each with its kind and floor
 abbrev pub domains_behind : List Domain → ℕ → ℕ → List Level → List Domain
 domains_behind outer floor kinds [] = record { kind = kind_at 0 kinds; floor = floor } ∷ outer
 domains_behind outer floor kinds (level ∷ levels) =

@@ -1,4 +1,4 @@
--- The ranges of the settings.
+-- The ranges of the settings, and which machine a naming speaks of.
 use Rattle.std.specs.Prelude.{◌≡◌, ◌⊎◌, ◌≤◌, ℕ}
 use Rattle.guest_image.specs.ImageValue.{ImageValue}
 use Rattle.serial_machine.specs.declared.limits.TheConstants.{MAX_BUDGET, MAX_COMMITS}

@@ -12,7 +12,7 @@ pub record Spare : Type 0 where
   pub output : ℕ
   pub blocks : List ℕ
 
--- which ids are marked, and a list of ids: of the tasks that are taken back, while they are
+-- which ids are marked, and a list with ids at its front: both of the tasks that are taken back, while they are
 pub record Scratch : Type 0 where
   pub marks : List Bool
   pub members : List ℕ
@@ -40,8 +40,8 @@ CoversOutput state id = IfSome (task_at state.view id)
 abbrev pub CoversPushes : StateValue → ℕ → ℕ → Type 0
 CoversPushes state tile more = more ≤ slice_index_or state.spare.blocks tile 0
 
--- what one event adds is spare: an access and a child of the task that is given, and so many tasks in the block of
--- the tile as move at once
+-- what an event other than a commit adds is spare: an access and a child of the task that is given, and so many tasks
+-- in the block of the tile as move at once
 pub record Covers (state : StateValue) (task : Option TaskId) (tile : ℕ) : Type 0 where
   pub log : IfSome task (λ id. CoversLog state id.0)
   pub child : IfSome task (λ id. CoversChild state id.0)

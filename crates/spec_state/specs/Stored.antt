@@ -25,7 +25,7 @@ HasTask view tile id kind = (task : Task) × (task_at view id ≡ Some task) × 
 
 -- a task by itself, in a state of so many bytes of data and so many commits: its depth, the kinds of its domains and
 -- its children are within their bounds, its accesses lie in the data, it has a dispatch number exactly where it
--- keeps a core, and a committed creator is one of the commits
+-- keeps a core, and the number of a committed creator is at most that of the commits
 pub record IsWellFormed (size commits : ℕ) (task : Task) : Type 0 where
   pub depth : depth_of task ≤ MAX_DEPTH
   pub kinds : task.kinds < 2 ^ depth_of task
@@ -60,11 +60,12 @@ candidate_of arrivals id task =
 -- the index holds these tasks and no other, under arrival numbers that rise along each queue and are less than the
 -- next one
 pub record IsIndexed (tasks : List (Option Task)) (queues : List (List ℕ)) (arrivals : List ℕ) (next : ℕ)
-    (entries : List Candidate) : Type 0 where
+    (candidates : List Candidate) : Type 0 where
   pub all : (id : ℕ) (task : Task) → slice_index_or tasks id None ≡ Some task
-      → Contains entries (candidate_of arrivals id task)
-  pub each : (entry : Candidate) → Contains entries entry
-      → (task : Task) × (slice_index_or tasks entry.id None ≡ Some task) × (entry ≡ candidate_of arrivals entry.id task)
+      → Contains candidates (candidate_of arrivals id task)
+  pub each : (candidate : Candidate) → Contains candidates candidate
+      → (task : Task) × (slice_index_or tasks candidate.id None ≡ Some task)
+      × (candidate ≡ candidate_of arrivals candidate.id task)
   pub early : (tile id : ℕ) → Contains (slice_index_or queues tile []) id → slice_index_or arrivals id 0 < next
   pub rising : (tile p q a b : ℕ) → p < q → slice_get (slice_index_or queues tile []) p ≡ Some a
       → slice_get (slice_index_or queues tile []) q ≡ Some b

@@ -54,7 +54,8 @@ abbrev pub outer_kind : ℕ → ℕ → Option Kind
 outer_kind zero kinds = None
 outer_kind (suc outer) kinds = Some (kind_at outer kinds)
 
--- the floor of a domain: the timestamp of its last level, which is its creator's, or the given floor where it has none
+-- the floor of a domain: the timestamp of its last level, which is that of the task that made it, or the given floor
+-- where it has none
 abbrev pub floor_in : ℕ → List Level → ℕ
 floor_in floor [] = floor
 floor_in floor (level ∷ levels) = floor_in level.ts levels
@@ -106,8 +107,8 @@ progress_at memory core task = record {
   sub = task.sub;
 }
 
--- what is fixed of a task when it is made, but for its creator: its entry address, arguments, hint and timestamp, the
--- levels of its domain, and the kinds of these domains
+-- what is fixed of a task when it is made, but for its creator and its tile: its entry address, arguments, hint and
+-- timestamp, the levels of its domain, and the kinds of the domains that it is in
 pub record Descriptor : Type 0 where
   pub entry : ℕ
   pub args : List ℕ

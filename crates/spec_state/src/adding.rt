@@ -49,7 +49,7 @@ fn root_task(version: u16, desc: &Desc, tile: u32) -> Fresh
     }
 }
 
-/// Puts an idle task under the next id, for which there is room, over a spare one: one that has left, or a blank one.
+/// Puts an idle task under the next id, for which there is memory, over a spare one: one that has left, or a blank one.
 /// It takes no memory.
 fn put_in(tasks: &mut KeptSlab<Task>, task: &Fresh) -> usize
     requires { HasRoomFor tasks.old 1 }
@@ -72,7 +72,7 @@ impl<N: Naming> State<N> {
         requires free { QueueHasRoom self.old.view task.now.tile }
         requires formed { IsWellFormed N.image.data_size (length self.old.view.history) task.now }
         ensures adds { Adds result.0 task.now self.old.view self.new.view }
-        ensures room { self.new.spare ≡ self.old.spare }
+        ensures spare { self.new.spare ≡ self.old.spare }
     {
         let tile = task.tile();
         let arrival = fresh_arrival(
@@ -103,7 +103,7 @@ impl<N: Naming> State<N> {
             let task = idle_task self.old.view.version (root_descriptor desc.now) creator tile in
             IfOk result (λ id. Adds id.0 task self.old.view self.new.view) }
         ensures covered { IsOk result }
-        ensures room { self.new.spare ≡ self.old.spare }
+        ensures spare { self.new.spare ≡ self.old.spare }
     {
         Ok(self.put(&root_task(self.version, desc, tile)))
     }

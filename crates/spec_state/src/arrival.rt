@@ -16,8 +16,8 @@ use tile_queues::TaskQueue;
 #[tactic(auto, using(crate::proofs::Moved::fewer, crate::proofs::Moved::no_more))]
 pub(crate) fn enter_again(index: &mut Index, task: &Task, arrival: u64, id: usize)
     requires indexed { HasId id index.old.candidates }
-    requires room { length index.old.candidates ≤ index.old.capacity }
-    ensures entries { let t = task.now in
+    requires spare { length index.old.candidates ≤ index.old.capacity }
+    ensures candidates { let t = task.now in
         let moved : Candidate = record { key = t.key; tile = t.tile; arrival = arrival; id = id } in
         index.new.candidates ≡ after_insert candidate_cmp moved (without_candidate id index.old.candidates) }
     ensures count { length index.new.candidates ≤ length index.old.candidates }
@@ -31,9 +31,9 @@ pub(crate) fn enter_again(index: &mut Index, task: &Task, arrival: u64, id: usiz
 fn move_arrival(index: &mut Index, arrivals: &mut Vec<u64>, task: &Task, id: usize, arrival: u64)
     requires slot { id < length arrivals.old.items }
     requires indexed { HasId id index.old.candidates }
-    requires room { length index.old.candidates ≤ index.old.capacity }
+    requires spare { length index.old.candidates ≤ index.old.capacity }
     ensures arrivals { arrivals.new.items ≡ slice_set arrivals.old.items id arrival }
-    ensures entries { let t = task.now in
+    ensures candidates { let t = task.now in
         let moved : Candidate = record { key = t.key; tile = t.tile; arrival = arrival; id = id } in
         index.new.candidates ≡ after_insert candidate_cmp moved (without_candidate id index.old.candidates) }
     ensures count { length index.new.candidates ≤ length index.old.candidates }
@@ -56,7 +56,7 @@ fn renumber_queue(
     requires theirs { AreTheirs tasks.now.slots (ids_in queues.now) }
     requires indexed { IsIndexed tasks.now.slots (ids_in queues.now) arrivals.old.items next index.old.candidates }
     requires slots { length arrivals.old.items ≡ tasks.now.capacity }
-    requires room { length index.old.candidates ≤ index.old.capacity }
+    requires spare { length index.old.candidates ≤ index.old.capacity }
     ensures indexed { IsIndexed tasks.now.slots (ids_in queues.now) arrivals.new.items next index.new.candidates }
     ensures below { let ids = slice_index_or (ids_in queues.now) tile [] in
         AreBelow arrivals.new.items ids (length ids) }
@@ -88,7 +88,7 @@ pub(crate) fn fresh_arrival(
     requires theirs { AreTheirs tasks.now.slots (ids_in queues.now) }
     requires indexed { IsIndexed tasks.now.slots (ids_in queues.now) arrivals.old.items next index.old.candidates }
     requires slots { length arrivals.old.items ≡ tasks.now.capacity }
-    requires room { length index.old.candidates ≤ index.old.capacity }
+    requires spare { length index.old.candidates ≤ index.old.capacity }
     ensures indexed { IsIndexed tasks.now.slots (ids_in queues.now) arrivals.new.items result index.new.candidates }
     ensures below { result < 2 ^ 64 - 1 }
     ensures count { length index.new.candidates ≤ length index.old.candidates }

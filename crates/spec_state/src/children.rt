@@ -48,11 +48,11 @@ impl Places {
         self.ids.as_slice().get(place).map(|id| *id as usize)
     }
 
-    /// Notes the id of the child at this place. It tells whether there is room for it: each place below it has been
+    /// Notes the id of the child at this place. It tells whether that could be noted: each place below it has been
     /// noted, and it is below `MAX_NOTED`.
     fn note(&mut self, place: usize, id: u32) -> bool
         ensures notes { IsTrue result → NotesAt place id self.old self.new }
-        ensures room { IsTrue result ↔ ((place ≤ length self.old) × (place < MAX_NOTED)) }
+        ensures noted { IsTrue result ↔ ((place ≤ length self.old) × (place < MAX_NOTED)) }
     {
         let noted = self.ids.len();
         if place < noted {
@@ -151,11 +151,11 @@ impl Children {
         }
     }
 
-    /// Notes that the child at this place of this creator stands under the id. It tells whether there is room for it.
+    /// Notes that the child at this place of this creator stands under the id. It tells whether that could be noted.
     fn put(&mut self, id: usize, creator: usize, place: usize) -> bool
         ensures complete { self.new.complete ≡ self.old.complete }
         ensures notes { IsTrue result → Notes creator place id self.old self.new }
-        ensures room { IsTrue result ↔ HasPlace id creator place self.old }
+        ensures noted { IsTrue result ↔ HasPlace id creator place self.old }
     {
         match u32::try_from(id) {
             Ok(id) if creator < self.places.len() => self.places[creator].note(place, id),

@@ -1,5 +1,6 @@
-//! The first task with which an access conflicts. No event asks for it, since `spec_rollback` marks all such tasks.
-//! No call takes memory.
+//! The first task with which an access conflicts and whether it conflicts with a given one, for which no event asks,
+//! since `spec_rollback` marks all such tasks; and whether a task is dispatched alone, for which it does ask. No call
+//! takes memory.
 
 ghost use Rattle.std.specs.Prelude.{◌≡◌, ◌<◌, ◌↔◌, ℕ, Bool, IsTrue, Some, IsSome, IsNone, IfSome};
 ghost use Rattle.fractal_vt.specs.Keys.{key_cmp};

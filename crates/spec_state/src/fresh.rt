@@ -24,7 +24,7 @@ pub struct Fresh {
     pub args: [u32; 3],
     /// A number from which a tile may be picked for it.
     pub hint: u32,
-    /// A bit for each depth on its path, the root in bit 0: 1 where that domain is ordered.
+    /// A bit for each domain that it is in, the root domain in bit 0: 1 where that domain is ordered.
     pub kinds: u16,
     /// The levels of its domain.
     pub domain: Vt,

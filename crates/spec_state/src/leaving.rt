@@ -69,7 +69,7 @@ impl<N: Naming> State<N> {
     pub fn take_out(&mut self, id: TaskId)
         requires live { IsSome (task_at self.old.view id.0) }
         ensures leaves { TaskLeaves id.0 self.old.view self.new.view }
-        ensures room { self.new.spare ≡ self.old.spare }
+        ensures spare { self.new.spare ≡ self.old.spare }
         ensures scratch { self.new.scratch ≡ self.old.scratch }
     {
         let task = &self.tasks[id.0];
@@ -88,7 +88,7 @@ impl<N: Naming> State<N> {
     pub fn set_back(&mut self, id: TaskId)
         requires live { IsSome (task_at self.old.view id.0) }
         ensures back { SetsBack id.0 self.old.view self.new.view }
-        ensures room { self.new.spare ≡ self.old.spare }
+        ensures spare { self.new.spare ≡ self.old.spare }
         ensures scratch { self.new.scratch ≡ self.old.scratch }
     {
         let task = &mut self.tasks[id.0];

@@ -6,7 +6,7 @@
 //! one. When a view is sound is said in the crate of its laws, so that what changes a state stands on definitions
 //! alone. It stands on the parts of the machine: keys, index, queues, blocks, filters and logs. The crates that
 //! change it call it (`spec_access`, `spec_dispatch`, `spec_rollback`, `spec_commit`), and those of events; the host
-//! takes settings and what pends from it.
+//! takes settings and what pends from it, and `watch_text` and `watch_play` read it.
 #![tactic(auto)]
 
 mod adding;

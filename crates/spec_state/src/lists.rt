@@ -1,4 +1,4 @@
-//! The lists of a tile as slices. No call takes memory.
+//! The lists of a tile, a task by its id, the next dispatch number, and how many tiles there are. No call takes memory.
 
 ghost use Rattle.std.specs.Prelude.{◌≡◌, ◌<◌, Some, length, option_copied, option_map, slice_get};
 ghost use Rattle.tile_queues.specs.Queue.{AreDistinct};

@@ -5,7 +5,8 @@ ghost use Rattle.std.specs.Prelude.{vec_len, vec_capacity};
 ghost use Rattle.spec_state.specs.Settings.{IsNamed, IsValid};
 ghost use Rattle.spec_state.specs.View.{core_ids};
 ghost use Rattle.spec_state.specs.Opening.{IsEmptyView, HoldNothing};
-ghost use Rattle.spec_state.specs.Fits.{HasTiles, HasSlots, entries_in};
+ghost use Rattle.spec_state.specs.Fits.{HasTiles, HasSlots};
+ghost use Rattle.spill_store.specs.Fronts.{lists_in};
 
 use crate::children::Children;
 use crate::history::History;
@@ -75,9 +76,9 @@ fn all_free_cores(
 }
 
 /// How many tasks all task queues may hold: 4 to 4,096.
-fn entries_of(settings: &Settings) -> u32
+fn places_of(settings: &Settings) -> u32
     requires { IsValid settings.now }
-    ensures entries { result ≡ settings.now.tiles * settings.now.task_queue }
+    ensures places { result ≡ settings.now.tiles * settings.now.task_queue }
     ensures some { 1 ≤ result }
     ensures few { result ≤ 4096 }
 {
@@ -101,7 +102,7 @@ impl TileLists {
             (vec_len lists.cores) (length lists.blocks.items)) }
         ensures cores { IfOk result (λ lists. All (λ held. vec_len held ≡ settings.now.cores) lists.cores.items) }
         ensures none { IfOk result (λ lists. HoldNothing settings.now lists.queues.items lists.finished.items
-            (map (λ cores. core_ids cores.items) lists.cores.items) (entries_in lists.blocks.items)) }
+            (map (λ cores. core_ids cores.items) lists.cores.items) (lists_in lists.blocks.items)) }
     {
         Ok(TileLists {
             queues: empty_queues(alloc, settings.tiles, settings.task_queue)?,
@@ -140,14 +141,14 @@ impl TaskMemory {
         ensures none { IfOk result (λ made. made.tasks.slots ≡ []) }
         ensures index { IfOk result (λ made. made.index.candidates ≡ []) }
     {
-        let entries = entries_of(settings);
-        let tasks = KeptSlab::with_capacity(alloc, entries as usize)?;
+        let places = places_of(settings);
+        let tasks = KeptSlab::with_capacity(alloc, places as usize)?;
         let slots = tasks.capacity();
         Ok(TaskMemory {
             tasks,
-            index: Index::new(alloc, entries)?,
+            index: Index::new(alloc, places)?,
             arrivals: vec![in alloc; 0; slots]?,
-            children: Children::new(alloc, entries)?,
+            children: Children::new(alloc, places)?,
             marks: vec![in alloc; false; slots]?,
             members: vec![in alloc; 0; slots]?,
             numbers: Vec::with_capacity(alloc, MAX_NUMBERS_IN_USE)?,
@@ -156,7 +157,7 @@ impl TaskMemory {
 }
 
 impl<N: Naming> State<N> {
-    /// A state without a task, of a machine of valid settings, with the image's data. It has room for all tasks of
+    /// A state without a task, of a machine of valid settings, with the image's data. It has memory for all tasks of
     /// its queues, for the whole history, for the marks of a cascade and for a renumbering; `AllocError` where
     /// memory runs out.
     pub fn new(alloc: Global, image: &Image, settings: Settings) -> Result<State<N>, AllocError>

@@ -4,7 +4,7 @@ ghost use Rattle.std.specs.Prelude.{◌≡◌, ◌++◌, ◌<◌, length, IsPerm
 ghost use Rattle.std.specs.List.{filter_map};
 ghost use Rattle.std.specs.List.Sorted.{IsSortedBy};
 ghost use Rattle.slab.specs.Slab.{get};
-ghost use Rattle.spec_state.specs.Fits.{entries_in};
+ghost use Rattle.spill_store.specs.Fronts.{lists_in};
 ghost use Rattle.spec_state.specs.Pendings.{pending_before, pending_by, pending_queued, pending_spilled};
 ghost use Rattle.spec_state.specs.Pendings.{spilled_pending, pendings_in};
 
@@ -104,7 +104,7 @@ fn add_queued(list: &mut Vec<Pending>, tasks: &KeptSlab<Task>) -> Result<(), All
 
 /// Adds the tasks of a block that pend.
 fn add_block(list: &mut Vec<Pending>, count: u32, block: &Block) -> Result<(), AllocError>
-    ensures { OnOk result (list.new.items ≡ list.old.items ++ spilled_pending count block.now.entries) }
+    ensures { OnOk result (list.new.items ≡ list.old.items ++ spilled_pending count block.now.tasks) }
 {
     for place in 0..block.len() {
         add(list, spilled_as(count, &block.desc_at(place)))?;
@@ -115,7 +115,7 @@ fn add_block(list: &mut Vec<Pending>, count: u32, block: &Block) -> Result<(), A
 /// Adds the spilled tasks that pend, by their tiles.
 fn add_spilled(list: &mut Vec<Pending>, count: u32, blocks: &[Block]) -> Result<(), AllocError>
     ensures { OnOk result (list.new.items
-        ≡ list.old.items ++ spilled_pending count (flat_map (λ block. block) (entries_in blocks.now))) }
+        ≡ list.old.items ++ spilled_pending count (flat_map (λ block. block) (lists_in blocks.now))) }
 {
     for block in blocks {
         add_block(list, count, block)?;

@@ -32,8 +32,8 @@ fn is_idle_firm(task: &Task, heir: Option<TaskId>) -> bool
 }
 
 impl<N: Naming> State<N> {
-    /// The lesser of the first idle task of the earlier places and the task at the next one, where that is idle; on
-    /// a tie the first.
+    /// The lesser of the least idle task at the earlier places and the task at the next one, where that is idle; on
+    /// a tie the former.
     fn lesser_idle(&self, ids: &[usize], place: usize, best: Option<TaskId>) -> Option<TaskId>
         requires live { (id : ℕ) → Contains ids.now id → IsSome (task_at self.now.view id) }
         requires place { place < length ids.now }

@@ -1,4 +1,4 @@
-//! Memory for what one event adds, taken before its first change.
+//! Memory for what an event other than a commit adds, taken before its first change.
 
 ghost use Rattle.std.specs.Prelude.{◌≡◌, ◌+◌, ◌<◌, ◌≤◌, None, IsOk, IsSome, IfOk, IfSome, OnErr, OnOk};
 ghost use Rattle.std.specs.Prelude.{length, slice_index_or, unwrap_or};
@@ -76,12 +76,12 @@ fn larger_buffer<T: Drop>(
     ensures some { IfOk result (λ made. IfSome made (λ larger. (items ≤ larger) × (buffer.now ≤ larger))) }
     ensures enough { items ≤ buffer.now → IsOk result }
 {
-    let room = buffer.spare_capacity();
-    if items <= room {
+    let spare = buffer.spare_capacity();
+    if items <= spare {
         return Ok(None);
     }
     let mut made = Buffer::new(alloc);
-    made.reserve(items.saturating_add(room / 2))?;
+    made.reserve(items.saturating_add(spare / 2))?;
     Ok(Some(made))
 }
 
@@ -107,10 +107,10 @@ impl Buffers {
 }
 
 impl<N: Naming> State<N> {
-    /// Makes what one event adds spare: an access and a child of this task, if one is given, and so many tasks
-    /// in the tile's block as move at once. A new task needs none: the slab has a slot for each place of the task
-    /// queues, with room for the task's bytes. `AllocError` where memory runs out, and nothing has changed then. The
-    /// view stays in any case.
+    /// Makes what an event other than a commit adds spare: an access and a child of this task, if one is given, and so
+    /// many tasks in the tile's block as move at once. A new task needs none: the slab has a slot for each place of the
+    /// task queues, with memory for the task's bytes. `AllocError` where memory runs out, and nothing has changed then.
+    /// The view stays in any case.
     pub fn reserve(&mut self, task: Option<TaskId>, tile: u32) -> Result<(), AllocError>
         requires live { IfSome task (λ id. IsSome (task_at self.old.view id.0)) }
         requires tile { tile < self.old.view.settings.tiles }

@@ -16,16 +16,17 @@ use std::marker::{Model, PhantomData};
 use tile_queues::{CommitQueue, TaskQueue};
 use undo_log::Memory;
 
-/// The machine between two events. Its fields are public for the crates that change a state; all others use its calls.
+/// The machine between two events. Its fields are public for the crates that change a state; others use its calls, but
+/// that `watch_text` reads `children`, and tests read `next`.
 ///
 /// Contracts see it as a `View` beside the memory that is spare for the next event and its notes of
-/// a cascade. Its type keeps (`IsStored`) that the settings are valid, with the limits that `N`
-/// names, that each tile has its queues, of the capacities of the settings, its cores and its
-/// block, that queues, commit queues and cores hold the tasks of their tile and nothing else, each
-/// as its status says, that each task is well formed, that the data has the image's size, that the
-/// history has memory for all commits, (`IsIndexed`) that the index holds the queued tasks in their
-/// order, and (`AreNoted`) that each child is noted where it stands. So a free place of a queue is
-/// a free slot and a free place of the index too.
+/// a cascade. Its type keeps that the settings are valid, with the limits that `N` names, that the
+/// history has memory for all commits, that each tile has its queues, of the capacities of the
+/// settings, its cores and its block, (`IsStored`) that queues, commit queues and cores hold the
+/// tasks of their tile and nothing else, each as its status says, that each task is well formed,
+/// that the data has the image's size, (`IsIndexed`) that the index holds the queued tasks in their
+/// order, and (`AreNoted`) that, where its notes are complete, each child is noted where it stands.
+/// So a free place of a queue is a free slot and a free place of the index too.
 #[derive(Drop)]
 pub struct State<N: Naming> {
     /// The version of the image.
@@ -60,13 +61,13 @@ pub struct State<N: Naming> {
     pub next_arrival: u64,
     /// Where the children of each task stand.
     pub children: Children,
-    /// Room for the marks of a cascade: one for each id that a task may have.
+    /// Memory for the marks of a cascade: one for each id that a task may have.
     pub marks: Vec<bool>,
-    /// Room for the members of a cascade: one for each id that a task may have.
+    /// Memory for the members of a cascade: one for each id that a task may have.
     pub members: Vec<usize>,
-    /// Room for the table of the dispatch numbers in use, which is made where they are renumbered.
+    /// Memory for the table of the dispatch numbers in use, which is made where they are renumbered.
     pub numbers: Vec<u64>,
-    /// Room that a full list moves into.
+    /// Spare memory that a full list moves into.
     pub buffers: Buffers,
     /// The text, decoded.
     pub decoded: Decoded<N>,
@@ -89,7 +90,7 @@ impl<N: Naming> Model for State<N> {
     ghost view = { λ s. record {
       view = view_of_parts s.version s.settings s.tasks.slots s.memory s.history.entries s.output s.next s.path
           s.queues.items s.finished.items
-          (map (λ cores. core_ids cores.items) s.cores.items) (map (λ block. block.entries) s.blocks.items);
+          (map (λ cores. core_ids cores.items) s.cores.items) (map (λ block. block.tasks) s.blocks.items);
       spare = record {
         log = s.buffers.log;
         spawns = s.buffers.spawns;
@@ -102,7 +103,7 @@ impl<N: Naming> Model for State<N> {
     ghost invariant = { λ s.
         let view = view_of_parts s.version s.settings s.tasks.slots s.memory s.history.entries s.output s.next s.path
         s.queues.items s.finished.items
-        (map (λ cores. core_ids cores.items) s.cores.items) (map (λ block. block.entries) s.blocks.items) in
+        (map (λ cores. core_ids cores.items) s.cores.items) (map (λ block. block.tasks) s.blocks.items) in
         HasLimits N.budget N.commits s.settings s.history.limit
         × HasTiles s.settings s.queues.items s.finished.items (vec_len s.cores) (length s.blocks.items)
         × All (λ held. vec_len held ≡ s.settings.cores) s.cores.items

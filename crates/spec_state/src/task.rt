@@ -82,7 +82,7 @@ pub struct Task {
     pub args: [u32; 3],
     /// A number from which a tile may be picked for it.
     pub hint: u32,
-    /// A bit for each depth on its path, the root in bit 0: 1 where that domain is ordered.
+    /// A bit for each domain that it is in, the root domain in bit 0: 1 where that domain is ordered.
     pub kinds: u16,
     /// Its virtual time: the levels of its domain, its timestamp and, once it is dispatched, its dispatch number.
     pub key: Key,

@@ -17,27 +17,27 @@ abbrev Before : Spilled → Spilled → Type 0
 Before first later = key_cmp (open_key first) (open_key later) ≢ Greater
 
 -- a task and the list without it
-taken_out : (entries : List Spilled) (place : ℕ) (entry : Spilled) → slice_get entries place ≡ Some entry → IsPermutation entries (entry ∷ remove entries place)
-taken_out entries place entry there =
-    IsPermutation-remove entries place entry (slice_get_within entries place entry there) (sym (get_or_from_slice_get entries place entry entry there))
+taken_out : (tasks : List Spilled) (place : ℕ) (task : Spilled) → slice_get tasks place ≡ Some task → IsPermutation tasks (task ∷ remove tasks place)
+taken_out tasks place task there =
+    IsPermutation-remove tasks place task (slice_get_within tasks place task there) (sym (get_or_from_slice_get tasks place task task there))
 
 -- the least task comes before each
-least_before : (entries : List Spilled) (place : ℕ) (entry : Spilled) → IsLeastInBlock entries place entry → All (Before entry) entries
-least_before entries place entry is k d inside =
-    let keys = map open_key entries in
-    let mine : Some is.least.key ≡ Some (open_key entry) = sym is.least.there ∙ slice_get-map open_key entries place ∙ ap (option_map open_key) is.there in
-    let same : is.least.key ≡ open_key entry = cc in
-    let long = length-map entries open_key in
+least_before : (tasks : List Spilled) (place : ℕ) (task : Spilled) → IsLeastInBlock tasks place task → All (Before task) tasks
+least_before tasks place task is k d inside =
+    let keys = map open_key tasks in
+    let mine : Some is.least.key ≡ Some (open_key task) = sym is.least.there ∙ slice_get-map open_key tasks place ∙ ap (option_map open_key) is.there in
+    let same : is.least.key ≡ open_key task = cc in
+    let long = length-map tasks open_key in
     let upto = is.least.least k (open_key d) (omega arith) in
-    let other = get_or-map open_key entries k d (open_key d) inside in
-    subst (λ key. key_cmp key (open_key (get_or entries k d)) ≢ Greater) same (subst (λ key. key_cmp is.least.key key ≢ Greater) other upto)
+    let other = get_or-map open_key tasks k d (open_key d) inside in
+    subst (λ key. key_cmp key (open_key (get_or tasks k d)) ≢ Greater) same (subst (λ key. key_cmp is.least.key key ≢ Greater) other upto)
 
 pub comes_back : ComesBackLeastFirst
-comes_back entries [] none = (subst (λ xs. IsPermutation xs []) (sym none) (IsPermutation-refl []), λ i j d first inside. absurd (omega arith))
-comes_back entries (entry ∷ taken) (others, takes, rest) =
+comes_back tasks [] none = (subst (λ xs. IsPermutation xs []) (sym none) (IsPermutation-refl []), λ i j d first inside. absurd (omega arith))
+comes_back tasks (task ∷ taken) (others, takes, rest) =
     let more = comes_back others taken rest in
-    let out : IsPermutation entries (entry ∷ others) = subst (λ xs. IsPermutation entries (entry ∷ xs)) (sym takes.others) (taken_out entries takes.place entry takes.least.there) in
-    let all : All (Before entry) (entry ∷ others) = All-permutation (Before entry) entries (entry ∷ others) out (least_before entries takes.place entry takes.least) in (
-      IsPermutation-trans entries (entry ∷ others) (entry ∷ taken) out (IsPermutation-cons entry others taken more.0),
-      AllPairs-cons Before entry taken (All-permutation (Before entry) others taken more.0 (λ k d inside. all (suc k) d (omega arith))) more.1,
+    let out : IsPermutation tasks (task ∷ others) = subst (λ xs. IsPermutation tasks (task ∷ xs)) (sym takes.others) (taken_out tasks takes.place task takes.least.there) in
+    let all : All (Before task) (task ∷ others) = All-permutation (Before task) tasks (task ∷ others) out (least_before tasks takes.place task takes.least) in (
+      IsPermutation-trans tasks (task ∷ others) (task ∷ taken) out (IsPermutation-cons task others taken more.0),
+      AllPairs-cons Before task taken (All-permutation (Before task) others taken more.0 (λ k d inside. all (suc k) d (omega arith))) more.1,
     )

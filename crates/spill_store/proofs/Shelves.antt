@@ -50,9 +50,10 @@ abbrev Below : List Spilled → ℕ → Type 0
 Below kept p = p < length kept
 
 -- nothing is kept
-pub none_shelved : (order_room kept_room free_room : ℕ) → IsShelved [] [] [] 0 order_room kept_room free_room
+pub none_shelved : (order_capacity kept_capacity free_capacity : ℕ)
+    → IsShelved [] [] [] 0 order_capacity kept_capacity free_capacity
 unfolding IsDistinct
-none_shelved order_room kept_room free_room = record {
+none_shelved order_capacity kept_capacity free_capacity = record {
   distinct = tt;
   within = λ k d inside. absurd (omega arith);
   all = refl;
@@ -64,7 +65,7 @@ none_shelved order_room kept_room free_room = record {
 }
 
 -- the last free place comes into the order
-module _ (kept : List Spilled) (order free : List ℕ) (place room order_room kept_room free_room : ℕ) (is : IsShelved kept order (free ++ place ∷ []) room order_room kept_room free_room) where
+module _ (kept : List Spilled) (order free : List ℕ) (place capacity order_capacity kept_capacity free_capacity : ℕ) (is : IsShelved kept order (free ++ place ∷ []) capacity order_capacity kept_capacity free_capacity) where
   front : IsDistinct nat_eq (place ∷ (order ++ free))
   front = IsDistinct-IsPermutation nat_eq nat_eq_equiv.symm (order ++ (free ++ place ∷ [])) (place ∷ (order ++ free)) (last_front order free place) is.distinct
 
@@ -74,14 +75,14 @@ module _ (kept : List Spilled) (order free : List ℕ) (place room order_room ke
   pub place_inside : place < length kept
   place_inside = All-head (Below kept) place (order ++ free) inside_all
 
-  pub reused_entries : (e : Spilled) (at : ℕ) → at_places (set kept place e) (insert order at place) ≡ insert (at_places kept order) at e
-  reused_entries e at =
+  pub reused_tasks : (e : Spilled) (at : ℕ) → at_places (set kept place e) (insert order at place) ≡ insert (at_places kept order) at e
+  reused_tasks e at =
       let others = places-set kept place e order (All-front (λ p. nat_eq place p ≡ false) order free (IsDistinct-head nat_eq place (order ++ free) front)) in
       map-insert (λ p. get_or (set kept place e) p blank_spilled) order at place
       ∙ ap (insert (at_places (set kept place e) order) at) (get_or-set_same kept place e blank_spilled place_inside)
       ∙ ap (λ xs. insert xs at e) others
 
-  pub reused_shelved : (e : Spilled) (at more_order more_free : ℕ) → at ≤ length order → order_room ≤ more_order → free_room ≤ more_free → IsShelved (set kept place e) (insert order at place) free room more_order kept_room more_free
+  pub reused_shelved : (e : Spilled) (at more_order more_free : ℕ) → at ≤ length order → order_capacity ≤ more_order → free_capacity ≤ more_free → IsShelved (set kept place e) (insert order at place) free capacity more_order kept_capacity more_free
   reused_shelved e at more_order more_free upto one two =
       let long = length-set kept place e in
       let one_more = length-insert order at place upto in
@@ -99,17 +100,17 @@ module _ (kept : List Spilled) (order free : List ℕ) (place room order_room ke
       }
 
 -- a new place comes into the order
-module _ (kept : List Spilled) (order : List ℕ) (room order_room kept_room free_room : ℕ) (is : IsShelved kept order [] room order_room kept_room free_room) where
+module _ (kept : List Spilled) (order : List ℕ) (capacity order_capacity kept_capacity free_capacity : ℕ) (is : IsShelved kept order [] capacity order_capacity kept_capacity free_capacity) where
   used : All (Below kept) order
   used = subst (All (Below kept)) (append-nil order) is.within
 
-  pub added_entries : (e : Spilled) (at : ℕ) → at_places (kept ++ e ∷ []) (insert order at (length kept)) ≡ insert (at_places kept order) at e
-  added_entries e at =
+  pub added_tasks : (e : Spilled) (at : ℕ) → at_places (kept ++ e ∷ []) (insert order at (length kept)) ≡ insert (at_places kept order) at e
+  added_tasks e at =
       map-insert (λ p. get_or (kept ++ e ∷ []) p blank_spilled) order at (length kept)
       ∙ ap (insert (at_places (kept ++ e ∷ []) order) at) (last_there kept e)
       ∙ ap (λ xs. insert xs at e) (places-append kept e order used)
 
-  pub added_shelved : (e : Spilled) (at more_order more_kept : ℕ) → at ≤ length order → length order < room → order_room ≤ more_order → kept_room ≤ more_kept → IsShelved (kept ++ e ∷ []) (insert order at (length kept)) [] room more_order more_kept free_room
+  pub added_shelved : (e : Spilled) (at more_order more_kept : ℕ) → at ≤ length order → length order < capacity → order_capacity ≤ more_order → kept_capacity ≤ more_kept → IsShelved (kept ++ e ∷ []) (insert order at (length kept)) [] capacity more_order more_kept free_capacity
   added_shelved e at more_order more_kept upto spare one two =
       let long = length-append kept (e ∷ []) in
       let one_more = length-insert order at (length kept) upto in
@@ -132,8 +133,8 @@ module _ (kept : List Spilled) (order : List ℕ) (room order_room kept_room fre
       below = Rattle.std.proofs.lemmas.List.Elements.All-cons (λ p. p < length kept + 1) (length kept) order (omega arith) (λ k d inside. (let less = used k d inside in omega arith))
 
 -- the order's first place goes to the free ones
-pub first_shelved : (kept : List Spilled) (order free : List ℕ) (place room order_room kept_room free_room more_order more_free : ℕ) → IsShelved kept (place ∷ order) free room order_room kept_room free_room → order_room ≤ more_order → free_room ≤ more_free → IsShelved kept order (free ++ place ∷ []) room more_order kept_room more_free
-first_shelved kept order free place room order_room kept_room free_room more_order more_free is one two =
+pub first_shelved : (kept : List Spilled) (order free : List ℕ) (place capacity order_capacity kept_capacity free_capacity more_order more_free : ℕ) → IsShelved kept (place ∷ order) free capacity order_capacity kept_capacity free_capacity → order_capacity ≤ more_order → free_capacity ≤ more_free → IsShelved kept order (free ++ place ∷ []) capacity more_order kept_capacity more_free
+first_shelved kept order free place capacity order_capacity kept_capacity free_capacity more_order more_free is one two =
     let back : IsPermutation (place ∷ (order ++ free)) (order ++ (free ++ place ∷ [])) = IsPermutation-sym (order ++ (free ++ place ∷ [])) (place ∷ (order ++ free)) (last_front order free place) in
     let long = length-append free (place ∷ []) in
     let all = is.all in
@@ -159,8 +160,8 @@ places_renumbered table kept [] = refl
 places_renumbered table kept (p ∷ places) = λ i. get_renumbered table kept p i ∷ places_renumbered table kept places i
 
 -- a place of the list is one of the order
-pub within_order : (kept : List Spilled) (order : List ℕ) (entries : List Spilled) (at : ℕ) → at_places kept order ≡ entries → at ≤ length entries → at ≤ length order
-within_order kept order entries at same inside =
+pub within_order : (kept : List Spilled) (order : List ℕ) (tasks : List Spilled) (at : ℕ) → at_places kept order ≡ tasks → at ≤ length tasks → at ≤ length order
+within_order kept order tasks at same inside =
     let long = length-map order (λ place. get_or kept place blank_spilled) in
     let as_long = ap length same in
     omega arith

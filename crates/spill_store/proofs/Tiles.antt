@@ -13,7 +13,7 @@ use Rattle.std.proofs.lemmas.Option.{slice_get_within, get_or_from_slice_get}
 use Rattle.fractal_vt.specs.Sorted.{IsInOrder}
 use Rattle.fractal_vt.specs.declared.key.Key.{Key}
 use Rattle.fractal_vt.specs.Keys.{key_cmp}
-use Rattle.fractal_vt.proofs.Proved.{key_cmp_total, not_greater, greater_not}
+use Rattle.fractal_vt.proofs.Proved.{first_not_greater, greater_not, key_cmp_total, not_greater}
 use Rattle.spill_store.specs.SpilledTasks.{Spilled, open_key, by_key, after_push, first_key}
 use Rattle.spill_store.specs.Fronts.{Front, key_rank, key_or, front_cmp, front_at, FrontPrecedes, IsFront, IsFrontBut, IsFirstOfAll}
 
@@ -72,18 +72,18 @@ module _ (lists : List (List Spilled)) where
   ]
 
 -- a push makes the first key of a tile no greater
-pub pushed_upto : (tile : ℕ) (entries : List Spilled) (entry : Spilled) → front_cmp (record { key = first_key (after_push entries entry); tile = tile }) (record { key = first_key entries; tile = tile }) ≢ Greater
-pushed_upto tile [] entry = λ same. cc
-pushed_upto tile (e ∷ entries) entry = by_case (by_key entry e) refl
+pub pushed_upto : (tile : ℕ) (tasks : List Spilled) (task : Spilled) → front_cmp (record { key = first_key (after_push tasks task); tile = tile }) (record { key = first_key tasks; tile = tile }) ≢ Greater
+pushed_upto tile [] task = λ same. cc
+pushed_upto tile (e ∷ tasks) task = by_case (by_key task e) refl
   where
-    by_case : (o : Ordering) → by_key entry e ≡ o
-        → front_cmp (record { key = first_key (if is_lt o then entry ∷ e ∷ entries else e ∷ after_push entries entry); tile = tile }) (record { key = Some (open_key e); tile = tile }) ≢ Greater
+    by_case : (o : Ordering) → by_key task e ≡ o
+        → front_cmp (record { key = first_key (if is_lt o then task ∷ e ∷ tasks else e ∷ after_push tasks task); tile = tile }) (record { key = Some (open_key e); tile = tile }) ≢ Greater
     by_case Less is = subst (λ o. ordering_then o (nat_cmp tile tile) ≢ Greater) (sym is) (λ same. cc)
     by_case Equal is = itself (record { key = Some (open_key e); tile = tile })
     by_case Greater is = itself (record { key = Some (open_key e); tile = tile })
 
-pub pushed_but : (lists now : List (List Spilled)) (front tile : ℕ) (entry : Spilled) → now ≡ set lists tile (after_push (slice_index_or lists tile []) entry) → tile < length lists → IsFront lists front → IsFrontBut now front tile
-pushed_but lists now front tile entry is inside first = record {
+pub pushed_but : (lists now : List (List Spilled)) (front tile : ℕ) (task : Spilled) → now ≡ set lists tile (after_push (slice_index_or lists tile []) task) → tile < length lists → IsFront lists front → IsFrontBut now front tile
+pushed_but lists now front tile task is inside first = record {
   within = (let long = ap length is ∙ length-set lists tile own in let within = first.within in omega arith);
   others = λ t below other.
       subst (λ f. front_cmp (front_at now front) f ≢ Greater) (sym (stays t other))
@@ -91,7 +91,7 @@ pushed_but lists now front tile entry is inside first = record {
 }
   where
     own : List Spilled
-    own = after_push (slice_index_or lists tile []) entry
+    own = after_push (slice_index_or lists tile []) task
 
     stays : (t : ℕ) → t ≢ tile → front_at now t ≡ front_at lists t
     stays t other = ap (λ es. record { key = first_key es; tile = t }) (ap (λ ls. slice_index_or ls t []) is ∙ get_or-set_other lists tile t own [] other)
@@ -100,7 +100,7 @@ pushed_but lists now front tile entry is inside first = record {
     lower = elim (cases_eq front tile) [
       | inl same ↦
           subst (λ k. front_cmp (front_at now k) (front_at lists k) ≢ Greater) (sym same)
-          (subst (λ es. front_cmp (record { key = first_key es; tile = tile }) (front_at lists tile) ≢ Greater) (sym (ap (λ ls. slice_index_or ls tile []) is ∙ get_or-set_same lists tile own [] inside)) (pushed_upto tile (slice_index_or lists tile []) entry))
+          (subst (λ es. front_cmp (record { key = first_key es; tile = tile }) (front_at lists tile) ≢ Greater) (sym (ap (λ ls. slice_index_or ls tile []) is ∙ get_or-set_same lists tile own [] inside)) (pushed_upto tile (slice_index_or lists tile []) task))
       | inr other ↦ subst (λ f. front_cmp f (front_at lists front) ≢ Greater) (sym (stays front other)) (itself (front_at lists front))
     ]
 
@@ -116,15 +116,10 @@ module _ (lists : List (List Spilled)) (front : ℕ) (is : IsFront lists front) 
   first_of_all order key at = record {
     within = is.within;
     own = at;
-    upto = λ other place entry inside there. (let facts = by_list other place entry inside (slice_index_or lists other []) refl there in facts.0);
-    tied = λ other place entry inside there same. (let facts = by_list other place entry inside (slice_index_or lists other []) refl there in facts.1 same);
+    upto = λ other place task inside there. (let facts = by_list other place task inside (slice_index_or lists other []) refl there in facts.0);
+    tied = λ other place task inside there same. (let facts = by_list other place task inside (slice_index_or lists other []) refl there in facts.1 same);
   }
     where
-      keys : (o p : Ordering) → ordering_then o p ≢ Greater → o ≢ Greater
-      keys Less p not same = cc
-      keys Equal p not same = cc
-      keys Greater p not same = not refl
-
       tiles : (other : ℕ) → nat_cmp front other ≢ Greater → front ≤ other
       tiles other not = by_case (cases_lt other front)
         where
@@ -133,25 +128,25 @@ module _ (lists : List (List Spilled)) (front : ℕ) (is : IsFront lists front) 
           by_case (inr not_less) = not_less
 
       -- the first of a list is not above any of it
-      of_first : (e : Spilled) (es : List Spilled) (place : ℕ) (entry : Spilled) → IsInOrder by_key (e ∷ es) → slice_get (e ∷ es) place ≡ Some entry → key_cmp (open_key e) (open_key entry) ≢ Greater
-      of_first e es zero entry order there = let same : e ≡ entry = cc (there) in subst (λ x. key_cmp (open_key e) (open_key x) ≢ Greater) same (λ greater. (let no_way : Equal ≡ Greater = sym (tied_itself key_cmp_total (open_key e)) ∙ greater in cc))
-      of_first e es (suc place) entry order there =
-          let low = slice_get_within es place entry there in
-          subst (λ x. key_cmp (open_key e) (open_key x) ≢ Greater) (get_or_from_slice_get es place entry entry there) (order zero (suc place) entry (omega arith) (omega (arith, low)))
+      of_first : (e : Spilled) (es : List Spilled) (place : ℕ) (task : Spilled) → IsInOrder by_key (e ∷ es) → slice_get (e ∷ es) place ≡ Some task → key_cmp (open_key e) (open_key task) ≢ Greater
+      of_first e es zero task order there = let same : e ≡ task = cc (there) in subst (λ x. key_cmp (open_key e) (open_key x) ≢ Greater) same (λ greater. (let no_way : Equal ≡ Greater = sym (tied_itself key_cmp_total (open_key e)) ∙ greater in cc))
+      of_first e es (suc place) task order there =
+          let low = slice_get_within es place task there in
+          subst (λ x. key_cmp (open_key e) (open_key x) ≢ Greater) (get_or_from_slice_get es place task task there) (order zero (suc place) task (omega arith) (omega (arith, low)))
 
-      by_list : (other place : ℕ) (entry : Spilled) → other < length lists → (es : List Spilled) → slice_index_or lists other [] ≡ es → slice_get (slice_index_or lists other []) place ≡ Some entry
-          → (key_cmp key (open_key entry) ≢ Greater) × (key_cmp key (open_key entry) ≡ Equal → front ≤ other)
-      by_list other place entry inside [] same there = absurd (cc (there, ap (λ (ls : List Spilled). slice_get ls place) same))
-      by_list other place entry inside (e ∷ es) same there =
+      by_list : (other place : ℕ) (task : Spilled) → other < length lists → (es : List Spilled) → slice_index_or lists other [] ≡ es → slice_get (slice_index_or lists other []) place ≡ Some task
+          → (key_cmp key (open_key task) ≢ Greater) × (key_cmp key (open_key task) ≡ Equal → front ≤ other)
+      by_list other place task inside [] same there = absurd (cc (there, ap (λ (ls : List Spilled). slice_get ls place) same))
+      by_list other place task inside (e ∷ es) same there =
           let before = against other (Some key) (Some (open_key e)) at (ap first_key same) inside in
-          let mine : key_cmp key (open_key e) ≢ Greater = keys (key_cmp key (open_key e)) (nat_cmp front other) before in
-          let theirs = of_first e es place entry (subst (IsInOrder by_key) same (order other inside)) (ap (λ (ls : List Spilled). slice_get ls place) (sym same) ∙ there) in (
-            greater_not (key_cmp key (open_key entry)) (upto key_cmp_total key (open_key e) (open_key entry) (not_greater (key_cmp key (open_key e)) mine) (not_greater (key_cmp (open_key e) (open_key entry)) theirs)),
+          let mine : key_cmp key (open_key e) ≢ Greater = first_not_greater (key_cmp key (open_key e)) (nat_cmp front other) before in
+          let theirs = of_first e es place task (subst (IsInOrder by_key) same (order other inside)) (ap (λ (ls : List Spilled). slice_get ls place) (sym same) ∙ there) in (
+            greater_not (key_cmp key (open_key task)) (upto key_cmp_total key (open_key e) (open_key task) (not_greater (key_cmp key (open_key e)) mine) (not_greater (key_cmp (open_key e) (open_key task)) theirs)),
             λ tie. by_order (key_cmp key (open_key e)) refl mine before theirs tie,
           )
         where
-          by_order : (o : Ordering) → key_cmp key (open_key e) ≡ o → o ≢ Greater → ordering_then (key_cmp key (open_key e)) (nat_cmp front other) ≢ Greater → key_cmp (open_key e) (open_key entry) ≢ Greater → key_cmp key (open_key entry) ≡ Equal → front ≤ other
-          by_order Less o_is fine before theirs tie = absurd (theirs (key_cmp_total.antisymm (open_key e) (open_key entry) ∙ ap ordering_reverse (sym (key_cmp_total.congr key (open_key entry) (open_key e) tie) ∙ o_is)))
+          by_order : (o : Ordering) → key_cmp key (open_key e) ≡ o → o ≢ Greater → ordering_then (key_cmp key (open_key e)) (nat_cmp front other) ≢ Greater → key_cmp (open_key e) (open_key task) ≢ Greater → key_cmp key (open_key task) ≡ Equal → front ≤ other
+          by_order Less o_is fine before theirs tie = absurd (theirs (key_cmp_total.antisymm (open_key e) (open_key task) ∙ ap ordering_reverse (sym (key_cmp_total.congr key (open_key task) (open_key e) tie) ∙ o_is)))
           by_order Equal o_is fine before theirs tie = tiles other (subst (λ o. ordering_then o (nat_cmp front other) ≢ Greater) o_is before)
           by_order Greater o_is fine before theirs tie = absurd (fine refl)
 

@@ -19,23 +19,23 @@ behind f (x ∷ xs) (suc i) d = behind f xs i d
 module _ (table : List ℕ) (first blocks : List BlockValue) (tile : ℕ) (block : BlockValue) (within : tile < length blocks) (long : length blocks ≡ length first)
     (is : lists_in blocks ≡ over (map (renumbered_spilled table)) (lists_in first) tile) (at : block ≡ slice_index_or blocks tile block) where
   in_lists : tile < length (lists_in first)
-  in_lists = omega (arith, within, long, length-map first (λ (b : BlockValue). b.entries))
+  in_lists = omega (arith, within, long, length-map first (λ (b : BlockValue). b.tasks))
 
-  own_entries : block.entries ≡ slice_index_or (lists_in blocks) tile block.entries
-  own_entries = ap (λ (b : BlockValue). b.entries) at ∙ sym (get_or-map (λ (b : BlockValue). b.entries) blocks tile block block.entries within)
+  own_tasks : block.tasks ≡ slice_index_or (lists_in blocks) tile block.tasks
+  own_tasks = ap (λ (b : BlockValue). b.tasks) at ∙ sym (get_or-map (λ (b : BlockValue). b.tasks) blocks tile block block.tasks within)
 
   -- the table holds the numbers of a block to which the walk comes
-  pub block_held : All (HoldsSpilled table) (lists_in first) → HoldsSpilled table block.entries
+  pub block_held : All (HoldsSpilled table) (lists_in first) → HoldsSpilled table block.tasks
   block_held all =
-      subst (HoldsSpilled table) (sym (own_entries ∙ ap (λ lists. slice_index_or lists tile block.entries) is ∙ behind (map (renumbered_spilled table)) (lists_in first) tile block.entries))
-      (all tile block.entries in_lists)
+      subst (HoldsSpilled table) (sym (own_tasks ∙ ap (λ lists. slice_index_or lists tile block.tasks) is ∙ behind (map (renumbered_spilled table)) (lists_in first) tile block.tasks))
+      (all tile block.tasks in_lists)
 
   -- its tasks are renumbered
-  pub entries_more : (after : BlockValue) → after.entries ≡ map (renumbered_spilled table) block.entries
+  pub tasks_more : (after : BlockValue) → after.tasks ≡ map (renumbered_spilled table) block.tasks
       → lists_in (slice_set blocks tile after) ≡ over (map (renumbered_spilled table)) (lists_in first) (tile + 1)
-  entries_more after renumbered =
-      map-set (λ (b : BlockValue). b.entries) blocks tile after ∙ ap (slice_set (lists_in blocks) tile) renumbered
-      ∙ map_over_more (map (renumbered_spilled table)) (lists_in first) (lists_in blocks) tile block.entries in_lists is own_entries
+  tasks_more after renumbered =
+      map-set (λ (b : BlockValue). b.tasks) blocks tile after ∙ ap (slice_set (lists_in blocks) tile) renumbered
+      ∙ map_over_more (map (renumbered_spilled table)) (lists_in first) (lists_in blocks) tile block.tasks in_lists is own_tasks
 
 -- and what is spare of each block stays
 pub spare_same : (blocks : List BlockValue) (tile : ℕ) (block after : BlockValue) → block ≡ slice_index_or blocks tile block → after.spare ≡ block.spare
@@ -45,12 +45,12 @@ spare_same (b ∷ blocks) zero block after is same = ap (λ spare. spare ∷ map
 spare_same (b ∷ blocks) (suc tile) block after is same = ap (λ rest. b.spare ∷ rest) (spare_same blocks tile block after is same)
 
 -- a block that holds what it held
-pub same_lists : (blocks : List BlockValue) (tile : ℕ) (block after : BlockValue) → block ≡ slice_index_or blocks tile block → after.entries ≡ block.entries
+pub same_lists : (blocks : List BlockValue) (tile : ℕ) (block after : BlockValue) → block ≡ slice_index_or blocks tile block → after.tasks ≡ block.tasks
     → lists_in (slice_set blocks tile after) ≡ lists_in blocks
 same_lists [] tile block after is same = refl
-same_lists (b ∷ blocks) zero block after is same = ap (λ entries. entries ∷ lists_in blocks) (same ∙ ap (λ (b : BlockValue). b.entries) is)
-same_lists (b ∷ blocks) (suc tile) block after is same = ap (λ rest. b.entries ∷ rest) (same_lists blocks tile block after is same)
+same_lists (b ∷ blocks) zero block after is same = ap (λ tasks. tasks ∷ lists_in blocks) (same ∙ ap (λ (b : BlockValue). b.tasks) is)
+same_lists (b ∷ blocks) (suc tile) block after is same = ap (λ rest. b.tasks ∷ rest) (same_lists blocks tile block after is same)
 
 -- the list of a block
-pub entries_at : (blocks : List BlockValue) (tile : ℕ) (block : BlockValue) → tile < length blocks → block ≡ slice_index_or blocks tile block → slice_index_or (lists_in blocks) tile [] ≡ block.entries
-entries_at blocks tile block inside is = get_or-map (λ (b : BlockValue). b.entries) blocks tile block [] inside ∙ ap (λ (b : BlockValue). b.entries) (sym is)
+pub tasks_at : (blocks : List BlockValue) (tile : ℕ) (block : BlockValue) → tile < length blocks → block ≡ slice_index_or blocks tile block → slice_index_or (lists_in blocks) tile [] ≡ block.tasks
+tasks_at blocks tile block inside is = get_or-map (λ (b : BlockValue). b.tasks) blocks tile block [] inside ∙ ap (λ (b : BlockValue). b.tasks) (sym is)

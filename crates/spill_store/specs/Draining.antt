@@ -7,11 +7,11 @@ use Rattle.spill_store.specs.SpilledTasks.{Spilled, open_key, TakesLeast}
 
 -- taking the least task until none is left gives the second list, in its order
 abbrev pub Drains : List Spilled → List Spilled → Type 0
-Drains entries [] = entries ≡ []
-Drains entries (entry ∷ taken) = (others : List Spilled) × TakesLeast entries others entry × Drains others taken
+Drains tasks [] = tasks ≡ []
+Drains tasks (task ∷ taken) = (others : List Spilled) × TakesLeast tasks others task × Drains others taken
 
 -- each task is taken once, and none after one with a greater key
 abbrev pub ComesBackLeastFirst : Type 0
 ComesBackLeastFirst =
-    (entries taken : List Spilled) → Drains entries taken
-    → IsPermutation entries taken × AllPairs (λ first later. key_cmp (open_key first) (open_key later) ≢ Greater) taken
+    (tasks taken : List Spilled) → Drains tasks taken
+    → IsPermutation tasks taken × AllPairs (λ first later. key_cmp (open_key first) (open_key later) ≢ Greater) taken

@@ -12,9 +12,9 @@ use Rattle.spill_store.specs.SpilledTasks.{Spilled, BlockValue, first_key, open_
 pub record BlocksValue : Type 0 where
   pub items : List BlockValue
 
--- what they hold
+-- the spilled tasks that each block holds
 abbrev pub lists_in : List BlockValue → List (List Spilled)
-lists_in blocks = map (λ block. block.entries) blocks
+lists_in blocks = map (λ block. block.tasks) blocks
 
 -- a tile with the open key of the first task of its block
 pub record Front : Type 0 where
@@ -59,12 +59,12 @@ pub record IsFrontBut (lists : List (List Spilled)) (front but : ℕ) : Type 0 w
 pub record IsFirstOfAll (lists : List (List Spilled)) (tile : ℕ) (key : Key) : Type 0 where
   pub within : tile < length lists
   pub own : first_key (slice_index_or lists tile []) ≡ Some key
-  pub upto : (other place : ℕ) (entry : Spilled) → other < length lists
-      → slice_get (slice_index_or lists other []) place ≡ Some entry
-      → key_cmp key (open_key entry) ≢ Greater
-  pub tied : (other place : ℕ) (entry : Spilled) → other < length lists
-      → slice_get (slice_index_or lists other []) place ≡ Some entry
-      → key_cmp key (open_key entry) ≡ Equal → tile ≤ other
+  pub upto : (other place : ℕ) (task : Spilled) → other < length lists
+      → slice_get (slice_index_or lists other []) place ≡ Some task
+      → key_cmp key (open_key task) ≢ Greater
+  pub tied : (other place : ℕ) (task : Spilled) → other < length lists
+      → slice_get (slice_index_or lists other []) place ≡ Some task
+      → key_cmp key (open_key task) ≡ Equal → tile ≤ other
 
 -- the block of one tile changes from one to another, and all others stay
 pub record ChangesOne (tile : ℕ) (old new : List BlockValue) (before after : BlockValue) : Type 0 where
@@ -72,20 +72,20 @@ pub record ChangesOne (tile : ℕ) (old new : List BlockValue) (before after : B
   pub new_is : new ≡ slice_set old tile after
 
 -- a task goes into the block of a tile
-pub record Pushes (tile : ℕ) (entry : Spilled) (old new : List BlockValue) : Type 0 where
+pub record Pushes (tile : ℕ) (task : Spilled) (old new : List BlockValue) : Type 0 where
   pub before : BlockValue
   pub after : BlockValue
   pub one : ChangesOne tile old new before after
-  pub entries : after.entries ≡ after_push before.entries entry
+  pub tasks : after.tasks ≡ after_push before.tasks task
   pub spare : before.spare ≤ after.spare + 1
 
 -- the first task goes out of the block of a tile
-pub record TakesFirst (tile : ℕ) (entry : Spilled) (old new : List BlockValue) : Type 0 where
+pub record TakesFirst (tile : ℕ) (task : Spilled) (old new : List BlockValue) : Type 0 where
   pub before : BlockValue
   pub after : BlockValue
   pub one : ChangesOne tile old new before after
-  pub first : before.entries ≡ entry ∷ after.entries
-  pub least : TakesLeast before.entries after.entries entry
+  pub first : before.tasks ≡ task ∷ after.tasks
+  pub least : TakesLeast before.tasks after.tasks task
   pub spare : after.spare ≡ before.spare + 1
 
 -- the block of a tile has no fewer spare pushes
@@ -93,5 +93,5 @@ pub record Reserves (tile : ℕ) (old new : List BlockValue) : Type 0 where
   pub before : BlockValue
   pub after : BlockValue
   pub one : ChangesOne tile old new before after
-  pub entries : after.entries ≡ before.entries
+  pub tasks : after.tasks ≡ before.tasks
   pub stays : before.spare ≤ after.spare

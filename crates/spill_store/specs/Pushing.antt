@@ -7,20 +7,20 @@ use Rattle.spill_store.specs.SpilledTasks.{Spilled, by_key, after_push}
 
 -- the tasks after several pushes, one after another
 abbrev pub after_pushes : List Spilled → List Spilled → List Spilled
-after_pushes entries [] = entries
-after_pushes entries (entry ∷ more) = after_pushes (after_push entries entry) more
+after_pushes tasks [] = tasks
+after_pushes tasks (task ∷ more) = after_pushes (after_push tasks task) more
 
 -- what is pushed into an empty block stands there, each task once, none after one with a greater key
 abbrev pub PushesStandInOrder : Type 0
-PushesStandInOrder = (entries : List Spilled)
-    → IsPermutation entries (after_pushes [] entries) × IsInOrder by_key (after_pushes [] entries)
+PushesStandInOrder = (tasks : List Spilled)
+    → IsPermutation tasks (after_pushes [] tasks) × IsInOrder by_key (after_pushes [] tasks)
 
 -- the tasks of the same key as this one, in their order
 abbrev pub of_same_key : Spilled → List Spilled → List Spilled
-of_same_key entry entries = filter (λ other. is_eq (by_key entry other)) entries
+of_same_key task tasks = filter (λ other. is_eq (by_key task other)) tasks
 
 -- of the tasks of one key, the pushed one is the last, and the others stay in their order
 abbrev pub PushGoesBehindTies : Type 0
 PushGoesBehindTies =
-    (entries : List Spilled) (entry : Spilled) → IsInOrder by_key entries
-    → of_same_key entry (after_push entries entry) ≡ of_same_key entry entries ++ entry ∷ []
+    (tasks : List Spilled) (task : Spilled) → IsInOrder by_key tasks
+    → of_same_key task (after_push tasks task) ≡ of_same_key task tasks ++ task ∷ []

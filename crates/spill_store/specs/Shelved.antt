@@ -22,14 +22,14 @@ blank_spilled = record {
 abbrev pub at_places : List Spilled → List ℕ → List Spilled
 at_places kept places = map (λ place. slice_index_or kept place blank_spilled) places
 
--- each place is in use or free, and the memory is held by the order of places, by what is kept and by the free places
+-- each place is in use or free, and the order of places, what is kept and the free places have memory for the capacity
 pub record IsShelved (kept : List Spilled) (order free : List ℕ)
-    (room order_room kept_room free_room : ℕ) : Type 0 where
+    (capacity order_capacity kept_capacity free_capacity : ℕ) : Type 0 where
   pub distinct : IsDistinct nat_eq (order ++ free)
   pub within : All (λ place. place < length kept) (order ++ free)
   pub all : length order + length free ≡ length kept
-  pub holds : length kept ≤ room
-  pub few : room ≤ 2 ^ 32
-  pub order_holds : room ≤ order_room
-  pub kept_holds : room ≤ kept_room
-  pub free_holds : room ≤ free_room
+  pub holds : length kept ≤ capacity
+  pub few : capacity ≤ 2 ^ 32
+  pub order_holds : capacity ≤ order_capacity
+  pub kept_holds : capacity ≤ kept_capacity
+  pub free_holds : capacity ≤ free_capacity

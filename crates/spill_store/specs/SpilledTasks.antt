@@ -18,7 +18,7 @@ pub record Spilled : Type 0 where
 
 -- the tasks of a block, and how many more pushes are spare
 pub record BlockValue : Type 0 where
-  pub entries : List Spilled
+  pub tasks : List Spilled
   pub spare : ℕ
 
 -- the bytes are the record of a descriptor, and the key is the open key of its task
@@ -30,7 +30,7 @@ pub record IsKeptRecord (bytes : List ℕ) (key : Key) : Type 0 where
 
 -- a spilled task's key: its domain's levels and its timestamp, with an open tiebreaker
 abbrev pub open_key : Spilled → Key
-open_key entry = record { domain = entry.domain; ts = entry.desc.ts; tb = None }
+open_key task = record { domain = task.domain; ts = task.desc.ts; tb = None }
 
 -- tasks by their open keys
 abbrev pub by_key : Spilled → Spilled → Ordering
@@ -38,35 +38,35 @@ by_key = on open_key key_cmp
 
 -- the tasks after a push: the new one stands behind all whose keys are not greater
 abbrev pub after_push : List Spilled → Spilled → List Spilled
-after_push entries entry = after_insert by_key entry entries
+after_push tasks task = after_insert by_key task tasks
 
 -- the open key of the first task
 abbrev pub first_key : List Spilled → Option Key
 first_key [] = None
-first_key (entry ∷ entries) = Some (open_key entry)
+first_key (task ∷ tasks) = Some (open_key task)
 
 -- the task with the tiebreakers of its domain replaced by their places in a table
 abbrev pub renumbered_spilled : List ℕ → Spilled → Spilled
-renumbered_spilled table entry = record entry { domain = renumbered_levels table entry.domain }
+renumbered_spilled table task = record task { domain = renumbered_levels table task.domain }
 
 -- the table holds the tiebreakers of each task's domain
 abbrev pub HoldsSpilled : List ℕ → List Spilled → Type 0
-HoldsSpilled table entries = All (λ entry. HoldsKey table (open_key entry)) entries
+HoldsSpilled table tasks = All (λ task. HoldsKey table (open_key task)) tasks
 
 -- the first task of a least open key
-pub record IsLeastInBlock (entries : List Spilled) (place : ℕ) (entry : Spilled) : Type 0 where
-  pub there : slice_get entries place ≡ Some entry
-  pub least : IsFirstLeast key_cmp (map open_key entries) place
+pub record IsLeastInBlock (tasks : List Spilled) (place : ℕ) (task : Spilled) : Type 0 where
+  pub there : slice_get tasks place ≡ Some task
+  pub least : IsFirstLeast key_cmp (map open_key tasks) place
 
 -- the first task of a least open key is taken out, and all others stay in their order
-pub record TakesLeast (old new : List Spilled) (entry : Spilled) : Type 0 where
+pub record TakesLeast (old new : List Spilled) (task : Spilled) : Type 0 where
   pub place : ℕ
-  pub least : IsLeastInBlock old place entry
+  pub least : IsLeastInBlock old place task
   pub others : new ≡ remove old place
 
 -- the open key of the task that is taken next
-pub record IsLeastKey (entries : List Spilled) (key : Key) : Type 0 where
+pub record IsLeastKey (tasks : List Spilled) (key : Key) : Type 0 where
   pub place : ℕ
-  pub entry : Spilled
-  pub least : IsLeastInBlock entries place entry
-  pub of_entry : key ≡ open_key entry
+  pub task : Spilled
+  pub least : IsLeastInBlock tasks place task
+  pub of_task : key ≡ open_key task

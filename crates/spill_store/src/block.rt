@@ -35,13 +35,13 @@ impl Model for Block {
 
     ghost view = { λ b. b.shelf };
 
-    ghost invariant = { λ b. IsInOrder by_key b.shelf.entries };
+    ghost invariant = { λ b. IsInOrder by_key b.shelf.tasks };
 }
 
 impl Block {
     /// An empty block, which takes the memory of its growth from `alloc`.
     pub fn new(alloc: Global) -> Block
-        ensures { result.entries ≡ [] }
+        ensures { result.tasks ≡ [] }
     {
         Block {
             shelf: Shelf::new(alloc),
@@ -50,7 +50,7 @@ impl Block {
 
     /// Sees to it that `more` pushes are spare. What was spare stays so, and where that is enough no memory is taken.
     pub fn reserve(&mut self, more: usize) -> Result<(), AllocError>
-        ensures entries { self.new.entries ≡ self.old.entries }
+        ensures tasks { self.new.tasks ≡ self.old.tasks }
         ensures spare { OnOk result (more ≤ self.new.spare) }
         ensures stays { self.old.spare ≤ self.new.spare }
         ensures enough { more ≤ self.old.spare → IsOk result }
@@ -64,8 +64,8 @@ impl Block {
         requires spare { 1 ≤ self.old.spare }
         requires desc { IsDesc desc.now }
         requires domain { length domain.now + 1 ≡ desc.now.depth }
-        ensures entries { self.new.entries
-            ≡ after_push self.old.entries (record { desc = desc.now; domain = domain.now }) }
+        ensures tasks { self.new.tasks
+            ≡ after_push self.old.tasks (record { desc = desc.now; domain = domain.now }) }
         ensures spare { self.old.spare ≤ self.new.spare + 1 }
     {
         let fresh = Kept::new(desc, domain);
@@ -76,11 +76,11 @@ impl Block {
     /// Takes out the first task with its domain: that of the least open key, the earliest of those on a tie. All others
     /// stay in their order. None exactly where the block is empty.
     pub fn take_least(&mut self) -> Option<(Desc, Vt)>
-        ensures none { IsNone result ↔ (self.old.entries ≡ []) }
+        ensures none { IsNone result ↔ (self.old.tasks ≡ []) }
         ensures first { IfSome result
-            (λ taken. self.old.entries ≡ record { desc = taken.0; domain = taken.1 } ∷ self.new.entries) }
+            (λ taken. self.old.tasks ≡ record { desc = taken.0; domain = taken.1 } ∷ self.new.tasks) }
         ensures least { IfSome result
-            (λ taken. TakesLeast self.old.entries self.new.entries (record { desc = taken.0; domain = taken.1 })) }
+            (λ taken. TakesLeast self.old.tasks self.new.tasks (record { desc = taken.0; domain = taken.1 })) }
         ensures fits { IfSome result (λ taken. IsDesc taken.0 × (length taken.1 + 1 ≡ taken.0.depth)) }
         ensures empty { IfNone result (self.new ≡ self.old) }
         ensures spare { OnSome result (self.new.spare ≡ self.old.spare + 1) }
@@ -92,9 +92,9 @@ impl Block {
     /// The open key of the task that `take_least` would take, where it stands, with no copy; None exactly where
     /// the block is empty.
     pub fn front_key(&self) -> Option<&Key>
-        ensures first { option_map (λ key. key.now) result ≡ first_key self.now.entries }
-        ensures none { IsNone result ↔ (self.now.entries ≡ []) }
-        ensures least { IfSome result (λ key. IsLeastKey self.now.entries key.now) }
+        ensures first { option_map (λ key. key.now) result ≡ first_key self.now.tasks }
+        ensures none { IsNone result ↔ (self.now.tasks ≡ []) }
+        ensures least { IfSome result (λ key. IsLeastKey self.now.tasks key.now) }
     {
         if self.is_empty() {
             return None;
@@ -104,9 +104,9 @@ impl Block {
 
     /// A copy of that key.
     pub fn least_key(&self) -> Option<Key>
-        ensures first { result ≡ first_key self.now.entries }
-        ensures none { IsNone result ↔ (self.now.entries ≡ []) }
-        ensures least { IfSome result (IsLeastKey self.now.entries) }
+        ensures first { result ≡ first_key self.now.tasks }
+        ensures none { IsNone result ↔ (self.now.tasks ≡ []) }
+        ensures least { IfSome result (IsLeastKey self.now.tasks) }
     {
         let first = self.front_key()?;
         Some(first.copy())
@@ -114,22 +114,22 @@ impl Block {
 
     /// The descriptor of the task at a place, in the order of the keys.
     pub fn desc_at(&self, place: usize) -> Desc
-        requires { place < length self.now.entries }
-        ensures { option_map (λ entry. entry.desc) (slice_get self.now.entries place) ≡ Some result }
+        requires { place < length self.now.tasks }
+        ensures { option_map (λ task. task.desc) (slice_get self.now.tasks place) ≡ Some result }
     {
         self.shelf.get(place).desc()
     }
 
     /// How many tasks it holds.
     pub fn len(&self) -> usize
-        ensures { result ≡ length self.now.entries }
+        ensures { result ≡ length self.now.tasks }
     {
         self.shelf.len()
     }
 
     /// Whether it holds none.
     pub fn is_empty(&self) -> bool
-        ensures { IsTrue result ↔ (self.now.entries ≡ []) }
+        ensures { IsTrue result ↔ (self.now.tasks ≡ []) }
     {
         self.shelf.len() == 0
     }
@@ -138,8 +138,8 @@ impl Block {
     /// order stays. No memory.
     pub fn renumber(&mut self, table: &[u64])
         requires rising { IsStrictlyIncreasing table.now }
-        requires held { HoldsSpilled table.now self.old.entries }
-        ensures entries { self.new.entries ≡ map (renumbered_spilled table.now) self.old.entries }
+        requires held { HoldsSpilled table.now self.old.tasks }
+        ensures tasks { self.new.tasks ≡ map (renumbered_spilled table.now) self.old.tasks }
         ensures spare { self.new.spare ≡ self.old.spare }
     {
         self.shelf.renumber(table);
@@ -147,7 +147,7 @@ impl Block {
 
     /// Law: the tasks are in the order of their open keys.
     pub fn is_in_order(&self)
-        ensures { IsInOrder by_key self.now.entries }
+        ensures { IsInOrder by_key self.now.tasks }
     {
         let _ = &self.shelf;
     }
@@ -157,8 +157,8 @@ impl Block {
 /// that was spilled before.
 #[tactic(auto, using(crate::proofs::Pushed::search_beyond))]
 fn low_for(shelf: &Shelf, fresh: &Kept) -> usize
-    requires { IsInOrder by_key shelf.now.entries }
-    ensures { result ≤ place_for by_key fresh.now shelf.now.entries }
+    requires { IsInOrder by_key shelf.now.tasks }
+    ensures { result ≤ place_for by_key fresh.now shelf.now.tasks }
 {
     let many = shelf.len();
     if many > 0 && !cmp(fresh.key(), shelf.get(many - 1).key()).is_lt() {
@@ -171,8 +171,8 @@ fn low_for(shelf: &Shelf, fresh: &Kept) -> usize
 /// The place of the first task with a greater key, or their number where there is none.
 #[tactic(auto, using(crate::proofs::Pushed::search_upto, crate::proofs::Pushed::search_beyond, fractal_vt::proofs::Sorted::place_within))]
 fn place_for(shelf: &Shelf, fresh: &Kept) -> usize
-    requires { IsInOrder by_key shelf.now.entries }
-    ensures { result ≡ place_for by_key fresh.now shelf.now.entries }
+    requires { IsInOrder by_key shelf.now.tasks }
+    ensures { result ≡ place_for by_key fresh.now shelf.now.tasks }
 {
     let mut low = low_for(shelf, fresh);
     let mut high = shelf.len();

@@ -107,7 +107,7 @@ impl Blocks {
         requires rising { IsStrictlyIncreasing table.now }
         requires held { All (HoldsSpilled table.now) (lists_in self.old.items) }
         ensures count { length self.new.items ≡ length self.old.items }
-        ensures entries { lists_in self.new.items ≡ map (map (renumbered_spilled table.now)) (lists_in self.old.items) }
+        ensures tasks { lists_in self.new.items ≡ map (map (renumbered_spilled table.now)) (lists_in self.old.items) }
         ensures spare { map (λ block. block.spare) self.new.items ≡ map (λ block. block.spare) self.old.items }
     {
         renumber_blocks(&mut self.blocks, table);
@@ -149,7 +149,7 @@ fn empty_blocks(alloc: Global, tiles: u32) -> Result<Vec<Block>, AllocError>
 
 /// Takes all tasks out of a block.
 fn empty_block(block: &mut Block)
-    ensures { block.new.entries ≡ [] }
+    ensures { block.new.tasks ≡ [] }
 {
     while block.take_least().is_some() {}
 }
@@ -226,7 +226,7 @@ fn renumber_blocks(blocks: &mut [Block], table: &[u64])
     requires rising { IsStrictlyIncreasing table.now }
     requires held { All (HoldsSpilled table.now) (lists_in blocks.old) }
     ensures count { length blocks.new ≡ length blocks.old }
-    ensures entries { lists_in blocks.new ≡ map (map (renumbered_spilled table.now)) (lists_in blocks.old) }
+    ensures tasks { lists_in blocks.new ≡ map (map (renumbered_spilled table.now)) (lists_in blocks.old) }
     ensures spare { map (λ block. block.spare) blocks.new ≡ map (λ block. block.spare) blocks.old }
 {
     for tile in 0..blocks.len() {

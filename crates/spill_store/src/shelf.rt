@@ -27,7 +27,7 @@ pub(crate) struct Shelf {
     /// The places that are free.
     free: Vec<u32>,
     /// How many tasks it has memory for.
-    room: usize,
+    capacity: usize,
 }
 
 impl Model for Shelf {
@@ -39,44 +39,44 @@ impl Model for Shelf {
     ghost Value = { BlockValue };
 
     ghost view = { λ s. record {
-      entries = at_places s.kept.items s.order.items;
-      spare = s.room - length s.order.items;
+      tasks = at_places s.kept.items s.order.items;
+      spare = s.capacity - length s.order.items;
     } };
 
     ghost invariant = { λ s.
-        IsShelved s.kept.items s.order.items s.free.items s.room
+        IsShelved s.kept.items s.order.items s.free.items s.capacity
         (deque_capacity s.order) (vec_capacity s.kept) (vec_capacity s.free) };
 }
 
 impl Shelf {
     /// An empty list, which takes the memory of its growth from `alloc`.
     pub(crate) fn new(alloc: Global) -> Shelf
-        ensures { result.entries ≡ [] }
+        ensures { result.tasks ≡ [] }
     {
         Shelf {
             kept: Vec::new(alloc),
             order: VecDeque::new(alloc),
             free: Vec::new(alloc),
-            room: 0,
+            capacity: 0,
         }
     }
 
     /// How many tasks it holds.
     pub(crate) fn len(&self) -> usize
-        ensures { result ≡ length self.now.entries }
+        ensures { result ≡ length self.now.tasks }
     {
         self.order.len()
     }
 
     /// Takes memory for `more` tasks. What was spare stays so, and where that is enough no memory is taken.
     pub(crate) fn reserve(&mut self, more: usize) -> Result<(), AllocError>
-        ensures entries { self.new.entries ≡ self.old.entries }
+        ensures tasks { self.new.tasks ≡ self.old.tasks }
         ensures spare { OnOk result (more ≤ self.new.spare) }
         ensures stays { self.old.spare ≤ self.new.spare }
         ensures enough { more ≤ self.old.spare → IsOk result }
         ensures err { OnErr result (self.new ≡ self.old) }
     {
-        if more <= self.room - self.order.len() {
+        if more <= self.capacity - self.order.len() {
             return Ok(());
         }
         self.order.reserve(more)?;
@@ -86,14 +86,14 @@ impl Shelf {
         }
         self.kept.reserve(wanted.saturating_sub(self.kept.len()))?;
         self.free.reserve(wanted.saturating_sub(self.free.len()))?;
-        self.room = wanted;
+        self.capacity = wanted;
         Ok(())
     }
 
     /// The task at a place of the list.
     pub(crate) fn get(&self, at: usize) -> &Kept
-        requires { at < length self.now.entries }
-        ensures { slice_get self.now.entries at ≡ Some result.now }
+        requires { at < length self.now.tasks }
+        ensures { slice_get self.now.tasks at ≡ Some result.now }
     {
         let place = self.order[at] as usize;
         &self.kept[place]
@@ -102,8 +102,8 @@ impl Shelf {
     /// Puts a task in at a place of the list.
     pub(crate) fn insert(&mut self, at: usize, fresh: Kept)
         requires spare { 1 ≤ self.old.spare }
-        requires within { at ≤ length self.old.entries }
-        ensures entries { self.new.entries ≡ insert self.old.entries at fresh }
+        requires within { at ≤ length self.old.tasks }
+        ensures tasks { self.new.tasks ≡ insert self.old.tasks at fresh }
         ensures spare { self.new.spare + 1 ≡ self.old.spare }
     {
         match self.free.pop() {
@@ -130,9 +130,9 @@ impl Shelf {
 
     /// Takes the first task out.
     pub(crate) fn take_first(&mut self) -> Option<(Desc, Vt)>
-        ensures none { IsNone result ↔ (self.old.entries ≡ []) }
+        ensures none { IsNone result ↔ (self.old.tasks ≡ []) }
         ensures first { IfSome result
-            (λ taken. self.old.entries ≡ record { desc = taken.0; domain = taken.1 } ∷ self.new.entries) }
+            (λ taken. self.old.tasks ≡ record { desc = taken.0; domain = taken.1 } ∷ self.new.tasks) }
         ensures fits { IfSome result (λ taken. IsDesc taken.0 × (length taken.1 + 1 ≡ taken.0.depth)) }
         ensures empty { IfNone result (self.new ≡ self.old) }
         ensures spare { OnSome result (self.new.spare ≡ self.old.spare + 1) }
@@ -148,7 +148,7 @@ impl Shelf {
     /// Replaces each tiebreaker of the domains by its place in the table.
     pub(crate) fn renumber(&mut self, table: &[u64])
         requires { IsStrictlyIncreasing table.now }
-        ensures entries { self.new.entries ≡ map (renumbered_spilled table.now) self.old.entries }
+        ensures tasks { self.new.tasks ≡ map (renumbered_spilled table.now) self.old.tasks }
         ensures spare { self.new.spare ≡ self.old.spare }
     {
         renumber_all(&mut self.kept, table);

@@ -24,7 +24,7 @@ same_bytes [] (y ∷ ys) h = cc
 same_bytes (x ∷ xs) [] h = cc
 same_bytes (x ∷ xs) (y ∷ ys) h = let both = and_parts (x == y) _ h in rw (eqb-true x y both.0, same_bytes xs ys both.1) refl
 
--- the two parts of a cut are the list
+-- the two parts of a cut, with the mark between them, are the list
 abbrev Joins : ℕ → List ℕ → Option (List ℕ × List ℕ) → Type 0
 Joins c bs None = Unit {0}
 Joins c bs (Some p) = bs ≡ p.0 ++ c ∷ p.1

@@ -156,7 +156,7 @@ Plays N image script old said new =
     (held : List HeldLeg)
     × DoesAll N image script (record { book = old; held = [] }) said (record { book = new; held = held })
 
--- so many acts of the script were played, and then memory ran out
+-- so many acts at the front of the script were played, of which this is said, and they left this book
 pub record PlaysSome (N : Type 0) (image : ImageValue) (script : List Act) (old new : BookView) : Type 0 where
   pub count : ℕ
   pub said : List Said

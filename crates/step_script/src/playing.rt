@@ -304,7 +304,7 @@ pub fn play<N: Naming, P: Placer, T: Tap>(
         let new = view_of P.policy T.notes book.new in
         OnErr result (PlaysSome N N.image acts.now old new) }
 {
-    // All room for the words comes first, so that no act is made whose word finds none.
+    // The memory for all words comes first, so that no act is played whose word finds none.
     let mut said = Vec::with_capacity(alloc, acts.len())?;
     let mut held = Vec::new(alloc);
     let mut leg = first_leg(image, book);

@@ -6,6 +6,7 @@ use Rattle.std.proofs.Math.Seq.{take-add, get_or-drop}
 use Rattle.std.specs.List.{list_all}
 use Rattle.std.proofs.lemmas.Nat.{le_bytes_2, le_bytes_4}
 use Rattle.std.proofs.lemmas.Bool.Decides.{nat_tests}
+use Rattle.std.proofs.lemmas.Bool.{and_parts}
 use Rattle.byteorder.specs.Endian.{little_number}
 use Rattle.byteorder.specs.Numbers.{little_number-reads_back}
 use Rattle.guest_image.specs.Numbers.{word_at, half_at, word_bytes, half_bytes}
@@ -67,7 +68,7 @@ put_at xs ys ws at n long fits is =
     let none : drop (64 - at) (drop at xs) ≡ [] = drop_all (64 - at) (drop at xs) short in
     ap (λ zs. take at xs ++ (ys ++ zs)) none ∙ ap (λ zs. take at xs ++ zs) (append-nil ys ∙ is ∙ ap (λ zs. ws ++ zs) tail) ∙ sym (append_assoc (take at xs) ws (drop (at + n) xs))
 
--- the fields of a descriptor as they are in Rust
+-- the fields of a descriptor are in the ranges of the code's types
 pub record InRange (desc : Desc) : Type 0 where
   pub entry : desc.entry < 2 ^ 32
   pub ts : desc.ts < 2 ^ 32
@@ -193,13 +194,9 @@ desc_of-some bytes desc is = by_test (is_record bytes) (fields_of bytes) is
     by_test true found e = (refl, cc)
     by_test false found e = absurd (cc)
 
-first_true : (a b : Bool) → (a && b) ≡ true → a ≡ true
-first_true true b e = refl
-first_true false b e = absurd (cc)
-
 pub fields_of-valid : (bytes : List ℕ) → is_record bytes ≡ true → IsDesc (fields_of bytes)
 unfolding is_record
-fields_of-valid bytes valid = by_desc (fields_of bytes) (first_true (is_desc (fields_of bytes)) (list_all (λ byte. byte == 0) (drop 36 bytes)) valid)
+fields_of-valid bytes valid = by_desc (fields_of bytes) (and_parts (is_desc (fields_of bytes)) (list_all (λ byte. byte == 0) (drop 36 bytes)) valid).0
   where
     by_desc : (desc : Desc) → is_desc desc ≡ true → IsDesc desc
     by_desc desc passed = let parts = by_tests desc.depth desc.kinds passed in record { inside = parts.0; shallow = parts.1; kinds = parts.2 }

@@ -8,7 +8,7 @@ use Rattle.task_desc.specs.declared.desc.Spawn.{Spawn}
 use Rattle.task_desc.specs.declared.desc.Place.{Place}
 use Rattle.task_desc.specs.declared.desc.Place.TheVariants.{Same, Sub, Super}
 
--- the depth of the innermost domain in a version of the image
+-- the greatest depth of a task in a version of the image
 abbrev pub deepest : ℕ → ℕ
 deepest version = if version == 2 then 16 else 8
 
@@ -44,7 +44,7 @@ abbrev pub allowed_super : Ctx → ℕ → Option Kind → Result ℕ ℕ
 allowed_super ctx ts None = Err 13
 allowed_super ctx ts (Some kind) = if is_early kind ts ctx.floor then Err 10 else one_more_child ctx (domain_ts kind ts)
 
--- an enqueue by its place
+-- an enqueue, by the domain of its child
 abbrev pub allowed_at : Ctx → ℕ → Place → Result ℕ ℕ
 allowed_at ctx ts Same = allowed_same ctx ts
 allowed_at ctx ts Sub = allowed_sub ctx ts ctx.sub

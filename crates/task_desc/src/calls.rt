@@ -8,10 +8,10 @@ ghost use Rattle.task_desc.specs.Calls.{byte_allowed};
 use crate::desc::{Ctx, Place, Spawn};
 use guest_image::Kind;
 
-/// The depth of the innermost domain in any version of the image.
+/// The greatest depth of a domain in any version of the image.
 pub const MAX_DEPTH: u8 = 16;
 
-/// How many children a task may enqueue in any version of the image, in all its domains together.
+/// The most children that a task may enqueue in any version of the image, in all its domains together.
 pub const MAX_CHILDREN: u32 = 256;
 
 /// How many bytes a task may emit.
@@ -56,7 +56,7 @@ fn early(kind: Kind, ts: u32, bound: u32) -> bool
 /// One child more at this timestamp, or trap 15.
 fn count(ctx: &Ctx, ts: u32) -> Result<u32, u8>
     ensures value { result ≡ one_more_child ctx.now ts }
-    ensures room { OnOk result (ctx.now.children < MAX_CHILDREN) }
+    ensures fits { OnOk result (ctx.now.children < MAX_CHILDREN) }
 {
     if ctx.children < most_children(ctx.version) {
         Ok(ts)
@@ -75,7 +75,7 @@ fn count(ctx: &Ctx, ts: u32) -> Result<u32, u8>
 /// It asks nothing of the context: whatever that says, the answer is the rule's.
 pub fn allow(ctx: &Ctx, spawn: &Spawn) -> Result<u32, u8>
     ensures value { result ≡ allowed_spawn ctx.now spawn.now }
-    ensures room { OnOk result (ctx.now.children < MAX_CHILDREN) }
+    ensures fits { OnOk result (ctx.now.children < MAX_CHILDREN) }
 {
     match spawn.place {
         Place::Same => {
@@ -126,7 +126,7 @@ pub fn allow_sub(ctx: &Ctx, value: u32) -> Result<Kind, u8>
 /// Whether a task may emit one byte more by call 5; trap 16 exactly where it has emitted 256.
 pub fn allow_byte(ctx: &Ctx) -> Result<(), u8>
     ensures value { result ≡ byte_allowed ctx.now }
-    ensures room { OnOk result (ctx.now.bytes < MAX_BYTES) }
+    ensures fits { OnOk result (ctx.now.bytes < MAX_BYTES) }
 {
     if ctx.bytes < MAX_BYTES {
         Ok(())

@@ -23,14 +23,15 @@ pub enum Place {
     Super,
 }
 
-/// A child as its creator asks for it: the timestamp is the one asked for, which an unordered domain takes as 0.
+/// A child that a task asks for: with the timestamp asked for until `allow` has allowed it, and then, in a request and
+/// among the children of a task, with the one that its domain takes, which is 0 in an unordered one.
 #[derive(Clone, Copy, Debug, PartialEq, Eq)]
 pub struct Spawn {
     /// The domain to which it goes.
     pub place: Place,
     /// The address of its first instruction; it may lie outside the text.
     pub entry: u32,
-    /// The timestamp that is asked for.
+    /// The timestamp that is asked for, or, once the child is allowed, the one that its domain takes.
     pub ts: u32,
     /// Its arguments, in the registers x10 to x12 at its start.
     pub args: [u32; 3],
@@ -39,7 +40,7 @@ pub struct Spawn {
 }
 
 /// What a task is made of, without its domain's levels. Its domain lies at `depth`, the root at 1; bit d of `kinds`
-/// is 1 where the domain at depth d + 1 on the task's path is ordered.
+/// is 1 where the domain at depth d + 1, of those that the task is in, is ordered.
 #[derive(Clone, Copy, Debug, PartialEq, Eq)]
 pub struct Desc {
     /// The task's name.
@@ -54,7 +55,7 @@ pub struct Desc {
     pub hint: u32,
     /// The depth of its domain: 1 for the root domain, at most 16.
     pub depth: u8,
-    /// A bit for each depth on its path, the root in bit 0: 1 where that domain is ordered.
+    /// A bit for each domain that it is in, the root in bit 0: 1 where that domain is ordered.
     pub kinds: u16,
 }
 
@@ -63,7 +64,7 @@ pub struct Desc {
 /// how many children and bytes it has enqueued and emitted so far.
 #[derive(Clone, Copy, Debug, PartialEq, Eq)]
 pub struct Ctx {
-    /// The version of the image, which gives the limits: 8 levels and 64 children in version 1, 16 and 256 in
+    /// The version of the image, which gives the limits: depth 8 and 64 children in version 1, 16 and 256 in
     /// version 2.
     pub version: u16,
     /// The depth of its domain: 1 for the root domain, at most 16.

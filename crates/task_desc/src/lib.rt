@@ -1,7 +1,7 @@
 //! Task descriptors, which calls a task may make, and the record of a spilled task. Plain `Copy` data and pure
 //! functions: a call is allowed by a few comparisons with a `Ctx`, and a record is 64 bytes written or read once.
 //! No call takes memory. It stands on the image's kinds; `task_request` and the spill store call it; both machines,
-//! journals, reports and saved images have its data.
+//! journals and reports have its data.
 #![tactic(auto)]
 
 mod calls;

@@ -88,11 +88,11 @@ fn is_valid(bytes: &[u8; RECORD_BYTES]) -> bool
     ensures value { result ≡ is_record bytes.now }
     ensures shallow { OnTrue result (half_at bytes.now 32 ≤ MAX_DEPTH) }
 {
-    is_of_path(half(bytes, 32), half(bytes, 34)) && is_zero(&bytes[PADDING..])
+    is_of_depth(half(bytes, 32), half(bytes, 34)) && is_zero(&bytes[PADDING..])
 }
 
 /// Whether the depth is that of a domain, and `kinds` has no bit at or past it.
-fn is_of_path(depth: u16, kinds: u16) -> bool
+fn is_of_depth(depth: u16, kinds: u16) -> bool
     ensures value { result ≡ (nat_le 1 depth && nat_le depth MAX_DEPTH && nat_lt kinds (2 ^ depth)) }
     ensures shallow { OnTrue result (depth ≤ MAX_DEPTH) }
 {

@@ -8,7 +8,7 @@ use Rattle.task_request.specs.declared.request.Request.{Request}
 use Rattle.task_request.specs.Effects.{after_request}
 use Rattle.task_request.specs.TaskState.{TaskState, context}
 use Rattle.task_request.proofs.Proved.{AllowedBy, request_at-allowed_spawn}
-use Rattle.serial_machine.proofs.Proved.{StepHolds}
+use Rattle.serial_machine.proofs.Proved.{HoldsAfter}
 use Rattle.task_law.specs.Logged.{Asks, LoggedRun, none, plain, call, load, store}
 
 module _ (image : ImageValue) (budget size : ℕ) (ctx : Ctx) where
@@ -18,11 +18,11 @@ module _ (image : ImageValue) (budget size : ℕ) (ctx : Ctx) where
 
   -- what each instruction and each request that is allowed keeps holds along the run
   module _ (Holds : TaskState → Type 0) (start : TaskState) (moves : (task : TaskState) (core : Core) → Holds task → Holds (record task { core = core }))
-      (asked : (task : TaskState) (request : Request) → AllowedBy (context ctx task) request → Holds task → StepHolds Holds (after_request task request)) where
+      (asked : (task : TaskState) (request : Request) → AllowedBy (context ctx task) request → Holds task → HoldsAfter Holds (after_request task request)) where
     pub logged-holds : {log : List Access} {task : TaskState} → LoggedRun image budget size ctx start log task → Holds start → Holds task
     logged-holds none here = here
     logged-holds (plain {log} {task} core run at) here = moves task core (logged-holds run here)
     logged-holds (call {log} {task} request after run asks is_call goes) here =
-        subst (StepHolds Holds) goes (asked task request (asks-allowed task request asks) (logged-holds run here))
+        subst (HoldsAfter Holds) goes (asked task request (asks-allowed task request asks) (logged-holds run here))
     logged-holds (load {log} {task} access width rd run asks is_width is_load) here = moves task _ (logged-holds run here)
     logged-holds (store {log} {task} access value run asks is_store) here = moves task _ (logged-holds run here)

@@ -12,6 +12,7 @@ use Rattle.task_desc.specs.declared.desc.Place.TheVariants.{Same, Sub, Super}
 use Rattle.pending_list.specs.declared.task.PendingTask.{PendingTask}
 use Rattle.serial_machine.specs.BagValue.{BagValue}
 use Rattle.serial_machine.specs.State.{IsStack}
+use Rattle.serial_machine.proofs.Proved.{children_for}
 use Rattle.serial_machine.specs.Turn.{is_named, without_name, inner, place_number, child, is_for, children, sub_bags, with_super, stack_after}
 use Rattle.task_law.specs.Tasks.{In, IsChildDepth}
 use Rattle.task_law.specs.Commit.{Stands, HaveDomains}
@@ -52,58 +53,57 @@ same_number Sub Super e = absurd (cc)
 same_number Super Same e = absurd (cc)
 same_number Super Sub e = absurd (cc)
 
--- the child that one of the spawns of a place becomes
-pub record IsKid (place : Place) (n k : ℕ) (spawns : List Spawn) (p : PendingTask) : Type 0 where
+-- the child that one of the spawns for a domain becomes
+pub record IsChildFor (place : Place) (n k : ℕ) (spawns : List Spawn) (p : PendingTask) : Type 0 where
   pub index : ℕ
   pub spawn : Spawn
   pub at : slice_get spawns index ≡ Some spawn
   pub place_is : place ≡ spawn.place
   pub is : p ≡ child n (k + index, spawn)
 
-abbrev kids_from : Place → ℕ → ℕ → List Spawn → List PendingTask
-kids_from place n k spawns = map (child n) (filter (is_for place) (enumerate_from k spawns))
-
-kids-has : (place : Place) (n k : ℕ) (spawns : List Spawn) (index : ℕ) (s : Spawn) → slice_get spawns index ≡ Some s → place ≡ s.place → In (child n (k + index, s)) (kids_from place n k spawns)
-kids-has place n k [] index s at same = absurd (cc)
-kids-has place n k (x ∷ spawns) zero s at same =
+children_for-has : (place : Place) (n k : ℕ) (spawns : List Spawn) (index : ℕ) (s : Spawn) → slice_get spawns index ≡ Some s → place ≡ s.place → In (child n (k + index, s)) (children_for place n k spawns)
+children_for-has place n k [] index s at same = absurd (cc)
+children_for-has place n k (x ∷ spawns) zero s at same =
     let eq : x ≡ s = cc in
     let test : is_for place (k, x) ≡ true = ap (λ z. place_number z.place == place_number place) eq ∙ number_same place s.place same in
     let here : child n (k + 0, s) ≡ child n (k, x) = ap (λ j. child n (j, s)) (let e : k + 0 ≡ k = omega arith in e) ∙ ap (λ z. child n (k, z)) (sym eq) in
     subst (λ b. In (child n (k + 0, s)) (map (child n) (if b then (k, x) ∷ filter (is_for place) (enumerate_from (k + 1) spawns) else filter (is_for place) (enumerate_from (k + 1) spawns)))) (sym test) (inl here)
-kids-has place n k (x ∷ spawns) (suc index) s at same =
+children_for-has place n k (x ∷ spawns) (suc index) s at same =
     let shift : k + 1 + index ≡ k + suc index = omega arith in
-    let later = subst (λ j. In (child n (j, s)) (kids_from place n (k + 1) spawns)) shift (kids-has place n (k + 1) spawns index s at same) in
+    let later = subst (λ j. In (child n (j, s)) (children_for place n (k + 1) spawns)) shift (children_for-has place n (k + 1) spawns index s at same) in
     by_test (is_for place (k, x)) later
   where
-    by_test : (b : Bool) → In (child n (k + suc index, s)) (kids_from place n (k + 1) spawns)
+    by_test : (b : Bool) → In (child n (k + suc index, s)) (children_for place n (k + 1) spawns)
         → In (child n (k + suc index, s)) (map (child n) (if b then (k, x) ∷ filter (is_for place) (enumerate_from (k + 1) spawns) else filter (is_for place) (enumerate_from (k + 1) spawns)))
     by_test true later = inr later
     by_test false later = later
 
-kids-of : (place : Place) (n k : ℕ) (spawns : List Spawn) (p : PendingTask) → In p (kids_from place n k spawns) → IsKid place n k spawns p
-kids-of place n k [] p at = absurd at
-kids-of place n k (x ∷ spawns) p at = by_test (is_for place (k, x)) refl at (kids-of place n (k + 1) spawns p)
+children_for-of : (place : Place) (n k : ℕ) (spawns : List Spawn) (p : PendingTask) → In p (children_for place n k spawns) → IsChildFor place n k spawns p
+children_for-of place n k [] p at = absurd at
+children_for-of place n k (x ∷ spawns) p at = by_test (is_for place (k, x)) refl at (children_for-of place n (k + 1) spawns p)
   where
-    deeper : IsKid place n (k + 1) spawns p → IsKid place n k (x ∷ spawns) p
+    deeper : IsChildFor place n (k + 1) spawns p → IsChildFor place n k (x ∷ spawns) p
     deeper r = record { index = suc r.index; spawn = r.spawn; at = r.at; place_is = r.place_is; is = r.is ∙ ap (λ j. child n (j, r.spawn)) (let e : k + 1 + r.index ≡ k + suc r.index = omega arith in e) }
 
     by_test : (b : Bool) → is_for place (k, x) ≡ b
         → In p (map (child n) (if b then (k, x) ∷ filter (is_for place) (enumerate_from (k + 1) spawns) else filter (is_for place) (enumerate_from (k + 1) spawns)))
-        → (In p (kids_from place n (k + 1) spawns) → IsKid place n (k + 1) spawns p) → IsKid place n k (x ∷ spawns) p
+        → (In p (children_for place n (k + 1) spawns) → IsChildFor place n (k + 1) spawns p)
+        → IsChildFor place n k (x ∷ spawns) p
     by_test true test (inl here) go = record { index = 0; spawn = x; at = refl; place_is = same_number place x.place test; is = here ∙ ap (λ j. child n (j, x)) (let e : k ≡ k + 0 = omega arith in e) }
     by_test true test (inr later) go = deeper (go later)
     by_test false test later go = deeper (go later)
 
--- a spawn is a child of its place, and the children of a place are its spawns
+-- a spawn is a child for its domain, and the children for a domain are its spawns
 pub children-has : (n : ℕ) (spawns : List Spawn) (index : ℕ) (s : Spawn) (place : Place) → slice_get spawns index ≡ Some s → place ≡ s.place → In (child n (index, s)) (children place n spawns)
 unfolding children
 children-has n spawns index s place at same =
     let shift : 0 + index ≡ index = omega arith in
-    subst (λ j. In (child n (j, s)) (kids_from place n 0 spawns)) shift (kids-has place n 0 spawns index s at same)
+    subst (λ j. In (child n (j, s)) (children_for place n 0 spawns)) shift
+    (children_for-has place n 0 spawns index s at same)
 
-pub children-of : (place : Place) (n : ℕ) (spawns : List Spawn) (p : PendingTask) → In p (children place n spawns) → IsKid place n 0 spawns p
+pub children-of : (place : Place) (n : ℕ) (spawns : List Spawn) (p : PendingTask) → In p (children place n spawns) → IsChildFor place n 0 spawns p
 unfolding children
-children-of place n spawns p at = kids-of place n 0 spawns p at
+children-of place n spawns p at = children_for-of place n 0 spawns p at
 
 -- a new child of a turn, at its depth
 pub record IsNewChild (n depth : ℕ) (spawns : List Spawn) (d : ℕ) (p : PendingTask) : Type 0 where

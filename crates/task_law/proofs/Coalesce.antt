@@ -102,8 +102,8 @@ module _ (count least : ℕ) (runs : Bool) where
     names_low {turn} {index} (Committed t i) is names = let same : t ≡ turn = cc in subst (λ n. n ≤ count) same names.1
     names_low (Live t i) is names = absurd (cc (is))
 
-    pub unspill_keeps : AreSound count least runs new after → AreSound count least runs old before
-    unspill_keeps sound =
+    pub split_keeps : AreSound count least runs new after → AreSound count least runs old before
+    split_keeps sound =
         let spills = as_spill old new before after id one in
         let less = NamesDiffer-less one.front one.back (spilled_of one.name one.task) (subst NamesDiffer one.after_is sound.differ) in
         let fresh : IsFresh one.name before = subst (IsFresh one.name) (sym one.before_is) less.1 in
@@ -148,5 +148,5 @@ coalesces_keep ids old new before after count least runs is = coalesce_keeps cou
 pub splits_keep : SplitKeepsTasks
 splits_keep id old new before after count least runs one = (
   λ depth p. let same = spill_same_free count least runs new old after before id one depth p in (same.1, same.0),
-  unspill_keeps count least runs new old after before id one,
+  split_keeps count least runs new old after before id one,
 )

@@ -34,7 +34,7 @@ inner_short (bag ∷ outer) = by_test (length bag.tasks == 0) (inner_short outer
     by_test true less = omega (arith, less)
     by_test false less = omega arith
 
--- the emptied bags are deeper than all of them
+-- they fit still without the emptied bags, which are deeper than all of them
 fits_inner : (ds : List Domain) (stack : List BagValue) → FitsBags ds stack → length ds ≤ length (inner stack) → FitsBags ds (inner stack)
 fits_inner ds [] fits low = fits
 fits_inner ds (bag ∷ outer) fits low = by_test (length bag.tasks == 0) (fits_inner ds outer) fits low
@@ -117,9 +117,9 @@ module _ (stack : List BagValue) (task : PendingTask) (own : List Domain) (depth
         let same : ds ≡ map domain_of (b ∷ bs) = cc in
         inl same
 
-    kids : (index : ℕ) (spawn : Spawn) (ds : List Domain) → slice_get spawns index ≡ Some spawn → ChildDomains own task.ts sub spawn.place ds → FitsBags ds (stack_after next.bag next.outer task.name n task.ts spawns sub)
+    all_children : (index : ℕ) (spawn : Spawn) (ds : List Domain) → slice_get spawns index ≡ Some spawn → ChildDomains own task.ts sub spawn.place ds → FitsBags ds (stack_after next.bag next.outer task.name n task.ts spawns sub)
     unfolding stack_after
-    kids index spawn ds at domains = by_place spawn.place refl domains
+    all_children index spawn ds at domains = by_place spawn.place refl domains
       where
         by_place : (place : Place) → spawn.place ≡ place → ChildDomains own task.ts sub place ds → FitsBags ds (News sub ++ rest)
         by_place Same e same = fits_append ds (News sub) rest (inl (same ∙ rest_is))
@@ -133,7 +133,7 @@ module _ (stack : List BagValue) (task : PendingTask) (own : List Domain) (depth
 
 pub turns_keep_domains : TurnKeepsDomains
 turns_keep_domains stack task own depth n spawns sub is fits long have next =
-    record { others = others stack task own depth is fits long next n spawns sub have; children = kids stack task own depth is fits long next n spawns sub have }
+    record { others = others stack task own depth is fits long next n spawns sub have; children = all_children stack task own depth is fits long next n spawns sub have }
 
 kind_first : (outer : List BagValue) → kind_outside outer ≡ first_kind (map domain_of outer)
 kind_first [] = refl

@@ -1,4 +1,5 @@
--- The free tasks after a commit are those before it without the task, and its children.
+-- The free tasks after a commit are those before it without the task, and its children; names stay apart, families
+-- whole and spilled tasks firm.
 use Rattle.std.proofs.Common.{◌≡◌, ◌≢◌, ◌⊎◌, ℕ, ◌+◌, ◌≤◌, Bool, true, List, Option, Some, None, refl, sym, ap, subst, ◌∙◌, inl, inr, arith, slice_get}
 use Rattle.std.proofs.lemmas.Bool.{cases_eq, false_from_ne_true}
 use Rattle.std.proofs.lemmas.Bool.Decides.{nat_tests}

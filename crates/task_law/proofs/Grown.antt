@@ -7,17 +7,9 @@ use Rattle.pending_list.specs.declared.task.PendingTask.{PendingTask}
 use Rattle.task_law.specs.Tasks.{BagCreator, Committed, Live, Body, body_of, spawn_body, BagTask, pending, IsFree, IsChild, IsFamily, Matched, IsChildDepth, Names, SpilledBagTask, IsSpilled}
 use Rattle.task_law.specs.Sound.{AreSound, IdleLeastIsAny}
 use Rattle.task_law.specs.Grows.{DispatchesInBags, DispatchKeepsTasks, made_by, EnqueuesInBags, EnqueueKeepsTasks, PlacesInBags, PlacementKeepsTasks, NoTasksAreSound}
+use Rattle.fractal_vt.proofs.Proved.{get_end, get_front}
 
 module _ {X : Type 0} where
-  pub get_front : (xs ys : List X) (i : ℕ) (x : X) → slice_get xs i ≡ Some x → slice_get (xs ++ ys) i ≡ Some x
-  get_front [] ys i x at = absurd (cc)
-  get_front (a ∷ xs) ys zero x at = at
-  get_front (a ∷ xs) ys (suc i) x at = get_front xs ys i x at
-
-  pub get_last : (xs : List X) (x : X) → slice_get (xs ++ x ∷ []) (length xs) ≡ Some x
-  get_last [] x = refl
-  get_last (a ∷ xs) x = get_last xs x
-
   pub get_cases : (xs : List X) (x : X) (i : ℕ) (y : X) → slice_get (xs ++ x ∷ []) i ≡ Some y → (slice_get xs i ≡ Some y) ⊎ ((i ≡ length xs) × (x ≡ y))
   get_cases [] x zero y at = let same : x ≡ y = cc in inr (refl, same)
   get_cases [] x (suc i) y at = absurd (cc)
@@ -268,7 +260,7 @@ module _ (old new : ℕ → Option BagTask) (id child : ℕ) (task : BagTask) (s
               let deep_is : deep ≡ depth = sym (ap (λ z. z.depth) made) ∙ q.depth_is in
               record {
                 spawn = spawn;
-                spawn_is = ap (λ z. slice_get z index) (ap (λ z. z.spawns) eq) ∙ ap (slice_get (task.spawns ++ spawn ∷ [])) (sym index_is) ∙ get_last task.spawns spawn;
+                spawn_is = ap (λ z. slice_get z index) (ap (λ z. z.spawns) eq) ∙ ap (slice_get (task.spawns ++ spawn ∷ [])) (sym index_is) ∙ get_end task.spawns spawn;
                 place = subst (λ d. IsChildDepth d spawn.place depth) (sym (ap (λ z. z.depth) eq)) (subst (IsChildDepth task.depth spawn.place) deep_is is.place);
                 same_body = sym q.has_body ∙ ap (λ z. z.body) made;
                 same_ts = sym q.has_ts ∙ ap (λ z. z.ts) made;

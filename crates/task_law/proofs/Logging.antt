@@ -19,7 +19,7 @@ use Rattle.task_request.specs.TaskState.{TaskState}
 use Rattle.task_request.proofs.Proved.{after_request-used, HasUsed}
 use Rattle.serial_machine.specs.TaskRun.{task_end_after, after_instructions, task_at_start, task_run, after_stop, Continuation, Continues, Ends, Traps, TaskEnd, Done, Trapped}
 use Rattle.serial_machine.specs.Turn.{context_in_bag}
-use Rattle.serial_machine.proofs.Proved.{spent_traps, after_instructions-task_at_start, after_instructions-plain_step}
+use Rattle.serial_machine.proofs.Proved.{spent_traps, after_instructions-task_at_start, after_instructions-one_plain}
 use Rattle.serial_machine.proofs.Proved.{after_instructions-stop, turn-done}
 use Rattle.memory_law.specs.Accesses.{written_if, after_access, after_accesses, Replays}
 use Rattle.memory_law.proofs.Proved.{length-after_accesses, after_accesses-append, Replays-back, Replays-front}
@@ -70,8 +70,8 @@ module _ (image : ImageValue) (budget : ℕ) (ctx : Ctx) (memory : List ℕ) whe
     pub same : left (on_memory memory start) ≡ left (on_memory (after_accesses memory log) task)
 
   -- where a stop goes on, the budget isn't used up
-  room_left : (t : TaskState) (s : Stop) (new : TaskState) → next_at image (length t.memory) budget t.core ≡ Stops s → after_stop ctx t s ≡ Continues new → t.core.used < budget
-  room_left t s new at goes = elim (cases_lt t.core.used budget) [
+  budget_left : (t : TaskState) (s : Stop) (new : TaskState) → next_at image (length t.memory) budget t.core ≡ Stops s → after_stop ctx t s ≡ Continues new → t.core.used < budget
+  budget_left t s new at goes = elim (cases_lt t.core.used budget) [
     | inl lt ↦ lt
     | inr ge ↦ (let traps : Traps 17 t.core.pc ≡ Continues new = sym (ap (after_stop ctx t) (spent_traps image (length t.memory) budget t.core s at ge)) ∙ goes in absurd (cc (traps)))
   ]
@@ -86,7 +86,7 @@ module _ (image : ImageValue) (budget : ℕ) (ctx : Ctx) (memory : List ℕ) whe
       let new : TaskState = on_memory (after_accesses memory more) after in
       let at : next_at image (length t.memory) budget t.core ≡ Stops asks.found = sized log task ∙ asks.stands in
       let goes_on : after_stop ctx t asks.found ≡ Continues new = ap (after_request t) asks.asks ∙ goes in
-      let room : t.core.used < budget = room_left t asks.found new at goes_on in
+      let room : t.core.used < budget = budget_left t asks.found new at goes_on in
       record {
         within = omega (arith, room, counts);
         same = before.same ∙ after_instructions-stop image budget ctx t asks.found at before.within
@@ -102,7 +102,7 @@ module _ (image : ImageValue) (budget : ℕ) (ctx : Ctx) (memory : List ℕ) whe
       let step : next_at image (length t.memory) budget t.core ≡ Goes core = sized log task ∙ at in
       let room = PlainInstruction-within image (length t.memory) budget t.core core step in
       let counts = PlainInstruction-counted image (length t.memory) budget t.core core step in
-      record { within = omega (arith, room, counts); same = before.same ∙ after_instructions-plain_step image budget ctx t core step }
+      record { within = omega (arith, room, counts); same = before.same ∙ after_instructions-one_plain image budget ctx t core step }
   runs_so start (call {log} {task} request after run asks is_call goes) low chain =
       ask_on start log log task after request (runs_so start run low chain) asks
       (call-on (after_accesses memory log) task request is_call ∙ ap (stepped_on (after_accesses memory log)) goes)

@@ -5,7 +5,7 @@ pub use Rattle.task_law.proofs.Bags.{inner-Stands, Stands-inner}
 pub use Rattle.task_law.proofs.Coalesce.{coalesces_keep, splits_keep}
 pub use Rattle.task_law.proofs.Fitting.{contexts_fit, turns_keep_domains}
 pub use Rattle.task_law.proofs.Freed.{commits_keep, named_same, same_named}
-pub use Rattle.task_law.proofs.Grown.{dispatches_keep, enqueues_keep, get_cases, get_front, get_last, idle_least, none_sound}
+pub use Rattle.task_law.proofs.Grown.{dispatches_keep, enqueues_keep, get_cases, idle_least, none_sound}
 pub use Rattle.task_law.proofs.Grown.{placements_keep}
 pub use Rattle.task_law.proofs.Logging.{finished, logged_run_is_turn, logged_trap_is_serial, on_memory}
 pub use Rattle.task_law.proofs.Resized.{end_on, logged_on}

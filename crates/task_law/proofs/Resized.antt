@@ -121,14 +121,14 @@ module _ (image : ImageValue) (size other budget : ℕ) (core : Core) where
   pub stands_so : (found : Next) → next_at image size budget core ≡ found → Reaches other found → next_at image other budget core ≡ found
   stands_so found at reaches = next_same (subst (Reaches other) (sym at) reaches) ∙ at
 
--- an access that has room ends within so many bytes of data
+-- an access that fits ends within so many bytes of data
 ends_within : (start addr offset width bytes size : ℕ) → offset ≡ addr - start → width ≡ bytes → offset + width ≤ size → addr + bytes ≤ start + size
 ends_within start addr offset width bytes size is_offset is_width room = omega (arith, is_offset, is_width, room)
 
 module _ (image : ImageValue) (budget size : ℕ) (ctx : Ctx) (start : TaskState) (memory : List ℕ) where
-  -- the last access of a log that replays has room
-  last_room : (log : List Access) (access : Access) → Replays memory (log ++ access ∷ []) → access.offset + access.width ≤ length memory
-  last_room log access chain =
+  -- the last access of a log that replays fits
+  last_fits : (log : List Access) (access : Access) → Replays memory (log ++ access ∷ []) → access.offset + access.width ≤ length memory
+  last_fits log access chain =
       let fits = (Replays-back memory log (access ∷ []) chain).0 in
       omega (arith, fits.within, length-after_accesses memory log)
 
@@ -178,7 +178,7 @@ module _ (image : ImageValue) (budget size : ℕ) (ctx : Ctx) (start : TaskState
       call request after (logged_on run chain) (call_on asks is_call) is_call goes
   logged_on (load {log} {task} access width rd run asks is_width is_load) chain =
       load access width rd (logged_on run (Replays-front memory log (access ∷ []) chain))
-      (load_on access asks is_width (last_room log access chain)) is_width is_load
+      (load_on access asks is_width (last_fits log access chain)) is_width is_load
   logged_on (store {log} {task} access value run asks is_store) chain =
       store access value (logged_on run (Replays-front memory log (access ∷ []) chain))
-      (store_on access asks (last_room log access chain)) is_store
+      (store_on access asks (last_fits log access chain)) is_store

@@ -1,4 +1,5 @@
--- A task that is spilled, or a spilled one that comes back, changes no free task and no family.
+-- A task that is spilled, or a spilled one that comes back, changes no free task and no family, and keeps names apart
+-- and spilled tasks firm.
 use Rattle.std.proofs.Common.{◌≡◌, ◌≢◌, ◌⊎◌, ℕ, ◌+◌, ◌≤◌, Bool, true, Option, Some, refl, sym, ap, subst, ◌∙◌, inl, inr, arith}
 use Rattle.std.proofs.lemmas.Bool.{cases_eq}
 use Rattle.task_desc.specs.declared.desc.Name.{Name}

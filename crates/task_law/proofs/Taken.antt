@@ -1,4 +1,4 @@
--- A set taken back changes no free task and no family.
+-- A set taken back changes no free task and no family of a task that is dispatched still, and keeps names apart.
 use Rattle.std.proofs.Common.{◌≡◌, ◌⊎◌, ℕ, Bool, true, false, Option, Some, None, refl, sym, ap, subst, ◌∙◌, inl, inr}
 use Rattle.pending_list.specs.declared.task.PendingTask.{PendingTask}
 use Rattle.task_law.specs.Tasks.{BagCreator, Committed, Live, Body, spawn_body, BagTask, pending, IsFree, IsChild, IsFamily, Names, IsSpilled}

@@ -13,7 +13,7 @@ use Rattle.task_law.specs.Commit.{Stands, HasTurn, LeastHasTurn, HaveDomains, Co
 use Rattle.task_law.proofs.Bags.{Stands-inner, inner-Stands, shallow, Freed, after-stands, stands-after}
 use Rattle.task_law.proofs.Freed.{named_same, same_named, free_same, free_after, after_free}
 
--- each task is at or above a timestamp
+-- where each task is at or above a timestamp, none has a smaller one
 least_from : (ts : ℕ) (tasks : List PendingTask) → ((p : PendingTask) → In p tasks → ts ≤ p.ts) → is_least ts tasks ≡ true
 least_from ts [] low = refl
 least_from ts (t ∷ tasks) low =

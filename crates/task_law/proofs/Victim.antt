@@ -1,5 +1,5 @@
--- A queue of two tasks or more has a victim, so at each queue with room for two some rule applies; and a coalescing
--- makes a queue in which something moves shorter.
+-- A queue of two tasks or more has a victim, so at each queue of capacity two or more some rule applies; and a
+-- coalescing makes a queue in which something moves shorter.
 use Rattle.std.proofs.Common.{◌≡◌, ◌≢◌, ◌⊎◌, ℕ, ◌≤◌, Bool, true, false, List, [], ◌∷◌, length, Option, Some, None, refl, sym, ap, subst, ◌∙◌, inl, inr, arith}
 use Rattle.std.proofs.lemmas.Bool.{cases_lt}
 use Rattle.std.specs.Ordering.{is_gt, ordering_reverse}
@@ -163,7 +163,7 @@ moves_or_not tasks heir (k ∷ queue) there = by_rest (moves_or_not tasks heir q
     by_rest (inl one) x = inl (one.0, (inr one.1.0, one.1.1, one.1.2, one.1.3, one.1.4))
     by_rest (inr none) x = by_dispatched x.0 x.1 none x.0.dispatched refl
 
--- the task that is aborted for a victim; it is there, since a task that is not firm has a creator
+-- the task that is aborted for a victim: there is one, since a task that is not firm has a creator to commit yet
 first_for : (heir : Option ℕ) (v : ℕ) (task : RoomTask) → (first : ℕ) × IsFirst heir v task first
 first_for heir v task = elim (firm_or_not heir task) [ inl firm ↦ (v, inl (firm, refl)) | inr loose ↦ by_creator loose task.creator refl ]
   where

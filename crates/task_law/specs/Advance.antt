@@ -31,7 +31,7 @@ pub data MovesOn (budget : ℕ) (first : Standing) : ℕ → Standing → Type 0
   moves : {n : ℕ} {mid : Standing} (last : Standing) → MovesOn budget first n mid → StandingMoves budget mid last
       → MovesOn budget first (n + 1) last
 
--- each event for the least task brings it nearer to its commit
+-- each event for the least task, a commit aside, brings it nearer to its commit or the end
 abbrev pub EventsAdvance : Type 0
 EventsAdvance = (budget : ℕ) (old new : Standing) → StandingMoves budget old new
     → rest_of_way budget new < rest_of_way budget old

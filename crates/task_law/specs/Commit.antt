@@ -1,4 +1,5 @@
--- The commit of the least task is a turn of the serial machine.
+-- The commit of the least task is a turn of the serial machine, and keeps names apart, families whole and spilled
+-- tasks firm.
 use Rattle.std.specs.Prelude.{◌≡◌, ◌≢◌, ◌⊎◌, ◌↔◌, ℕ, ◌+◌, ◌≤◌, Bool, true, List, [], ◌∷◌, Option, Some, None, slice_get}
 use Rattle.guest_image.specs.declared.image.Kind.{Kind}
 use Rattle.task_desc.specs.declared.desc.Spawn.{Spawn}
@@ -20,7 +21,7 @@ abbrev pub Matches : ℕ → (ℕ → Option BagTask) → List SpilledBagTask �
 Matches count tasks spilled stack =
     (depth : ℕ) (p : PendingTask) → IsFree tasks (IsSpilled spilled) count depth p ↔ Stands stack depth p
 
--- a queued free task below all others: no free task is deeper, and none of its depth has a smaller timestamp
+-- a queued free task that no other is below: no free task is deeper, and none of its depth has a smaller timestamp
 -- (Subramanian et al. 2017: a subdomain commits whole before the tasks outside it); `least_is_innermost` gives it
 pub record IsLeastInBags (count : ℕ) (tasks : ℕ → Option BagTask) (spilled : List SpilledBagTask) (id : ℕ)
     (task : BagTask)

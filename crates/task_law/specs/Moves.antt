@@ -26,7 +26,7 @@ AbortKeepsTasks =
     → SameFree count old spilled new spilled
     × (AreSound count least runs old spilled → AreSound count least runs new spilled)
 
--- what a block keeps of a task
+-- what the bags read of a task that is spilled under this name, its depth aside
 abbrev pub with_name : Name → BagTask → PendingTask
 with_name name task = record { name = name; entry = task.body.entry; ts = task.ts; args = task.body.args }
 

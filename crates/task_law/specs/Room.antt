@@ -70,8 +70,8 @@ SomeRuleApplies =
     → IsQueue tasks queue → 2 ≤ capacity → length queue ≤ capacity → Rule tasks heir queue capacity asker is_least
 
 -- a creator that is to commit yet is dispatched
-abbrev pub CreatorsRun : (ℕ → Option RoomTask) → Type 0
-CreatorsRun tasks =
+abbrev pub CreatorsAreDispatched : (ℕ → Option RoomTask) → Type 0
+CreatorsAreDispatched tasks =
     (k c : ℕ) (x : RoomTask) → tasks k ≡ Some x → x.creator ≡ Some c
     → (y : RoomTask) × (tasks c ≡ Some y) × (y.dispatched ≡ true)
 
@@ -95,7 +95,7 @@ abbrev pub VictimIsLegal : Type 0
 VictimIsLegal =
     (tasks : ℕ → Option RoomTask) (heir : Option ℕ) (queue : List ℕ) (asker : Option ℕ) (low : List Open)
     (v first : ℕ) (task : RoomTask)
-    → CreatorsRun tasks → AsksAsLeastInQueue tasks heir asker low → NoneMovesInQueue tasks heir queue
+    → CreatorsAreDispatched tasks → AsksAsLeastInQueue tasks heir asker low → NoneMovesInQueue tasks heir queue
     → IsVictimInQueue tasks queue asker v task → IsFirst heir v task first
     → MayAbort tasks asker low first
 

@@ -34,7 +34,7 @@ pub record BagTask : Type 0 where
   pub dispatched : Bool
   pub spawns : List Spawn
 
--- the depth of a child, by the depth of its creator and the place that it was enqueued to
+-- the depth of a child, by the depth of its creator and the domain that it was enqueued to
 abbrev pub IsChildDepth : ℕ → Place → ℕ → Type 0
 IsChildDepth depth Same child = child ≡ depth
 IsChildDepth depth Sub child = child ≡ depth + 1

@@ -1,9 +1,10 @@
-//! The laws of what a machine's uncommitted tasks mean to the serial machine, with no speculative state in them.
+//! The laws of a machine's uncommitted tasks, with no speculative state in them: what they mean to the serial machine,
+//! how a full task queue gets room, and how far the least task is from its commit.
 //!
 //! Each law is a definition over functions from ids, and the contract of a function that does nothing and costs
 //! nothing; whoever holds a machine's tables states them of what it reads of its own tasks. It stands on the serial
 //! machine and on the laws of memory and of runs; the laws of states and events stand on it, and the state, its
-//! rollback and commit, the events and the book cite it.
+//! rollback and commit, the events, the book and `resume_image` cite it.
 #![tactic(auto)]
 
 mod commit;

@@ -2,7 +2,7 @@
 
 ghost use Rattle.task_law.specs.Advance.{AdvancesAreFew, EventsAdvance};
 
-/// Each event for the least task, a commit aside, brings it nearer to its commit: what is left falls.
+/// Each event for the least task, a commit aside, brings it nearer to its commit or the end: what is left falls.
 pub fn events_advance()
     ensures { EventsAdvance }
 {}

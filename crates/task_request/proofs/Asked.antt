@@ -1,8 +1,7 @@
--- What a task asks for is what the rules of calls allow.
+-- What a task asks for is what the rules of calls allow, and tells at which stop it asks.
 use Rattle.std.proofs.Common.{◌≡◌, ◌≢◌, ◌%◌, ◌==◌, ◌<◌, ◌≤◌, ℕ, Bool, true, false, Option, Some, None, refl, sym, subst, ◌-◌, arith, if◌then◌else◌}
 use Rattle.std.specs.Prelude.{Result, Ok, Err, nat_lt}
 use Rattle.std.proofs.lemmas.Bool.{ltb-true}
-use Rattle.std.proofs.lemmas.Bool.Decides.{nat_tests}
 use Rattle.guest_image.specs.declared.image.Kind.{Kind}
 use Rattle.rv_core.specs.declared.state.Core.{Core}
 use Rattle.rv_core.specs.declared.state.Stop.{Stop}
@@ -87,9 +86,9 @@ deepest-few version = by_test (version == 2)
     by_test false = omega arith
 
 -- a child is allowed only while its creator may make one more
-allowed_spawn-room : (ctx : Ctx) (spawn : Spawn) (ts : ℕ) → allowed_spawn ctx spawn ≡ Ok ts
+allowed_spawn-limits : (ctx : Ctx) (spawn : Spawn) (ts : ℕ) → allowed_spawn ctx spawn ≡ Ok ts
     → ctx.children < MAX_CHILDREN
-allowed_spawn-room ctx spawn ts allows = by_place spawn.place allows
+allowed_spawn-limits ctx spawn ts allows = by_place spawn.place allows
   where
     by_count : (b : Bool) (t : ℕ) → nat_lt ctx.children (most_children ctx.version) ≡ b → if◌then◌else◌ {A = Result ℕ ℕ} b (Ok t) (Err 15) ≡ Ok ts → ctx.children < MAX_CHILDREN
     by_count true t is at =
@@ -116,8 +115,8 @@ allowed_spawn-room ctx spawn ts allows = by_place spawn.place allows
     by_place Super at = by_super ctx.outer at
 
 -- a subdomain is allowed only where none was made, and only below the greatest depth
-pub sub_allowed-room : (ctx : Ctx) (value : ℕ) (kind : Kind) → sub_allowed ctx value ≡ Ok kind → (ctx.sub ≡ None) × (ctx.depth ≢ MAX_DEPTH)
-sub_allowed-room ctx value kind is = by_value (nat_lt 1 value) ctx.sub refl is
+pub sub_allowed-limits : (ctx : Ctx) (value : ℕ) (kind : Kind) → sub_allowed ctx value ≡ Ok kind → (ctx.sub ≡ None) × (ctx.depth ≢ MAX_DEPTH)
+sub_allowed-limits ctx value kind is = by_value (nat_lt 1 value) ctx.sub refl is
   where
     by_depth : (b : Bool) → nat_lt ctx.depth (deepest ctx.version) ≡ b → if◌then◌else◌ {A = Result Kind ℕ} b (Ok (kind_of value)) (Err 14) ≡ Ok kind → ctx.depth ≢ MAX_DEPTH
     by_depth false deep allows = absurd (cc (allows))
@@ -132,23 +131,23 @@ sub_allowed-room ctx value kind is = by_value (nat_lt 1 value) ctx.sub refl is
     by_value false (Some other) at allows = absurd (cc (allows))
 
 -- a byte is allowed only while one more may be emitted
-byte_allowed-room : (ctx : Ctx) → byte_allowed ctx ≡ Ok tt → ctx.bytes < MAX_BYTES
-byte_allowed-room ctx is = by_test (nat_lt ctx.bytes MAX_BYTES) refl is
+byte_allowed-limits : (ctx : Ctx) → byte_allowed ctx ≡ Ok tt → ctx.bytes < MAX_BYTES
+byte_allowed-limits ctx is = by_test (nat_lt ctx.bytes MAX_BYTES) refl is
   where
     by_test : (b : Bool) → nat_lt ctx.bytes MAX_BYTES ≡ b → if◌then◌else◌ {A = Result (Unit {0}) ℕ} b (Ok tt) (Err 16) ≡ Ok tt → ctx.bytes < MAX_BYTES
     by_test true below allows = ltb-true ctx.bytes MAX_BYTES below
     by_test false below allows = absurd (cc (allows))
 
 -- so what is allowed keeps the limits
-pub allowed_by-room : (ctx : Ctx) (request : Request) → AllowedBy ctx request → KeepsLimits ctx request
-allowed_by-room ctx Continue allows = tt
-allowed_by-room ctx (Load width rd offset) allows = tt
-allowed_by-room ctx (Store offset bytes value) allows = tt
-allowed_by-room ctx (Enqueue child) allows = allowed_spawn-room ctx allows.0 child.ts allows.1
-allowed_by-room ctx (MakeSub kind) allows = sub_allowed-room ctx allows.0 kind allows.1
-allowed_by-room ctx (Emit byte) allows = byte_allowed-room ctx allows.0
-allowed_by-room ctx End allows = tt
-allowed_by-room ctx (Trap cause) allows = tt
+pub allowed_by-limits : (ctx : Ctx) (request : Request) → AllowedBy ctx request → KeepsLimits ctx request
+allowed_by-limits ctx Continue allows = tt
+allowed_by-limits ctx (Load width rd offset) allows = tt
+allowed_by-limits ctx (Store offset bytes value) allows = tt
+allowed_by-limits ctx (Enqueue child) allows = allowed_spawn-limits ctx allows.0 child.ts allows.1
+allowed_by-limits ctx (MakeSub kind) allows = sub_allowed-limits ctx allows.0 kind allows.1
+allowed_by-limits ctx (Emit byte) allows = byte_allowed-limits ctx allows.0
+allowed_by-limits ctx End allows = tt
+allowed_by-limits ctx (Trap cause) allows = tt
 
 -- the request is one to load, to store or to go on
 abbrev pub IsNoCall : Request → Type 0

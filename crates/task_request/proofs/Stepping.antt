@@ -1,4 +1,4 @@
--- What each step of a task counts and keeps.
+-- What each request of a task counts and keeps.
 use Rattle.std.proofs.Common.{◌≡◌, ◌≢◌, ◌+◌, ℕ, length, refl}
 use Rattle.rv_core.specs.declared.state.Core.{Core}
 use Rattle.rv_core.specs.declared.state.Stop.{Stop}
@@ -12,13 +12,13 @@ use Rattle.task_request.specs.TaskState.{TaskState, context}
 use Rattle.task_request.specs.Effects.{Continuation, Continues, Ends, Traps, after_request, after_stop}
 use Rattle.task_request.proofs.Asked.{call_at-is}
 
--- where the step goes on or ends, the task has used so many instructions
+-- where the task goes on or ends, it has used so many instructions
 abbrev pub HasUsed : ℕ → Continuation → Type 0
 HasUsed used (Continues task) = task.core.used ≡ used
 HasUsed used (Ends task) = task.core.used ≡ used
 HasUsed used (Traps cause pc) = Unit {0}
 
--- where the step goes on or ends, the memory has this size
+-- where the task goes on or ends, the memory has this size
 abbrev pub HasSize : ℕ → Continuation → Type 0
 HasSize size (Continues task) = length task.memory ≡ size
 HasSize size (Ends task) = length task.memory ≡ size
@@ -35,7 +35,7 @@ after_request-size task (Emit byte) = refl
 after_request-size task End = refl
 after_request-size task (Trap cause) = tt
 
--- a request but to go on counts one instruction
+-- a request counts one instruction, but for a trap and one to go on
 pub after_request-used : (task : TaskState) (request : Request) → request ≢ Continue → HasUsed (task.core.used + 1) (after_request task request)
 after_request-used task Continue other = absurd (other refl)
 after_request-used task (Load width rd offset) other = refl
@@ -55,7 +55,7 @@ request_at-other ctx core stop.Call other =
 request_at-other ctx core (stop.Trap cause pc) other = λ e. cc
 request_at-other ctx core stop.Quantum other = absurd (other refl)
 
--- what stands at a stop counts one instruction, but for the end of a quantum
+-- what stands at a stop counts one instruction, but for a trap and the end of a quantum
 pub after_stop-used : (ctx : Ctx) (task : TaskState) (found : Stop) → found ≢ stop.Quantum → HasUsed (task.core.used + 1) (after_stop ctx task found)
 after_stop-used ctx task found other =
     after_request-used task (request_at (context ctx task) task.core found) (request_at-other (context ctx task) task.core found other)

@@ -79,7 +79,7 @@ fn spawn(core: &Core, place: Place) -> Spawn
 fn enqueue(ctx: &Ctx, core: &Core, place: Place) -> Request
     ensures request { result ≡ enqueue_at ctx.now core.now place }
     ensures data { (size : ℕ) → IsInData size result }
-    ensures room { KeepsLimits ctx.now result }
+    ensures limits { KeepsLimits ctx.now result }
 {
     let spawn = spawn(core, place);
     match allow(ctx, &spawn) {
@@ -92,7 +92,7 @@ fn enqueue(ctx: &Ctx, core: &Core, place: Place) -> Request
 fn make_sub(ctx: &Ctx, core: &Core) -> Request
     ensures request { result ≡ sub_at ctx.now core.now }
     ensures data { (size : ℕ) → IsInData size result }
-    ensures room { KeepsLimits ctx.now result }
+    ensures limits { KeepsLimits ctx.now result }
 {
     match allow_sub(ctx, register(core, 10)) {
         Ok(kind) => Request::MakeSub(kind),
@@ -104,7 +104,7 @@ fn make_sub(ctx: &Ctx, core: &Core) -> Request
 fn emit(ctx: &Ctx, core: &Core) -> Request
     ensures request { result ≡ byte_at ctx.now core.now }
     ensures data { (size : ℕ) → IsInData size result }
-    ensures room { KeepsLimits ctx.now result }
+    ensures limits { KeepsLimits ctx.now result }
 {
     match allow_byte(ctx) {
         Ok(()) => Request::Emit((register(core, 10) % 256) as u8),
@@ -117,7 +117,7 @@ fn emit(ctx: &Ctx, core: &Core) -> Request
 fn call(ctx: &Ctx, core: &Core) -> Request
     ensures request { result ≡ call_at ctx.now core.now }
     ensures data { (size : ℕ) → IsInData size result }
-    ensures room { KeepsLimits ctx.now result }
+    ensures limits { KeepsLimits ctx.now result }
 {
     match register(core, 17) {
         0 => Request::End,
@@ -138,7 +138,7 @@ fn call(ctx: &Ctx, core: &Core) -> Request
 pub fn request_of(ctx: &Ctx, core: &Core, stop: &Stop) -> Request
     ensures request { result ≡ request_at ctx.now core.now stop.now }
     ensures data { (size : ℕ) → StopIsInData size stop.now → IsInData size result }
-    ensures room { KeepsLimits ctx.now result }
+    ensures limits { KeepsLimits ctx.now result }
 {
     match *stop {
         Stop::Load { width, rd, addr } => {

@@ -37,7 +37,7 @@ pub no_lines : (bs : List ℕ) → length bs ≡ 0 → lines_of bs ≡ []
 no_lines [] e = refl
 no_lines (x ∷ xs) e = absurd (omega (arith, e))
 
--- a text with no newline is one line
+-- a text with some byte and no newline is one line
 pub lines_last : (bs front back : List ℕ) → 0 < length bs → cut 10 bs ≡ None → front ≡ take (length bs) bs → back ≡ drop (length bs) bs → lines_of bs ≡ front ∷ lines_of back
 lines_last bs front back some h f b = lines_whole bs some h ∙ (rw (f, b, take-length bs, drop-length bs) refl)
 

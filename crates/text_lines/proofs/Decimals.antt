@@ -1,4 +1,4 @@
--- Decimal numbers that are written are read again, and where a line ends.
+-- Decimal numbers that are written are read again, and a list without a mark is cut off whole before one.
 use Rattle.std.proofs.Common.{◌≡◌, ◌<◌, ◌^◌, ◌==◌, ◌||◌, ◌∷◌, ◌++◌, ℕ, zero, suc, true, false, not, nat_lt, List, [], length, get_or, Some, option_map, refl, rules, ap, arith}
 use Rattle.std.specs.Char.{is_ascii_digit}
 use Rattle.std.specs.Fmt.{decimal}
@@ -29,18 +29,18 @@ number_back n small =
     rw (all_digits n (omega (arith, small)), some, no_leading_zero n (omega (arith, small)), digits_value-decimal own n (omega (arith, small)), fits) refl
 
 -- a list has no c
-abbrev pub Free : ℕ → List ℕ → Type 0
-Free c xs = list_all (λ x. not (x == c)) xs ≡ true
+abbrev pub IsWithout : ℕ → List ℕ → Type 0
+IsWithout c xs = list_all (λ x. not (x == c)) xs ≡ true
 
 -- two lists that have no c have none together
-pub free_both : (c : ℕ) (xs ys : List ℕ) → Free c xs → Free c ys → Free c (xs ++ ys)
-free_both c [] ys h g = g
-free_both c (x ∷ xs) ys h g = let both = and_parts (not (x == c)) _ h in rw (both.0, free_both c xs ys both.1 g) refl
+pub without_both : (c : ℕ) (xs ys : List ℕ) → IsWithout c xs → IsWithout c ys → IsWithout c (xs ++ ys)
+without_both c [] ys h g = g
+without_both c (x ∷ xs) ys h g = let both = and_parts (not (x == c)) _ h in rw (both.0, without_both c xs ys both.1 g) refl
 
 -- a list that has no c is cut off whole before a c
-pub cut_free : (c : ℕ) (xs rest : List ℕ) → Free c xs → cut c (xs ++ c ∷ rest) ≡ Some (xs, rest)
-cut_free c [] rest h = rw (eq-eqb c c refl) refl
-cut_free c (x ∷ xs) rest h =
+pub cut_without : (c : ℕ) (xs rest : List ℕ) → IsWithout c xs → cut c (xs ++ c ∷ rest) ≡ Some (xs, rest)
+cut_without c [] rest h = rw (eq-eqb c c refl) refl
+cut_without c (x ∷ xs) rest h =
     let both = and_parts (not (x == c)) _ h in
     let ne : (x == c) ≡ false = not-true (x == c) both.0 in
-    rw ne (ap (option_map (λ p. (x ∷ p.0, p.1))) (cut_free c xs rest both.1))
+    rw ne (ap (option_map (λ p. (x ∷ p.0, p.1))) (cut_without c xs rest both.1))

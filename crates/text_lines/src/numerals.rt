@@ -26,7 +26,8 @@ fn is_plain(digits: &[u8]) -> bool
     are_digits(digits) && !digits.is_empty() && (digits[0] != b'0' || digits.len() == 1)
 }
 
-fn are_digits(bytes: &[u8]) -> bool
+/// Whether each of the bytes is a decimal digit.
+pub fn are_digits(bytes: &[u8]) -> bool
     ensures { result ≡ list_all is_ascii_digit bytes.now }
 {
     bytes.iter().all(|byte| byte.is_ascii_digit())

@@ -18,9 +18,9 @@ ids_but id ids = filter (λ other. not (other == id)) ids
 abbrev pub unmarked_ids : List Bool → List ℕ → List ℕ
 unmarked_ids marks ids = filter (λ id. not (slice_index_or marks id false)) ids
 
--- the ids are distinct and at most as many as the capacity, which is at least 1 and for which there is room
-pub record FitsIn (capacity room : ℕ) (ids : List ℕ) : Type 0 where
+-- the ids are distinct and at most as many as the capacity, which is at least 1 and for which there is memory
+pub record FitsIn (capacity memory : ℕ) (ids : List ℕ) : Type 0 where
   pub some : 0 < capacity
   pub distinct : AreDistinct ids
   pub bounded : length ids ≤ capacity
-  pub spare : capacity ≤ room
+  pub spare : capacity ≤ memory

@@ -67,12 +67,12 @@ impl<Kind> Queue<Kind> {
         if self.free() == 0 {
             return Err(id);
         }
-        // There is room, so this takes no memory.
+        // The memory was taken before.
         self.ids.push(id).map_err(|refused| refused.value)
     }
 
     /// Takes the id out, and says whether it was there. The others keep their order. It looks from the last id on,
-    /// since tasks that are spilled or taken back stand there.
+    /// since tasks that are spilled or taken back mostly stand there.
     pub fn take(&mut self, id: usize) -> bool
         ensures there { IsTrue result ↔ Contains self.old.ids id }
         ensures taken { self.new ≡ record self.old { ids = ids_but id self.old.ids } }
@@ -102,7 +102,7 @@ impl<Kind> Queue<Kind> {
         self.ids.contains(&id)
     }
 
-    /// How many ids it has room for when it is empty.
+    /// How many ids it holds at most.
     pub fn capacity(&self) -> u32
         ensures { result ≡ self.now.capacity }
     {

@@ -53,7 +53,7 @@ module _ (N : Type 0) (image : ImageValue) (old mid new : BookView) where
   by_least (answers.Ended end) so on = absurd on
   by_least answers.Memory so on = absurd on
 
-  -- so is the event for the least task
+  -- and so it is with the event for the least task
   pub advance_made : (answer : Advance) → AdvanceAnswers N image old answer mid → AdvanceGoesOn answer → new ≡ mid → MakesOne N old new
   advance_made answer so on same = subst (λ (b : BookView). MakesOne N old b) (sym same) (by_least answer so on)
 

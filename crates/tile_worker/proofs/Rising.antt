@@ -30,7 +30,7 @@ later_by N image zero old new same few =
 later_by N image (suc made) old new is few =
     later_by_one old.steps is.0.steps new.steps (later_by N image made old is.0 is.2 few) is.3.happens.steps
 
--- a run by the least tasks takes no event back
+-- in a run by the least tasks the count doesn't fall
 pub runs_later : (N : Type 0) (image : ImageValue) (old new : BookView) (halt : Halt) → RunsLeast N image old halt new
     → old.steps < 2 ^ 64 → old.steps ≤ new.steps
 runs_later N image old new halt runs few =

@@ -90,7 +90,7 @@ goes_on before told more front =
 pub opening_is_reading : OpeningIsReading
 opening_is_reading image budget journal = record { within = omega arith; after = run.opening image; is_run = refl; output = refl }
 
--- a list of readings that stand in another one
+-- what holds of all readings of a list holds of those that stand in it
 all_stand : (P : Reading → Type 0) (told : List Reading) (places : List ℕ) (seen : List Reading) → All P told → AllZip (IsAtPlace told) places seen → All P seen
 all_stand P told [] [] all stand = All-nil P
 all_stand P told [] (x ∷ xs) all stand = absurd stand

@@ -14,7 +14,7 @@ pub record IsReading (image : ImageValue) (budget : ℕ) (journal : List Entry) 
   pub is_run : IsRun image budget (take reading.commits journal) after
   pub output : reading.output ≡ length after.output
 
--- each of these is a reading of the journal, of which a caller has what has one proof at most, as a bound
+-- each of these is a reading of the journal; a caller gets of that what has one proof at most, such as a bound
 abbrev pub AreReadings : ImageValue → ℕ → List Entry → List Reading → Type 0
 AreReadings image budget journal readings = All (λ reading. ∥ IsReading image budget journal reading ∥₁) readings
 

@@ -74,18 +74,18 @@ impl Round {
         }
     }
 
-    /// Takes note of the counts of events at the begin and at the end of a hold. Where others made many events since
+    /// Learns the counts of events at the begin and at the end of a hold. Where others made many events since
     /// the hold before, this worker is behind them.
-    pub(crate) fn note_events(&mut self, before: u64, after: u64)
+    pub(crate) fn learn_events(&mut self, before: u64, after: u64)
         ensures { self.new ≡ record self.old { seen = after; is_behind = self.new.is_behind } }
     {
         self.is_behind = before - self.seen.min(before) >= MANY;
         self.seen = after;
     }
 
-    /// Takes note of a leg of so many instructions that is handed in next.
-    pub(crate) fn note_leg(&mut self, steps: u32) {
-        self.pace.note_leg(steps);
+    /// Learns of a leg of so many instructions that is handed in next.
+    pub(crate) fn learn_leg(&mut self, steps: u32) {
+        self.pace.learn_leg(steps);
     }
 
     /// Waits after a miss of the lock.

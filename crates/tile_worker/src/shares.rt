@@ -5,7 +5,7 @@ ghost use Rattle.std.specs.Prelude.{◌≡◌, ◌≤◌, ◌<◌, ◌+◌, ◌^
 use arrayvec::ArrayVec;
 use std::marker::Model;
 
-/// How many events each worker made, at most 16 of them; it has its room in itself.
+/// How many events each of at most 16 workers made. It keeps the numbers in itself.
 #[derive(Drop)]
 pub struct Shares {
     amounts: ArrayVec<u64, 16>,

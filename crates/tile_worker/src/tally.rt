@@ -119,7 +119,7 @@ impl<N: Naming, L: Ledger, P: Placer, T: Tap> Tallied<N, L, P, T> {
         let rise = book.steps() - before;
         total.add(share, rise);
         *amount += rise;
-        round.note_events(before, book.steps());
+        round.learn_events(before, book.steps());
         found
     }
 }

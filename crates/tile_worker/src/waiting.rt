@@ -1,5 +1,5 @@
 //! How a worker waits for a lock that others hold briefly, and for others who are ahead of it. No contract speaks of
-//! it: a worker may take its turn at any moment.
+//! it: a worker may take the lock at any moment.
 
 use crate::round::Round;
 use std::sync::atomic::{AtomicU64, Ordering};
@@ -86,13 +86,13 @@ impl Pace {
         }
     }
 
-    /// Takes note of a leg of so many instructions that is handed in next.
-    pub(crate) fn note_leg(&mut self, steps: u32) {
+    /// Learns of a leg of so many instructions that is handed in next.
+    pub(crate) fn learn_leg(&mut self, steps: u32) {
         self.is_long = steps >= LONG_LEG;
         self.misses /= 2;
     }
 
-    /// Naps, twice as long as the last time.
+    /// Naps, twice as long as the last time, up to a millisecond.
     pub(crate) fn rest<R: Wait>(&mut self, rt: &R, bell: &Bell) {
         self.is_long = false;
         self.misses = self.misses.saturating_add(1).max(FIRST_NAP).min(LAST_NAP);

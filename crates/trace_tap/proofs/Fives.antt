@@ -1,4 +1,4 @@
--- Lists of five numbers each.
+-- Lists of records as numbers, five for each.
 use Rattle.std.proofs.Common.{◌≡◌, ℕ, ◌+◌, ◌*◌, ◌-◌, ◌/◌, ◌%◌, ◌<◌, List, [], ◌∷◌, ◌++◌, zero, suc, refl, ap, sym, ◌∙◌, length, drop, slice_get, arith, Some, None}
 use Rattle.std.specs.List.{flat_map}
 use Rattle.std.proofs.lemmas.List.Concat.{flat_map-append}
@@ -75,13 +75,13 @@ no_number_at xs place at =
     ∙ none_from xs (place / 5) (place % 5) at
 
 -- the tap of a ring of records
-abbrev reading_of : Buffer Record → TapValue
-reading_of ring = last_records ring.capacity (flat_map numbers_of_record ring.items)
+abbrev tap_of : Buffer Record → TapValue
+tap_of ring = last_records ring.capacity (flat_map numbers_of_record ring.items)
 
 -- a ring to which a record was added is a tap to which that record was told
 pub added_is_noted : (old new : Buffer Record) (seen : Record) → new ≡ buffer (keep_last old.capacity (old.items ++ seen ∷ [])) old.capacity → last_records new.capacity (flat_map numbers_of_record new.items) ≡ after_note seen (last_records old.capacity (flat_map numbers_of_record old.items))
 added_is_noted old new seen added =
-    ap reading_of added ∙ ap (last_records old.capacity) (last_fives old.capacity old.items seen)
+    ap tap_of added ∙ ap (last_records old.capacity) (last_fives old.capacity old.items seen)
 
 -- five numbers for each record
 pub five_for_each : (xs : List Record) (count : ℕ) → count ≡ length xs

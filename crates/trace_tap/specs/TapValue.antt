@@ -9,4 +9,4 @@ pub record TapValue : Type 0 where
 
 -- the tap after a record is noted: only its list changes
 abbrev pub after_note : Record → TapValue → TapValue
-after_note seen reading = record reading { list = reading.after reading.list seen }
+after_note seen tap = record tap { list = tap.after tap.list seen }

@@ -23,7 +23,7 @@ pub enum Deed {
     Split,
 }
 
-/// One event of the machine.
+/// What is noted of one event of the machine.
 #[derive(Clone, Copy, Debug, PartialEq, Eq)]
 pub struct Record {
     /// Its kind.
@@ -34,7 +34,7 @@ pub struct Record {
     pub line: Option<u32>,
     /// How many tasks it took back.
     pub aborted: u32,
-    /// How many tasks were committed after it.
+    /// How many tasks had committed once it was made.
     pub commits: u32,
 }
 

@@ -41,7 +41,8 @@ after_restore-none : (offset width old : ℕ) (new : Option ℕ) (bytes : List �
 after_restore-none offset width old None bytes is = refl
 after_restore-none offset width old (Some value) bytes is = cc
 
--- these accesses are left to be taken back, and the bytes stand as they do after the others were
+-- to take these accesses back from the bytes gives what taking the whole log back from the first bytes gives; each lies
+-- within the bytes, and the first ones are as many
 pub record AreLeft (log left : List Access) (initial bytes : List ℕ) : Type 0 where
   pub undone_is : undone left bytes ≡ undone log initial
   pub accessible : AllAccessible (length bytes) left

@@ -6,7 +6,7 @@ use Rattle.std.proofs.Math.Seq.{sets}
 use borrow.Rule.Slice.PartMut.{put_mid}
 use Rattle.undo_log.specs.Number.{after_write}
 
--- the part from the offset on, overwritten from its start, is the list with the values set one after another
+-- to overwrite the part from the offset on, from its start, is to set the values one after another
 overwritten : (bytes : List ℕ) (offset : ℕ) (values part : List ℕ) → offset + length values ≤ length bytes → part ≡ values ++ drop (length values) (take (length bytes - offset) (drop offset bytes)) → put_mid offset (length bytes - offset) bytes part ≡ sets bytes offset values
 overwritten bytes offset values part within is = grind (arith, common_steps, is, sets-eq values bytes offset within)
 

@@ -11,18 +11,18 @@ use spare_buffer::Buffer;
 pub fn load_with(
     memory: &Memory,
     log: &mut Log,
-    room: &mut Buffer<Access>,
+    spare: &mut Buffer<Access>,
     offset: u32,
     width: u8,
 ) -> u32
     requires within { IsAccessible (length memory.now) offset width }
-    requires room { length log.old < room.old }
+    requires spare { length log.old < spare.old }
     ensures value { result ≡ number_at memory.now offset width }
     ensures logged { log.new ≡ log.old ++ access_of memory.now (Load offset width) ∷ [] }
 {
     let old = memory.number(offset, width);
     log.push_with(
-        room,
+        spare,
         Access {
             offset,
             width,
@@ -37,13 +37,13 @@ pub fn load_with(
 pub fn store_with(
     memory: &mut Memory,
     log: &mut Log,
-    room: &mut Buffer<Access>,
+    spare: &mut Buffer<Access>,
     offset: u32,
     width: u8,
     value: u32,
 )
     requires within { IsAccessible (length memory.old) offset width }
-    requires room { length log.old < room.old }
+    requires spare { length log.old < spare.old }
     ensures stored { memory.new ≡ after_call memory.old (Store offset width value) }
     ensures logged { log.new ≡ log.old ++ access_of memory.old (Store offset width value) ∷ [] }
     ensures size { length memory.new ≡ length memory.old }
@@ -51,7 +51,7 @@ pub fn store_with(
 {
     let old = memory.number(offset, width);
     log.push_with(
-        room,
+        spare,
         Access {
             offset,
             width,

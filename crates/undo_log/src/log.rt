@@ -55,11 +55,11 @@ impl Log {
     }
 
     /// Adds an access at the end, by what is spare in the buffer where the log has none. It takes no memory.
-    pub(crate) fn push_with(&mut self, room: &mut Buffer<Access>, access: Access)
-        requires { length self.old < room.old }
+    pub(crate) fn push_with(&mut self, spare: &mut Buffer<Access>, access: Access)
+        requires { length self.old < spare.old }
         ensures { self.new ≡ self.old ++ access ∷ [] }
     {
-        room.lend_spare(&mut self.accesses, 1);
+        spare.lend_spare(&mut self.accesses, 1);
         match self.accesses.push(access) {
             Ok(()) => {}
             Err(_) => unreachable!(),

@@ -1,7 +1,7 @@
 -- What acts come to.
 use Rattle.std.proofs.Common.{◌≡◌, ◌⊎◌, ◌≤◌, ◌<◌, ℕ, List, [], length, Some, None}
 use Rattle.std.proofs.Common.{Result, inl, inr, refl, sym, ap, subst, ◌∙◌}
-use Rattle.std.specs.Prelude.{IfOk, IfSome, slice_get}
+use Rattle.std.specs.Prelude.{IfOk, slice_get}
 use Rattle.std.proofs.lemmas.Bool.{cases_lt}
 use Rattle.std.proofs.lemmas.List.{get_or_past}
 use Rattle.std.proofs.lemmas.Option.{slice_get_within}
@@ -13,7 +13,7 @@ use Rattle.spec_state.specs.declared.task.Task.{Task}
 use Rattle.spec_state.specs.declared.task.TaskId.{TaskId}
 use Rattle.spec_state.specs.declared.task.Where.{Where}
 use Rattle.spec_state.specs.declared.task.Where.TheVariants as where_
-use Rattle.spec_state.specs.Least.{IsLeast, IsLeastSpilled, IsLeastTask}
+use Rattle.spec_state.specs.Least.{IsLeast, IsLeastTask}
 use Rattle.spec_state.specs.Queries.{IsRunning}
 use Rattle.spec_state.specs.Stored.{HasCore}
 use Rattle.spec_state.specs.View.{View, cores_at, task_at}
@@ -24,8 +24,7 @@ use Rattle.event_def.specs.declared.event.Reply.TheVariants as reply
 use Rattle.event_def.specs.Advancing.{IsNextEvent}
 use Rattle.event_def.specs.Book.{BookView}
 use Rattle.event_def.specs.End.{IsOver}
-use Rattle.event_law.proofs.Proved.{next_event_is_given}
-use Rattle.event_lemma.proofs.Proved.{next_is_commit, next_is_dispatch, next_is_split, next_is_step, trapped_is_over}
+use Rattle.event_lemma.proofs.Proved.{next_is_step, trapped_is_over}
 use Rattle.step_script.specs.declared.act.Act.{Act}
 use Rattle.step_script.specs.declared.act.Act.TheVariants as acts
 use Rattle.step_script.specs.Playing.{HasLegAt, HeldLeg, PlayState, held_for, holding, without_held_leg}
@@ -33,6 +32,7 @@ use Rattle.step_script.proofs.HeldLegs.{without_unheld}
 use Rattle.watch_text.specs.declared.asking.Asked.{Asked}
 use Rattle.watch_text.specs.Asking.{Attempt, AsksAdvance, AsksFor, AsksGive, AsksStep, AsksTake, Hands, Says}
 use Rattle.watch_text.specs.Asking.{advance_next, asks_of, give_hands, give_stale, step_runs, take_holds}
+use Rattle.conflict_book.proofs.Proved.{ReadsTile, next_commit, next_dispatch, next_split, tile_is}
 
 -- a step comes to the leg of the task that runs there
 pub step_asks : (N : Type 0) (image : ImageValue) (tile core : ℕ) (book : BookView) (leg : LegValue)
@@ -84,14 +84,6 @@ asks_by_ok N image act tile core old leg held r is =
 
 -- ---- the least task
 
--- the tile that is read of the task of this id
-abbrev ReadsTile : View → TaskId → ℕ → Type 0
-ReadsTile view id tile = IfSome (task_at view id.0) (λ t. tile ≡ t.tile)
-
-tile_is : (view : View) (id : TaskId) (tile : ℕ) (task : Task) → task_at view id.0 ≡ Some task → ReadsTile view id tile
-    → task.tile ≡ tile
-tile_is view id tile task there read = sym (subst (λ o. IfSome o (λ (t : Task). tile ≡ t.tile)) there read)
-
 module _ (image : ImageValue) (view : View) (sound : Sound image view) where
   -- a core that holds a task is there
   tile_is_there : (tile core id : ℕ) → slice_get (cores_at view tile) core ≡ Some (Some id)
@@ -120,8 +112,12 @@ module _ (image : ImageValue) (view : View) (sound : Sound image view) where
     pub stands_there : IsRunning view tile core id.0 task
     stands_there =
         let held =
-        (sound.sizes.held_are tile core id.0).1
-        (task, there, tile_is view id tile task there read, subst (λ status. HasCore status core) (sym runs) refl) in
+        (sound.sizes.held_are tile core id.0).1 (
+          task,
+          there,
+          sym (tile_is view id tile task there read),
+          subst (λ status. HasCore status core) (sym runs) refl,
+        ) in
         record { on = record { held = held; there = there }; running = runs }
 
     pub runs_in_tile : tile < view.settings.tiles
@@ -140,35 +136,10 @@ module _ (image : ImageValue) (view : View) (sound : Sound image view) where
         sym has.runs.on.there ∙ (ap (task_at view) ids ∙ least.2.queued_at.there) in
         let tasks : has.task ≡ least.0 = cc in
         let first : IsLeastTask view id.0 has.task = subst (IsLeastTask view id.0) (sym tasks) least.2 in
-        let in_tile : has.task.tile ≡ tile = tile_is view id tile has.task
-        (sym (ap (task_at view) ids) ∙ has.runs.on.there) read in
+        let in_tile : has.task.tile ≡ tile = sym (tile_is view id tile has.task
+        (sym (ap (task_at view) ids) ∙ has.runs.on.there) read) in
         subst (λ t. IsNextEvent {N = N} image view (event.Step t core leg)) in_tile
         (next_is_step N image view going id.0 core has.task leg first has.runs.running has.leg_from)
-
-  module _ (N : Type 0) (going : IsOver view → ⊥) where
-    -- it is idle
-    pub next_dispatches : (id : TaskId) (tile : ℕ) → IsLeast view (where_.Idle id) → ReadsTile view id tile
-        → IsNextEvent {N = N} image view (event.Dispatch tile)
-    next_dispatches id tile is read =
-        subst (λ t. IsNextEvent {N = N} image view (event.Dispatch t))
-        (tile_is view id tile is.0 is.1.queued_at.there read)
-        (next_is_dispatch N image view going id.0 is.0 is.1 is.2)
-
-    pub dispatches_inside : (id : TaskId) (tile : ℕ) → IsLeast view (where_.Idle id) → ReadsTile view id tile
-        → tile < view.settings.tiles
-    dispatches_inside id tile is read =
-        next_event_is_given N image view (event.Dispatch tile) sound (next_dispatches id tile is read)
-
-    -- it is finished
-    pub next_commits : (id : TaskId) → IsLeast view (where_.Finished id) → IsNextEvent {N = N} image view event.Commit
-    next_commits id is = next_is_commit N image view going id.0 is.0 is.1 is.2
-
-    -- it is spilled
-    pub next_splits : (tile : ℕ) → IsLeastSpilled view tile → IsNextEvent {N = N} image view (event.Split tile)
-    next_splits tile is = next_is_split N image view going tile is
-
-    pub splits_inside : (tile : ℕ) → IsLeastSpilled view tile → tile < view.settings.tiles
-    splits_inside tile is = next_event_is_given N image view (event.Split tile) sound (next_splits tile is)
 
 -- ---- by what is read of a state that is the book's
 
@@ -210,11 +181,11 @@ module _ (image : ImageValue) (seen view : View) (same : seen ≡ view) (sound :
         pub seen_dispatch : (id : TaskId) (tile : ℕ) → w ≡ where_.Idle id → ReadsTile seen id tile
             → IsNextEvent {N = N} image view (event.Dispatch tile)
         seen_dispatch id tile is read =
-            next_dispatches image view here N going id tile (is_least (where_.Idle id) is)
+            next_dispatch N image view here going id tile (is_least (where_.Idle id) is)
             (subst (λ v. ReadsTile v id tile) same read)
 
         pub seen_commit : (id : TaskId) → w ≡ where_.Finished id → IsNextEvent {N = N} image view event.Commit
-        seen_commit id is = next_commits image view here N going id (is_least (where_.Finished id) is)
+        seen_commit id is = next_commit N image view here going id (is_least (where_.Finished id) is)
 
         pub seen_split : (tile : ℕ) → w ≡ where_.Spilled tile → IsNextEvent {N = N} image view (event.Split tile)
-        seen_split tile is = next_splits image view here N going tile (is_least (where_.Spilled tile) is)
+        seen_split tile is = next_split N image view here going tile (is_least (where_.Spilled tile) is)

@@ -1,10 +1,9 @@
--- What is told as taken back is what the event's own cascade marks.
+-- What is told as taken back is what the event's own cascade marks, and as spilled what its coalescing moves.
 use Rattle.std.proofs.Common.{◌≡◌, ◌≤◌, ◌<◌, ◌+◌, ◌∷◌, ℕ, zero, suc, List, [], Bool, true, false, cond, Some, None}
 use Rattle.std.proofs.Common.{length, filter, inl, inr, refl, sym, ap, subst, ◌∙◌, arith}
 use Rattle.std.specs.List.{range_with_len}
 use Rattle.std.specs.declared.option.Option.{Option}
 use Rattle.std.proofs.lemmas.Bool.{cases_eq}
-use Rattle.std.proofs.lemmas.List.FromFn.{length-map-range_with_len}
 use Rattle.guest_image.specs.ImageValue.{ImageValue}
 use Rattle.task_request.specs.declared.request.Request.{Request}
 use Rattle.spec_state.specs.View.{queue_at}
@@ -20,11 +19,11 @@ use Rattle.event_def.specs.Happens.{Happens}
 use Rattle.watch_text.specs.Asking.{Hands}
 use Rattle.watch_text.specs.Changes.{arrived_in, child_in, done_in, last_item}
 use Rattle.watch_text.specs.Moments.{IsAbout, IsAskedFor}
-use Rattle.watch_text.specs.Taking.{id_count, is_back, remembered, table_of, was_discarded}
+use Rattle.watch_text.specs.Taking.{id_count, is_back, table_of, was_discarded}
 use Rattle.watch_text.specs.Taking.{was_spilled}
 use Rattle.watch_play.specs.Cascades.{AllHavePlaces, BackIsCascade, TellsTaken, marks_of, spilled_of}
 use Rattle.watch_play.proofs.NothingTaken.{nothing_taken}
-use Rattle.watch_play.proofs.TakenBack.{Taken, taken_is_told}
+use Rattle.watch_play.proofs.TakenBack.{table_length, Taken, taken_is_told}
 use Rattle.watch_play.proofs.TakenByEvents.{abort_taken, coalesce_taken, dispatch_taken, none_in, split_taken}
 use Rattle.watch_play.proofs.TakenByEvents.{step_taken}
 
@@ -54,15 +53,12 @@ module _ (N : Type 0) (image : ImageValue) (old new : BookView) (task : Option �
     (about : IsAbout {N = N} old.view (Hands event.Commit) task)
     (asked : IsAskedFor {N = N} old.view (Hands event.Commit) request) (all : AllHavePlaces old.view)
   where
-    length_is : length (table_of old.view) ≡ id_count old.view
-    length_is = length-map-range_with_len (remembered old.view) 0 (id_count old.view)
-
-    -- none of the ids that pass a test is told
+    -- where none of the ids that are told passes a test, each of them fails it
     fails_below : (p : ℕ → Bool) → filter p (range_with_len 0 (length (table_of old.view))) ≡ [] → (id : ℕ)
         → id < id_count old.view → p id ≡ false
     fails_below p none id below =
         none_in_range p (length (table_of old.view)) 0 none id (omega arith)
-        (subst (λ n. id < 0 + n) (sym length_is) (omega (arith, below)))
+        (subst (λ n. id < 0 + n) (sym (table_length old.view)) (omega (arith, below)))
 
     not_marked : (o : Option ℕ) → is_marked_creator [] o ≡ false
     not_marked None = refl
@@ -83,7 +79,7 @@ module _ (N : Type 0) (image : ImageValue) (old new : BookView) (task : Option �
           );
         }
 
--- an event takes back what is told
+-- what is told of an event is what it takes back and spills
 abbrev TellsOf : {N : Type 0} (old new : BookView) (aborted : ℕ) (task : Option ℕ) (request : Option Request)
     (e : Event N) → Happens old e reply.Ok aborted new → Type 0
 TellsOf old new aborted task request e happens =

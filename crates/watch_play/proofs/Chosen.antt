@@ -118,7 +118,7 @@ module _ (seen view : View) (same : seen ≡ view) (tile id : ℕ) (idle : (task
           let one : k ≡ id = idle_is_one view tile id k found.0 x found.1 idle_too in
           here.1 (subst (IsTheLeast view) one least)
 
--- a commit of the least task
+-- no commit is asked for where the least task isn't finished, or none is left
 pub no_commit_asked : (view : View) (w other : Where) → IsLeast view w → w ≡ other → IsUnfinished other
     → IsTrue false ↔ IsAskedInRound view acts.Commit
 no_commit_asked view w other is stands goes_on =

@@ -1,12 +1,11 @@
 -- An event leaves all tasks alone but the one that it is about, the one that came, those that it took back or spilled,
 -- and the children of the one that committed.
 use Rattle.std.proofs.Common.{◌≡◌, ◌⊎◌, ◌<◌, ◌+◌, ◌*◌, ◌∷◌, ◌&&◌, ◌||◌, ℕ, Bool, false, true, List, [], Some, None}
-use Rattle.std.proofs.Common.{length, option_map, if◌then◌else◌, cond, filter, inl, inr, refl, sym, ap, subst, ◌∙◌, arith}
+use Rattle.std.proofs.Common.{length, option_map, if◌then◌else◌, cond, filter, inl, inr, refl, sym, ap, subst, ◌∙◌}
 use Rattle.std.specs.Prelude.{Contains}
 use Rattle.std.specs.List.{range_with_len}
 use Rattle.std.specs.declared.option.Option.{Option}
-use Rattle.std.proofs.lemmas.Bool.{false_from_ne_true}
-use Rattle.std.proofs.lemmas.List.FromFn.{get_or-map-range_with_len, length-map-range_with_len}
+use Rattle.std.proofs.lemmas.Bool.{false_from_ne_true, or_parts, or_right}
 use Rattle.guest_image.specs.ImageValue.{ImageValue}
 use Rattle.rv_core.specs.LegValue.{IsLegOfImage, LegValue}
 use Rattle.task_request.specs.declared.request.Request.{Request}
@@ -47,20 +46,11 @@ use Rattle.watch_play.specs.Made.{AttemptComes}
 use Rattle.watch_play.specs.Room.{AttemptHasRoom}
 use Rattle.watch_play.proofs.NothingTaken.{TookNone, nothing_taken, other_id, same_took_none}
 use Rattle.watch_play.proofs.Remembered.{commit_remembers}
-use Rattle.watch_play.proofs.TakenBack.{Fares, IsTaken, Taken, gone_or_waits, left_there, moved_left, or_true}
+use Rattle.watch_play.proofs.TakenBack.{Fares, IsTaken, Taken, gone_or_waits, left_there, moved_left}
 use Rattle.watch_play.proofs.TakenByEvents.{abort_taken, coalesce_taken, dispatch_taken, split_taken, step_taken}
+use Rattle.watch_play.proofs.TakenBack.{table_has, table_length}
 
 -- ---- the table
-
--- it has as many places as ids are told
-pub table_length : (view : View) → length (table_of view) ≡ id_count view
-table_length view = length-map-range_with_len (remembered view) 0 (id_count view)
-
--- and at each what is remembered of its id
-pub table_has : (view : View) (id : ℕ) → id < id_count view → was_at (table_of view) id ≡ remembered view id
-table_has view id inside =
-    get_or-map-range_with_len (remembered view) 0 (id_count view) id id None inside
-    (omega arith)
 
 -- as many ids are told as before
 same_count : (old new : View) → new.settings ≡ old.settings → id_count new ≡ id_count old
@@ -128,20 +118,16 @@ module _ (old new : View) (marks : List Bool) (moved : List ℕ) (aborted : ℕ)
             sym (affected_some table new arrived None id (before_of task)
             (table_has old id below ∙ ap (option_map before_of) there)) ∙ spared
 
-        first_not : (a b : Bool) → (a || b) ≡ false → a ≡ false
-        first_not false b is = refl
-        first_not true b is = absurd (cc (is))
-
         not_left : has_left new arrived id ≡ true → ⊥
         not_left left =
-            (let clash : true ≡ false = sym left ∙ first_not (has_left new arrived id) is_waiting neither in
+            (let clash : true ≡ false = sym left ∙ (or_parts (has_left new arrived id) is_waiting neither).0 in
             absurd (cc (clash)))
 
         not_waiting : is_dispatched task ≡ true → waits (task_at new id) ≡ true → ⊥
         not_waiting dispatched waiting =
             (let both : is_waiting ≡ true = (λ i. dispatched i && waiting i) in
             let or_so : (has_left new arrived id || is_waiting) ≡ true =
-            ap (λ b. has_left new arrived id || b) both ∙ or_true (has_left new arrived id) in
+            or_right (has_left new arrived id) is_waiting both in
             let clash : true ≡ false = sym or_so ∙ neither in
             absurd (cc (clash)))
 

@@ -42,7 +42,7 @@ module _ (N : Type 0) (image : ImageValue) (at place : ℕ) (act : Act) (old new
   abbrev pub made : Moment N
   made = record {
     at = at;
-    place = place;
+    number = place;
     act = act;
     asks = asks;
     task = task;

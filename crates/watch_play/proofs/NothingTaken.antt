@@ -1,12 +1,12 @@
--- An event that takes no task back, and spills none, leaves all tasks there but the one that commits, and the
--- dispatched ones dispatched.
+-- Of an event that takes no task back, and finds room, none is told as taken back, discarded or spilled: it leaves all
+-- tasks there but the one that commits, and the dispatched ones dispatched.
 use Rattle.std.proofs.Common.{◌≡◌, ◌≢◌, ◌⊎◌, ◌≤◌, ◌<◌, ◌+◌, ◌-◌, ◌++◌, ◌∷◌, ◌==◌, ◌&&◌, ◌||◌, ℕ, zero, suc, List, []}
 use Rattle.std.proofs.Common.{Bool, true, false, not, cond, Some, None, is_some, length, map, filter, find, option_map}
 use Rattle.std.proofs.Common.{if◌then◌else◌, inl, inr, refl, sym, ap, subst, ◌∙◌, arith}
 use Rattle.std.specs.Prelude.{count_by, is_none, slice_get, slice_index_or, slice_set}
 use Rattle.std.specs.List.{range_with_len}
 use Rattle.std.specs.declared.option.Option.{Option}
-use Rattle.std.proofs.lemmas.Bool.{cases_eq}
+use Rattle.std.proofs.lemmas.Bool.{and_right, cases_eq}
 use Rattle.std.proofs.lemmas.Bool.Decides.{nat_tests}
 use Rattle.std.proofs.lemmas.List.{length_push}
 use Rattle.std.proofs.lemmas.List.Sums.{sum_by-cons}
@@ -37,8 +37,9 @@ use Rattle.event_def.specs.Events as events
 use Rattle.event_def.specs.Events.{AbortEvent, ComesTo, DispatchEvent, FreesCommit, FreesCore, SplitEvent}
 use Rattle.event_def.specs.Happens.{Happens}
 use Rattle.event_law.proofs.Proved.{spared_stays}
+use Rattle.fractal_vt.proofs.Proved.{get_end, is_some_mapped}
 use Rattle.watch_text.specs.Asking.{Hands}
-use Rattle.watch_text.specs.Changes.{arrived_in, child_at, child_in, done_in, has_child, is_child, is_some_child}
+use Rattle.watch_text.specs.Changes.{arrived_in, child_at, child_in, done_in, is_child_at, is_child, is_some_child}
 use Rattle.watch_text.specs.Changes.{last_child, last_child_of, last_item}
 use Rattle.watch_text.specs.Moments.{IsAbout, IsAskedFor}
 use Rattle.watch_text.specs.Taking.{before_of, creator_undone, has_left, id_count, ids_back, ids_spilled, is_back, is_id}
@@ -152,11 +153,12 @@ all_same old mid same id =
 same_still : (was now : Option Task) → now ≡ was → IsStill was now
 same_still was now same = subst (IsStill was) (sym same) (still_self was)
 
--- what is kept by an event, but for the task that commits; the one that arrived has an id at which none stood
+-- what is kept by an event, but for the task that commits, which is a free one; the one that arrived has an id at
+-- which none stood
 pub record IsKept (old new : View) (arrived done : Option ℕ) : Type 0 where
   pub still : (id : ℕ) → is_id done id ≡ false → IsStill (task_at old id) (task_at new id)
   pub fresh : (id : ℕ) → is_id arrived id ≡ true → task_at old id ≡ None
-  pub rooted : (id : ℕ) (task : Task) → is_id done id ≡ true → task_at old id ≡ Some task
+  pub free : (id : ℕ) (task : Task) → is_id done id ≡ true → task_at old id ≡ Some task
       → (turn index : ℕ) × (task.creator ≡ Committed turn index)
 
 -- ---- so nothing is told of it
@@ -224,10 +226,6 @@ module _ (old new : View) (arrived done : Option ℕ) (kept : IsKept old new arr
             inr (not_left (task_at old id) (task_at new id) (is_id arrived id) (kept.still id other) (kept.fresh id)
             (λ none. (let clash : Some task ≡ None = sym there ∙ none in absurd (cc (clash)))))
 
-    and_no : (b : Bool) → (b && false) ≡ false
-    and_no false = refl
-    and_no true = refl
-
     -- the one that commits has no uncommitted creator
     done_no : is_id done id ≡ true → some_creator_undone table new arrived (was_at table id) ≡ false
     done_no is = by_case (task_at old id) refl
@@ -236,7 +234,7 @@ module _ (old new : View) (arrived done : Option ℕ) (kept : IsKept old new arr
             → some_creator_undone table new arrived (was_at table id) ≡ false
         by_case None none = ap (some_creator_undone table new arrived) (none_was id none)
         by_case (Some task) there =
-            let root = kept.rooted id task is there in
+            let root = kept.free id task is there in
             elim (at_id id) [
               | inl remembers ↦
                   ap (some_creator_undone table new arrived) (remembers ∙ ap (option_map before_of) there)
@@ -249,10 +247,10 @@ module _ (old new : View) (arrived done : Option ℕ) (kept : IsKept old new arr
       where
         by_done : (b : Bool) → is_id done id ≡ b → was_discarded table new arrived id ≡ false
         by_done true is =
-            ap (λ b. has_left new arrived id && b) (done_no is) ∙ and_no (has_left new arrived id)
+            ap (λ b. has_left new arrived id && b) (done_no is) ∙ and_right (has_left new arrived id) false refl
         by_done false other = elim (left_no other) [
           | inl nothing ↦ ap (λ t. has_left new arrived id && some_creator_undone table new arrived t) nothing
-              ∙ and_no (has_left new arrived id)
+              ∙ and_right (has_left new arrived id) false refl
           | inr stays ↦ ap (λ b. b && some_creator_undone table new arrived (was_at table id)) stays
         ]
 
@@ -278,7 +276,7 @@ module _ (old new : View) (arrived done : Option ℕ) (kept : IsKept old new arr
           | inl nothing ↦ ap (λ t. is_some t && (has_left new arrived id
               && not (was_discarded table new arrived id))) nothing
           | inr stays ↦ ap (λ b. is_some (was_at table id) && (b && not (was_discarded table new arrived id))) stays
-              ∙ and_no (is_some (was_at table id))
+              ∙ and_right (is_some (was_at table id)) false refl
         ]
 
   -- all that was there is kept, so nothing was taken
@@ -342,11 +340,7 @@ renumbered_too : (numbered : List ℕ) (was now : Option Task) → now ≡ optio
     → IsStill was now
 renumbered_too numbered None now is = tt
 renumbered_too numbered (Some task) now is =
-    subst (IsStill (Some task)) (sym is) (λ dispatched. still_some _ task.key.tb ∙ dispatched)
-  where
-    still_some : (f : ℕ → ℕ) (o : Option ℕ) → is_some (option_map f o) ≡ is_some o
-    still_some f None = refl
-    still_some f (Some n) = refl
+    subst (IsStill (Some task)) (sym is) (λ dispatched. is_some_mapped _ task.key.tb ∙ dispatched)
 
 -- what a renumbering leaves under an id
 pub renumbered_at : (old new : View) (r : Renumbers old new) (id : ℕ)
@@ -373,7 +367,7 @@ quiet_kept : (old new : View) → AllStill old new → IsKept old new None None
 quiet_kept old new all = record {
   still = λ id other. all id;
   fresh = λ id is. (let no_way : false ≡ true = is in absurd (cc (no_way)));
-  rooted = λ id task is there. (let no_way : false ≡ true = is in absurd (cc (no_way)));
+  free = λ id task is there. (let no_way : false ≡ true = is in absurd (cc (no_way)));
 }
 
 -- where nothing changes, nothing is taken
@@ -422,7 +416,7 @@ module _ (old new : View) (commit : Commits old new) where
   commit_kept = record {
     still = λ k other. other_left k (other_id commit.id k other) (task_at old k) refl;
     fresh = λ k is. (let no_way : false ≡ true = is in absurd (cc (no_way)));
-    rooted = λ k task is there.
+    free = λ k task is there.
         (let same : commit.id ≡ k = same_id commit.id k is in
         let both : Some commit.task ≡ Some task =
         sym commit.least.queued_at.there ∙ (ap (task_at old) same ∙ there) in
@@ -447,15 +441,11 @@ last_pushed : (queues : List (List ℕ)) (tile id : ℕ)
 last_pushed [] tile id = inr refl
 last_pushed (queue ∷ queues) zero id = inl (pushed queue)
   where
-    last_at : (front : List ℕ) → slice_get (front ++ id ∷ []) (length front) ≡ Some id
-    last_at [] = refl
-    last_at (x ∷ front) = last_at front
-
     pushed : (front : List ℕ) → last_item (front ++ id ∷ []) ≡ Some id
     pushed front =
         let count : length (front ++ id ∷ []) ≡ length front + 1 = length_push front id in
         let place : length (front ++ id ∷ []) - 1 ≡ length front = omega (arith, count) in
-        ap (slice_get (front ++ id ∷ [])) place ∙ last_at front
+        ap (slice_get (front ++ id ∷ [])) place ∙ get_end front id
 last_pushed (queue ∷ queues) (suc tile) id = last_pushed queues tile id
 
 -- a split
@@ -484,7 +474,7 @@ module _ (tile : ℕ) (old new : View) (change : Splits tile old new) where
         (subst (λ queues. (last_item (slice_index_or queues tile []) ≡ Some change.id)
         ⊎ (last_item (slice_index_or queues tile []) ≡ None)) (sym change.queues)
         (last_pushed old.queues tile change.id));
-    rooted = λ id task is there. (let no_way : false ≡ true = is in absurd (cc (no_way)));
+    free = λ id task is there. (let no_way : false ≡ true = is in absurd (cc (no_way)));
   }
 
 split_event_kept : (tile : ℕ) (old new : View) (aborted : ℕ) → SplitEvent tile old aborted new → QueueHasRoom old tile
@@ -501,7 +491,7 @@ and_true true b is = (refl, is)
 
 -- a task that made one child more, which stands where none stood
 module _ (image : ImageValue) (old new : View) (sound : Sound image old) (id : ℕ) (task now : Task)
-    (there : task_at old id ≡ Some task) (parent : task_at new id ≡ Some now) (made_by : now.creator ≡ task.creator)
+    (there : task_at old id ≡ Some task) (creates : task_at new id ≡ Some now) (made_by : now.creator ≡ task.creator)
     (more : length now.spawns ≡ length task.spawns + 1)
     (keeps : is_dispatched task ≡ true → is_dispatched now ≡ true)
     (child : ℕ) (vacant : task_at old child ≡ None)
@@ -526,7 +516,7 @@ module _ (image : ImageValue) (old new : View) (sound : Sound image old) (id : �
         omega (arith, within, count, last, more))
 
     -- so what is that child now was nothing before
-    child_fresh : (k : ℕ) → has_child new id last_place k ≡ true → task_at old k ≡ None
+    child_fresh : (k : ℕ) → is_child_at new id last_place k ≡ true → task_at old k ≡ None
     child_fresh k is = by_case (task_at old k) refl
       where
         by_case : (o : Option Task) → task_at old k ≡ o → task_at old k ≡ None
@@ -537,7 +527,7 @@ module _ (image : ImageValue) (old new : View) (sound : Sound image old) (id : �
               let one : was ≡ task = cc (both) in
               let creators : now.creator ≡ was.creator = made_by ∙ ap (λ (t : Task). t.creator) (sym one) in
               let said : is_child id last_place now.creator ≡ true =
-              sym (ap (is_some_child id last_place) (ap (task_at new) same ∙ parent)) ∙ is in
+              sym (ap (is_some_child id last_place) (ap (task_at new) same ∙ creates)) ∙ is in
               absurd (no_such_child k was at was.creator refl (ap (is_child id last_place) (sym creators) ∙ said)))
           | inr other ↦
               (let apart : k ≢ child =
@@ -551,17 +541,17 @@ module _ (image : ImageValue) (old new : View) (sound : Sound image old) (id : �
 
     pub last_fresh : (k : ℕ) → is_id (last_child new id) k ≡ true → task_at old k ≡ None
     last_fresh k is = by_found (child_at new id last_place) refl
-        (sym (ap (λ o. is_id o k) (ap (last_child_of new id) parent)) ∙ is)
+        (sym (ap (λ o. is_id o k) (ap (last_child_of new id) creates)) ∙ is)
       where
         by_found : (o : Option ℕ) → child_at new id last_place ≡ o → is_id o k ≡ true → task_at old k ≡ None
         by_found None found says = absurd (cc (says))
         by_found (Some j) found says =
             child_fresh k
-            (ap (has_child new id last_place) (sym (same_id j k says))
-            ∙ found_passes (has_child new id last_place) (range_with_len 0 (id_count new)) j found)
+            (ap (is_child_at new id last_place) (sym (same_id j k says))
+            ∙ found_passes (is_child_at new id last_place) (range_with_len 0 (id_count new)) j found)
 
     -- no other task is that child
-    pub only_child : (k : ℕ) → has_child new id last_place k ≡ true → k ≡ child
+    pub only_child : (k : ℕ) → is_child_at new id last_place k ≡ true → k ≡ child
     only_child k is = elim (cases_eq k child) [
       | inl same ↦ same
       | inr apart ↦ elim (cases_eq k id) [
@@ -576,21 +566,21 @@ module _ (image : ImageValue) (old new : View) (sound : Sound image old) (id : �
     ]
 
     -- so the child is the one that came, where its id is told
-    pub told_child : has_child new id last_place child ≡ true → child < id_count new
+    pub told_child : is_child_at new id last_place child ≡ true → child < id_count new
         → is_id (last_child new id) child ≡ true
     told_child is inside =
-        let found = found_there (has_child new id last_place) child is (id_count new) 0 (omega arith)
+        let found = found_there (is_child_at new id last_place) child is (id_count new) 0 (omega arith)
         (omega (arith, inside)) in
         let same : found.0 ≡ child =
         only_child found.0
-        (found_passes (has_child new id last_place) (range_with_len 0 (id_count new)) found.0 found.1) in
-        let came : last_child new id ≡ Some found.0 = ap (last_child_of new id) parent ∙ found.1 in
+        (found_passes (is_child_at new id last_place) (range_with_len 0 (id_count new)) found.0 found.1) in
+        let came : last_child new id ≡ Some found.0 = ap (last_child_of new id) creates ∙ found.1 in
         ap (λ o. is_id o child) came ∙ (ap (λ n. n == child) same ∙ same_test child)
 
-    parent_still : AllStill old new
-    parent_still k = elim (cases_eq k id) [
+    creator_still : AllStill old new
+    creator_still k = elim (cases_eq k id) [
       | inl same ↦ subst (λ j. IsStill (task_at old j) (task_at new j)) (sym same)
-          (subst (λ o. IsStill o (task_at new id)) (sym there) (subst (IsStill (Some task)) (sym parent) keeps))
+          (subst (λ o. IsStill o (task_at new id)) (sym there) (subst (IsStill (Some task)) (sym creates) keeps))
       | inr other ↦ elim (cases_eq k child) [
         | inl same ↦ subst (λ j. IsStill (task_at old j) (task_at new j)) (sym same)
             (subst (λ o. IsStill o (task_at new child)) (sym vacant) tt)
@@ -600,9 +590,9 @@ module _ (image : ImageValue) (old new : View) (sound : Sound image old) (id : �
 
     child_kept : IsKept old new (last_child new id) None
     child_kept = record {
-      still = λ k other. parent_still k;
+      still = λ k other. creator_still k;
       fresh = last_fresh;
-      rooted = λ k t is at. (let no_way : false ≡ true = is in absurd (cc (no_way)));
+      free = λ k t is at. (let no_way : false ≡ true = is in absurd (cc (no_way)));
     }
 
 module _ (N : Type 0) (image : ImageValue) (book : BookView) (sound : Sound image book.view) (aborted : ℕ)
@@ -637,7 +627,7 @@ module _ (N : Type 0) (image : ImageValue) (book : BookView) (sound : Sound imag
         subst
         (λ mid. Enqueues id task leg spawn (picked_tile book spawn.hint) mid new → kept_by (requests.Enqueue spawn))
         (sym (room_free (picked_tile book spawn.hint) (room.Enqueuer id) book.view made.forced free))
-        (λ change. child_kept image book.view new sound id task _ there change.parent refl
+        (λ change. child_kept image book.view new sound id task _ there change.creator refl
         (length_push task.spawns spawn) (λ d. d) change.child change.vacant change.others)
         made.change
     by_request (requests.MakeSub kind) made free = own_kept book.view (λ k. refl) _ (λ d. d) made.0.changes
@@ -680,7 +670,7 @@ module _ (N : Type 0) (image : ImageValue) (book : BookView) (sound : Sound imag
         (by_request (request_of book.view task leg) made
         (subst (HasItsRoom {N = N} book (event.Step tile core leg)) asks free)))
 
--- ---- the law
+-- ---- the lemma
 
 pub nothing_taken : (N : Type 0) → NothingTaken N
 nothing_taken N image old new (event.Dispatch tile) task request sound happens about asked free =

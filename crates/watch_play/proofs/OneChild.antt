@@ -40,9 +40,9 @@ module _ (N : Type 0) (image : ImageValue) (book : BookView) (sound : Sound imag
         let left : TakesStill image tile core leg id task book.view made.mid =
         room_leaves_asker image tile core id to leg task book.view aborted made.mid sound takes made.forced in
         let change : Enqueues id task leg spawn to made.mid new = made.change in
-        let only = only_child image made.mid new left.sound id task _ left.there change.parent refl
+        let only = only_child image made.mid new left.sound id task _ left.there change.creator refl
         (length_push task.spawns spawn) (λ d. d) change.child change.vacant change.others in
-        subst (IsOneLastOf new id) (sym change.parent) (λ a b one two. only a one ∙ sym (only b two))
+        subst (IsOneLastOf new id) (sym change.creator) (λ a b one two. only a one ∙ sym (only b two))
     by_request (requests.MakeSub kind) made = tt
     by_request (requests.Emit byte) made = tt
     by_request requests.End made = tt

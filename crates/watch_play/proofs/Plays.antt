@@ -33,7 +33,7 @@ record PlaysWell {N : Type 0} (image : ImageValue) (script : List Act) (opening 
   does : DoesAll N image (take count script) (begun opening) (map said_by moments) last
   good : IsSoundPlay image opening.view.settings last
 
--- the act of this number of a script
+-- the act at this place of a script
 script_act : (script : List Act) (n : ℕ) (act : Act) → course_act (OfScript script) n ≡ Some act
     → slice_get script n ≡ Some act
 unfolding course_act

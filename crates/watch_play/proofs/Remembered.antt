@@ -1,7 +1,7 @@
 -- What is remembered of the tasks behind a commit and behind a renumbering.
 use Rattle.std.proofs.Common.{◌≡◌, ◌≢◌, ◌<◌, ◌-◌, ◌+◌, ◌==◌, ◌++◌, ◌∷◌, ℕ, zero, suc, List, []}
 use Rattle.std.proofs.Common.{Bool, true, false}
-use Rattle.std.proofs.Common.{Some, None, is_some, length, option_map, if◌then◌else◌, refl, sym, ap, subst, ◌∙◌, arith}
+use Rattle.std.proofs.Common.{Some, None, length, option_map, if◌then◌else◌, refl, sym, ap, subst, ◌∙◌, arith}
 use Rattle.std.specs.Prelude.{Contains, slice_get, slice_index_or, slice_set}
 use Rattle.std.specs.Ordering.{ordering_then}
 use Rattle.std.specs.declared.option.Option.{Option}
@@ -14,13 +14,14 @@ use Rattle.spec_state.specs.Numbers as numbers
 use Rattle.spec_state.specs.Numbers.{FreesNumber, Renumbers, renumbered_task}
 use Rattle.spec_state.specs.Queries.{IsLeastIdle}
 use Rattle.spec_state.proofs.Proved.{same_test}
-use Rattle.spec_law.proofs.Proved.{holds_task, mapped_some, same_order}
+use Rattle.spec_law.proofs.Proved.{holds_task, same_order}
 use Rattle.watch_text.specs.Changes.{last_item}
 use Rattle.watch_text.specs.Taking.{before_of, is_id, remembered}
 use Rattle.watch_text.specs.declared.before.Before.{Before}
 use Rattle.watch_play.proofs.NothingTaken.{renumbered_at}
+use Rattle.fractal_vt.proofs.Proved.{get_end, is_some_mapped, mapped_some}
 
--- a commit leaves of the others what was remembered, but for the creator, which has committed
+-- a commit leaves of the others what was remembered, but for the creator where it is the task that commits
 pub commit_remembers : (old new : View) (commit : Commits old new) (k : ℕ) → (k == commit.id) ≡ false
     → remembered new k
     ≡ option_map (λ (was : Before). record was {
@@ -40,7 +41,7 @@ commit_remembers old new commit k other =
           creator = creator_after commit.id (length old.history + 1) t.creator;
         }))) other
 
--- an id that isn't told
+-- an id that isn't the one told is another
 pub apart_of : (told : Option ℕ) (id k : ℕ) → told ≡ Some id → is_id told k ≡ false → k ≢ id
 apart_of told id k is fails same =
     (let clash : true ≡ false =
@@ -54,16 +55,12 @@ last_of_pushed [] tile id inside = absurd (omega (arith, inside))
 last_of_pushed (queue ∷ queues) zero id inside =
     let count : length (queue ++ id ∷ []) ≡ length queue + 1 = length_push queue id in
     let place : length (queue ++ id ∷ []) - 1 ≡ length queue = omega (arith, count) in
-    ap (slice_get (queue ++ id ∷ [])) place ∙ last_at queue
-  where
-    last_at : (front : List ℕ) → slice_get (front ++ id ∷ []) (length front) ≡ Some id
-    last_at [] = refl
-    last_at (x ∷ front) = last_at front
+    ap (slice_get (queue ++ id ∷ [])) place ∙ get_end queue id
 last_of_pushed (queue ∷ queues) (suc tile) id inside = last_of_pushed queues tile id (omega (arith, inside))
 
 -- ---- a renumbering
 
--- a renumbering leaves the least idle task what it was
+-- a renumbering leaves the least idle task what it was, and of each task what is remembered
 module _ (old new : View) (r : Renumbers old new) where
   same_queue : (tile : ℕ) → queue_at new tile ≡ queue_at old tile
   same_queue tile = ap (λ v. queue_at v tile) r.frame
@@ -111,14 +108,10 @@ module _ (old new : View) (r : Renumbers old new) where
   same_remembered : (id : ℕ) → remembered new id ≡ remembered old id
   same_remembered id = ap (option_map before_of) (renumbered_at old new r id) ∙ by_case (task_at old id)
     where
-      still_some : (f : ℕ → ℕ) (o : Option ℕ) → is_some (option_map f o) ≡ is_some o
-      still_some f None = refl
-      still_some f (Some n) = refl
-
       by_case : (o : Option Task)
           → option_map before_of (option_map (renumbered_task r.table) o) ≡ option_map before_of o
       by_case None = refl
-      by_case (Some t) = ap (λ d. Some (before_with t d)) (still_some _ t.key.tb)
+      by_case (Some t) = ap (λ d. Some (before_with t d)) (is_some_mapped _ t.key.tb)
 
 pub number_remembers : {old new : View} → FreesNumber old new → (id : ℕ) → remembered new id ≡ remembered old id
 number_remembers (numbers.has_free left) id = refl

@@ -22,7 +22,7 @@ use Rattle.watch_play.specs.Telling.{AreActsOf}
 
 -- ---- put together act by act
 
--- one act behind those that were added
+-- acts behind those that were added
 onto : (old mid new front back : List Act) → mid ≡ old ++ front → new ≡ mid ++ back → new ≡ old ++ (front ++ back)
 onto old mid new front back are is = is ∙ (ap (λ l. l ++ back) are ∙ append_assoc old front back)
 

@@ -1,11 +1,11 @@
--- What is told as taken back, by what an abort marked and what became of the tasks behind it.
+-- What is told as taken back and as spilled, by what an abort marked and what became of the tasks behind it.
 use Rattle.std.proofs.Common.{◌≡◌, ◌⊎◌, ◌≤◌, ◌<◌, ◌+◌, ◌∷◌, ◌&&◌, ◌||◌, ℕ, zero, suc, List, [], Bool, true, false}
 use Rattle.std.proofs.Common.{is_some, not, cond, Some, None, length, filter, option_map, if◌then◌else◌}
 use Rattle.std.proofs.Common.{inl, inr, refl, sym, ap, subst, ◌∙◌, arith}
 use Rattle.std.specs.Prelude.{Contains, ◌↔◌, count_by, is_none, slice_get}
 use Rattle.std.specs.List.{range_with_len}
 use Rattle.std.specs.declared.option.Option.{Option}
-use Rattle.std.proofs.lemmas.Bool.{false_from_ne_true}
+use Rattle.std.proofs.lemmas.Bool.{and_right, false_from_ne_true, or_right}
 use Rattle.std.proofs.lemmas.List.FromFn.{get_or-map-range_with_len, length-map-range_with_len}
 use Rattle.std.proofs.lemmas.List.Sums.{sum_by-cons}
 use Rattle.abort_cascade.specs.Cascade.{Reached, start, step}
@@ -45,7 +45,7 @@ pub fares_self : (m : Bool) (P : Type 0) → (P → ⊥) → (o : Option Task) �
 fares_self m P none None = tt
 fares_self m P none (Some task) = (none, λ dispatched. dispatched, λ marked idle. idle)
 
--- and then none is moved
+-- what fares so, and then on where none is moved, fares so
 pub fares_then : (m : Bool) (P : Type 0) (a b c : Option Task) → Fares m P a b → Fares m ⊥ b c → Fares m P a c
 fares_then m P None None None one two = tt
 fares_then m P None None (Some z) one two = absurd two
@@ -81,10 +81,6 @@ pub record Keeps (marks : List Bool) (moved : List ℕ) (count : ℕ) (mid new :
       → (is_dispatched task ≡ false) × Contains moved id
   pub there : (id : ℕ) → Contains moved id → (task : Task) × (task_at mid id ≡ Some task)
 
-pub or_true : (b : Bool) → (b || true) ≡ true
-or_true false = refl
-or_true true = refl
-
 -- what is read then of what stood there and stands there, and whether that arrived
 module _ (m : Bool) (P : Type 0) (was now : Option Task) (came : Bool) (fares : came ≡ false → Fares m P was now)
     (task : Task) (there : was ≡ Some task)
@@ -113,7 +109,7 @@ module _ (m : Bool) (P : Type 0) (was now : Option Task) (came : Bool) (fares : 
       where
         by_case : (s t : Option Task) (c : Bool) → (c ≡ false → Fares m P s t) → s ≡ Some task
             → ((is_none t || c) || waits t) ≡ true
-        by_case s t true f is = ap (λ b. b || waits t) (or_true (is_none t))
+        by_case s t true f is = ap (λ b. b || waits t) (or_right (is_none t) true refl)
         by_case None t false f is = absurd (cc (is))
         by_case (Some x) None false f is = refl
         by_case (Some x) (Some y) false f is =
@@ -138,7 +134,7 @@ module _ (m : Bool) (P : Type 0) (was now : Option Task) (came : Bool) (fares : 
       where
         by_case : (s t : Option Task) (c : Bool) → (c ≡ false → Fares m P s t) → s ≡ Some task
             → (is_none t || c) ≡ true
-        by_case s t true f is = or_true (is_none t)
+        by_case s t true f is = or_right (is_none t) true refl
         by_case None t false f is = absurd (cc (is))
         by_case (Some x) None false f is = refl
         by_case (Some x) (Some y) false f is = absurd ((f refl).0 moved)
@@ -279,6 +275,16 @@ module _ (image : ImageValue) (old : View) (sound : Sound image old) where
             (sound.tasks.stands c made.creator made.there),
       )
 
+-- the table has as many places as ids are told
+pub table_length : (view : View) → length (table_of view) ≡ id_count view
+table_length view = length-map-range_with_len (remembered view) 0 (id_count view)
+
+-- and at each what is remembered of its id
+pub table_has : (view : View) (id : ℕ) → id < id_count view → was_at (table_of view) id ≡ remembered view id
+table_has view id inside =
+    get_or-map-range_with_len (remembered view) 0 (id_count view) id id None inside
+    (omega arith)
+
 module _ (image : ImageValue) (old new : View) (sound : Sound image old) (marks : List Bool) (moved : List ℕ)
     (aborted : ℕ) (about arrived : Option ℕ) (all : AllHavePlaces old)
     (taken : Taken old new marks moved aborted about arrived)
@@ -290,15 +296,11 @@ module _ (image : ImageValue) (old new : View) (sound : Sound image old) (marks 
     table = table_of old
 
     -- it has left, or waits
-    abbrev is_gone : ℕ → Bool
-    is_gone id = has_left new arrived id || waits (task_at new id)
-
-    -- what the table has
-    was : (id : ℕ) → id < id_count old → was_at table id ≡ remembered old id
-    was id below = get_or-map-range_with_len (remembered old) 0 (id_count old) id id None below (omega arith)
+    abbrev left_or_waits : ℕ → Bool
+    left_or_waits id = has_left new arrived id || waits (task_at new id)
 
     was_some : (id : ℕ) (task : Task) → task_at old id ≡ Some task → was_at table id ≡ Some (before_of task)
-    was_some id task there = was id (all id task there) ∙ ap (option_map before_of) there
+    was_some id task there = table_has old id (all id task there) ∙ ap (option_map before_of) there
 
     fares_at : (id : ℕ) (task : Task) → task_at old id ≡ Some task → is_id arrived id ≡ false
         → Fares (is_marked marks id) (Contains moved id) (task_at taken.mid id) (task_at new id)
@@ -319,7 +321,7 @@ module _ (image : ImageValue) (old new : View) (sound : Sound image old) (marks 
           ∙ (λ i. if marked i then (if creator i then None else Some (idle_again old.version task)) else Some task)
 
       -- an unmarked dispatched task has not
-      stays : is_marked marks id ≡ false → is_dispatched task ≡ true → is_gone id ≡ false
+      stays : is_marked marks id ≡ false → is_dispatched task ≡ true → left_or_waits id ≡ false
       stays out dispatched =
           let now = left_by false is_creator_marked out refl in
           not_gone (is_marked marks id) (Contains moved id) (task_at taken.mid id) (task_at new id)
@@ -333,10 +335,10 @@ module _ (image : ImageValue) (old new : View) (sound : Sound image old) (marks 
           (is_id arrived id) (fares_at id task there) (left_by true true marked creator)
 
       -- and a marked one has, or waits
-      is_back_now : is_marked marks id ≡ true → is_gone id ≡ true
+      is_back_now : is_marked marks id ≡ true → left_or_waits id ≡ true
       is_back_now marked = by_creator is_creator_marked refl
         where
-          by_creator : (c : Bool) → is_creator_marked ≡ c → is_gone id ≡ true
+          by_creator : (c : Bool) → is_creator_marked ≡ c → left_or_waits id ≡ true
           by_creator true creator = ap (λ b. b || waits (task_at new id)) (leaves marked creator)
           by_creator false creator =
               gone_or_waits (is_marked marks id) (Contains moved id) (task_at taken.mid id) (task_at new id)
@@ -346,17 +348,17 @@ module _ (image : ImageValue) (old new : View) (sound : Sound image old) (marks 
       -- a dispatched task is undone where it is marked
       undone_is : is_dispatched task ≡ true → was_undone table new arrived id ≡ is_marked marks id
       undone_is dispatched =
-          ap (λ w. undone_by w (is_gone id)) (was_some id task there)
-          ∙ (ap (λ d. d && is_gone id) dispatched ∙ by_mark (is_marked marks id) refl)
+          ap (λ w. undone_by w (left_or_waits id)) (was_some id task there)
+          ∙ (ap (λ d. d && left_or_waits id) dispatched ∙ by_mark (is_marked marks id) refl)
         where
-          by_mark : (b : Bool) → is_marked marks id ≡ b → is_gone id ≡ is_marked marks id
+          by_mark : (b : Bool) → is_marked marks id ≡ b → left_or_waits id ≡ is_marked marks id
           by_mark true marked = is_back_now marked ∙ sym marked
           by_mark false out = stays out dispatched ∙ sym out
 
       -- another is not
       undone_not : is_dispatched task ≡ false → was_undone table new arrived id ≡ false
       undone_not idle =
-          ap (λ w. undone_by w (is_gone id)) (was_some id task there) ∙ ap (λ d. d && is_gone id) idle
+          ap (λ w. undone_by w (left_or_waits id)) (was_some id task there) ∙ ap (λ d. d && left_or_waits id) idle
 
       -- a task of a marked creator is marked
       marked_with : is_creator_marked ≡ true → is_marked marks id ≡ true
@@ -392,17 +394,14 @@ module _ (image : ImageValue) (old new : View) (sound : Sound image old) (marks 
           ap (λ w. has_left new arrived id && some_creator_undone table new arrived w) (was_some id task there)
           ∙ (ap (λ b. has_left new arrived id && b) creator_is ∙ by_creator (is_creator_marked id task there) refl)
         where
-          and_no : (b : Bool) → (b && false) ≡ false
-          and_no false = refl
-          and_no true = refl
-
           by_creator : (c : Bool) → is_creator_marked id task there ≡ c
               → (has_left new arrived id && is_creator_marked id task there) ≡ is_creator_marked id task there
           by_creator true creator =
               ap (λ b. b && is_creator_marked id task there)
               (leaves id task there (marked_with id task there creator) creator)
           by_creator false creator =
-              ap (λ b. has_left new arrived id && b) creator ∙ (and_no (has_left new arrived id) ∙ sym creator)
+              ap (λ b. has_left new arrived id && b) creator
+              ∙ (and_right (has_left new arrived id) false refl ∙ sym creator)
 
       -- so it is told where it is marked
       told_is : (was_undone table new arrived id || was_discarded table new arrived id) ≡ is_marked marks id
@@ -494,7 +493,7 @@ module _ (image : ImageValue) (old new : View) (sound : Sound image old) (marks 
         by_case (Some task) there = (spilled_moved id task there, moved_spilled id task there)
         by_case None none = (
           λ is.
-              (let nothing = was id below ∙ ap (option_map before_of) none in
+              (let nothing = table_has old id below ∙ ap (option_map before_of) none in
               let clash : true ≡ false = sym is
               ∙ ap (λ w. is_some w && (has_left new arrived id && not (was_discarded table new arrived id))) nothing in
               absurd (cc (clash))),
@@ -517,19 +516,16 @@ module _ (image : ImageValue) (old new : View) (sound : Sound image old) (marks 
     -- and none told
     none_told : (id : ℕ) → was_at table id ≡ None → is_back table new arrived None id ≡ false
     none_told id none =
-        ap (λ w. undone_by w (is_gone id) || has_left new arrived id && some_creator_undone table new arrived w) none
-        ∙ and_no (has_left new arrived id)
-      where
-        and_no : (b : Bool) → (b && false) ≡ false
-        and_no false = refl
-        and_no true = refl
+        ap (λ w. undone_by w (left_or_waits id)
+        || has_left new arrived id && some_creator_undone table new arrived w) none
+        ∙ and_right (has_left new arrived id) false refl
 
     back_is : (id : ℕ) → id < id_count old → is_back table new arrived None id ≡ is_marked marks id
     back_is id below = by_case (task_at old id) refl
       where
         by_case : (o : Option Task) → task_at old id ≡ o → is_back table new arrived None id ≡ is_marked marks id
         by_case None none =
-            none_told id (was id below ∙ ap (option_map before_of) none) ∙ sym (none_marked_there id none)
+            none_told id (table_has old id below ∙ ap (option_map before_of) none) ∙ sym (none_marked_there id none)
         by_case (Some task) there = told_is id task there
 
     -- all marked ones have a place

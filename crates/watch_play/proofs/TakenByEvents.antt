@@ -1,6 +1,6 @@
 -- What each event took back, and what became of the tasks behind that.
 use Rattle.std.proofs.Common.{◌≡◌, ◌≢◌, ◌⊎◌, ◌<◌, ◌+◌, ◌-◌, ◌∷◌, ◌++◌, ◌==◌, ◌&&◌, ◌/◌, ℕ, List, [], Bool, true}
-use Rattle.std.proofs.Common.{false, Some, None, is_some, length, option_map, if◌then◌else◌}
+use Rattle.std.proofs.Common.{false, Some, None, length, option_map, if◌then◌else◌}
 use Rattle.std.proofs.Common.{inl, inr, refl, sym, ap, subst, ◌∙◌, arith}
 use Rattle.std.specs.Prelude.{◌*◌, Contains, count_by, slice_index_or}
 use Rattle.std.specs.declared.option.Option.{Option}
@@ -13,8 +13,6 @@ use Rattle.task_desc.specs.declared.desc.Spawn.{Spawn}
 use Rattle.task_request.specs.declared.request.Request.{Request}
 use Rattle.task_request.specs.declared.request.Request.TheVariants as requests
 use Rattle.spec_state.specs.declared.settings.Settings.{Settings}
-use Rattle.spec_state.specs.declared.task.Status.{Status}
-use Rattle.spec_state.specs.declared.task.Status.TheVariants.{Idle, Running, Trapped, Finished}
 use Rattle.spec_state.specs.declared.task.Task.{Task}
 use Rattle.spec_state.specs.View.{View, ChangesTask, queue_at, task_at}
 use Rattle.spec_state.specs.Tasks.{idle_again, is_dispatched}
@@ -23,12 +21,11 @@ use Rattle.spec_state.specs.Changes.{Enqueues, TakesLeg, request_of}
 use Rattle.spec_state.specs.Groups.{live_creator}
 use Rattle.spec_state.specs.Numbers as numbers
 use Rattle.spec_state.specs.Numbers.{FreesNumber, renumbered_task}
-use Rattle.spec_state.specs.Queries.{Conflicts, IsLeastIdle, IsOnCore}
+use Rattle.spec_state.specs.Queries.{Conflicts, IsLeastIdle}
 use Rattle.spec_state.specs.Room as room
 use Rattle.spec_state.specs.Room.{Asker, Coalesces, MakesRoom, Splits}
-use Rattle.spec_state.specs.Stored.{HasCore}
 use Rattle.spec_state.proofs.Proved.{same_test}
-use Rattle.spec_law.specs.Sound.{Sound, StandsAs}
+use Rattle.spec_law.specs.Sound.{Sound}
 use Rattle.spec_law.proofs.Proved.{abort_of_one_is_sound, decided}
 use Rattle.event_def.specs.declared.event.Event.TheVariants as event
 use Rattle.event_def.specs.declared.event.Reply.TheVariants as reply
@@ -40,7 +37,8 @@ use Rattle.event_def.specs.Events.{SplitEvent}
 use Rattle.event_law.proofs.Proved.{heir_is, idle_is_open}
 use Rattle.event_lemma.specs.Forcing.{RunsIfTask, TakesStill}
 use Rattle.event_lemma.proofs.Proved.{commit_leaves_asker, conflicts_leave_asker, core_leaves_idle, room_leaves}
-use Rattle.event_lemma.proofs.Proved.{room_leaves_asker, taken_is_live, taker_asks}
+use Rattle.event_lemma.proofs.Proved.{holder_is_dispatched, room_leaves_asker, taken_is_live, taker_asks}
+use Rattle.fractal_vt.proofs.Proved.{is_some_mapped}
 use Rattle.watch_text.specs.Asking.{Hands}
 use Rattle.watch_text.specs.Changes.{child_in, is_some_child, last_child, last_item}
 use Rattle.watch_text.specs.Moments.{IsAbout, IsAskedFor}
@@ -181,22 +179,6 @@ module _ (old mid new : View) (marks : List Bool) (moved : List ℕ) (aborted : 
         (λ id below other. stays id) likes
 
 module _ (image : ImageValue) (old : View) (sound : Sound image old) where
-  -- the task on a core is dispatched
-  holder_runs : (task : Task) (core : ℕ) (status : Status) → HasCore status core
-      → StandsAs image old.version old.settings.budget task status → is_dispatched task ≡ true
-  holder_runs task core Idle holds stands = absurd holds
-  holder_runs task core (Running held) holds stands = stands.0
-  holder_runs task core (Trapped held cause) holds stands = stands.0
-  holder_runs task core Finished holds stands = absurd holds
-
-  on_core_runs : (tile core id : ℕ) (task : Task) → IsOnCore old tile core id task → is_dispatched task ≡ true
-  on_core_runs tile core id task on =
-      let has = (sound.sizes.held_are tile core id).0 on.held in
-      let both : Some has.0 ≡ Some task = sym has.1 ∙ on.there in
-      let same : has.0 ≡ task = cc (both) in
-      holder_runs task core task.status (subst (λ (t : Task). HasCore t.status core) same has.3)
-      (sound.tasks.stands id task on.there)
-
   -- a core
   core_forced : (tile : ℕ) {aborted : ℕ} {mid : View} (forced : FreesCore tile old aborted mid)
       → Forced old mid (core_marks tile old forced) [] aborted
@@ -204,7 +186,8 @@ module _ (image : ImageValue) (old : View) (sound : Sound image old) where
   core_forced tile (events.aborts_latest aborted v x new held latest aborts) =
       let on = latest.of_kind in
       none_moved old new aborts.marks aborted
-      (one_takes v x old new aborted aborts on.1.there (on_core_runs tile on.0 v x on.1)) aborts.counted
+      (one_takes v x old new aborted aborts on.1.there (holder_is_dispatched image old sound tile on.0 v x on.1))
+      aborts.counted
 
   -- a place of a commit queue
   commit_forced : (tile : ℕ) (task : Task) {aborted : ℕ} {mid : View} (forced : FreesCommit tile task old aborted mid)
@@ -257,13 +240,9 @@ renumbered_fares : (m : Bool) (numbered : List ℕ) (o : Option Task)
 renumbered_fares m numbered None = tt
 renumbered_fares m numbered (Some task) = (
   λ none. none,
-  λ dispatched. still_some _ task.key.tb ∙ dispatched,
-  λ marked idle. still_some _ task.key.tb ∙ idle,
+  λ dispatched. is_some_mapped _ task.key.tb ∙ dispatched,
+  λ marked idle. is_some_mapped _ task.key.tb ∙ idle,
 )
-  where
-    still_some : (f : ℕ → ℕ) (o : Option ℕ) → is_some (option_map f o) ≡ is_some o
-    still_some f None = refl
-    still_some f (Some n) = refl
 
 number_stays : (marks : List Bool) {mid ready : View} → FreesNumber mid ready → AllStay marks mid ready
 number_stays marks {mid} (numbers.has_free left) id =
@@ -275,7 +254,7 @@ number_stays marks {mid} (numbers.renumbers new spent r) id =
 module _ (N : Type 0) (image : ImageValue) (book : BookView) (sound : Sound image book.view) (tile : ℕ)
     (granted : IsGranted {N = N} book (event.Dispatch tile))
   where
-    -- an idle task that stays idle is unmarked
+    -- the tile's least idle task is unmarked where it is still there
     idle_is_spared : (mid : View) (marks : List Bool) → Takes book.view mid marks → (id : ℕ) (task : Task)
         → IsLeastIdle book.view tile id task → task_at mid id ≡ Some task → is_marked marks id ≡ true → ⊥
     idle_is_spared mid marks takes id task least now marked = by_task (takes.from id marked).2
@@ -331,7 +310,7 @@ module _ (N : Type 0) (image : ImageValue) (book : BookView) (sound : Sound imag
               (λ all_held. is_least) forced in
               let one : low ≡ id = idle_is_one new tile id low task about.0 least left.idle in
               idle_is_spared new aborts.marks
-              (one_takes v x book.view new aborted aborts on.1.there (on_core_runs image book.view sound tile on.0 v x
+              (one_takes v x book.view new aborted aborts on.1.there (holder_is_dispatched image book.view sound tile on.0 v x
               on.1))
               low about.0 about.1 left.idle.idle.there (ap (is_marked aborts.marks) one ∙ marked);
         })
@@ -439,7 +418,7 @@ module _ (N : Type 0) (image : ImageValue) (book : BookView) (sound : Sound imag
           let is = ap (is_some_child id (length (task.spawns ++ spawn ∷ []) - 1)) change.made ∙ tests in
           let settings : new.settings ≡ book.view.settings =
           ap (λ (v : View). v.settings) change.frame ∙ left.like.settings in
-          told_child image made.mid new left.sound id task _ left.there change.parent refl count (λ d. d)
+          told_child image made.mid new left.sound id task _ left.there change.creator refl count (λ d. d)
           change.child change.vacant change.others is
           (subst (λ (s : Settings). change.child < s.tiles * s.task_queue) (sym settings) below)
 
@@ -448,7 +427,7 @@ module _ (N : Type 0) (image : ImageValue) (book : BookView) (sound : Sound imag
       behind m k below out = elim (cases_eq k id) [
         | inl same ↦ subst (λ j. Fares m ⊥ (task_at made.mid j) (task_at new j)) (sym same)
             (subst (λ o. Fares m ⊥ o (task_at new id)) (sym left.there)
-            (subst (Fares m ⊥ (Some task)) (sym change.parent)
+            (subst (Fares m ⊥ (Some task)) (sym change.creator)
             (λ none. none, λ dispatched. dispatched, λ marked idle. idle)))
         | inr other ↦ elim (cases_eq k change.child) [
           | inl same ↦
@@ -480,7 +459,7 @@ module _ (N : Type 0) (image : ImageValue) (book : BookView) (sound : Sound imag
           let marks : List Bool = room_marks to (room.Enqueuer id) book.view made.forced in
           let moved : List ℕ = room_spilled to (room.Enqueuer id) book.view made.forced in
           task_comes book.view made.mid new marks moved aborted forced (Some id) (last_child new id)
-          (last_fresh image made.mid new left.sound id task _ left.there change.parent refl more (λ d. d)
+          (last_fresh image made.mid new left.sound id task _ left.there change.creator refl more (λ d. d)
           change.child change.vacant change.others)
           (λ k. behind (is_marked marks k) k) like
 

@@ -1,4 +1,4 @@
--- Contracts of public calls mean all of these but Room.
+-- Contracts of public calls mean all of these but Playing and Room.
 pub mod Courses
 pub mod Stories
 pub mod Texts

@@ -14,7 +14,7 @@ pub record IsMomentAt {N : Type 0} (image : ImageValue) (at place : ℕ) (act : 
     (old new : PlayState) : Type 0 where
   pub act_is : m.act ≡ act
   pub at_is : m.at ≡ at
-  pub place_is : m.place ≡ place
+  pub place_is : m.number ≡ place
   pub moment : IsMoment image m old new
 
 -- the act is a moment, and its line stands ready; or no memory is left for the line; or it is none, and the book stays

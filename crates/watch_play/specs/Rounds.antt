@@ -1,5 +1,5 @@
 -- What comes of the acts of a round: those that it asks for are made, unless a step stalls or memory runs out; those
--- that it passes over would be refused.
+-- that it passes over wouldn't be made.
 use Rattle.std.specs.Prelude.{◌≡◌, ◌≢◌, ℕ, List}
 use Rattle.guest_image.specs.ImageValue.{ImageValue}
 use Rattle.spec_law.specs.Sound.{Sound}
@@ -34,7 +34,7 @@ IsMadeOrStalls act reply.Memory = Unit {0}
 IsMadeOrStalls act reply.Stall = IsStep act
 IsMadeOrStalls act other = ⊥
 
--- while a run goes on: what a round asks for, as the machine stands, is made or stalls
+-- while a run goes on: what a round asks for, as the machine stands, is made, unless a step stalls or memory runs out
 abbrev pub AskedIsMade : Type 0 → Type 0
 AskedIsMade N =
     (image : ImageValue) (old : PlayState) (new : BookView) (act : Act) (asks : Attempt N) (held : List HeldLeg)

@@ -11,13 +11,13 @@ use Rattle.watch_play.specs.Courses.{Course, course_act, IsAskedBy}
 abbrev pub begun : BookView → PlayState
 begun opening = record { book = opening; held = [] }
 
--- the act of this number, counted from 0, comes: it isn't asked for, and passes; or it is made, which is a moment more
+-- the act of this number, counted from 0, comes: it isn't asked for, and passes; or it is, and is a moment more
 pub data ActComes {N : Type 0} (image : ImageValue) (course : Course) (number : ℕ) (front : List (Moment N))
     (old : PlayState) (moments : List (Moment N)) (new : PlayState) : Type 0 where
   Passes : (act : Act) → course_act course number ≡ Some act → (IsAskedBy course old.book.view act → ⊥)
       → moments ≡ front → new ≡ old → ActComes image course number front old moments new
   Makes : (m : Moment N) → course_act course number ≡ Some m.act → IsAskedBy course old.book.view m.act
-      → m.at ≡ number + 1 → m.place ≡ length front + 1 → IsMoment image m old new → moments ≡ front ++ m ∷ []
+      → m.at ≡ number + 1 → m.number ≡ length front + 1 → IsMoment image m old new → moments ≡ front ++ m ∷ []
       → ActComes image course number front old moments new
 
 -- so many acts of the course, from an opening on, gave these moments, and led here

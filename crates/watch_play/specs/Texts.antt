@@ -21,7 +21,7 @@ view_text each place view events = if is_due each place then view_line view even
 
 -- the lines of a moment: its own, and the view behind each so many of them
 abbrev pub moment_lines : {N : Type 0} → Option ℕ → Moment N → List ℕ
-moment_lines each m = line_of m ++ view_text each m.place m.new.view m.new.steps
+moment_lines each m = line_of m ++ view_text each m.number m.new.view m.new.steps
 
 -- the lines before the first act
 abbrev pub opening_lines : Course → Settings → ImageValue → View → List ℕ

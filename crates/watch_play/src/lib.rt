@@ -1,10 +1,10 @@
 //! Courses that are played on a book, and told act by act: those of a script, what brings the least task on, or rounds
 //! in lockstep.
 //!
-//! Each act is one line, with a whole view behind each so many where that is asked for, and is one piece for the sink,
-//! written before the next act is made. Between the acts stand the legs that are held, a table of the tasks, the line
-//! and the order of a round: the memory does not grow with the number of acts. It stands on the lines of `watch_text`,
-//! on scripts and on the book; `fractal_watch` calls it.
+//! Each act that is asked for is one line, with a whole view behind each so many where there are views, and is one
+//! piece for the sink, written before the next act. Between the acts stand the legs that are held and the one that
+//! stands ready, a table of the tasks, the line and the order of a round: the memory does not grow with the number of
+//! acts. It stands on the lines of `watch_text`, on scripts and on the book; `fractal_watch` calls it.
 #![tactic(auto)]
 
 mod asking;

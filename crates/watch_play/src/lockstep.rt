@@ -3,7 +3,6 @@
 ghost use Rattle.std.specs.Prelude.{◌≡◌, ◌↔◌, ◌<◌, ◌≤◌, ◌+◌, ◌^◌, ◌++◌, All, IfOk, IfSome, IsPermutation, IsTrue};
 ghost use Rattle.std.specs.Prelude.{OnOk, length, map, replicate};
 ghost use Rattle.std.specs.List.{flat_map, range_with_len};
-ghost use Rattle.spec_state.specs.Least.{IsLeastSpilled, IsTheLeast};
 ghost use Rattle.conflict_book.specs.BookViews.{machine_view, view_of};
 ghost use Rattle.step_script.specs.Ranges.{ActIsInRange};
 ghost use Rattle.event_def.specs.End.{IsOver};
@@ -17,11 +16,12 @@ use crate::playing::tell_act;
 use crate::stop::Stop;
 use crate::watch::Watch;
 use conflict_book::Book;
+use event_room::{is_least, is_least_spilled};
 use guest_image::Image;
 use place_policy::Placer;
 use rv_core::Naming;
 use sim_io::Sink;
-use spec_state::{Settings, State, TaskId, Where};
+use spec_state::{Settings, State, Where};
 use std::alloc::{AllocError, Global};
 use step_script::Act;
 use trace_tap::Tap;
@@ -128,20 +128,6 @@ fn next_order(acts: &mut [Act], drawn: u32, seed: u32) -> u32
     }
 }
 
-/// Whether this task is the least one.
-fn is_least<N: Naming>(state: &State<N>, id: TaskId) -> bool
-    ensures { IsTrue result ↔ IsTheLeast state.now.view id.0 }
-{
-    match state.least() {
-        Some(Where::Idle(least)) => least == id,
-        Some(Where::Running(least)) => least == id,
-        Some(Where::Trapped(least)) => least == id,
-        Some(Where::Finished(least)) => least == id,
-        Some(Where::Spilled(_)) => false,
-        None => false,
-    }
-}
-
 fn is_dispatch_asked<N: Naming, P: Placer, T: Tap>(book: &Book<N, P, T>, tile: u32) -> bool
     requires { tile < (machine_view book.now).settings.tiles }
     ensures { IsTrue result ↔ IsAskedInRound (machine_view book.now) (Act.Dispatch tile) }
@@ -161,20 +147,6 @@ fn is_commit_asked<N: Naming>(state: &State<N>) -> bool
         Some(Where::Running(_)) => false,
         Some(Where::Trapped(_)) => false,
         Some(Where::Spilled(_)) => false,
-        None => false,
-    }
-}
-
-/// Whether the least task is spilled in this tile.
-fn is_least_spilled<N: Naming>(state: &State<N>, tile: u32) -> bool
-    ensures { IsTrue result ↔ IsLeastSpilled state.now.view tile }
-{
-    match state.least() {
-        Some(Where::Spilled(at)) => at == tile,
-        Some(Where::Idle(_)) => false,
-        Some(Where::Running(_)) => false,
-        Some(Where::Trapped(_)) => false,
-        Some(Where::Finished(_)) => false,
         None => false,
     }
 }
@@ -227,7 +199,7 @@ fn play_asked<N: Naming, P: Placer, T: Tap, K: Sink>(
     requires each { IfSome watch.old.each (λ number. 1 ≤ number) }
     requires table { watch.old.table.items ≡ table_of (machine_view watch.old.book) }
     requires count { watch.old.count ≤ number }
-    requires room { number < 2 ^ 63 }
+    requires below { number < 2 ^ 63 }
     requires within { let settings = (machine_view watch.old.book).settings in
         ActIsInRange settings.tiles settings.cores act }
     ensures goes_on { ActGoesOn N N.image watch.old.each number act watch.old.count watch.new.count
@@ -257,7 +229,7 @@ fn play_round<N: Naming, P: Placer, T: Tap, K: Sink>(
     requires each { IfSome watch.old.each (λ number. 1 ≤ number) }
     requires table { watch.old.table.items ≡ table_of (machine_view watch.old.book) }
     requires count { watch.old.count ≤ before }
-    requires room { before + length acts.now < 2 ^ 63 }
+    requires below { before + length acts.now < 2 ^ 63 }
     requires within { let settings = (machine_view watch.old.book).settings in
         All (ActIsInRange settings.tiles settings.cores) acts.now }
     ensures goes_on { RoundGoesOn N N.image watch.old.each before acts.now watch.old.count watch.new.count

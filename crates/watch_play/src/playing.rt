@@ -39,7 +39,7 @@ use watch_text::{
 /// What came of an act.
 #[derive(Clone, Copy, Debug, PartialEq, Eq)]
 pub(crate) enum PlayedAct {
-    /// It was made, or its word was said, and its line stands ready.
+    /// It was made or refused, or its word was said, and its line stands ready.
     Told,
     /// The same, but no memory was left for its line.
     Untold,

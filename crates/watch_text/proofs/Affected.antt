@@ -1,6 +1,7 @@
 -- The tasks that an event took back or spilled.
 use Rattle.std.proofs.Common.{◌≡◌, ◌∙◌, ◌≤◌, ◌&&◌, ◌||◌, ℕ, List, [], ◌∷◌, Bool, true, false, not, cond, filter, take}
 use Rattle.std.proofs.Common.{refl, sym, ap}
+use Rattle.std.proofs.lemmas.Bool.{or_left, or_right}
 use Rattle.std.proofs.lemmas.List.{take_all}
 use Rattle.std.specs.Prelude.{Some, is_some, length}
 use Rattle.std.specs.List.{range_with_len}
@@ -39,14 +40,6 @@ module _ (table : List (Option Before)) (new : View) (arrived done : Option ℕ)
 
 -- ---- those among the affected ones
 
--- one of two that holds is enough
-or_first : (a b : Bool) → a ≡ true → (a || b) ≡ true
-or_first a b is = ap (λ x. x || b) is
-
-or_second : (a b : Bool) → b ≡ true → (a || b) ≡ true
-or_second true b is = refl
-or_second false b is = is
-
 -- where one test passes only what another passes, a list that was filtered by the other is filtered as the whole
 filter_within : (p q : ℕ → Bool) → ((k : ℕ) → p k ≡ true → q k ≡ true) → (xs : List ℕ)
     → filter p (filter q xs) ≡ filter p xs
@@ -72,14 +65,14 @@ module _ (table : List (Option Before)) (new : View) (arrived done : Option ℕ)
   among p = filter p (range_with_len 0 (length table))
 
   back_affected : (k : ℕ) → is_back table new arrived done k ≡ true → is_affected table new arrived done k ≡ true
-  back_affected k = or_first (is_back table new arrived done k) (was_spilled table new arrived done k)
+  back_affected k = or_left (is_back table new arrived done k) (was_spilled table new arrived done k)
 
   gone_back : (k : ℕ) → is_gone table new arrived done k ≡ true → is_back table new arrived done k ≡ true
   gone_back k =
       by_tests (not (is_id done k)) (was_undone table new arrived k) (was_discarded table new arrived k)
     where
       by_tests : (a b c : Bool) → (a && c) ≡ true → (a && (b || c)) ≡ true
-      by_tests true b true is = or_second b true refl
+      by_tests true b true is = or_right b true refl
       by_tests true b false is = absurd (cc (is))
       by_tests false b c is = absurd (cc (is))
 
@@ -108,5 +101,5 @@ module _ (table : List (Option Before)) (new : View) (arrived done : Option ℕ)
           → ids ≡ ids_spilled table new arrived done
       spilled_found =
           found_within (was_spilled table new arrived done)
-          (λ k is. or_second (is_back table new arrived done k) (was_spilled table new arrived done k) is) affected
+          (λ k is. or_right (is_back table new arrived done k) (was_spilled table new arrived done k) is) affected
           ids n are all

@@ -11,7 +11,7 @@ use Rattle.watch_text.specs.declared.before.Before.{Before}
 use Rattle.watch_text.specs.Asking.{Attempt, Hands}
 use Rattle.watch_text.specs.Changes.{arrived_in, change_text, done_in, own_text, taken_text}
 
--- what changed is what it did to other tasks, and its own change
+-- what changed is what it took back and spilled, and its own change
 change_hands : {N : Type 0} (table : List (Option Before)) (output : ℕ) (new : View) (asks : Attempt N)
     (event : Event N) (task : Option ℕ) (request : Option Request) (aborted : ℕ) → asks ≡ Hands event
     → change_text table output new asks task request aborted

@@ -20,7 +20,7 @@ some_leg =
 module _ {N : Type 0} (table : List (Option Before)) (new : View) (asks : Attempt N) (task : Option ℕ)
     (request : Option Request) (arrived done : Option ℕ) (came : arrived ≡ arrived_in new asks task request)
     (ended : done ≡ done_in asks task) where
-  -- the tasks that were taken back or spilled, by the names that the code has
+  -- the tasks that were taken back or spilled, in the terms that the code has
   pub affected_are : affected_in table new asks task request ≡ ids_affected table new arrived done
   affected_are =
       ap (λ (a : Option ℕ). ids_affected table new a (done_in asks task)) (sym came)

@@ -15,43 +15,43 @@ use Rattle.spec_state.specs.View.{View, task_at}
 use Rattle.spec_state.proofs.Proved.{has_head, in_tail}
 use Rattle.watch_text.specs.Taking.{before_of, is_made_by, remembered, was_made_by}
 
-module _ (view : View) (children : ChildrenValue) (parent : ℕ) (noted : AreNoted view.tasks children)
+module _ (view : View) (children : ChildrenValue) (creator : ℕ) (noted : AreNoted view.tasks children)
     (complete : IsTrue children.complete)
   where
-    pub noted_contains : (id : ℕ) → was_made_by parent (remembered view id) ≡ true
-        → Contains (noted_of children parent) id
+    pub noted_contains : (id : ℕ) → was_made_by creator (remembered view id) ≡ true
+        → Contains (noted_of children creator) id
     noted_contains id made = by_task (task_at view id) refl made
       where
-        by_creator : (task : Task) → task_at view id ≡ Some task → (creator : Creator) → task.creator ≡ creator
-            → is_made_by parent creator ≡ true → Contains (noted_of children parent) id
+        by_creator : (task : Task) → task_at view id ≡ Some task → (made_by : Creator) → task.creator ≡ made_by
+            → is_made_by creator made_by ≡ true → Contains (noted_of children creator) id
         by_creator task there (Committed turn index) is made = absurd (cc (made))
-        by_creator task there (Live creator index) is made =
-            let same : creator.0 ≡ parent = grind (arith, nat_tests, made) in
-            let at = noted complete id parent index (record {
+        by_creator task there (Live live index) is made =
+            let same : live.0 ≡ creator = grind (arith, nat_tests, made) in
+            let at = noted complete id creator index (record {
               child = task;
               there = there;
               made_by = is ∙ ap (λ p. Live (record { 0 = p }) index) same;
             }) in (
               index,
-              slice_get_within (noted_of children parent) index id at,
-              get_or_from_slice_get (noted_of children parent) index id id at,
+              slice_get_within (noted_of children creator) index id at,
+              get_or_from_slice_get (noted_of children creator) index id id at,
             )
 
-        by_task : (o : Option Task) → task_at view id ≡ o → was_made_by parent (option_map before_of o) ≡ true
-            → Contains (noted_of children parent) id
+        by_task : (o : Option Task) → task_at view id ≡ o → was_made_by creator (option_map before_of o) ≡ true
+            → Contains (noted_of children creator) id
         by_task None none made = absurd (cc (made))
         by_task (Some task) there made = by_creator task there task.creator refl made
 
--- so they are among the same ids, by other names
-pub contains_noted : (view : View) (tasks : List (Option Task)) (children : ChildrenValue) (parent : ℕ)
+-- so they are among the same ids, in other terms
+pub contains_noted : (view : View) (tasks : List (Option Task)) (children : ChildrenValue) (creator : ℕ)
     (ids items : List ℕ) → tasks ≡ view.tasks → AreNoted tasks children → IsTrue children.complete
-    → ids ≡ noted_of children parent → items ≡ ids → (id : ℕ) → was_made_by parent (remembered view id) ≡ true
+    → ids ≡ noted_of children creator → items ≡ ids → (id : ℕ) → was_made_by creator (remembered view id) ≡ true
     → Contains items id
-contains_noted view tasks children parent ids items same noted complete are wide id made =
+contains_noted view tasks children creator ids items same noted complete are wide id made =
     subst (λ list. Contains list id) (sym (wide ∙ are))
-    (noted_contains view children parent (subst (λ ts. AreNoted ts children) same noted) complete id made)
+    (noted_contains view children creator (subst (λ ts. AreNoted ts children) same noted) complete id made)
 
--- and each id that is told is among all of them
+-- and each id of a range is in its list
 pub range_contains : (n a id : ℕ) → a ≤ id → id < a + n → Contains (range_with_len a n) id
 range_contains zero a id low high = absurd (omega (arith, low, high))
 range_contains (suc n) a id low high = elim (cases_eq a id) [

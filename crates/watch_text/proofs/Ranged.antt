@@ -125,7 +125,7 @@ none_from p a (suc n) none =
     ap (λ b. cond b (Some a) (find p (range_with_len (a + 1) n))) (none a (omega arith) (omega arith))
     ∙ none_from p (a + 1) n (λ k low high. none k (omega arith) (omega arith))
 
--- no number below another passes a test
+-- where no number below another passes a test, none is found
 pub find_none : (p : ℕ → Bool) (n : ℕ) → ((k : ℕ) → k < n → p k ≡ false) → find p (range_with_len 0 n) ≡ None
 find_none p n none = none_from p 0 n (λ k low high. none k (omega arith))
 
@@ -142,7 +142,7 @@ first_from p a (suc n) j low high none here =
     ap (λ b. cond b (Some a) (find p (range_with_len (a + 1) n))) (ap p e ∙ here) ∙ ap (λ k. Some k) e)
     (cases_lt a j)
 
--- the first number that passes it
+-- else the first number that passes it is found
 pub find_first : (p : ℕ → Bool) (n j : ℕ) → j < n → ((k : ℕ) → k < j → p k ≡ false) → p j ≡ true
     → find p (range_with_len 0 n) ≡ Some j
 find_first p n j below none here = first_from p 0 n j (omega arith) (omega arith) (λ k low high. none k high) here

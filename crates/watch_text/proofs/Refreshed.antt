@@ -1,11 +1,12 @@
 -- A table that is remembered anew at the places where something changed.
-use Rattle.std.proofs.Common.{◌∙◌, ℕ, zero, suc, ◌+◌, ◌<◌, ◌||◌, Bool, false, true, List, [], ◌∷◌, ◌++◌, ap, sym, subst}
+use Rattle.std.proofs.Common.{◌∙◌, ℕ, zero, suc, ◌+◌, ◌<◌, ◌||◌, Bool, false, true, List, [], ◌∷◌, ap, sym, subst}
 use Rattle.std.proofs.Common.{◌≡◌, ◌≢◌, ◌⊎◌, ◌≤◌, ◌==◌, refl, arith, length, set, take, inl, inr, cond, slice_index_or, filter}
 use Rattle.std.specs.Prelude.{Contains, None, if◌then◌else◌}
 use Rattle.std.specs.List.{range_with_len}
 use Rattle.std.specs.declared.option.Option.{Option}
-use Rattle.std.proofs.lemmas.Bool.{cases_eq, false_from_ne_true}
-use Rattle.std.proofs.lemmas.List.{ext_get_or, get_or-set_other, get_or-set_same, length-set, take_more}
+use Rattle.std.proofs.lemmas.Bool.{cases_eq, false_from_ne_true, or_right}
+use Rattle.std.proofs.lemmas.List.{ext_get_or, get_or-set_other, get_or-set_same, length-set}
+use Rattle.std.proofs.lemmas.List.Folds.{list_any_more}
 use Rattle.std.proofs.lemmas.List.FromFn.{get_or-map-range_with_len, length-map-range_with_len}
 use Rattle.spec_state.specs.View.{View}
 use Rattle.spec_state.proofs.Proved.{head_or_tail, other_test, same_test}
@@ -19,22 +20,7 @@ use Rattle.watch_text.specs.Taking.{table_of, was_at}
 -- one id more
 among_more : (ids : List ℕ) (k id : ℕ) → k < length ids
     → is_among (take (k + 1) ids) id ≡ (is_among (take k ids) id || slice_index_or ids k 0 == id)
-among_more ids k id inside =
-    ap (λ front. is_among front id) (take_more ids k 0 inside) ∙ at_end (take k ids)
-  where
-    either : (a b c : Bool) → (a || (b || c)) ≡ ((a || b) || c)
-    either true b c = refl
-    either false b c = refl
-
-    or_false : (a : Bool) → (a || false) ≡ (false || a)
-    or_false true = refl
-    or_false false = refl
-
-    at_end : (front : List ℕ)
-        → is_among (front ++ slice_index_or ids k 0 ∷ []) id ≡ (is_among front id || slice_index_or ids k 0 == id)
-    at_end [] = or_false (slice_index_or ids k 0 == id)
-    at_end (x ∷ front) =
-        ap (λ b. x == id || b) (at_end front) ∙ either (x == id) (is_among front id) (slice_index_or ids k 0 == id)
+among_more ids k id inside = list_any_more (λ one. one == id) ids k 0 inside
 
 module _ (view : View) (ids : List ℕ) (k : ℕ) (initial table : List (Option Before)) (inside : k < length ids)
     (so : Refreshes view (is_among (take k ids)) initial table)
@@ -50,14 +36,12 @@ module _ (view : View) (ids : List ℕ) (k : ℕ) (initial table : List (Option 
         → was_at table id ≡ at_by id (is_among (take (k + 1) ids) id)
     other_place id less other =
         let no : (next == id) ≡ false = other_test next id (λ e. other (sym e)) in
-        so.at id less
-        ∙ ap (at_by id)
-        (or_no (is_among (take k ids) id) ∙ ap (λ b. is_among (take k ids) id || b) (sym no)
-        ∙ sym (among_more ids k id inside))
+        so.at id less ∙ unless (is_among (take k ids) id) (next == id) no
+        ∙ ap (at_by id) (sym (among_more ids k id inside))
       where
-        or_no : (a : Bool) → a ≡ (a || false)
-        or_no true = refl
-        or_no false = refl
+        unless : (among this : Bool) → this ≡ false → at_by id among ≡ at_by id (among || this)
+        unless true this fails = refl
+        unless false this fails = ap (at_by id) (sym fails)
 
     -- the place of the next id is written
     pub refreshed_here : (new : List (Option Before)) → next < length table → new ≡ set table next (remembered view next)
@@ -68,7 +52,7 @@ module _ (view : View) (ids : List ℕ) (k : ℕ) (initial table : List (Option 
         | inl same ↦
             (let here : (is_among (take k ids) id || next == id) ≡ true =
             ap (λ j. is_among (take k ids) id || j == id) (sym same)
-            ∙ ap (λ b. is_among (take k ids) id || b) (same_test id) ∙ or_yes (is_among (take k ids) id) in
+            ∙ ap (λ b. is_among (take k ids) id || b) (same_test id) ∙ or_right (is_among (take k ids) id) true refl in
             ap (λ t. was_at t id) is ∙ ap (λ j. was_at (set table next (remembered view next)) j) same
             ∙ get_or-set_same table next (remembered view next) None low ∙ ap (remembered view) (sym same)
             ∙ ap (at_by id) (sym here ∙ sym (among_more ids k id inside)))
@@ -77,10 +61,6 @@ module _ (view : View) (ids : List ℕ) (k : ℕ) (initial table : List (Option 
             ∙ other_place id less other
       ];
     }
-      where
-        or_yes : (a : Bool) → (a || true) ≡ true
-        or_yes true = refl
-        or_yes false = refl
 
     -- where the table has no such place, nothing is
     pub refreshed_past : (next < length table → ⊥) → Refreshes view (is_among (take (k + 1) ids)) initial table
@@ -102,12 +82,8 @@ contained_among [] id has = absurd (omega (arith, has.1))
 contained_among (x ∷ ids) id has = elim (head_or_tail x ids id has) [
   | inl same ↦
       ap (λ b. b || is_among ids id) (ap (λ j. x == j) (sym same) ∙ same_test x)
-  | inr behind ↦ ap (λ b. x == id || b) (contained_among ids id behind) ∙ or_true (x == id)
+  | inr behind ↦ ap (λ b. x == id || b) (contained_among ids id behind) ∙ or_right (x == id) true refl
 ]
-  where
-    or_true : (a : Bool) → (a || true) ≡ true
-    or_true true = refl
-    or_true false = refl
 
 -- what passes a test is among those of a range that do
 passing_among : (p : ℕ → Bool) (n a id : ℕ) → a ≤ id → id < a + n → p id ≡ true
@@ -119,10 +95,6 @@ passing_among p (suc n) a id low high passes =
     rest : List ℕ
     rest = filter p (range_with_len (a + 1) n)
 
-    or_true : (b : Bool) → (b || true) ≡ true
-    or_true true = refl
-    or_true false = refl
-
     by_test : (a + 1 ≤ id → is_among rest id ≡ true) → (b : Bool) → p a ≡ b → (a ≡ id) ⊎ (a ≢ id)
         → is_among (cond (p a) (a ∷ rest) rest) id ≡ true
     by_test behind b is (inl same) =
@@ -130,7 +102,7 @@ passing_among p (suc n) a id low high passes =
         ∙ ap (λ c. c || is_among rest id) (ap (λ j. a == j) (sym same) ∙ same_test a)
     by_test behind true is (inr other) =
         ap (λ c. is_among (cond c (a ∷ rest) rest) id) is
-        ∙ ap (λ c. a == id || c) (behind (grind (arith, low, other))) ∙ or_true (a == id)
+        ∙ ap (λ c. a == id || c) (behind (grind (arith, low, other))) ∙ or_right (a == id) true refl
     by_test behind false is (inr other) =
         ap (λ c. is_among (cond c (a ∷ rest) rest) id) is ∙ behind (grind (arith, low, other))
 

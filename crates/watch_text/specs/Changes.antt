@@ -33,28 +33,28 @@ last_item items = slice_get items (length items - 1)
 
 -- the task was made by this one, and is its child of this place
 abbrev pub is_child : ℕ → ℕ → Creator → Bool
-is_child parent index (Committed turn place) = false
-is_child parent index (Live task place) = task.0 == parent && place == index
+is_child creator index (Committed turn place) = false
+is_child creator index (Live task place) = task.0 == creator && place == index
 
 abbrev pub is_some_child : ℕ → ℕ → Option Task → Bool
-is_some_child parent index None = false
-is_some_child parent index (Some task) = is_child parent index task.creator
+is_some_child creator index None = false
+is_some_child creator index (Some task) = is_child creator index task.creator
 
--- the id has that child
-abbrev pub has_child : View → ℕ → ℕ → ℕ → Bool
-has_child view parent index id = is_some_child parent index (task_at view id)
+-- the task of this id is that child
+abbrev pub is_child_at : View → ℕ → ℕ → ℕ → Bool
+is_child_at view creator index id = is_some_child creator index (task_at view id)
 
 -- the id of the child of this place
 abbrev pub child_at : View → ℕ → ℕ → Option ℕ
-child_at view parent index = find (has_child view parent index) (range_with_len 0 (id_count view))
+child_at view creator index = find (is_child_at view creator index) (range_with_len 0 (id_count view))
 
 abbrev pub last_child_of : View → ℕ → Option Task → Option ℕ
-last_child_of view parent None = None
-last_child_of view parent (Some task) = child_at view parent (length task.spawns - 1)
+last_child_of view creator None = None
+last_child_of view creator (Some task) = child_at view creator (length task.spawns - 1)
 
 -- the child that the task made last
 abbrev pub last_child : View → ℕ → Option ℕ
-last_child view parent = last_child_of view parent (task_at view parent)
+last_child view creator = last_child_of view creator (task_at view creator)
 
 -- the child that came with a request of this task
 abbrev pub child_in : View → Option ℕ → Option Request → Option ℕ
@@ -64,20 +64,20 @@ child_in new task (Some other) = None
 
 -- no two tasks are the child of this place
 abbrev pub IsOneChild : View → ℕ → ℕ → Type 0
-IsOneChild view parent index =
-    (a b : ℕ) → has_child view parent index a ≡ true → has_child view parent index b ≡ true → a ≡ b
+IsOneChild view creator index =
+    (a b : ℕ) → is_child_at view creator index a ≡ true → is_child_at view creator index b ≡ true → a ≡ b
 
 abbrev pub IsOneLastOf : View → ℕ → Option Task → Type 0
-IsOneLastOf view parent None = Unit {0}
-IsOneLastOf view parent (Some task) = IsOneChild view parent (length task.spawns - 1)
+IsOneLastOf view creator None = Unit {0}
+IsOneLastOf view creator (Some task) = IsOneChild view creator (length task.spawns - 1)
 
 -- so it is with the child that the task made last
 abbrev pub IsOneLast : View → ℕ → Type 0
-IsOneLast view parent = IsOneLastOf view parent (task_at view parent)
+IsOneLast view creator = IsOneLastOf view creator (task_at view creator)
 
 abbrev pub IsOneIfSome : View → Option ℕ → Type 0
 IsOneIfSome view None = Unit {0}
-IsOneIfSome view (Some parent) = IsOneLast view parent
+IsOneIfSome view (Some creator) = IsOneLast view creator
 
 -- and with the one that came with a request
 abbrev pub IsOneIn : View → Option Request → Option ℕ → Type 0
@@ -153,7 +153,7 @@ lists_text table new arrived done =
     ++ items_field (codes "gone") decimal (ids_gone table new arrived done)
     ++ items_field (codes "spilled") (spilled_text table (length new.history)) (ids_spilled table new arrived done)
 
--- how many were taken back, and these
+-- how many were taken back, and these lists
 unfoldable pub taken_text : List (Option Before) → View → (arrived done : Option ℕ) → ℕ → List ℕ
 taken_text table new arrived done aborted = aborted_text aborted ++ lists_text table new arrived done
 
@@ -225,7 +225,7 @@ step_text new task None = []
 step_text new task (Some (requests.Load width rd offset)) = old_text (task_if new task)
 step_text new task (Some (requests.Store offset width value)) = old_text (task_if new task)
 step_text new None (Some (requests.Enqueue spawn)) = []
-step_text new (Some parent) (Some (requests.Enqueue spawn)) = arrived_text new (last_child new parent)
+step_text new (Some creator) (Some (requests.Enqueue spawn)) = arrived_text new (last_child new creator)
 step_text new task (Some other) = []
 
 abbrev pub split_text : View → Option ℕ → List ℕ

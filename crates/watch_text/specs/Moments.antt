@@ -23,7 +23,7 @@ use Rattle.watch_text.specs.Asking.{Attempt, Hands, Says, AsksFor}
 -- is about and what that asks for; the reply, how many tasks were taken back, and the book before and after
 pub record Moment (N : Type 0) : Type 0 where
   pub at : ℕ
-  pub place : ℕ
+  pub number : ℕ
   pub act : Act
   pub asks : Attempt N
   pub task : Option ℕ
@@ -63,7 +63,8 @@ abbrev pub ComesOf : {N : Type 0} → Attempt N → Reply → ℕ → BookView �
 ComesOf (Hands event) answer aborted old new = (answer ≢ reply.Memory) × Happens old event answer aborted new
 ComesOf (Says word) answer aborted old new = (answer ≡ word) × (aborted ≡ 0) × (new ≡ old)
 
--- the moment is one of these plays: its act comes to what it says, with all that it says of that
+-- the moment leads from one of these states of a play to the other: its act comes to what it says, with all that it
+-- says of that
 pub record IsMoment {N : Type 0} (image : ImageValue) (m : Moment N) (before after : PlayState) : Type 0 where
   pub old_is : m.old ≡ before.book
   pub new_is : m.new ≡ after.book

@@ -9,7 +9,7 @@ ghost use Rattle.spec_state.specs.View.{queue_at};
 ghost use Rattle.watch_text.specs.Asking.{AskedIsInRange, asks_of};
 ghost use Rattle.watch_text.specs.Changes.{IsFound, IsOneChild, IsOneIn, IsOneLast, aborted_text};
 ghost use Rattle.watch_text.specs.Changes.{arrived_in, back_text, child_at, child_in};
-ghost use Rattle.watch_text.specs.Changes.{done_in, has_child, last_child, last_item, lists_text, named_text};
+ghost use Rattle.watch_text.specs.Changes.{done_in, is_child_at, last_child, last_item, lists_text, named_text};
 ghost use Rattle.watch_text.specs.Changes.{spilled_text, taken_text, used_by, work_of};
 ghost use Rattle.watch_text.specs.Fields.{items_field, more_items};
 ghost use Rattle.watch_text.specs.Moments.{task_of};
@@ -197,7 +197,8 @@ fn put_lists<N: Naming>(
     put_all_spilled(line, table, state.commit_count(), &spilled)
 }
 
-/// What an event did to other tasks: how many were taken back, which, which of these are gone, and which were spilled.
+/// What an event took back and spilled: how many tasks were taken back, which, which of these are gone, and which were
+/// spilled.
 #[tactic(auto, unfolding(crate::specs::Changes::taken_text))]
 fn put_taken<N: Naming>(
     line: &mut String,
@@ -215,27 +216,27 @@ fn put_taken<N: Naming>(
 }
 
 /// Whether the task of an id was made by this one, as its child of this place.
-fn has_child<N: Naming>(state: &State<N>, parent: usize, index: usize, id: usize) -> bool
-    ensures { result ≡ has_child state.now.view parent index id }
+fn is_child_at<N: Naming>(state: &State<N>, creator: usize, index: usize, id: usize) -> bool
+    ensures { result ≡ is_child_at state.now.view creator index id }
 {
     match state.find(TaskId(id)) {
         None => false,
         Some(task) => match task.creator {
             Creator::Committed { .. } => false,
-            Creator::Live { task, index: place } => task.0 == parent && place as usize == index,
+            Creator::Live { task, index: place } => task.0 == creator && place as usize == index,
         },
     }
 }
 
 /// The same child, where it stands last in a task queue.
-fn child_queued<N: Naming>(state: &State<N>, parent: usize, index: usize) -> Option<usize>
-    requires { IsOneChild state.now.view parent index }
-    ensures { IfSome result (λ id. child_at state.now.view parent index ≡ Some id) }
+fn child_queued<N: Naming>(state: &State<N>, creator: usize, index: usize) -> Option<usize>
+    requires { IsOneChild state.now.view creator index }
+    ensures { IfSome result (λ id. child_at state.now.view creator index ≡ Some id) }
 {
     let count = id_count(state);
     for tile in 0..state.settings().tiles {
         if let Some(id) = last_queued(state, tile) {
-            if id < count && has_child(state, parent, index, id) {
+            if id < count && is_child_at(state, creator, index, id) {
                 return Some(id);
             }
         }
@@ -245,11 +246,11 @@ fn child_queued<N: Naming>(state: &State<N>, parent: usize, index: usize) -> Opt
 
 /// The id of a task's child of this place.
 #[tactic(auto, using(crate::proofs::Ranged::find_none))]
-fn child_at<N: Naming>(state: &State<N>, parent: usize, index: usize) -> Option<usize>
-    ensures { result ≡ child_at state.now.view parent index }
+fn child_at<N: Naming>(state: &State<N>, creator: usize, index: usize) -> Option<usize>
+    ensures { result ≡ child_at state.now.view creator index }
 {
     for id in 0..id_count(state) {
-        if has_child(state, parent, index, id) {
+        if is_child_at(state, creator, index, id) {
             return Some(id);
         }
     }
@@ -257,26 +258,26 @@ fn child_at<N: Naming>(state: &State<N>, parent: usize, index: usize) -> Option<
 }
 
 /// The same, which is looked for among the last tasks of the queues first, as a task that comes stands there.
-fn child_of<N: Naming>(state: &State<N>, parent: usize, index: usize) -> Option<usize>
-    requires { IsOneChild state.now.view parent index }
-    ensures { result ≡ child_at state.now.view parent index }
+fn child_of<N: Naming>(state: &State<N>, creator: usize, index: usize) -> Option<usize>
+    requires { IsOneChild state.now.view creator index }
+    ensures { result ≡ child_at state.now.view creator index }
 {
-    match child_queued(state, parent, index) {
-        None => child_at(state, parent, index),
+    match child_queued(state, creator, index) {
+        None => child_at(state, creator, index),
         Some(id) => Some(id),
     }
 }
 
 /// The child that a task made last.
-fn last_child<N: Naming>(state: &State<N>, parent: usize) -> Option<usize>
-    requires { IsOneLast state.now.view parent }
-    ensures { result ≡ last_child state.now.view parent }
+fn last_child<N: Naming>(state: &State<N>, creator: usize) -> Option<usize>
+    requires { IsOneLast state.now.view creator }
+    ensures { result ≡ last_child state.now.view creator }
 {
-    match state.find(TaskId(parent)) {
+    match state.find(TaskId(creator)) {
         None => None,
         Some(task) => child_of(
             state,
-            parent,
+            creator,
             task.spawns.as_slice().len().saturating_sub(1),
         ),
     }
@@ -302,7 +303,7 @@ fn child_in<N: Naming>(
         None => None,
         Some(Request::Enqueue(_)) => match task {
             None => None,
-            Some(parent) => last_child(state, parent.0),
+            Some(creator) => last_child(state, creator.0),
         },
         Some(Request::Continue) => None,
         Some(Request::Load { .. }) => None,
@@ -347,7 +348,7 @@ pub(crate) fn done_in<N: Naming>(asked: &Asked, about: &About) -> Option<usize>
     }
 }
 
-/// What an event did to other tasks.
+/// What an event took back and spilled.
 pub(crate) fn put_taken_by<N: Naming>(
     line: &mut String,
     state: &State<N>,

@@ -85,7 +85,7 @@ pub(crate) fn put_digits(line: &mut String, number: u64) -> Result<(), AllocErro
 
 /// A number behind its key, as `,"tile":`, which is one text.
 #[inline(always)]
-pub(crate) fn put_keyed(line: &mut String, key: &str, number: u64) -> Result<(), AllocError>
+pub(crate) fn put_field(line: &mut String, key: &str, number: u64) -> Result<(), AllocError>
     ensures { OnOk result (string_bytes line.new ≡ string_bytes line.old ++ (key.now ++ decimal number)) }
 {
     put_text(line, key)?;
@@ -128,7 +128,7 @@ pub(crate) fn put_word(line: &mut String, name: &str, word: &str) -> Result<(), 
 
 /// A word behind its key, as `,"do":"`, which is one text.
 #[inline(always)]
-pub(crate) fn put_keyed_word(line: &mut String, key: &str, word: &str) -> Result<(), AllocError>
+pub(crate) fn put_word_field(line: &mut String, key: &str, word: &str) -> Result<(), AllocError>
     ensures { OnOk result (string_bytes line.new ≡ string_bytes line.old ++ (key.now ++ word.now ++ codes "\"")) }
 {
     put_text(line, key)?;
@@ -143,11 +143,11 @@ pub(crate) fn put_core(line: &mut String, core: Option<u64>) -> Result<(), Alloc
 {
     match core {
         None => Ok(()),
-        Some(core) => put_keyed(line, ",\"core\":", core),
+        Some(core) => put_field(line, ",\"core\":", core),
     }
 }
 
-/// A task's name: the commit number of its creator, and its place among the children.
+/// A task's name: which turn created it (0: the image), and its place among those children.
 pub(crate) fn put_name(line: &mut String, creator: u64, index: u32) -> Result<(), AllocError>
     ensures { OnOk result (string_bytes line.new ≡ string_bytes line.old ++ name_field creator index) }
 {
@@ -182,10 +182,10 @@ pub(crate) fn put_start(
 ) -> Result<(), AllocError>
     ensures { OnOk result (string_bytes line.new ≡ string_bytes line.old ++ start_text entry ts args.now hint) }
 {
-    put_keyed(line, ",\"entry\":", u64::from(entry))?;
-    put_keyed(line, ",\"ts\":", u64::from(ts))?;
+    put_field(line, ",\"entry\":", u64::from(entry))?;
+    put_field(line, ",\"ts\":", u64::from(ts))?;
     put_args(line, args)?;
-    put_keyed(line, ",\"hint\":", u64::from(hint))
+    put_field(line, ",\"hint\":", u64::from(hint))
 }
 
 /// The comma before an item of this place, unless it is the first.

@@ -13,7 +13,7 @@ ghost use Rattle.watch_text.specs.Requests.{request_text, spawn_text, spot_text,
 use crate::about::About;
 use crate::asking::Asked;
 use crate::fields::{
-    put_core, put_digits, put_keyed, put_keyed_word, put_number, put_start, put_text,
+    put_core, put_digits, put_field, put_number, put_start, put_text, put_word_field,
 };
 use crate::words::{do_word, kind_word, place_word};
 use conflict_book::Legless;
@@ -97,7 +97,7 @@ fn put_tile(line: &mut String, tile: Option<u64>) -> Result<(), AllocError>
 {
     match tile {
         None => Ok(()),
-        Some(tile) => put_keyed(line, ",\"tile\":", tile),
+        Some(tile) => put_field(line, ",\"tile\":", tile),
     }
 }
 
@@ -108,7 +108,7 @@ fn put_task(line: &mut String, task: Option<u64>) -> Result<(), AllocError>
 {
     match task {
         None => Ok(()),
-        Some(task) => put_keyed(line, ",\"task\":", task),
+        Some(task) => put_field(line, ",\"task\":", task),
     }
 }
 
@@ -124,12 +124,12 @@ fn put_spot(line: &mut String, spot: Spot) -> Result<(), AllocError>
 fn put_access(line: &mut String, offset: u32, width: u8) -> Result<(), AllocError>
     ensures { OnOk result (string_bytes line.new ≡ string_bytes line.old ++ access_text offset width) }
 {
-    put_keyed(
+    put_field(
         line,
         ",\"addr\":",
         u64::from(DATA_START) + u64::from(offset),
     )?;
-    put_keyed(line, ",\"bytes\":", u64::from(width))
+    put_field(line, ",\"bytes\":", u64::from(width))
 }
 
 /// A child.
@@ -137,7 +137,7 @@ fn put_access(line: &mut String, offset: u32, width: u8) -> Result<(), AllocErro
 fn put_spawn(line: &mut String, spawn: &Spawn) -> Result<(), AllocError>
     ensures { OnOk result (string_bytes line.new ≡ string_bytes line.old ++ spawn_text spawn.now) }
 {
-    put_keyed_word(line, ",\"to\":\"", place_word(spawn.place))?;
+    put_word_field(line, ",\"to\":\"", place_word(spawn.place))?;
     put_start(line, spawn.entry, spawn.ts, &spawn.args, spawn.hint)
 }
 
@@ -146,7 +146,7 @@ fn put_spawn(line: &mut String, spawn: &Spawn) -> Result<(), AllocError>
 fn put_asks(line: &mut String, word: &str) -> Result<(), AllocError>
     ensures { OnOk result (string_bytes line.new ≡ string_bytes line.old ++ asks_field word.now) }
 {
-    put_keyed_word(line, ",\"asks\":\"", word)
+    put_word_field(line, ",\"asks\":\"", word)
 }
 
 /// A request by its word and a number.
@@ -177,7 +177,7 @@ fn put_store(line: &mut String, offset: u32, width: u8, value: u32) -> Result<()
 {
     put_asks(line, "store")?;
     put_access(line, offset, width)?;
-    put_keyed(line, ",\"value\":", u64::from(value))
+    put_field(line, ",\"value\":", u64::from(value))
 }
 
 #[tactic(auto, unfolding(crate::specs::Requests::enqueue_fields))]
@@ -215,8 +215,8 @@ fn put_leg<N: Naming>(line: &mut String, leg: &Leg<N>, request: &Request) -> Res
         ++ (number_field (codes "leg") leg.now.steps ++ number_field (codes "pc") leg.now.to.pc
         ++ request_text request.now)) }
 {
-    put_keyed(line, ",\"leg\":", u64::from(leg.steps()))?;
-    put_keyed(line, ",\"pc\":", u64::from(leg.to().pc))?;
+    put_field(line, ",\"leg\":", u64::from(leg.steps()))?;
+    put_field(line, ",\"pc\":", u64::from(leg.to().pc))?;
     put_request(line, request)
 }
 
@@ -251,7 +251,7 @@ fn put_do(line: &mut String, at: u64, word: &str) -> Result<(), AllocError>
 {
     put_text(line, "{\"at\":")?;
     put_digits(line, at)?;
-    put_keyed_word(line, ",\"do\":\"", word)
+    put_word_field(line, ",\"do\":\"", word)
 }
 
 fn task_number(about: &About) -> Option<u64>

@@ -40,11 +40,11 @@ fn all_ids<N: Naming>(state: &State<N>) -> Result<Vec<usize>, AllocError>
 }
 
 /// The ids under which the children of a task stand, and maybe others.
-fn children_of<N: Naming>(state: &State<N>, parent: usize) -> Result<Vec<usize>, AllocError>
+fn children_of<N: Naming>(state: &State<N>, creator: usize) -> Result<Vec<usize>, AllocError>
     ensures { IfOk result (λ ids. (id : ℕ) → id < id_count state.now.view
-        → was_made_by parent (remembered state.now.view id) ≡ true → Contains ids.items id) }
+        → was_made_by creator (remembered state.now.view id) ≡ true → Contains ids.items id) }
 {
-    match state.children.of(parent) {
+    match state.children.of(creator) {
         Some(noted) => widened(noted, state.alloc()),
         None => all_ids(state),
     }
@@ -62,6 +62,6 @@ pub fn orphans_of<N: Naming>(
 {
     match done_in::<N>(asked, about) {
         None => Ok(Vec::new(state.alloc())),
-        Some(parent) => children_of(state, parent),
+        Some(creator) => children_of(state, creator),
     }
 }

@@ -1,4 +1,4 @@
-//! What an event changed beside the tasks that it took back.
+//! What an event changed beside the tasks that it took back or spilled.
 
 ghost use Rattle.std.specs.Prelude.{◌≡◌, ◌<◌, ◌++◌, OnOk, Some, drop, option_copied};
 ghost use Rattle.std.specs.String.{string_bytes};
@@ -15,7 +15,7 @@ use crate::about::{About, task_of};
 use crate::asking::Asked;
 use crate::change::{name_creator, name_index};
 use crate::effect::Effect;
-use crate::fields::{put_core, put_hex, put_keyed, put_name, put_some, put_text};
+use crate::fields::{put_core, put_field, put_hex, put_name, put_some, put_text};
 use conflict_book::Legless;
 use rv_core::Naming;
 use serial_machine::Entry;
@@ -100,7 +100,7 @@ fn put_arrived<N: Naming>(
     match arrived {
         None => Ok(()),
         Some(id) => {
-            put_keyed(line, ",\"new\":", id as u64)?;
+            put_field(line, ",\"new\":", id as u64)?;
             put_some(line, "in", tile_of(state, id))
         }
     }
@@ -143,8 +143,8 @@ fn put_entry(line: &mut String, entry: Option<&Entry>) -> Result<(), AllocError>
         None => Ok(()),
         Some(entry) => {
             put_name(line, u64::from(entry.name.creator), entry.name.index)?;
-            put_keyed(line, ",\"depth\":", u64::from(entry.depth))?;
-            put_keyed(line, ",\"ts\":", u64::from(entry.ts))
+            put_field(line, ",\"depth\":", u64::from(entry.depth))?;
+            put_field(line, ",\"ts\":", u64::from(entry.ts))
         }
     }
 }

@@ -15,7 +15,7 @@ use crate::asking::Asked;
 use crate::before::Before;
 use crate::change::put_taken_by;
 use crate::effect::Effect;
-use crate::fields::{put_keyed, put_keyed_word, put_text};
+use crate::fields::{put_field, put_text, put_word_field};
 use crate::own::put_own;
 use crate::words::reply_word;
 use event_def::Reply;
@@ -28,11 +28,11 @@ use std::alloc::AllocError;
 fn put_reply(line: &mut String, reply: Reply, events: u64) -> Result<(), AllocError>
     ensures { OnOk result (string_bytes line.new ≡ string_bytes line.old ++ reply_part reply events) }
 {
-    put_keyed_word(line, ",\"reply\":\"", reply_word(reply))?;
-    put_keyed(line, ",\"n\":", events)
+    put_word_field(line, ",\"reply\":\"", reply_word(reply))?;
+    put_field(line, ",\"n\":", events)
 }
 
-/// What an event changed, to other tasks and beside them.
+/// What an event changed: what it took back and spilled, and what it did beside that.
 fn put_made<N: Naming>(
     line: &mut String,
     state: &State<N>,

@@ -148,7 +148,7 @@ fn put_block<N: Naming>(line: &mut String, state: &State<N>, tile: u32) -> Resul
     write!(line, "],\"block\":{spilled}}}")
 }
 
-/// The line of a view, in which so many events were made: the next dispatch number, and the tiles.
+/// The line of a view: how many events were made, the next dispatch number, and the tiles.
 #[tactic(auto, unfolding(crate::specs::Views::view_line))]
 pub fn put_view<N: Naming>(
     line: &mut String,

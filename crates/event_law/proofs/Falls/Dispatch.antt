@@ -10,7 +10,7 @@ use Rattle.fractal_vt.specs.Keys.{key_cmp, levels}
 use Rattle.fractal_vt.specs.Levels.{closed_level}
 use Rattle.fractal_vt.specs.declared.key.Key.{Key}
 use Rattle.fractal_vt.specs.Renumbered.{HoldsKey, renumbered_key}
-use Rattle.fractal_vt.proofs.Proved.{equal_keys_tie, key_cmp_total, not_greater}
+use Rattle.fractal_vt.proofs.Proved.{equal_keys_tie, first_not_greater, key_cmp_total, not_greater}
 use Rattle.guest_image.specs.ImageValue.{ImageValue}
 use Rattle.order_law.proofs.Proved.{below_reopened, rises}
 use Rattle.spill_store.specs.SpilledTasks.{Spilled, open_key}
@@ -28,7 +28,7 @@ use Rattle.spec_state.specs.Queries.{IsIdle, IsLatestOnCore}
 use Rattle.spec_law.specs.Sound.{Sound}
 use Rattle.spec_state.specs.Tasks.{idle_again}
 use Rattle.spec_state.specs.Stored.{HasCore}
-use Rattle.spec_law.proofs.Proved.{abort_takes, cascade_is_later, dispatch_stays_sound, each_now, each_renumbered, first_not_greater, holds_placed, holds_task, is_renumbered, makes_least, not_below_least, now, queued_at, renumbered_now, renumbered_to, same_order, spilled_was, upto_queued, upto_spilled, was_idle}
+use Rattle.spec_law.proofs.Proved.{abort_takes, cascade_is_later, dispatch_stays_sound, each_now, each_renumbered, holds_placed, holds_task, is_renumbered, makes_least, not_below_least, now, queued_at, renumbered_now, renumbered_to, same_order, spilled_was, upto_queued, upto_spilled, was_idle}
 use Rattle.event_def.specs.Events.{FreesCore}
 use Rattle.event_def.specs.Events as events
 use Rattle.event_law.proofs.Granted.{is_idle}
@@ -162,7 +162,7 @@ module _ (image : ImageValue) (mid new : View) (sound : Sound image mid) (tile :
       let at = queued_at mid sound.sizes k x idle.there in
       (at.0, subst (λ t. IsQueuedAt mid t at.0 k x) tile_is at.1)
 
-  -- the least idle task of the tile is above no task
+  -- the least idle task of the tile is not above that key
   chosen_upto : IsUpto d.task.key low
   chosen_upto = elim (cases_eq is.id d.id) [
     | inl same ↦

@@ -51,7 +51,7 @@ module _ (image : ImageValue) (book : BookView) (sound : Sound image book.view) 
   asks : IsTheLeast book.view id → (low : Key) × AsksAsLeast book.view to (Enqueuer id) low
   asks least = (heir.0.key, (heir.0, heir.1, heir.2, refl))
 
-  -- room is made in a sound view
+  -- what makes room for it leaves a sound view
   follows : Follows image book.view made.mid
   follows = room_follows image to (Enqueuer id) book.view sound heir_same asks made.forced
 
@@ -115,5 +115,5 @@ module _ (image : ImageValue) (book : BookView) (sound : Sound image book.view) 
   enqueue_falls =
       runs_further image book.view sound tile core leg next goes_on before had id task takes new
       (ap (λ view. view.settings) made.change.frame ∙ follows.settings) after has work
-      (heir_is_least new id work heir_now made.change.parent) takes.runs.running
+      (heir_is_least new id work heir_now made.change.creator) takes.runs.running
       (ask_leads_on image book.view.settings.budget book.view.settings.quantum leg next.runs_on.is_leg (context_of book.view.version task) (Enqueue spawn) asks_it tt work.core refl)

@@ -34,7 +34,7 @@ not_both view id tile task least spilled =
     absurd (cc (same))
 
 module _ (view : View) (id : ℕ) (task : Task) (least : IsLeastTask view id task) where
-  -- each standing of the view is that of the least task, or the run is over
+  -- no standing of the view leaves more than the least task's status says
   by_standing : (stands : Standing) → StandsSo view stands → rest_of_way view.settings.budget stands ≤ most_left view.settings.budget task.status task.core.used
   by_standing standing.Over so = some_left view.settings.budget task.core.used task.status
   by_standing standing.Finished so =
@@ -97,7 +97,7 @@ module _ (view : View) (id : ℕ) (task : Task) (least : IsLeastTask view id tas
       subst (λ n. view.settings.budget - task.core.used + 2 ≤ n) (sym has.left_is) (running_left core goes_on runs has.stands has.stands_so)
 
 module _ (view : View) (tile : ℕ) (spilled : IsLeastSpilled view tile) where
-  -- where the run isn't over and the least task is spilled, that many are left
+  -- where the run isn't over and the least task is spilled, at least the budget and 4 are left
   spilled_left : (IsOver view → ⊥) → (stands : Standing) → StandsSo view stands → view.settings.budget + 4 ≤ rest_of_way view.settings.budget stands
   spilled_left goes_on standing.Over so = absurd (goes_on so)
   spilled_left goes_on standing.Finished so = absurd (not_both view so.1 tile so.2 so.3 spilled)

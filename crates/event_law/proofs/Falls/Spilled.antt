@@ -34,7 +34,7 @@ tiles_decide tile u p q r s other = by_case (nat_cmp tile u) refl
     by_case Equal is = absurd (other (grind (arith, nat_tests, is)))
     by_case Greater is = refl
 
--- what is spilled is so under one of the ids
+-- each of the spilled tasks is a task of the view as it is spilled, under some id
 spilled_under : (view : View) (ids : List ℕ) (moved : List Spilled) → AllZip (IsSpilledAs view) ids moved → (s : Spilled) → Contains moved s → (id : ℕ) × IsSpilledAs view id s
 spilled_under view ids [] zip s has = absurd (omega (arith, has.1))
 spilled_under view [] (e ∷ moved) zip s has = absurd zip

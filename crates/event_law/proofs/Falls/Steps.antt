@@ -16,7 +16,7 @@ use Rattle.spec_state.specs.Tasks.{is_dispatched, context_of}
 use Rattle.spec_state.specs.Least.{IsHeir, IsLeastTask}
 use Rattle.spec_state.specs.Changes.{TakesLeg, request_of, task_past_leg, Keeps, KeepsQuantum, KeepsTrap, MakesSub, Emits, Accesses, Finishes}
 use Rattle.spec_law.specs.Sound.{Sound}
-use Rattle.spec_law.proofs.Proved.{keeps_steps, step_keeps_heir, StepsOne, worked}
+use Rattle.spec_law.proofs.Proved.{keeps_steps, step_keeps_heir, StepsOne, stepped_task}
 use Rattle.event_def.specs.Advancing.{HasRest, IsLeastLeg}
 use Rattle.event_def.specs.End.{IsOver}
 use Rattle.event_def.specs.Events.{TakesConflicts, LoadEvent, StoreEvent, EndEvent}
@@ -71,7 +71,7 @@ module _ (image : ImageValue) (old : View) (sound : Sound image old) (tile core 
       subst (λ (t : Task). is_dispatched t ≡ true) (sym (taken_is image old sound tile core leg next id task takes)) (least_runs image old sound tile core leg next),
     )
 
-    -- so much was left
+    -- at least so much was left
     left_before : old.settings.budget - leg.from.used + 2 ≤ before
     left_before =
         subst (λ (c : Core). old.settings.budget - c.used + 2 ≤ before) takes.from (running_at_least old id task taker_is_least core goes_on takes.runs.running before had)
@@ -94,9 +94,9 @@ module _ (image : ImageValue) (old : View) (sound : Sound image old) (tile core 
           omega (arith, most, first)
 
     -- a change of the task alone leaves it the least one
-    kept_least : (new : View) (work : Task) → Keeps id (worked task work) old new → IsLeastTask new id (worked task work)
+    kept_least : (new : View) (work : Task) → Keeps id (stepped_task task work) old new → IsLeastTask new id (stepped_task task work)
     kept_least new work keeps =
-        heir_is_least new id (worked task work)
+        heir_is_least new id (stepped_task task work)
         (step_keeps_heir old new id task work (keeps_steps old new id task work takes.runs.on.there keeps) (Some id) taker_is_heir) keeps.changes.changed
 
   module _ (new : View) (after : ℕ) (has : HasRest new after) (id : ℕ) (task : Task) (takes : TakesLeg old tile core leg id task) where
@@ -116,9 +116,9 @@ module _ (image : ImageValue) (old : View) (sound : Sound image old) (tile core 
 
     -- a subdomain or a byte
     call_falls : (asked : Request) → request_of old task leg ≡ asked → IsExecuted asked → (work : Task) → work.status ≡ task.status → work.core.used ≡ leg.to.used + 1
-        → Keeps id (worked task work) old new → after < before
+        → Keeps id (stepped_task task work) old new → after < before
     call_falls asked asks is_executed work same counts change =
-        runs_further id task takes new (ap (λ view. view.settings) change.frame) after has (worked task work)
+        runs_further id task takes new (ap (λ view. view.settings) change.frame) after has (stepped_task task work)
         (kept_least id task takes new work change) (same ∙ takes.runs.running)
         (ask_leads_on image old.settings.budget old.settings.quantum leg next.runs_on.is_leg (context_of old.version task) asked asks is_executed work.core counts)
 

@@ -62,7 +62,7 @@ module _ (image : ImageValue) (old : View) (sound : Sound image old) (tile core 
     there : task_at old id ≡ Some task
     there = takes.runs.on.there
 
-    -- what conflicts is taken back
+    -- once what conflicts is taken back, the view is sound
     conflicts_follow : Follows image old mid
     conflicts_follow =
         abort_follows image (Conflicts old task (offset / old.settings.line) write) old mid aborted forced

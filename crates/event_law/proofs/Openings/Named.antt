@@ -39,7 +39,7 @@ each_in P [] x all there = absurd there
 each_in P (y ∷ ys) x all (inl is) = subst P (sym is) all.0
 each_in P (y ∷ ys) x all (inr behind) = each_in P ys x all.1 behind
 
--- no lists at all
+-- empty lists, one after another, are empty
 flat_none : (n : ℕ) → flat_map (λ (xs : List Spilled). xs) (replicate n []) ≡ []
 flat_none zero = refl
 flat_none (suc n) = flat_none n
@@ -49,7 +49,7 @@ abbrev pub Free : View → ℕ → PendingTask → Type 0
 Free view depth p = IsFree (bag_tasks view) (IsSpilled (bags_spilled view)) 0 depth p
 
 module _ (kind : Kind) where
-  -- the tasks at the first places, so many, are placed: names are apart
+  -- all uncommitted tasks are initial ones of the first places, so many; none has committed, and names are apart
   pub record IsNamed (k : ℕ) (view : View) : Type 0 where
     pub are : AreImageTasks kind (λ index from. index < k) view
     pub sized : IsSized view
@@ -70,13 +70,13 @@ module _ (kind : Kind) where
 
   module _ (k : ℕ) (view : View) (named : IsNamed k view) where
     -- no task is dispatched
-    none_runs : (id : ℕ) (task : Task) → task_at view id ≡ Some task → is_dispatched task ≡ false
-    none_runs id task there = ap is_dispatched (named.are.tasks id task there).is
+    none_dispatched : (id : ℕ) (task : Task) → task_at view id ≡ Some task → is_dispatched task ≡ false
+    none_dispatched id task there = ap is_dispatched (named.are.tasks id task there).is
 
     -- so there is no heir
     none_heir : (id : ℕ) → IsHeir view (Some id) → ⊥
     none_heir id heir =
-        let no_way : true ≡ false = sym heir.2 ∙ none_runs id heir.0 heir.1.queued_at.there in
+        let no_way : true ≡ false = sym heir.2 ∙ none_dispatched id heir.0 heir.1.queued_at.there in
         cc
 
     -- firm tasks have the names that the bags give them
@@ -95,7 +95,7 @@ module _ (kind : Kind) where
         let queued = (c.chosen.movable first.0 first.1).1.idle.queued in
         let within : tile < length view.queues = within_lists view.queues tile first.0 queued in
         let inside : tile < length view.blocks = omega (arith, within, named.sized.queues, named.sized.blocks) in
-        let both = coalesced_bags 0 0 false tile view new c inside (λ id task there status. none_runs id task there) bag_names bag_heirs in (
+        let both = coalesced_bags 0 0 false tile view new c inside (λ id task there status. none_dispatched id task there) bag_names bag_heirs in (
           record {
             are = coalesces_keeps kind (λ index from. index < k) tile view new named.are c;
             sized = coalesced_sized tile view new named.sized c;
@@ -114,7 +114,7 @@ module _ (kind : Kind) where
     roomed tile mid (inr full) = coalesced tile mid full.1
 
   module _ (k : ℕ) (task : ImageTask) (old new : BookView) (p : PlacesImageTask kind k task old new) (mid_named : IsNamed k p.mid) where
-    -- no spilled task has the name of the next one
+    -- this spilled task has not the name of the next one
     IsOther : SpilledBagTask → Type 0
     IsOther e = e.task.name ≢ record { creator = 0; index = k }
 

@@ -1,6 +1,6 @@
 -- The opening, against the serial machine's.
-use Rattle.std.proofs.Common.{ℕ, ◌+◌, ◌≡◌, ◌<◌, ◌≤◌, ◌-◌, ◌⊎◌, ◌↔◌, inl, inr, Bool, true, false, List, [], Option, Some, None, refl, sym, ap, subst, ◌∙◌, arith}
-use Rattle.std.specs.Prelude.{length, slice_get, map, replicate, nat_lt, nat_le, if◌then◌else◌}
+use Rattle.std.proofs.Common.{ℕ, ◌+◌, ◌≡◌, ◌<◌, ◌≤◌, ◌-◌, ◌⊎◌, ◌↔◌, inl, inr, Bool, true, false, [], Some, None, refl, sym, ap, subst, ◌∙◌, arith}
+use Rattle.std.specs.Prelude.{length, slice_get, map, replicate, nat_le}
 use Rattle.std.specs.List.{enumerate_from}
 use Rattle.std.proofs.lemmas.List.Elements.{All-map, All-append, All-replicate, All-weaker}
 use Rattle.fractal_vt.specs.Levels.{closed_level}
@@ -16,8 +16,8 @@ use Rattle.memory_law.proofs.Proved.{undispatched_is_chained}
 use Rattle.order_law.specs.Opening.{IsRoot}
 use Rattle.order_law.specs.Ordered.{IsOrdered}
 use Rattle.order_law.specs.Tasks.{Keyed}
-use Rattle.order_law.specs.Events.{IsAmongSpilled, beside}
-use Rattle.order_law.proofs.Proved.{opening_law}
+use Rattle.order_law.specs.Events.{IsAmongSpilled}
+use Rattle.order_law.proofs.Proved.{beside_which, opening_law}
 use Rattle.pending_list.specs.declared.task.PendingTask.{PendingTask}
 use Rattle.task_law.specs.Tasks.{In}
 use Rattle.serial_machine.specs.Run.{image_task, IsRun, opening, opening_memory}
@@ -58,14 +58,6 @@ timely Ordered ts unordered = let no_way : true ≡ false = unordered in absurd 
 no_creator : (is_committed : Bool) → heir_unless is_committed None ≡ None
 no_creator true = refl
 no_creator false = refl
-
--- what is there beside others is one of the queued tasks or of the spilled ones
-beside_which : (bound : ℕ) (tasks : ℕ → Option Keyed) (entries : List Keyed) (k : ℕ) (x : Keyed) → beside bound tasks entries k ≡ Some x → (tasks k ≡ Some x) ⊎ IsAmongSpilled x entries
-beside_which bound tasks entries k x at = by_test (nat_lt k bound) at
-  where
-    by_test : (b : Bool) → (if b then tasks k else slice_get entries (k - bound)) ≡ Some x → (tasks k ≡ Some x) ⊎ IsAmongSpilled x entries
-    by_test true e = inl e
-    by_test false e = inr (k - bound, e)
 
 -- the opening memory is one of bytes
 opening_bytes : (image : ImageValue) → IsImage image → AreBytes (opening_memory image)
@@ -142,7 +134,7 @@ module _ (image : ImageValue) (settings : Settings) (among : ℕ → ImageTask �
     noted = no_notes;
   }
 
-  -- no task has committed
+  -- the history, in which no task has committed, is a run that leads to the opening
   is_run : IsRun image view.settings.budget view.history (opening image)
   is_run = subst (λ journal. IsRun image view.settings.budget journal (opening image)) (sym is.history) refl
 

@@ -28,7 +28,7 @@ coalesced_was tile old new c id task there =
     let stays : Contains c.ids id → ⊥ = λ moved. (let gone : None ≡ Some task = sym (c.gone id moved) ∙ there in cc) in
     sym (c.others id stays) ∙ there
 
--- of which initial tasks at which places are spoken
+-- the initial tasks that are spoken of, each with its place in the image
 module _ (kind : Kind) (among : ℕ → ImageTask → Type 0) where
   -- the task is an initial task of these, idle, in this version and in some tile
   pub record IsImageTask (version : ℕ) (task : Task) : Type 0 where

@@ -35,7 +35,7 @@ HasAny view tile id = HasTask view tile id (λ status. Unit {0})
 abbrev pub FitsQueue : ℕ → List ℕ → Type 0
 FitsQueue capacity ids = (length ids ≤ capacity) × AllPairs (λ a b. a ≢ b) ids
 
--- the lists of the tiles are there, and each task queue holds the tasks of its tile
+-- each tile has a task queue and a block; a task queue holds the tasks of its tile, no more than it may and none twice
 pub record IsSized (view : View) : Type 0 where
   pub queues : length view.queues ≡ view.settings.tiles
   pub blocks : length view.blocks ≡ view.settings.tiles

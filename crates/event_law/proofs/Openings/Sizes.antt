@@ -72,7 +72,7 @@ module _ (kind : Kind) (image : ImageValue) (settings : Settings) (among : ℕ �
     λ h. absurd (subst (λ (status : Status). HasCore status core) (all_idle id h.0 h.1) h.3),
   )
 
-  -- a spilled task has one level
+  -- a spilled task has a valid descriptor, and as many levels as it is deep
   spilled_desc : (s : Spilled) → IsImageSpilled kind among s → IsDesc s.desc × (length s.domain + 1 ≡ s.desc.depth)
   spilled_desc s one =
       subst (λ (x : Spilled). IsDesc x.desc × (length x.domain + 1 ≡ x.desc.depth)) (sym one.is)

@@ -24,7 +24,7 @@ room_settings : (tile : ℕ) (old mid : View) → (QueueHasRoom old tile × (mid
 room_settings tile old mid (inl free) = ap (λ v. v.settings) free.1
 room_settings tile old mid (inr full) = ap (λ v. v.settings) full.1.frame
 
--- and moves no task that stays
+-- and leaves each task in a tile that there is
 room_tiles : (tile : ℕ) (old mid : View) → HaveTiles old → (QueueHasRoom old tile × (mid ≡ old)) ⊎ (IsFull old tile × Coalesces tile old mid) → HaveTiles mid
 room_tiles tile old mid have (inl free) = subst HaveTiles (sym free.1) have
 room_tiles tile old mid have (inr full) =

@@ -90,11 +90,11 @@ module _ (view : View) where
 
   -- a place of a block has a task or none
   at_spilled : (tile place : ℕ) → HasLeast spots_cmp (IsAt (Spilled_at tile place))
-  at_spilled tile place = by_entry (slice_get (block_at view tile) place) refl
+  at_spilled tile place = by_spilled (slice_get (block_at view tile) place) refl
     where
-      by_entry : (o : Option Spilled) → slice_get (block_at view tile) place ≡ o → HasLeast spots_cmp (IsAt (Spilled_at tile place))
-      by_entry None none = inl (λ x is. absurd (cc (sym none ∙ is.0.1)))
-      by_entry (Some s) at =
+      by_spilled : (o : Option Spilled) → slice_get (block_at view tile) place ≡ o → HasLeast spots_cmp (IsAt (Spilled_at tile place))
+      by_spilled None none = inl (λ x is. absurd (cc (sym none ∙ is.0.1)))
+      by_spilled (Some s) at =
           only_one spots_cmp spots_cmp_total (IsAt (Spilled_at tile place)) (record { spot = Spilled_at tile place; key = open_key s }) ((s, at, refl), refl)
           (λ x is.
           let both : Some is.0.0 ≡ Some s = sym is.0.1 ∙ at in
@@ -126,7 +126,7 @@ module _ (view : View) where
   of x (inl queued) = let is = queued.2.2 in subst (λ spot. HasKey view spot x.key) (sym is.1) is.0
   of x (inr spilled) = let is = spilled.2.2 in subst (λ spot. HasKey view spot x.key) (sym is.1) is.0
 
-  -- the places are finitely many
+  -- of what stands there one is the least, or nothing stands there, as the places are finitely many
   least_there : HasLeast spots_cmp IsThere
   least_there =
       either_least spots_cmp spots_cmp_total (IsBelow InQueue (length view.queues)) (IsBelow InBlock (length view.blocks))

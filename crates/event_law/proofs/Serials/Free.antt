@@ -3,7 +3,7 @@ use Rattle.std.proofs.Common.{◌≡◌, ℕ, ◌+◌, ◌<◌, [], length, map,
 use Rattle.std.proofs.lemmas.List.{length-map}
 use Rattle.fractal_vt.specs.declared.key.Key.{Key}
 use Rattle.fractal_vt.specs.Levels.{closed_level, levels_cmp}
-use Rattle.fractal_vt.proofs.Proved.{greater_not}
+use Rattle.fractal_vt.proofs.Proved.{greater_not, mapped_some}
 use Rattle.guest_image.specs.ImageValue.{ImageValue}
 use Rattle.order_law.specs.Events.{IsLeastInKeys}
 use Rattle.order_law.specs.Tasks.{Keyed, levels_of}
@@ -14,7 +14,7 @@ use Rattle.spec_state.specs.Groups.{all_keyed, all_spilled, bag_creator, bag_spi
 use Rattle.spec_state.specs.Least.{HasKey, IsAllCommitted, Queued, Spilled_at, Spot}
 use Rattle.spec_law.specs.Sound.{Sound}
 use Rattle.spec_state.specs.View.{View, task_at}
-use Rattle.spec_law.proofs.Proved.{below_all, firm_is_committed, Free, free_is_keyed, id_below, in_spilled, lowest, mapped_some, none_is_committed, place_in_all, queued_stands, spilled_key, spilled_stands, spot_of, which}
+use Rattle.spec_law.proofs.Proved.{below_all, firm_is_committed, Free, free_is_keyed, id_below, in_spilled, lowest, none_is_committed, place_in_all, queued_stands, spilled_in_keys, spilled_stands, spot_of, which}
 use Rattle.task_law.specs.Tasks.{pending}
 use Rattle.event_law.proofs.Serials.Stack.{none_stands, stands_nowhere}
 
@@ -45,8 +45,8 @@ module _ (image : ImageValue) (view : View) (sound : Sound image view) where
 
   below_bound : (k : ℕ) (x : Keyed) → all_keyed view sound.heir k ≡ Some x → k < bound
   below_bound k x at =
-      let low = below_all (length view.tasks) (keyed_tasks view) (map (spilled_key view sound.heir) (all_spilled view)) bounded k x at in
-      let same = length-map (all_spilled view) (spilled_key view sound.heir) in
+      let low = below_all (length view.tasks) (keyed_tasks view) (map (spilled_in_keys view sound.heir) (all_spilled view)) bounded k x at in
+      let same = length-map (all_spilled view) (spilled_in_keys view sound.heir) in
       omega (arith, low, same)
     where
       bounded : (j : ℕ) (y : Keyed) → keyed_tasks view j ≡ Some y → j < length view.tasks
@@ -58,7 +58,7 @@ module _ (image : ImageValue) (view : View) (sound : Sound image view) where
   spot_is_keyed (Spilled_at tile place) key has =
       let among = place_in_all view.blocks tile place has.0 has.1 in
       let stands = spilled_stands view sound.heir among.0 has.0 among.1 in
-      (stands.0, spilled_key view sound.heir has.0, stands.1)
+      (stands.0, spilled_in_keys view sound.heir has.0, stands.1)
 
   -- a task that no other is below is free
   least_is_free : (id : ℕ) (x : Keyed) → IsLeastInKeys (all_keyed view sound.heir) id x → HasFree image view sound

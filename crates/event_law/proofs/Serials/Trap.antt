@@ -26,8 +26,9 @@ use Rattle.spec_law.specs.Sound.{Sound, StandsAs, TrapsNext, done_so_far}
 use Rattle.spec_state.specs.Tasks.{depth_of, start_context}
 use Rattle.spec_state.specs.View.{View, task_at}
 use Rattle.spec_state.proofs.Proved.{same_test, other_test}
-use Rattle.spec_law.proofs.Proved.{least_is_next, least_of_all, mapped_some, number_of, queued_stands, run_stack, starts_so}
+use Rattle.spec_law.proofs.Proved.{least_is_next, least_of_all, number_of, queued_stands, run_stack, starts_so}
 use Rattle.event_def.specs.End.{LeastIsTrapped}
+use Rattle.fractal_vt.proofs.Proved.{mapped_some}
 
 -- the tasks without the one of this id
 abbrev without_one : (ℕ → Option Logged) → ℕ → ℕ → Option Logged
@@ -59,7 +60,7 @@ least_replays image view sound id task is some =
     }
 
 module _ (image : ImageValue) (view : View) (within : IsImage image) (sound : Sound image view) (name : Name) (cause pc : ℕ) (is : LeastIsTrapped view name cause pc) where
-  -- its next step is the trap
+  -- what stands next in its run is the trap
   stands : IsSome is.task.key.tb × TrapsNext image view.version view.settings.budget is.task cause
   stands = subst (StandsAs image view.version view.settings.budget is.task) is.trapped (sound.tasks.stands is.id is.task is.least.queued_at.there)
 

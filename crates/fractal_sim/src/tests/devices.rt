@@ -120,7 +120,7 @@ static FAULTS: [(Case, Streams); 9] = [
             written: ("", "fractal 1\n1 0.0 1 0\n"),
             left: (7, "normal", 1, Some(4)),
         },
-        Streams { room: 20, ..WHOLE },
+        Streams { most: 20, ..WHOLE },
     ),
     (
         Case {
@@ -180,7 +180,7 @@ static FAULTS: [(Case, Streams); 9] = [
             written: ("4652414301000100040000000000000000000000", ""),
             left: (7, "limit", 1, Some(4)),
         },
-        Streams { room: 20, ..PIECES },
+        Streams { most: 20, ..PIECES },
     ),
     (
         Case {

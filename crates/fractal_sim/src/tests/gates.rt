@@ -11,7 +11,7 @@ use std::thread::Threads;
 use tile_worker::Gate;
 
 /// How often a gate looks whether another worker has passed before it gives up.
-const TURNS: u32 = 200_000_000;
+const LOOKS: u32 = 200_000_000;
 
 /// Holds the first leg of one worker until another worker has passed.
 #[derive(Drop)]
@@ -24,7 +24,7 @@ struct HoldingGate {
 impl HoldingGate {
     /// Waits for another worker, but not forever.
     fn hold(&self) {
-        for _ in 0..TURNS {
+        for _ in 0..LOOKS {
             if self.passed.load(Ordering::SeqCst) == 1 {
                 return;
             }

@@ -1,4 +1,4 @@
-//! Generated images: their reports and their events. The source fails at its first call, so it is not read.
+//! Generated images: their reports and their events. The source fails at its first call, to show that it is not read.
 
 use crate::tests::{Case, PIECES, Streams, holds};
 use std::test::Fail;
@@ -123,7 +123,7 @@ static LARGE_LOADS: [(Case, Streams); 4] = [
             unread: 1,
             takes: 4096,
             unwritten: 3,
-            room: 10_000,
+            most: 10_000,
         },
     ),
 ];

@@ -236,7 +236,7 @@ fn checks_are_told(rt: HostRuntime) -> Result<(), Fail> {
     each_holds(&rt, &CHECKS)
 }
 
-// Calls that name no run.
+// Calls whose words are refused.
 static MISUSES: [Case; 5] = [
     Case {
         words: "",

@@ -1,4 +1,4 @@
-//! Scripts that are played: what is said of each act and the report, what the taps saw, and each status.
+//! Scripts that are played: what is said of each act and the report, what the taps saw, and the status.
 
 use crate::tests::images::{
     APART, CROWD, CUT, EMIT, ENDING, FOUR, OUTSIDE, POINTER, READER, STACKED, STORE,
@@ -21,7 +21,7 @@ const STALLED: &str =
     "dispatch 0\nstep 0 0\nstep 0 0\nstep 0 0\nstep 0 0\ndispatch 1\nstep 1 0\ncommit\nstep 0 0\n\
     abort 0\ndispatch 0\ncoalesce 0\ncoalesce 0\nsplit 0\n";
 
-// Scripts that are played, and what the taps see of them.
+// Scripts that are played, what the taps see of them, and calls that play none.
 static SCHEDULES: [Case; 26] = [
     Case {
         words: "steps --tiles 2 --cores 1",

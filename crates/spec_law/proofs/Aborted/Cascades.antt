@@ -1,4 +1,4 @@
--- A cascade holds, beside a task, later ones alone.
+-- A task's cascade holds, beside it, later ones alone; what is taken back for an access of a task is later than it.
 use Rattle.std.proofs.Common.{◌≡◌, ◌⊎◌, ℕ, Bool, true, List, length, Option, Some, sym, subst, ◌∙◌, inl, inr}
 use Rattle.std.specs.declared.cmp.Ordering.TheVariants.{Less}
 use Rattle.std.proofs.lemmas.Cmp.{tied_itself}
@@ -16,7 +16,7 @@ use Rattle.spec_law.proofs.Aborted.Pulled.{IsTaskAbove, pulled_above}
 
 -- where each first task is this one, under an id of `own`, or lies above it, so is each task that is reached
 module _ (view : View) (heir : Option ℕ) (sound : SoundOrder view heir) (count : ℕ) (pull : ℕ → ℕ → Bool) (pulls : (a b : ℕ) → pull a b ≡ true → PullsInView view a b) (own firsts : ℕ → Type 0) (task : Task) (here : (k : ℕ) → own k → task_at view k ≡ Some task) (each : (k : ℕ) → firsts k → own k ⊎ IsTaskAbove view task k) where
-  -- one step further lies above as well
+  -- what is taken back with one of these lies above as well
   pulled_from : (a b : ℕ) → own a ⊎ IsTaskAbove view task a → PullsInView view a b → IsTaskAbove view task b
   pulled_from a b (inl is) pulled = pulled_above view heir sound a b task (here a is) pulled
   pulled_from a b (inr above) pulled =

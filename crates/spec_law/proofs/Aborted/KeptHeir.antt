@@ -7,10 +7,11 @@ use Rattle.std.specs.declared.cmp.Ordering.TheVariants.{Less, Equal, Greater}
 use Rattle.fractal_vt.specs.declared.key.Key.{Key}
 use Rattle.fractal_vt.specs.Keys.{key_cmp}
 use Rattle.fractal_vt.specs.Levels.{closed_level, levels_cmp}
-use Rattle.fractal_vt.proofs.Proved.{equal_keys_tie, key_cmp_total, greater_not, less_of}
+use Rattle.fractal_vt.proofs.Proved.{equal_keys_tie, greater_not, key_cmp_total, less_of, mapped_some}
+use Rattle.fractal_vt.proofs.Proved.{first_not_greater}
 use Rattle.order_law.specs.Tasks.{Keyed, levels_of, HasNumber}
 use Rattle.order_law.specs.Events.{IsLeastInKeys}
-use Rattle.order_law.proofs.Proved.{below_reopened, innermost, least_is_below}
+use Rattle.order_law.proofs.Proved.{below_reopened, beside_spilled, beside_which, innermost, least_is_below}
 use Rattle.spill_store.specs.SpilledTasks.{Spilled, open_key}
 use Rattle.spec_state.specs.declared.task.Task.{Task}
 use Rattle.spec_state.specs.View.{View, task_at, block_at}
@@ -20,16 +21,15 @@ use Rattle.spec_state.specs.Least.{Queued, Spilled_at, spot_cmp, IsHeir, IsLeast
 use Rattle.spec_state.specs.Aborts.{is_marked, is_marked_creator}
 use Rattle.spec_law.specs.Sound.{SoundOrder, SoundSizes}
 use Rattle.spec_law.specs.AbortLaws.{TakesMarked, AbortKeepsHeirOfView}
-use Rattle.spec_law.proofs.Tasks.Beside.{mapped_some, id_below, queued_stands}
+use Rattle.spec_law.proofs.Tasks.Beside.{id_below, queued_stands}
 use Rattle.spec_law.proofs.Aborted.Taken.{unmarked_stays, marked_idles}
-use Rattle.spec_law.proofs.Tasks.Rebound.{which, entry_there, below_all}
+use Rattle.spec_law.proofs.Tasks.Rebound.{below_all}
 use Rattle.spec_law.proofs.Aborted.KeptTasks.{each_now}
 use Rattle.spec_law.proofs.Aborted.KeptSizes.{abort_keeps_sizes}
 use Rattle.spec_law.proofs.Aborted.Spared.{least_key, not_below_least}
 use Rattle.spec_law.proofs.Tasks.Places.{place_in_one, place_in_all}
 use Rattle.spec_law.proofs.Tasks.Filtered.{get_mapped, got_mapped}
 use Rattle.spec_law.proofs.Tasks.Leasts.{makes_least}
-use Rattle.spec_law.proofs.Tasks.Ranked.{first_not_greater}
 use Rattle.spec_law.proofs.Tasks.Lowest.{lowest}
 use Rattle.spec_law.proofs.Rooms.Later.{there_is}
 
@@ -97,7 +97,7 @@ module _ (marks : List Bool) (old new : View) (takes : TakesMarked marks old new
     n_was = each_now marks old new takes (λ k t. is_dispatched t ≡ true → task_at old k ≡ Some t)
         (λ k t there out run. there) (λ k now back run. absurd (cc (run))) id n least.queued_at.there runs
 
-    -- a key that no dispatched task has
+    -- a key with an open tiebreaker does not tie with the task's
     not_n : (key : Key) → key.tb ≡ None → key_cmp key n.key ≢ Greater → key_cmp n.key key ≢ Greater → ⊥
     not_n key open' one two =
         let same = same_key key n.key one two in
@@ -125,7 +125,7 @@ module _ (marks : List Bool) (old new : View) (takes : TakesMarked marks old new
           spilled tile place s at =
               let all = place_in_all old.blocks tile place s at in
               let entry = get_mapped (keyed_spilled (length old.history) None) (all_spilled old) all.0 s all.1 in
-              let stands = entry_there (length old.tasks) (keyed_tasks old) (map (keyed_spilled (length old.history) None) (all_spilled old)) (keyed_spilled (length old.history) None s) (all.0, entry) in
+              let stands = beside_spilled (length old.tasks) (keyed_tasks old) (map (keyed_spilled (length old.history) None) (all_spilled old)) (keyed_spilled (length old.history) None s) (all.0, entry) in
               subst (λ y. levels_cmp (levels_of y) (levels_of (keyed_spilled (length old.history) None s)) ≢ Greater) is
               (low.least stands.0 (keyed_spilled (length old.history) None s) stands.1)
 
@@ -164,7 +164,7 @@ module _ (marks : List Bool) (old new : View) (takes : TakesMarked marks old new
           (subst (λ y. levels_cmp (levels_of y) (levels_of (keyed_task n)) ≢ Greater) is upto_n) above
 
       pub no_low : ⊥
-      no_low = elim (which (length old.tasks) (keyed_tasks old) (map (keyed_spilled (length old.history) None) (all_spilled old)) k task low.there) [
+      no_low = elim (beside_which (length old.tasks) (keyed_tasks old) (map (keyed_spilled (length old.history) None) (all_spilled old)) k task low.there) [
         | inl queued ↦ (let read = mapped_some keyed_task (task_at old k) task queued in by_tie read.0 read.1 read.2 (read.0.key.tb) refl)
         | inr entry ↦ (let read = entry_at (all_spilled old) entry.0 entry.1 in spilled_low read.0 entry.0 read.1 read.2)
       ]

@@ -106,7 +106,7 @@ module _ (marks : List Bool) (old new : View) (takes : TakesMarked marks old new
       let out = unmarked_of (is_marked marks id) (filter_is unmarked (finished_at old tile) id left) in
       (was.0, unmarked_stays marks old new takes id out ∙ was.1, was.2, was.3)
 
-  -- a task whose status is none of an idle one is unmarked, and stays
+  -- a task whose status is none of an idle one is unmarked, and was the same before
   not_idle : (kind : Status → Type 0) → ((t : Task) → kind (idle_again old.version t).status → ⊥) → (id : ℕ) (now : Task) → task_at new id ≡ Some now → kind now.status
       → (is_marked marks id ≡ false) × (task_at old id ≡ Some now)
   not_idle kind none = each_now marks old new takes (λ id now. kind now.status → (is_marked marks id ≡ false) × (task_at old id ≡ Some now))

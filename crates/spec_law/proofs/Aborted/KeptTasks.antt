@@ -30,7 +30,7 @@ each_now marks old new takes holds unmarked idle id t at = by_mark (is_marked ma
     by_mark true taken = let back = marked_is_back marks old new takes id t taken at in subst (holds id) (sym back.is) (idle id t back)
 
 module _ (image : ImageValue) (marks : List Bool) (old new : View) (heir : Option ℕ) (serial : SerialState) (takes : TakesMarked marks old new) (spares : SparesHeir marks heir) (sound : SoundTasks image old heir serial) where
-  -- an unmarked creator stays as it was
+  -- what an unmarked creator made it has made still
   made_now : (id index : ℕ) (d : Descriptor) → is_marked marks id ≡ false → IsMadeBy old id index d → IsMadeBy (changed_to old new) id index d
   made_now id index d out made =
       record { creator = made.creator; there = unmarked_stays marks old new takes id out ∙ made.there; spawn = made.spawn; made = made.made; descriptor_is = made.descriptor_is }
@@ -52,7 +52,7 @@ module _ (image : ImageValue) (marks : List Bool) (old new : View) (heir : Optio
   matches : Matches (length old.history) (bag_tasks new) (bags_spilled old) serial.stack
   matches depth p = (λ free. (sound.matches depth p).0 ((same_free.0 depth p).1 free), λ stands. (same_free.0 depth p).0 ((sound.matches depth p).1 stands))
 
-  -- the domains of the tasks of committed creators
+  -- the domains of a task of a committed creator are those of the bags
   abbrev InBags : ℕ → Task → Type 0
   InBags id t = (turn index : ℕ) → t.creator ≡ Committed turn index → FitsBags (domains_of t.kinds t.key.domain) serial.stack
 

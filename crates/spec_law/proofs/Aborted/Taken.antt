@@ -14,7 +14,9 @@ use Rattle.spec_state.specs.Tasks.{idle_again}
 use Rattle.spec_state.specs.Groups.{keyed_tasks, keyed_task, logged_tasks, logged_task, bag_tasks, bag_task, bag_creator, live_creator}
 use Rattle.spec_state.specs.Aborts.{PullsInView, IsCascade, is_marked, is_marked_creator, taken_back, Aborts, OnlyNode}
 use Rattle.spec_law.specs.AbortLaws.{HoldsPulled, TakesMarked, AbortTakesMarked, ConflictsTakeMarked}
-use Rattle.spec_law.proofs.Tasks.Beside.{mapped_some, id_below}
+use Rattle.spec_law.proofs.Tasks.Beside.{id_below}
+use Rattle.spec_law.proofs.Dispatches.Tasks.{live_of}
+use Rattle.fractal_vt.proofs.Proved.{mapped_some}
 
 -- a marked id lies within the marks
 pub marked_below : (marks : List Bool) (id : ℕ) → is_marked marks id ≡ true → id < length marks
@@ -62,7 +64,7 @@ taken_marked : (version : ℕ) (marks : List Bool) (id : ℕ) (t : Task) → is_
 taken_marked version marks id t taken =
     ap (λ b. if b then (if is_marked_creator marks (live_creator t.creator) then None else Some (idle_again version t)) else Some t) taken
 
--- a task that was there, is marked, and is idle again under its id
+-- a task that was there, whose creator is not marked, and that is idle again under its id
 pub record IsBack (marks : List Bool) (old : View) (id : ℕ) (now : Task) : Type 0 where
   pub was : Task
   pub there : task_at old id ≡ Some was
@@ -152,11 +154,6 @@ module _ (marks : List Bool) (old new : View) (takes : TakesMarked marks old new
       marked
 
   -- the bags
-  -- an uncommitted creator for the bags is one
-  live_is : (c : Creator) (k index : ℕ) → bag_creator c ≡ bags.Live k index → live_creator c ≡ Some k
-  live_is (Committed turn i) k index is = absurd (cc)
-  live_is (Live task i) k index is = let same : task.0 ≡ k = cc in ap Some same
-
   -- a creator that is unmarked wherever it is uncommitted
   spared_is : (c : Creator) → ((k index : ℕ) → bag_creator c ≡ bags.Live k index → is_marked marks k ≡ false) → is_marked_creator marks (live_creator c) ≡ false
   spared_is (Committed turn i) spared = refl
@@ -166,7 +163,7 @@ module _ (marks : List Bool) (old new : View) (takes : TakesMarked marks old new
       → is_marked marks creator ≡ true → bag_tasks new k ≡ None
   bag_gone k x creator index taken at made marked =
       let read = mapped_some bag_task (task_at old k) x at in
-      let live = live_is read.0.creator creator index (sym (ap (λ t. t.creator) read.2) ∙ made) in
+      let live = live_of read.0.creator creator index (sym (ap (λ t. t.creator) read.2) ∙ made) in
       ap (option_map bag_task) (marked_leaves k read.0 taken read.1 (ap (is_marked_creator marks) live ∙ marked))
 
   bag_stays : (k : ℕ) (x : bags.BagTask) → is_marked marks k ≡ true → bag_tasks old k ≡ Some x

@@ -31,7 +31,7 @@ use Rattle.spec_law.proofs.Steps.One.{StepsOne, each_stepped, step_keeps_order}
 use Rattle.spec_law.proofs.Steps.Sizes.{lists_stay, step_keeps_sizes}
 use Rattle.spec_law.proofs.Steps.Sound.{stood}
 use Rattle.spec_law.proofs.Steps.Tasks.{step_keeps_tasks}
-use Rattle.spec_law.proofs.Tasks.Beside.{mapped_some}
+use Rattle.fractal_vt.proofs.Proved.{mapped_some}
 
 -- an access keeps the number that stood there
 access_old : (memory : List ℕ) (call : MemoryCall) → (access_of memory call).old ≡ number_at memory (access_of memory call).offset (access_of memory call).width
@@ -67,7 +67,7 @@ module _ (image : ImageValue) (old new : View) (sound : Sound image old) (tile c
     there = ap (option_map logged_task) there;
     changed = ap (option_map logged_task) does.changes.changed;
     others = λ k other. ap (option_map logged_task) (does.changes.others k other);
-    runs = (stood image old sound tile core id leg task taken).0;
+    was_dispatched = (stood image old sound tile core id leg task taken).0;
     levels = refl;
     dispatched = refl;
     log = refl;

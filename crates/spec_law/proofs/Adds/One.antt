@@ -6,7 +6,7 @@ use Rattle.memory_law.specs.Notes.{notes_of}
 use Rattle.memory_law.specs.Tasks.{Logged}
 use Rattle.memory_law.proofs.Proved.{idle_tasks_keep_chain}
 use Rattle.serial_machine.specs.State.{SerialState}
-use Rattle.task_law.proofs.Proved.{get_cases, get_front}
+use Rattle.task_law.proofs.Proved.{get_cases}
 use Rattle.spec_state.specs.declared.task.Task.{Task}
 use Rattle.spec_state.specs.View.{View, task_at, queue_at}
 use Rattle.spec_state.specs.Filters.{HasNotes}
@@ -17,8 +17,8 @@ use Rattle.spec_state.proofs.Proved.{is_new, other_queue, own_queue, still_there
 use Rattle.spec_law.specs.Sound.{StandsAs, SoundMemory}
 use Rattle.spec_law.proofs.Accesses.Noted.{none_noted}
 use Rattle.spec_law.proofs.Steps.One.{each_stepped}
-use Rattle.spec_law.proofs.Tasks.Beside.{mapped_some}
 use Rattle.spec_law.proofs.Moves.MovingMemory.{stands_idle}
+use Rattle.fractal_vt.proofs.Proved.{get_front, mapped_some}
 
 -- the view as it was, but for what such a task changes
 abbrev pub added_to : View → View → View

@@ -5,7 +5,7 @@ use Rattle.fractal_vt.specs.Levels.{closed_level}
 use Rattle.order_law.specs.Events.{beside, Changes, IsPlaced}
 use Rattle.order_law.specs.Ordered.{IsOrdered}
 use Rattle.order_law.specs.Tasks.{Keyed}
-use Rattle.order_law.proofs.Proved.{rename_keeps_order, spawn_law}
+use Rattle.order_law.proofs.Proved.{beside_task, rename_keeps_order, enqueue_law}
 use Rattle.spec_state.specs.declared.task.Task.{Task}
 use Rattle.spec_state.specs.View.{View, task_at}
 use Rattle.spec_state.specs.Groups.{all_keyed, all_spilled, keyed_tasks, keyed_spilled, keyed_task, live_creator}
@@ -13,13 +13,14 @@ use Rattle.spec_state.specs.Opening.{Adds}
 use Rattle.spec_law.specs.Sound.{SoundOrder}
 use Rattle.spec_state.proofs.Proved.{still_there}
 use Rattle.spec_law.proofs.Adds.One.{added_to}
-use Rattle.spec_law.proofs.Tasks.Rebound.{rebound, entry_idle, task_there, low_is, high_is}
-use Rattle.spec_law.proofs.Tasks.Beside.{id_below, mapped_some}
+use Rattle.spec_law.proofs.Tasks.Rebound.{rebound, spilled_idle, low_is, high_is}
+use Rattle.spec_law.proofs.Tasks.Beside.{id_below}
+use Rattle.fractal_vt.proofs.Proved.{mapped_some}
 
 module _ (old new : View) (id : ℕ) (task : Task) (adds : Adds id task old new) (heir : Option ℕ) where
   -- the spilled tasks, as the order reads them
-  abbrev entries : List Keyed
-  entries = map (keyed_spilled (length old.history) heir) (all_spilled old)
+  abbrev spilled_list : List Keyed
+  spilled_list = map (keyed_spilled (length old.history) heir) (all_spilled old)
 
   -- the tasks that were there stand below the new bound as well
   bounded : (k : ℕ) (x : Keyed) → keyed_tasks old k ≡ Some x → (k < length old.tasks) × (k < length new.tasks)
@@ -29,42 +30,42 @@ module _ (old new : View) (id : ℕ) (task : Task) (adds : Adds id task old new)
 
   -- what the order reads of the tasks that were there, the spilled ones under the ids that they have from now on
   abbrev before : ℕ → Option Keyed
-  before = beside (length new.tasks) (keyed_tasks old) entries
+  before = beside (length new.tasks) (keyed_tasks old) spilled_list
 
   abbrev after : ℕ → Option Keyed
-  after = beside (length new.tasks) (keyed_tasks new) entries
+  after = beside (length new.tasks) (keyed_tasks new) spilled_list
 
   others : (k : ℕ) → k ≢ id → after k ≡ before k
   others k other = by_test (nat_lt k (length new.tasks)) refl
     where
       by_test : (b : Bool) → nat_lt k (length new.tasks) ≡ b → after k ≡ before k
       by_test true low =
-          low_is (length new.tasks) (keyed_tasks new) entries k low ∙ ap (option_map keyed_task) (adds.changes.others k other) ∙ sym (low_is (length new.tasks) (keyed_tasks old) entries k low)
-      by_test false high = high_is (length new.tasks) (keyed_tasks new) entries k high ∙ sym (high_is (length new.tasks) (keyed_tasks old) entries k high)
+          low_is (length new.tasks) (keyed_tasks new) spilled_list k low ∙ ap (option_map keyed_task) (adds.changes.others k other) ∙ sym (low_is (length new.tasks) (keyed_tasks old) spilled_list k low)
+      by_test false high = high_is (length new.tasks) (keyed_tasks new) spilled_list k high ∙ sym (high_is (length new.tasks) (keyed_tasks old) spilled_list k high)
 
   vacant : before id ≡ None
   vacant =
-      low_is (length new.tasks) (keyed_tasks old) entries id (lt-ltb id (length new.tasks) (id_below new id task adds.changes.changed))
+      low_is (length new.tasks) (keyed_tasks old) spilled_list id (lt-ltb id (length new.tasks) (id_below new id task adds.changes.changed))
       ∙ ap (option_map keyed_task) adds.vacant
 
   changes : Changes before after id (Some (keyed_task task))
   changes =
       record {
-        changed = task_there (length new.tasks) (keyed_tasks new) entries id (keyed_task task) (id_below new id task adds.changes.changed) (ap (option_map keyed_task) adds.changes.changed);
+        changed = beside_task (length new.tasks) (keyed_tasks new) spilled_list id (keyed_task task) (id_below new id task adds.changes.changed) (ap (option_map keyed_task) adds.changes.changed);
         others = others;
       }
 
-  pub add_keeps_order : (creator number : ℕ) (parent : Task) → task_at old creator ≡ Some parent → parent.key.tb ≡ Some number → task.key.tb ≡ None
-      → live_creator task.creator ≡ Some creator → IsPlaced (keyed_task parent) (keyed_task task) → SoundOrder old heir → SoundOrder new heir
-  add_keeps_order creator number parent there numbered open' made_by placed sound = subst (λ v. SoundOrder v heir) (sym adds.frame) (record { order = kept; numbers = sound.numbers })
+  pub add_keeps_order : (creator number : ℕ) (creator_task : Task) → task_at old creator ≡ Some creator_task → creator_task.key.tb ≡ Some number → task.key.tb ≡ None
+      → live_creator task.creator ≡ Some creator → IsPlaced (keyed_task creator_task) (keyed_task task) → SoundOrder old heir → SoundOrder new heir
+  add_keeps_order creator number creator_task there numbered open' made_by placed sound = subst (λ v. SoundOrder v heir) (sym adds.frame) (record { order = kept; numbers = sound.numbers })
     where
       kept : IsOrdered (all_keyed (added_to old new) heir) (map closed_level old.path) old.next
       kept =
-          spawn_law before after (map closed_level old.path) old.next
+          enqueue_law before after (map closed_level old.path) old.next
           (record {
             creator = creator;
-            task = keyed_task parent;
-            there = task_there (length new.tasks) (keyed_tasks old) entries creator (keyed_task parent) (bounded creator (keyed_task parent) (ap (option_map keyed_task) there)).1 (ap (option_map keyed_task) there);
+            task = keyed_task creator_task;
+            there = beside_task (length new.tasks) (keyed_tasks old) spilled_list creator (keyed_task creator_task) (bounded creator (keyed_task creator_task) (ap (option_map keyed_task) there)).1 (ap (option_map keyed_task) there);
             number = number;
             dispatched = numbered;
             id = id;
@@ -76,4 +77,4 @@ module _ (old new : View) (id : ℕ) (task : Task) (adds : Adds id task old new)
             changes = changes;
           })
           (rename_keeps_order (all_keyed old heir) before (map closed_level old.path) old.next
-          (rebound (length old.tasks) (length new.tasks) (keyed_tasks old) entries bounded (entry_idle (length old.history) heir (all_spilled old))) sound.order)
+          (rebound (length old.tasks) (length new.tasks) (keyed_tasks old) spilled_list bounded (spilled_idle (length old.history) heir (all_spilled old))) sound.order)

@@ -49,7 +49,7 @@ has_context outer floor kinds (level ∷ levels) =
     one_more zero = refl
     one_more (suc n) = refl
 
--- where none lie outside, the next domain out is that of the kinds
+-- where none lie outside, the kind of the next domain out is that of the kinds
 outermost : (n kinds : ℕ) → kind_outside [] n kinds ≡ outer_kind n kinds
 outermost zero kinds = refl
 outermost (suc n) kinds = refl
@@ -193,7 +193,7 @@ module _ (task : Task) (small : task.kinds < 2 ^ depth_of task) where
       let short : suc (length ls) - 1 ≡ length ls = omega arith in
       (one.0, one.1 ∙ ap (λ n. one.0 ∷ domains_of (task.kinds % 2 ^ suc (length ls)) (take n (l ∷ ls))) (sym short))
 
-  -- at each place
+  -- for each domain of a child
   pub child_domains : (place : Place) → (place ≡ Sub → (kind : Kind) × (task.sub ≡ Some kind)) → (place ≡ Super → 2 ≤ depth_of task)
       → ChildDomains (domains_of task.kinds task.key.domain) task.key.ts task.sub place (domains_of (child_kinds task place) (child_domain task place))
   child_domains Same inside outside = refl

@@ -5,25 +5,24 @@ use Rattle.std.specs.declared.cmp.Ordering.TheVariants.{Less, Greater}
 use Rattle.fractal_vt.specs.declared.key.Key.{Key}
 use Rattle.fractal_vt.specs.Keys.{key_cmp}
 use Rattle.fractal_vt.specs.Levels.{closed_level, levels_cmp}
-use Rattle.fractal_vt.proofs.Proved.{greater_not}
+use Rattle.fractal_vt.proofs.Proved.{first_not_greater, greater_not, mapped_some}
 use Rattle.order_law.specs.Tasks.{Keyed, levels_of}
 use Rattle.order_law.specs.Events.{IsLeastInKeys}
-use Rattle.order_law.proofs.Proved.{least_is_below}
+use Rattle.order_law.proofs.Proved.{beside_spilled, beside_which, least_is_below}
 use Rattle.spill_store.specs.SpilledTasks.{Spilled, open_key}
 use Rattle.spec_state.specs.declared.task.Task.{Task}
 use Rattle.spec_state.specs.View.{View, task_at, block_at}
 use Rattle.spec_state.specs.Groups.{all_keyed, all_spilled, keyed_tasks, keyed_task, keyed_spilled}
 use Rattle.spec_state.specs.Least.{Queued, Spilled_at, spot_cmp, IsHeir}
 use Rattle.spec_law.specs.Sound.{SoundOrder, SoundSizes}
-use Rattle.spec_law.proofs.Tasks.Rebound.{which, entry_there, below_all}
+use Rattle.spec_law.proofs.Tasks.Rebound.{below_all}
 use Rattle.spec_law.proofs.Aborted.Spared.{least_key, not_below_least}
 use Rattle.spec_law.proofs.Tasks.Filtered.{get_mapped, got_mapped}
 use Rattle.spec_law.proofs.Tasks.Leasts.{makes_least}
 use Rattle.spec_law.proofs.Tasks.Lowest.{lowest}
 use Rattle.spec_law.proofs.Aborted.KeptHeir.{same_key, not_above}
-use Rattle.spec_law.proofs.Tasks.Beside.{id_below, mapped_some, queued_stands}
+use Rattle.spec_law.proofs.Tasks.Beside.{id_below, queued_stands}
 use Rattle.spec_law.proofs.Tasks.Places.{place_in_all, place_in_one}
-use Rattle.spec_law.proofs.Tasks.Ranked.{first_not_greater}
 
 -- a key with an open tiebreaker ties with no key of a dispatched task
 not_open : (key other : Key) → key.tb ≡ None → is_some other.tb ≡ true → key_cmp key other ≢ Greater → key_cmp other key ≢ Greater → ⊥
@@ -31,8 +30,8 @@ not_open key other open' numbered one two = let same = same_key key other one tw
 
 module _ (view : View) (sizes : SoundSizes view) (sound : SoundOrder view None) where
   -- a spilled task, as the order reads it where there is no heir
-  abbrev entry : Spilled → Keyed
-  entry = keyed_spilled (length view.history) None
+  abbrev spilled_in_order : Spilled → Keyed
+  spilled_in_order = keyed_spilled (length view.history) None
 
   -- the bound of the ids: so many slots, and behind them the spilled tasks
   abbrev bound : ℕ
@@ -41,8 +40,8 @@ module _ (view : View) (sizes : SoundSizes view) (sound : SoundOrder view None) 
   -- each task stands below it
   below_bound : (k : ℕ) (x : Keyed) → all_keyed view None k ≡ Some x → k < bound
   below_bound k x at =
-      let low = below_all (length view.tasks) (keyed_tasks view) (map entry (all_spilled view)) bounded k x at in
-      let same = length-map (all_spilled view) entry in
+      let low = below_all (length view.tasks) (keyed_tasks view) (map spilled_in_order (all_spilled view)) bounded k x at in
+      let same = length-map (all_spilled view) spilled_in_order in
       omega (arith, low, same)
     where
       bounded : (j : ℕ) (y : Keyed) → keyed_tasks view j ≡ Some y → j < length view.tasks
@@ -68,9 +67,9 @@ module _ (view : View) (sizes : SoundSizes view) (sound : SoundOrder view None) 
         spilled : (tile place : ℕ) (s : Spilled) → slice_get (block_at view tile) place ≡ Some s → key_cmp t.key (open_key s) ≢ Greater
         spilled tile place s at =
             let all = place_in_all view.blocks tile place s at in
-            let stands = entry_there (length view.tasks) (keyed_tasks view) (map entry (all_spilled view)) (entry s) (all.0, get_mapped entry (all_spilled view) all.0 s all.1) in
-            subst (λ y. levels_cmp (levels_of y) (levels_of (entry s)) ≢ Greater) is
-            (low.least stands.0 (entry s) stands.1)
+            let stands = beside_spilled (length view.tasks) (keyed_tasks view) (map spilled_in_order (all_spilled view)) (spilled_in_order s) (all.0, get_mapped spilled_in_order (all_spilled view) all.0 s all.1) in
+            subst (λ y. levels_cmp (levels_of y) (levels_of (spilled_in_order s)) ≢ Greater) is
+            (low.least stands.0 (spilled_in_order s) stands.1)
 
     -- where it is idle there is none
     idle_none : (t : Task) → task_at view k ≡ Some t → task ≡ keyed_task t → t.key.tb ≡ None → IsHeir view None
@@ -80,7 +79,7 @@ module _ (view : View) (sizes : SoundSizes view) (sound : SoundOrder view None) 
         (not_above other.key t.key (not_below_least view sizes id k other t least there))
 
     -- nor where it is spilled
-    spilled_none : (s : Spilled) (place : ℕ) → slice_get (all_spilled view) place ≡ Some s → task ≡ entry s → IsHeir view None
+    spilled_none : (s : Spilled) (place : ℕ) → slice_get (all_spilled view) place ≡ Some s → task ≡ spilled_in_order s → IsHeir view None
     spilled_none s place at is id other least runs =
         let one = place_in_one view.blocks place s at in
         let whole = least.least.least (Spilled_at one.0 one.1) (open_key s) (s, one.2, refl) in
@@ -94,9 +93,9 @@ module _ (view : View) (sizes : SoundSizes view) (sound : SoundOrder view None) 
 
     -- there is an heir or none by how it stands
     by_lowest : (heir : Option ℕ) × IsHeir view heir
-    by_lowest = elim (which (length view.tasks) (keyed_tasks view) (map entry (all_spilled view)) k task low.there) [
+    by_lowest = elim (beside_which (length view.tasks) (keyed_tasks view) (map spilled_in_order (all_spilled view)) k task low.there) [
       | inl queued ↦ (let read = mapped_some keyed_task (task_at view k) task queued in by_tie read.0 read.1 read.2 read.0.key.tb refl)
-      | inr at ↦ (let read = got_mapped entry (all_spilled view) at.0 task at.1 in (None, spilled_none read.0 at.0 read.1 read.2))
+      | inr at ↦ (let read = got_mapped spilled_in_order (all_spilled view) at.0 task at.1 in (None, spilled_none read.0 at.0 read.1 read.2))
     ]
       where
         by_tie : (t : Task) → task_at view k ≡ Some t → task ≡ keyed_task t → (tie : Option ℕ) → t.key.tb ≡ tie → (heir : Option ℕ) × IsHeir view heir

@@ -16,7 +16,8 @@ use Rattle.spec_state.specs.Changes.{Commits}
 use Rattle.spec_law.specs.Sound.{SoundMemory, SoundOrder, SoundSizes}
 use Rattle.spec_law.proofs.Commits.Taken.{leaves, logged_stays, each_left}
 use Rattle.spec_law.proofs.Commits.Order.{least_of_all}
-use Rattle.spec_law.proofs.Tasks.Beside.{mapped_some, queued_stands}
+use Rattle.spec_law.proofs.Tasks.Beside.{queued_stands}
+use Rattle.fractal_vt.proofs.Proved.{mapped_some}
 
 module _ (old new : View) (commit : Commits old new) (sizes : SoundSizes old) (heir : Option ℕ) (order : SoundOrder old heir) (n : ℕ) (tie : commit.task.key.tb ≡ Some n) where
   -- for memory it is a commit of the earliest task

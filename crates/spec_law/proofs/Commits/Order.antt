@@ -25,9 +25,10 @@ use Rattle.spec_law.proofs.Aborted.Taken.{none_of}
 use Rattle.spec_law.proofs.Tasks.Places.{get_contains}
 use Rattle.spec_law.proofs.Tasks.Filtered.{got_mapped, get_mapped}
 use Rattle.spec_law.proofs.Tasks.Next.{none_below, queued_key}
-use Rattle.spec_law.proofs.Tasks.Rebound.{low_is, high_is, rebound, entry_idle, entry_creator}
+use Rattle.spec_law.proofs.Tasks.Rebound.{low_is, high_is, rebound, spilled_idle, spilled_creator}
 use Rattle.spec_law.proofs.Commits.Taken.{leaves, none_stays, was_there, keyed_child, keyed_other}
-use Rattle.spec_law.proofs.Tasks.Beside.{id_below, mapped_some, queued_stands}
+use Rattle.spec_law.proofs.Tasks.Beside.{id_below, queued_stands}
+use Rattle.fractal_vt.proofs.Proved.{mapped_some}
 
 -- the least task is the least of all for the order
 pub least_of_all : (view : View) → SoundSizes view → (heir : Option ℕ) (id : ℕ) (task : Task) → IsLeastTask view id task → IsLeastInKeys (all_keyed view heir) id (keyed_task task)
@@ -55,8 +56,8 @@ module _ (old new : View) (commit : Commits old new) (sizes : SoundSizes old) (f
   after = map (keyed_spilled (length old.history + 1) heir) (all_spilled old)
 
   -- the creator of each spilled task has committed
-  entry_after : (j : ℕ) (x : Keyed) → slice_get before j ≡ Some x → slice_get after j ≡ Some (without_creator x)
-  entry_after j x at =
+  spilled_after : (j : ℕ) (x : Keyed) → slice_get before j ≡ Some x → slice_get after j ≡ Some (without_creator x)
+  spilled_after j x at =
       let from = got_mapped (keyed_spilled (length old.history) (Some commit.id)) (all_spilled old) j x at in
       let low = firm from.0 (get_contains (all_spilled old) j from.0 from.1) in
       get_mapped (keyed_spilled (length old.history + 1) heir) (all_spilled old) j from.0 from.1
@@ -73,12 +74,12 @@ module _ (old new : View) (commit : Commits old new) (sizes : SoundSizes old) (f
       ∙ ap (option_map (keyed_spilled (length old.history + 1) heir)) nothing
 
   -- a spilled task whose creator is not the task that commits has no uncommitted one
-  entry_free : (j : ℕ) (x : Keyed) → slice_get before j ≡ Some x → x.creator ≢ Some commit.id → x.creator ≡ None
-  entry_free j x at free = by_creator x.creator refl
+  spilled_free : (j : ℕ) (x : Keyed) → slice_get before j ≡ Some x → x.creator ≢ Some commit.id → x.creator ≡ None
+  spilled_free j x at free = by_creator x.creator refl
     where
       by_creator : (c : Option ℕ) → x.creator ≡ c → x.creator ≡ None
       by_creator None is = is
-      by_creator (Some c) is = absurd (free (is ∙ sym (entry_creator (length old.history) (Some commit.id) (all_spilled old) x c (j, at) is)))
+      by_creator (Some c) is = absurd (free (is ∙ sym (spilled_creator (length old.history) (Some commit.id) (all_spilled old) x c (j, at) is)))
 
   -- all tasks after the commit, with the spilled ones under their ids of before
   abbrev mid : ℕ → Option Keyed
@@ -101,7 +102,7 @@ module _ (old new : View) (commit : Commits old new) (sizes : SoundSizes old) (f
         where
           by_test : (b : Bool) → nat_lt k bound ≡ b → mid k ≡ Some (without_creator x)
           by_test true low = low_is bound (keyed_tasks new) after k low ∙ keyed_child old new commit k x other (sym (low_is bound (keyed_tasks old) before k low) ∙ at) child
-          by_test false high = high_is bound (keyed_tasks new) after k high ∙ entry_after (k - bound) x (sym (high_is bound (keyed_tasks old) before k high) ∙ at)
+          by_test false high = high_is bound (keyed_tasks new) after k high ∙ spilled_after (k - bound) x (sym (high_is bound (keyed_tasks old) before k high) ∙ at)
 
       others : (k : ℕ) (x : Keyed) → k ≢ commit.id → all_keyed old (Some commit.id) k ≡ Some x → x.creator ≢ Some commit.id → mid k ≡ Some x
       others k x other at free = by_test (nat_lt k bound) refl
@@ -110,7 +111,7 @@ module _ (old new : View) (commit : Commits old new) (sizes : SoundSizes old) (f
           by_test true low = low_is bound (keyed_tasks new) after k low ∙ keyed_other old new commit k x other (sym (low_is bound (keyed_tasks old) before k low) ∙ at) free
           by_test false high =
               let entry = sym (high_is bound (keyed_tasks old) before k high) ∙ at in
-              high_is bound (keyed_tasks new) after k high ∙ entry_after (k - bound) x entry ∙ ap Some (freed_is x (entry_free (k - bound) x entry free))
+              high_is bound (keyed_tasks new) after k high ∙ spilled_after (k - bound) x entry ∙ ap Some (freed_is x (spilled_free (k - bound) x entry free))
 
       none : (k : ℕ) → all_keyed old (Some commit.id) k ≡ None → mid k ≡ None
       none k at = by_test (nat_lt k bound) refl
@@ -134,7 +135,7 @@ module _ (old new : View) (commit : Commits old new) (sizes : SoundSizes old) (f
     ordered =
         rename_keeps_order mid (beside (length new.tasks) (keyed_tasks new) after)
         (levels_of (keyed_task commit.task)) old.next
-        (rebound (length old.tasks) (length new.tasks) (keyed_tasks new) after bounded (entry_idle (length old.history + 1) heir (all_spilled old)))
+        (rebound (length old.tasks) (length new.tasks) (keyed_tasks new) after bounded (spilled_idle (length old.history + 1) heir (all_spilled old)))
         (commit_law (all_keyed old (Some commit.id)) mid (map closed_level old.path) old.next commit.id n (keyed_task commit.task)
         (least_of_all old sizes (Some commit.id) commit.id commit.task commit.least) tie commits_all sound.order)
 

@@ -14,7 +14,7 @@ use Rattle.spec_state.specs.Groups.{keyed_tasks, keyed_task, logged_tasks, logge
 use Rattle.spec_state.specs.Changes.{Commits, creator_after, after_commit}
 use Rattle.spec_state.proofs.Proved.{same_test, other_test}
 use Rattle.spec_law.proofs.Aborted.Taken.{none_of}
-use Rattle.spec_law.proofs.Tasks.Beside.{mapped_some}
+use Rattle.fractal_vt.proofs.Proved.{mapped_some}
 
 -- the task with another creator
 abbrev pub with_creator : Task → Creator → Task

@@ -3,7 +3,7 @@ use Rattle.std.proofs.Common.{◌≡◌, ◌≢◌, ℕ, true, Option, Some, Non
 use Rattle.std.specs.declared.cmp.Ordering.TheVariants.{Less, Equal, Greater}
 use Rattle.fractal_vt.specs.declared.key.Key.{Key}
 use Rattle.fractal_vt.specs.Keys.{key_cmp}
-use Rattle.fractal_vt.proofs.Proved.{equal_keys_tie, less_of}
+use Rattle.fractal_vt.proofs.Proved.{equal_keys_tie, first_not_greater, less_of}
 use Rattle.spill_store.specs.SpilledTasks.{Spilled, open_key}
 use Rattle.spec_state.specs.declared.task.Task.{Task}
 use Rattle.spec_state.specs.View.{View, task_at, block_at}
@@ -13,7 +13,6 @@ use Rattle.spec_state.specs.Least.{Spot, Queued, Spilled_at, HasKey, spot_cmp, I
 use Rattle.spec_law.specs.Sound.{SoundOrder, SoundSizes}
 use Rattle.spec_law.proofs.Aborted.Spared.{queued_at, least_key}
 use Rattle.spec_law.proofs.Tasks.Beside.{queued_stands}
-use Rattle.spec_law.proofs.Tasks.Ranked.{first_not_greater}
 
 -- a number that is there
 pub number_of : (o : Option ℕ) → is_some o ≡ true → (n : ℕ) × (o ≡ Some n)

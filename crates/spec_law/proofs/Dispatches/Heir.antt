@@ -7,7 +7,7 @@ use Rattle.std.specs.declared.cmp.Ordering.{Ordering}
 use Rattle.std.specs.declared.cmp.Ordering.TheVariants.{Less, Equal, Greater}
 use Rattle.fractal_vt.specs.Keys.{key_cmp}
 use Rattle.fractal_vt.specs.Levels.{closed_level, level_cmp, levels_cmp}
-use Rattle.fractal_vt.proofs.Proved.{levels_cmp_total, not_greater, greater_not, less_of}
+use Rattle.fractal_vt.proofs.Proved.{greater_not, less_of, levels_cmp_total, mapped_some, not_greater}
 use Rattle.order_law.specs.Ordered.{TieBelow, LevelsBelow}
 use Rattle.order_law.specs.Tasks.{Keyed, levels_of}
 use Rattle.order_law.proofs.Proved.{cmp_alike, levels_alike, LevelsBelow-append}
@@ -18,7 +18,7 @@ use Rattle.spec_state.specs.Groups.{all_keyed, all_spilled, keyed_tasks, keyed_s
 use Rattle.spec_state.specs.Least.{IsHeir, IsLeastTask}
 use Rattle.spec_state.specs.Changes.{Dispatches}
 use Rattle.spec_law.specs.Sound.{SoundOrder, SoundSizes}
-use Rattle.spec_law.proofs.Tasks.Beside.{which, spilled_stands, id_below, mapped_some, queued_stands}
+use Rattle.spec_law.proofs.Tasks.Beside.{which, spilled_stands, id_below, queued_stands}
 use Rattle.spec_law.proofs.Tasks.Leasts.{makes_least}
 use Rattle.spec_law.proofs.Tasks.Lowest.{IsLowest, lowest}
 use Rattle.spec_law.proofs.Tasks.Rebound.{below_all}
@@ -95,7 +95,7 @@ module _ (old new : View) (heir : Option ℕ) (tile : ℕ) (d : Dispatches tile 
   abbrev IsLeastThen : Type 0
   IsLeastThen = IsLeastTask (after old new tile d) d.id (now old new tile d)
 
-  -- each task stands below the bound
+  -- the bound of the ids: so many slots, and behind them the spilled tasks
   abbrev bound : ℕ
   bound = length new.tasks + length (all_spilled old)
 

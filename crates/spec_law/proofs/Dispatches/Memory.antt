@@ -4,7 +4,7 @@ use Rattle.std.specs.Ordering.{ordering_reverse}
 use Rattle.std.specs.declared.cmp.Ordering.{Ordering}
 use Rattle.std.specs.declared.cmp.Ordering.TheVariants.{Less, Equal, Greater}
 use Rattle.fractal_vt.specs.Keys.{key_cmp}
-use Rattle.fractal_vt.proofs.Proved.{equal_keys_tie, key_cmp_total}
+use Rattle.fractal_vt.proofs.Proved.{equal_keys_tie, key_cmp_total, mapped_some}
 use Rattle.memory_law.specs.Events as memory
 use Rattle.memory_law.specs.Notes.{notes_of}
 use Rattle.memory_law.specs.Tasks.{Logged, Earlier}
@@ -18,14 +18,14 @@ use Rattle.spec_state.specs.Groups.{keyed_task, logged_tasks, logged_task}
 use Rattle.spec_state.specs.Changes.{Dispatches}
 use Rattle.spec_law.specs.Sound.{SoundMemory, SoundOrder}
 use Rattle.spec_law.proofs.Dispatches.One.{after, now, was, was_this, each_after}
-use Rattle.spec_law.proofs.Tasks.Beside.{mapped_some, queued_stands}
+use Rattle.spec_law.proofs.Tasks.Beside.{queued_stands}
 
 module _ (old new : View) (heir : Option ℕ) (tile : ℕ) (d : Dispatches tile old new) (idle : d.task ≡ idle_again old.version d.task) (order : SoundOrder old heir) where
   -- what memory reads of the task that is dispatched
   abbrev started_log : Logged
   started_log = logged_task (now old new tile d)
 
-  -- its number is later than all others
+  -- no task of before has its key, whose number is new
   none_tied : (k : ℕ) (t : Task) → task_at old k ≡ Some t → t.key ≡ (now old new tile d).key → ⊥
   none_tied k t there same =
       let below : old.next < old.next = order.order.number_below k (keyed_task t) old.next (queued_stands old heir k t there) (ap (λ key. key.tb) same) in

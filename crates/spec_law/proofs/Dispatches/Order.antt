@@ -4,20 +4,21 @@ use Rattle.fractal_vt.specs.Levels.{closed_level}
 use Rattle.order_law.specs.Events as order
 use Rattle.order_law.specs.Events.{beside}
 use Rattle.order_law.specs.Tasks.{Keyed}
-use Rattle.order_law.proofs.Proved.{dispatch_law, rename_keeps_order}
+use Rattle.order_law.proofs.Proved.{beside_task, dispatch_law, rename_keeps_order}
 use Rattle.spec_state.specs.declared.numbers.TheConstants.{DISPATCH_NUMBERS}
 use Rattle.spec_state.specs.View.{View, task_at}
 use Rattle.spec_state.specs.Groups.{all_keyed, all_spilled, keyed_tasks, keyed_spilled, keyed_task}
 use Rattle.spec_state.specs.Changes.{Dispatches}
 use Rattle.spec_law.specs.Sound.{SoundOrder}
-use Rattle.spec_law.proofs.Tasks.Rebound.{rebound, task_there, entry_idle}
+use Rattle.spec_law.proofs.Tasks.Rebound.{rebound, spilled_idle}
 use Rattle.spec_law.proofs.Dispatches.One.{after, now, was, each_after}
-use Rattle.spec_law.proofs.Tasks.Beside.{id_below, mapped_some, queued_stands}
+use Rattle.spec_law.proofs.Tasks.Beside.{id_below, queued_stands}
+use Rattle.fractal_vt.proofs.Proved.{mapped_some}
 
 module _ (old new : View) (heir : Option ℕ) (tile : ℕ) (d : Dispatches tile old new) (open' : d.task.key.tb ≡ None) where
   -- the spilled tasks, as the order of tasks reads them
-  abbrev entries : List Keyed
-  entries = map (keyed_spilled (length old.history) heir) (all_spilled old)
+  abbrev spilled_list : List Keyed
+  spilled_list = map (keyed_spilled (length old.history) heir) (all_spilled old)
 
   -- the task lies below the bound of before
   low : d.id < length old.tasks
@@ -25,7 +26,7 @@ module _ (old new : View) (heir : Option ℕ) (tile : ℕ) (d : Dispatches tile 
 
   -- the tasks by the ids of before
   abbrev middle : ℕ → Option Keyed
-  middle = beside (length old.tasks) (keyed_tasks new) entries
+  middle = beside (length old.tasks) (keyed_tasks new) spilled_list
 
   -- for the order of tasks an idle one gets the next number
   dispatches : order.DispatchesInKeys (all_keyed old heir) middle old.next
@@ -36,9 +37,9 @@ module _ (old new : View) (heir : Option ℕ) (tile : ℕ) (d : Dispatches tile 
         there = queued_stands old heir d.id d.task (was old new tile d);
         idle = open';
         changes = record {
-          changed = task_there (length old.tasks) (keyed_tasks new) entries d.id
+          changed = beside_task (length old.tasks) (keyed_tasks new) spilled_list d.id
               (keyed_task (now old new tile d)) low (ap (option_map keyed_task) d.changes.changed);
-          others = λ k other. ap (λ o. if nat_lt k (length old.tasks) then o else slice_get entries (k - length old.tasks))
+          others = λ k other. ap (λ o. if nat_lt k (length old.tasks) then o else slice_get spilled_list (k - length old.tasks))
               (ap (option_map keyed_task) (d.changes.others k other));
         };
       }
@@ -57,8 +58,8 @@ module _ (old new : View) (heir : Option ℕ) (tile : ℕ) (d : Dispatches tile 
     order =
         rename_keeps_order middle (all_keyed (after old new tile d) heir)
         (map closed_level old.path) (old.next + 1)
-        (rebound (length old.tasks) (length new.tasks) (keyed_tasks new) entries bounded
-        (entry_idle (length old.history) heir (all_spilled old)))
+        (rebound (length old.tasks) (length new.tasks) (keyed_tasks new) spilled_list bounded
+        (spilled_idle (length old.history) heir (all_spilled old)))
         (dispatch_law (all_keyed old heir) middle
         (map closed_level old.path) old.next dispatches sound.order);
     numbers = omega (arith, left);

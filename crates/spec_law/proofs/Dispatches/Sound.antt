@@ -22,22 +22,22 @@ use Rattle.spec_law.proofs.Dispatches.Sizes.{dispatched_sizes}
 use Rattle.spec_law.proofs.Dispatches.Heir.{heir_stays, heir_other, heir_after}
 
 -- spilled tasks with committed creators are read the same, whatever the heir
-read_alike : (count : ℕ) (one other : Option ℕ) (entries : List Spilled) → ((s : Spilled) → Contains entries s → s.desc.name.creator ≤ count)
-    → map (keyed_spilled count one) entries ≡ map (keyed_spilled count other) entries
+read_alike : (count : ℕ) (one other : Option ℕ) (spilled_list : List Spilled) → ((s : Spilled) → Contains spilled_list s → s.desc.name.creator ≤ count)
+    → map (keyed_spilled count one) spilled_list ≡ map (keyed_spilled count other) spilled_list
 read_alike count one other [] low = refl
-read_alike count one other (s ∷ entries) low =
+read_alike count one other (s ∷ spilled_list) low =
     let test : nat_le s.desc.name.creator count ≡ true = le-leb s.desc.name.creator count (low s (0, omega arith, refl)) in
     let none : heir_unless (nat_le s.desc.name.creator count) one ≡ heir_unless (nat_le s.desc.name.creator count) other =
     ap (λ b. heir_unless b one) test ∙ sym (ap (λ b. heir_unless b other) test)
     in
-    let rest = read_alike count one other entries (λ x has. low x (suc has.0, (let below = has.1 in omega (arith, below)), has.2)) in
+    let rest = read_alike count one other spilled_list (λ x has. low x (suc has.0, (let below = has.1 in omega (arith, below)), has.2)) in
     λ i. record (keyed_spilled count one s) { creator = none i } ∷ rest i
 
 -- so the order of all tasks does not read the heir then
 order_alike : (view : View) (one other : Option ℕ) → ((s : Spilled) → Contains (all_spilled view) s → s.desc.name.creator ≤ length view.history)
     → SoundOrder view one → SoundOrder view other
 order_alike view one other low sound = record {
-  order = subst (λ entries. IsOrdered (beside (length view.tasks) (keyed_tasks view) entries) (map closed_level view.path) view.next)
+  order = subst (λ spilled_list. IsOrdered (beside (length view.tasks) (keyed_tasks view) spilled_list) (map closed_level view.path) view.next)
       (read_alike (length view.history) one other (all_spilled view) low) sound.order;
   numbers = sound.numbers;
 }

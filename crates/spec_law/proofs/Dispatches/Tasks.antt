@@ -14,7 +14,7 @@ use Rattle.spec_state.specs.declared.task.Creator.{Creator}
 use Rattle.spec_state.specs.declared.task.Creator.TheVariants.{Committed, Live}
 use Rattle.spec_state.specs.declared.task.Status.TheVariants.{Running}
 use Rattle.spec_state.specs.declared.task.Task.{Task}
-use Rattle.spec_state.specs.View.{View, version_of, task_at}
+use Rattle.spec_state.specs.View.{View, task_at}
 use Rattle.spec_state.specs.Tasks.{Descriptor, descriptor_of, idle_again, is_dispatched, spilled_descriptor}
 use Rattle.spec_state.specs.Groups.{all_spilled, bag_creator, bag_spilled, bag_task, bag_tasks, bags_spilled, domains_of, keyed_task, live_creator}
 use Rattle.spec_state.specs.Changes.{Dispatches}
@@ -22,10 +22,11 @@ use Rattle.spec_law.specs.Sound.{StandsAs, IsMadeBy, SoundOrder, SoundTasks}
 use Rattle.spec_law.proofs.Tasks.Places.{contained_in_map}
 use Rattle.spec_law.proofs.Moves.MovingBags.{matches_still}
 use Rattle.spec_law.proofs.Dispatches.One.{started, after, was, was_this, each_after}
-use Rattle.spec_law.proofs.Tasks.Beside.{mapped_some, queued_stands}
+use Rattle.spec_law.proofs.Tasks.Beside.{queued_stands}
+use Rattle.fractal_vt.proofs.Proved.{mapped_some}
 
 -- a creator that is live for the bags is so for the order
-live_of : (c : Creator) (k index : ℕ) → bag_creator c ≡ bags.Live k index → live_creator c ≡ Some k
+pub live_of : (c : Creator) (k index : ℕ) → bag_creator c ≡ bags.Live k index → live_creator c ≡ Some k
 live_of (Committed turn i) k index is = absurd (cc (is))
 live_of (Live task i) k index is = let same : task.0 ≡ k = cc in ap Some same
 
@@ -68,7 +69,7 @@ module _ (image : ImageValue) (old new : View) (heir : Option ℕ) (serial : Ser
   same_free =
       (dispatches_keep (bag_tasks old) (bag_tasks new) (bags_spilled old) (length old.history) d.id d.id (bag_task d.task) false true starts (λ same. refl) (λ runs. refl)).0
 
-  -- a creator has made a child, and so is not the task that is dispatched
+  -- what a creator made it has made still: it has a child, and so is not the task that is dispatched
   made_still : (id index : ℕ) (c : Descriptor) → IsMadeBy old id index c → IsMadeBy (after old new tile d) id index c
   made_still id index c made = record {
     creator = made.creator;

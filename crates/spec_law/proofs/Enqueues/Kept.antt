@@ -34,7 +34,7 @@ use Rattle.spec_law.proofs.Adds.Order.{add_keeps_order}
 use Rattle.spec_law.proofs.Adds.Sizes.{add_keeps_sizes}
 use Rattle.spec_law.proofs.Aborted.Spared.{heir_is_least, not_below_least}
 use Rattle.spec_law.proofs.Steps.Heir.{step_keeps_heir}
-use Rattle.spec_law.proofs.Steps.One.{StepsOne, each_stepped, step_keeps_memory, step_keeps_order, worked}
+use Rattle.spec_law.proofs.Steps.One.{StepsOne, each_stepped, step_keeps_memory, step_keeps_order, stepped_task}
 use Rattle.spec_law.proofs.Steps.Sizes.{FitsLists, step_keeps_sizes}
 use Rattle.spec_law.proofs.Steps.Tasks.{KeepsChildren, children_still, domains_still, made_still, stand_still}
 
@@ -53,8 +53,8 @@ pub record MakesChild (image : ImageValue) (old new : View) (tasks : List (Optio
   pub step : StepsOne old (record old { tasks = tasks }) id task work
   pub log : work.log ≡ task.log
   pub lines : work.lines ≡ task.lines
-  pub kids : KeepsChildren task (worked task work)
-  pub stands : StandsAs image old.version old.settings.budget (worked task work) work.status
+  pub all_children : KeepsChildren task (stepped_task task work)
+  pub stands : StandsAs image old.version old.settings.budget (stepped_task task work) work.status
   pub lists : FitsLists (record old { tasks = tasks })
   pub bytes : length work.bytes ≤ MAX_EMITTED
   pub number : ℕ
@@ -63,7 +63,7 @@ pub record MakesChild (image : ImageValue) (old new : View) (tasks : List (Optio
   pub idle : child ≡ idle_again old.version child
   pub creator : child.creator ≡ Live (record { 0 = id }) (length task.spawns)
   pub made : slice_get work.spawns (length task.spawns) ≡ Some spawn
-  pub descriptor : descriptor_of child ≡ child_descriptor (worked task work) spawn
+  pub descriptor : descriptor_of child ≡ child_descriptor (stepped_task task work) spawn
   pub bags : grows.EnqueuesInBags (bag_tasks old) (bag_tasks new) id c (bag_task task) spawn (depth_of child)
   pub placed : IsPlaced (keyed_task task) (keyed_task child)
   pub above : key_cmp task.key child.key ≡ Less
@@ -78,7 +78,7 @@ module _ (image : ImageValue) (old new : View) (tasks : List (Option Task)) (id 
 
   pub make_keeps_order : (heir : Option ℕ) → SoundOrder old heir → SoundOrder new heir
   make_keeps_order heir sound =
-      add_keeps_order mid new c child makes.adds heir id makes.number (worked task work) makes.step.changes.changed makes.numbered
+      add_keeps_order mid new c child makes.adds heir id makes.number (stepped_task task work) makes.step.changes.changed makes.numbered
       (ap (λ t. t.key.tb) makes.idle) (ap live_creator makes.creator) makes.placed (step_keeps_order old mid id task work makes.step heir sound)
 
   pub make_keeps_sizes : SoundSizes old → SoundSizes new
@@ -90,7 +90,7 @@ module _ (image : ImageValue) (old new : View) (tasks : List (Option Task)) (id 
   heir_below sizes heir is_heir h x is at =
       let least = heir_is_least old heir h is_heir is in
       let upto = not_below_least old sizes h id least.0 task least.1 makes.step.there in
-      each_stepped old mid id (worked task work) makes.step.changes (λ k t. k ≡ h → key_cmp t.key child.key ≡ Less)
+      each_stepped old mid id (stepped_task task work) makes.step.changes (λ k t. k ≡ h → key_cmp t.key child.key ≡ Less)
       (λ k t other there same. (
       let both : Some t ≡ Some least.0 = sym there ∙ ap (task_at old) same ∙ least.1.queued_at.there in
       let eq : t ≡ least.0 = cc in
@@ -106,7 +106,7 @@ module _ (image : ImageValue) (old new : View) (tasks : List (Option Task)) (id 
   module _ (heir : Option ℕ) (serial : SerialState) (sound : SoundTasks image old heir serial) where
     -- all tasks but the child stand as their statuses say
     stand_mid : (k : ℕ) (t : Task) → task_at mid k ≡ Some t → StandsAs image old.version old.settings.budget t t.status
-    stand_mid = stand_still old mid id task work makes.step makes.kids image heir serial sound makes.stands
+    stand_mid = stand_still old mid id task work makes.step makes.all_children image heir serial sound makes.stands
 
     pub make_keeps_memory : SoundMemory old serial → SoundMemory new serial
     make_keeps_memory memory =
@@ -131,8 +131,8 @@ module _ (image : ImageValue) (old new : View) (tasks : List (Option Task)) (id 
     child_made : IsMadeBy (added_to mid new) id (length task.spawns) (descriptor_of child)
     child_made =
         record {
-          creator = worked task work;
-          there = still_there mid new c child makes.adds id (worked task work) makes.step.changes.changed;
+          creator = stepped_task task work;
+          there = still_there mid new c child makes.adds id (stepped_task task work) makes.step.changes.changed;
           spawn = spawn;
           made = makes.made;
           descriptor_is = makes.descriptor;
@@ -160,18 +160,18 @@ module _ (image : ImageValue) (old new : View) (tasks : List (Option Task)) (id 
           names = same_free.1 sound.names;
           matches = matches;
           domains = λ k t turn index at. each_stepped mid new c child makes.adds.changes InBags
-              (λ j x other there turn index made. domains_still old mid id task work makes.step makes.kids image heir serial sound j x turn index there made)
+              (λ j x other there turn index made. domains_still old mid id task work makes.step makes.all_children image heir serial sound j x turn index there made)
               (λ turn index made. absurd (cc (makes.creator, made))) k t at turn index;
           spilled_domains = sound.spilled_domains;
           stands = each_stepped mid new c child makes.adds.changes (λ k t. StandsAs image old.version old.settings.budget t t.status) (λ k t other there. stand_mid k t there)
               (subst (StandsAs image old.version old.settings.budget child) (sym (ap (λ t. t.status) makes.idle)) makes.idle);
           children = λ k t creator index at. each_stepped mid new c child makes.adds.changes IsMade
               (λ j x other there creator index made. made_now creator.0 index (descriptor_of x)
-              (children_still old mid id task work makes.step makes.kids image heir serial sound j x creator index there made))
+              (children_still old mid id task work makes.step makes.all_children image heir serial sound j x creator index there made))
               child_is_made k t at creator index;
           spilled_children = λ s has next. (
               let was = sound.spilled_children s has next in
-              (was.0, was.1, made_now was.0 s.desc.name.index (spilled_descriptor s) (made_still old mid id task work makes.step makes.kids was.0 s.desc.name.index (spilled_descriptor s) was.2))
+              (was.0, was.1, made_now was.0 s.desc.name.index (spilled_descriptor s) (made_still old mid id task work makes.step makes.all_children was.0 s.desc.name.index (spilled_descriptor s) was.2))
               );
         }
 

@@ -9,7 +9,6 @@ use Rattle.task_request.specs.declared.request.Request.TheVariants.{Enqueue}
 use Rattle.task_request.specs.TaskState.{TaskState, task_at_start}
 use Rattle.task_desc.specs.declared.desc.Spawn.{Spawn}
 use Rattle.task_law.specs.Grows as grows
-use Rattle.task_law.proofs.Proved.{get_front, get_last}
 use Rattle.spec_state.specs.declared.task.Task.{Task}
 use Rattle.spec_state.specs.View.{View, task_at}
 use Rattle.spec_state.specs.Tasks.{depth_of, progress_at, start_context}
@@ -20,7 +19,7 @@ use Rattle.spec_state.specs.Opening.{Adds}
 use Rattle.spec_state.specs.Room.{QueueHasRoom}
 use Rattle.spec_law.specs.RoomLaws.{child_of}
 use Rattle.spec_law.specs.Sound.{Sound, StandsAs, StaysSound}
-use Rattle.spec_law.proofs.Enqueues.Calls.{child_depth, child_room, descriptor_same}
+use Rattle.spec_law.proofs.Enqueues.Calls.{child_depth, child_fits, descriptor_same}
 use Rattle.spec_law.proofs.Enqueues.Kept.{MakesChild, make_stays_sound}
 use Rattle.spec_law.proofs.Rooms.Later.{there_is}
 use Rattle.spec_law.proofs.Rooms.Child.{child_is_above}
@@ -31,6 +30,7 @@ use Rattle.spec_law.proofs.Steps.Sizes.{FitsLists, lists_stay}
 use Rattle.spec_law.proofs.Steps.Sound.{stood}
 use Rattle.spec_law.proofs.Steps.Tasks.{KeepsChildren}
 use Rattle.spec_law.proofs.Tasks.Beside.{id_below}
+use Rattle.fractal_vt.proofs.Proved.{get_end, get_front}
 
 -- the view without the child, in which the task that makes it has done so
 abbrev pub without_child : View → View → ℕ → View
@@ -76,7 +76,7 @@ module _ (image : ImageValue) (old new : View) (sound : Sound image old) (tile c
   pub steps_one : StepsOne old mid id task work
   steps_one = record {
     there = there;
-    changes = record { changed = as_new id apart ∙ does.parent; others = others };
+    changes = record { changed = as_new id apart ∙ does.creator; others = others };
     rest = refl;
   }
 
@@ -90,15 +90,15 @@ module _ (image : ImageValue) (old new : View) (sound : Sound image old) (tile c
   }
 
   -- the children that it made stay so
-  pub kids : KeepsChildren task work
-  kids index made there_is = (
+  pub all_children : KeepsChildren task work
+  all_children index made there_is = (
     get_front task.spawns (spawn ∷ []) index made there_is,
     descriptor_same task leg made spawn,
   )
 
   -- the new one is its last
   pub last_made : slice_get work.spawns (length task.spawns) ≡ Some spawn
-  last_made = get_last task.spawns spawn
+  last_made = get_end task.spawns spawn
 
   -- there is a domain for it
   pub has_domain : HasDomain (start_context old.version task).outer after.sub spawn.place
@@ -122,7 +122,7 @@ module _ (image : ImageValue) (old new : View) (sound : Sound image old) (tile c
     dispatched = (stood image old sound tile core id leg task taken).0;
     unused = ap (option_map bag_task) does.vacant;
     place = child_depth task after.sub spawn.place has_domain;
-    new_is = ap (option_map bag_task) does.parent;
+    new_is = ap (option_map bag_task) does.creator;
     made = ap (option_map bag_task) does.made;
     others = λ k other other_child. ap (option_map bag_task) (does.others k other other_child);
   }
@@ -140,7 +140,7 @@ module _ (image : ImageValue) (old new : View) (sound : Sound image old) (tile c
         step = steps_one;
         log = refl;
         lines = refl;
-        kids = kids;
+        all_children = all_children;
         stands = stands_on;
         lists = lists;
         bytes = (left image old sound tile core id leg task (Enqueue spawn) after at tt refl).1 (sound.sizes.bytes id task there);
@@ -156,7 +156,7 @@ module _ (image : ImageValue) (old new : View) (sound : Sound image old) (tile c
         above = above.1;
         within = within;
         free = free;
-        kinds = child_room task after.sub spawn.place has_domain (sound.sizes.kinds id task there);
+        kinds = child_fits task after.sub spawn.place has_domain (sound.sizes.kinds id task there);
       }
 
   pub enqueued : target < old.settings.tiles → QueueHasRoom old target → StaysSound image old sound new

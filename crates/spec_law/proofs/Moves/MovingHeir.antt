@@ -4,7 +4,7 @@ use Rattle.std.specs.Prelude.{Contains}
 use Rattle.std.specs.declared.cmp.Ordering.TheVariants.{Less, Greater}
 use Rattle.fractal_vt.specs.declared.key.Key.{Key}
 use Rattle.fractal_vt.specs.Keys.{key_cmp}
-use Rattle.fractal_vt.proofs.Proved.{equal_keys_tie, less_of}
+use Rattle.fractal_vt.proofs.Proved.{equal_keys_tie, first_not_greater, less_of}
 use Rattle.spill_store.specs.SpilledTasks.{Spilled, open_key}
 use Rattle.spec_state.specs.declared.task.Task.{Task}
 use Rattle.spec_state.specs.View.{View, task_at}
@@ -18,7 +18,6 @@ use Rattle.spec_law.proofs.Dispatches.Below.{same_number}
 use Rattle.spec_law.proofs.Moves.Moving.{Moves, moved_to, IsSpilledIn, IsQueuedIn, runs_still, runs_was, spill_key}
 use Rattle.spec_law.proofs.Moves.MovingOrder.{moved_order}
 use Rattle.spec_law.proofs.Tasks.Places.{contains_get, get_contains, place_in_all, place_in_one}
-use Rattle.spec_law.proofs.Tasks.Ranked.{first_not_greater}
 
 -- each key of the one view is one of the other, where each task stands in the other, queued or spilled
 spot_moves : (base one other : View) → SoundSizes other

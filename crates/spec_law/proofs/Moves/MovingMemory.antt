@@ -9,14 +9,14 @@ use Rattle.serial_machine.specs.State.{SerialState}
 use Rattle.spec_state.specs.declared.task.Status.{Status}
 use Rattle.spec_state.specs.declared.task.Status.TheVariants.{Idle, Running, Trapped, Finished}
 use Rattle.spec_state.specs.declared.task.Task.{Task}
-use Rattle.spec_state.specs.View.{View, version_of, task_at}
+use Rattle.spec_state.specs.View.{View, task_at}
 use Rattle.spec_state.specs.Filters.{HasNotes}
 use Rattle.spec_state.specs.Tasks.{idle_again, is_dispatched}
 use Rattle.spec_state.specs.Groups.{logged_tasks, logged_task}
 use Rattle.spec_law.specs.Sound.{StandsAs, SoundMemory, SoundTasks}
 use Rattle.spec_law.proofs.Accesses.Noted.{none_noted}
 use Rattle.spec_law.proofs.Moves.Moving.{Moves, moved_to, runs_still, runs_was}
-use Rattle.spec_law.proofs.Tasks.Beside.{mapped_some}
+use Rattle.fractal_vt.proofs.Proved.{mapped_some}
 
 -- a task that stands so and is not dispatched is idle, and has done nothing
 pub stands_idle : (image : ImageValue) (version budget : ℕ) (t : Task) (s : Status) → StandsAs image version budget t s → is_dispatched t ≡ false → t ≡ idle_again version t

@@ -54,14 +54,14 @@ module _ (old new : View) (heir : Option ℕ) (moves : Moves old new) (order : S
         (record { inside = omega arith; shallow = omega (arith, few, same); kinds = sizes.kinds queued.0 queued.1 queued.2 }, refl)
   ]
 
-  -- the kinds of each task have room
+  -- the kinds of each task fit its depth
   kinds : (id : ℕ) (t : Task) → task_at new id ≡ Some t → t.kinds < 2 ^ depth_of t
   kinds id t at = elim (moves.queued id t at) [
     | inl was ↦ sizes.kinds id t was
     | inr spilled ↦ subst (λ s. s.desc.kinds < 2 ^ s.desc.depth) spilled.2.is (sizes.spilled spilled.0 spilled.1).0.kinds
   ]
 
-  -- and so do its bytes
+  -- and its bytes are no more than it may emit
   bytes : (id : ℕ) (t : Task) → task_at new id ≡ Some t → length t.bytes ≤ MAX_EMITTED
   bytes id t at = elim (moves.queued id t at) [
     | inl was ↦ sizes.bytes id t was

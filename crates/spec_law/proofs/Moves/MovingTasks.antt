@@ -20,7 +20,7 @@ use Rattle.spec_law.proofs.Moves.Moving.{IsSpillOf, Moves, moved_to}
 use Rattle.spec_law.proofs.Rooms.Fit.{heirs_are_one}
 
 module _ (image : ImageValue) (old new : View) (heir : Option ℕ) (serial : SerialState) (moves : Moves old new) (is_heir : IsHeir old heir) (sound : SoundTasks image old heir serial) where
-  -- a creator has made a child, and so is not idle: it stays
+  -- what a creator made it has made still: it has a child, and so is not idle, and stays
   made_still : (id index : ℕ) (d : Descriptor) → IsMadeBy old id index d → IsMadeBy (moved_to old new) id index d
   made_still id index d made = elim (moves.queued_still id made.creator made.there) [
     | inl stays
@@ -37,7 +37,7 @@ module _ (image : ImageValue) (old new : View) (heir : Option ℕ) (serial : Ser
         absurd (cc (none, made.made))
   ]
 
-  -- the domains of a spilled task
+  -- the domains of a spilled task are those of the bags
   abbrev FitsSpilled : Spilled → Type 0
   FitsSpilled s = FitsBags (domains_of s.desc.kinds s.domain) serial.stack
 

@@ -45,12 +45,12 @@ module _ (old new : View) (tile : ℕ) (sizes : SoundSizes old) (c : Splits tile
       get_contains (all_spilled old) all.0 c.spilled all.1
 
   -- the spilled task is the one that comes back, spilled under its name
-  entry_is : c.spilled ≡ spilled_as c.spilled.desc.name (descriptor_of back_task)
-  entry_is = let deep = (sizes.spilled c.spilled was_there).1 in λ i. record { desc = record c.spilled.desc { depth = sym deep i }; domain = c.spilled.domain }
+  spilled_is : c.spilled ≡ spilled_as c.spilled.desc.name (descriptor_of back_task)
+  spilled_is = let deep = (sizes.spilled c.spilled was_there).1 in λ i. record { desc = record c.spilled.desc { depth = sym deep i }; domain = c.spilled.domain }
 
   -- it is the same task as the spilled one, under its name
   spill : IsSpillOf old back_task c.spilled
-  spill = record { idle = refl; name = c.spilled.desc.name; named = c.named; is = entry_is }
+  spill = record { idle = refl; name = c.spilled.desc.name; named = c.named; is = spilled_is }
 
   -- what stands under its id is this task
   pub is_back : (k : ℕ) (t : Task) → k ≡ c.id → task_at new k ≡ Some t → t ≡ back_task
@@ -114,7 +114,7 @@ module _ (old new : View) (tile : ℕ) (sizes : SoundSizes old) (c : Splits tile
           back = map bag_spilled parts.1;
           before_is = ap (map bag_spilled) parts.3 ∙ map-append bag_spilled parts.0 parts.1;
           after_is = ap (map bag_spilled) parts.2 ∙ map-append bag_spilled parts.0 (c.spilled ∷ parts.1)
-              ∙ ap (λ s. map bag_spilled parts.0 ++ bag_spilled s ∷ map bag_spilled parts.1) entry_is;
+              ∙ ap (λ s. map bag_spilled parts.0 ++ bag_spilled s ∷ map bag_spilled parts.1) spilled_is;
         }
 
     -- so the free tasks are the same ones, names apart and families whole

@@ -1,4 +1,5 @@
--- Views that differ in numbers alone: what each says of its least task, of conflicts and of cascades the other says too.
+-- Views whose queued tasks differ in their keys alone, and whose keys compare alike: what each says of its least task,
+-- of conflicts and of cascades the other says too.
 use Rattle.std.proofs.Common.{◌≡◌, ◌≢◌, ◌≤◌, ℕ, Bool, true, false, List, length, Option, Some, None, refl, sym, ap, subst, ◌∙◌, inl, inr, slice_get}
 use Rattle.std.specs.Ordering.{ordering_then}
 use Rattle.std.specs.declared.cmp.Ordering.TheVariants.{Greater}

@@ -20,10 +20,11 @@ use Rattle.spec_state.proofs.Proved.{head_or_tail}
 use Rattle.tile_queues.specs.Queue.{AreDistinct}
 use Rattle.spec_law.specs.Sound.{Sound}
 use Rattle.spec_law.specs.Renumbering.{NumbersAreHeld, NumbersInUseAreFew}
-use Rattle.spec_law.proofs.Tasks.Beside.{id_below, mapped_some, queued_stands, spilled_stands, which}
+use Rattle.spec_law.proofs.Tasks.Beside.{id_below, queued_stands, spilled_stands, which}
 use Rattle.spec_law.proofs.Tasks.Filtered.{get_mapped}
 use Rattle.spec_law.proofs.Tasks.Places.{contains_get, get_contains, parted}
 use Rattle.spec_law.proofs.Tasks.Rebound.{below_all}
+use Rattle.fractal_vt.proofs.Proved.{mapped_some}
 
 -- what stands in a list around an element, and isn't that, stands in the list without it
 without_one : (front back : List ℕ) (n m : ℕ) → n ≢ m → Contains (front ++ n ∷ back) m → Contains (front ++ back) m
@@ -52,7 +53,7 @@ fewer (n ∷ numbers) xs rising each =
     let fewer_places = length-append parts.0 parts.1 in
     omega (arith, rest, whole, fewer_places)
 
--- levels whose tiebreaker this is
+-- a tiebreaker of some levels is a number of theirs
 tie_is_number : (ds : List Level) (n : ℕ) → IsTieOf ds n → IsNumberOf n (map closed_level ds)
 tie_is_number [] n has = absurd (omega (arith, has.1))
 tie_is_number (d ∷ ds) n (zero, low, is) = inl (ap Some is)
@@ -75,7 +76,7 @@ together f same bound (ids ∷ lists) each =
     let whole = length-append (f ids) (flat_map f lists) in
     grind (arith, here, rest, long, whole)
 
--- what stands in one of the lists stands, mapped, in all of them
+-- what stands in one of the lists stands, mapped, in all of them together
 in_together : (f : ℕ → ℕ) (lists : List (List ℕ)) (k id : ℕ) → Contains (slice_index_or lists k []) id → Contains (flat_map (map f) lists) (f id)
 in_together f [] k id has = absurd (omega (arith, has.1))
 in_together f (ids ∷ lists) zero id has = Contains-append_left (map f ids) (flat_map (map f) lists) (f id) (mapped ids has)

@@ -3,7 +3,7 @@ use Rattle.std.proofs.Common.{◌≡◌, ℕ, Bool, List, [], ◌∷◌, ◌++�
 use Rattle.std.specs.Prelude.{slice_index, length}
 use Rattle.fractal_vt.specs.Levels.{levels_cmp}
 use Rattle.memory_law.specs.Accesses.{AllLieIn}
-use Rattle.memory_law.specs.ByteChain.{byte_events, IsByteChain}
+use Rattle.memory_law.specs.ByteChain.{byte_accesses, IsByteChain}
 use Rattle.memory_law.specs.Chain.{IsChained}
 use Rattle.memory_law.specs.Tasks.{Logged, IsNoted, log_of, logs, Ascends, IsByKey, undone_set}
 use Rattle.undo_log.specs.Undo.{undone}
@@ -72,9 +72,9 @@ module _ (a b : ℕ → Option Logged) (alike : AreLoggedAlike a b) where
   chain_forth line serial memory chained = record {
     ids = chained.ids;
     by_key = by_key_forth chained.ids chained.by_key;
-    room = subst (AllLieIn (length serial)) (sym (same_logs chained.ids)) chained.room;
+    inside = subst (AllLieIn (length serial)) (sym (same_logs chained.ids)) chained.inside;
     size = chained.size;
-    chain = λ k. subst (λ all. IsByteChain (slice_index serial k) (byte_events k all) (slice_index memory k)) (sym (same_logs chained.ids)) (chained.chain k);
+    chain = λ k. subst (λ all. IsByteChain (slice_index serial k) (byte_accesses k all) (slice_index memory k)) (sym (same_logs chained.ids)) (chained.chain k);
     noted = λ id task there.
         (let x = alike.back id task there in
         let same : task ≡ record x.0 { levels = task.levels } = sym (flip x.0 task x.2) in

@@ -1,18 +1,17 @@
--- A renumbered view: each task and each level has another number, by a table that has them all.
-use Rattle.std.proofs.Common.{◌≡◌, ◌++◌, ◌∷◌, ℕ, zero, suc, List, [], length, Option, Some, None, refl, sym, ap, subst, ◌∙◌, arith, map, flat_map, option_map, slice_get, is_some}
+-- A renumbered view: each number is replaced by its place in a table that has them all.
+use Rattle.std.proofs.Common.{◌≡◌, ◌++◌, ◌∷◌, ℕ, zero, suc, List, [], length, Some, None, refl, sym, ap, subst, ◌∙◌, arith, map, flat_map, option_map, slice_get}
 use Rattle.std.specs.Prelude.{Contains}
 use Rattle.std.proofs.lemmas.List.{map-append}
 use Rattle.fractal_vt.specs.declared.key.Key.{Key}
 use Rattle.fractal_vt.specs.Keys.{key_cmp}
 use Rattle.fractal_vt.specs.Renumbered.{renumbered_levels, renumbered_key, HoldsKey}
-use Rattle.fractal_vt.proofs.Proved.{keeps_order}
+use Rattle.fractal_vt.proofs.Proved.{keeps_order, mapped_some}
 use Rattle.spill_store.specs.SpilledTasks.{Spilled, open_key, renumbered_spilled}
 use Rattle.spec_state.specs.declared.task.Task.{Task}
 use Rattle.spec_state.specs.View.{View, task_at, block_at}
 use Rattle.spec_state.specs.Groups.{all_spilled}
 use Rattle.spec_state.specs.Numbers.{Renumbers, renumbered_task}
 use Rattle.spec_state.proofs.Proved.{table_holds_spilled, table_holds_task, map_at}
-use Rattle.spec_law.proofs.Tasks.Beside.{mapped_some}
 use Rattle.spec_law.proofs.Tasks.Filtered.{list_mapped, get_mapped, got_mapped}
 use Rattle.spec_law.proofs.Tasks.Places.{place_in_all, get_contains}
 
@@ -20,11 +19,6 @@ use Rattle.spec_law.proofs.Tasks.Places.{place_in_all, get_contains}
 flat_mapped : {X Y : Type 0} (f : X → Y) (lists : List (List X)) → flat_map (λ xs. xs) (map (map f) lists) ≡ map f (flat_map (λ xs. xs) lists)
 flat_mapped f [] = refl
 flat_mapped f (xs ∷ lists) = ap (λ ys. map f xs ++ ys) (flat_mapped f lists) ∙ sym (map-append f xs (flat_map (λ ys. ys) lists))
-
--- a dispatched task stays one
-pub still_some : (f : ℕ → ℕ) (o : Option ℕ) → is_some (option_map f o) ≡ is_some o
-still_some f None = refl
-still_some f (Some n) = refl
 
 module _ (old new : View) (r : Renumbers old new) where
   -- the view after the renumbering
@@ -44,11 +38,11 @@ module _ (old new : View) (r : Renumbers old new) where
   pub each : (id : ℕ) → task_at after id ≡ option_map (renumbered_task r.table) (task_at old id)
   each id = map_at (option_map (renumbered_task r.table)) old.tasks id None
 
-  -- a task that was there
+  -- a task that was there is there, renumbered
   pub now : (id : ℕ) (t : Task) → task_at old id ≡ Some t → task_at after id ≡ Some (renumbered_task r.table t)
   now id t there = each id ∙ ap (option_map (renumbered_task r.table)) there
 
-  -- a task that is there
+  -- a task that is there is one that was there, renumbered
   pub was : (id : ℕ) (t : Task) → task_at after id ≡ Some t → (w : Task) × (task_at old id ≡ Some w) × (t ≡ renumbered_task r.table w)
   was id t there = mapped_some (renumbered_task r.table) (task_at old id) t (sym (each id) ∙ there)
 

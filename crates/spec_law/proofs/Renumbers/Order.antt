@@ -57,14 +57,15 @@ keyed_renumbered table kinds key creator =
       creator = creator;
     }
 
--- what stands beside mapped spilled tasks
-beside_mapped : (bound : ℕ) (g : Keyed → Keyed) (tasks : ℕ → Option Keyed) (entries : List Keyed) (k : ℕ)
-    → beside bound (λ id. option_map g (tasks id)) (map g entries) k ≡ option_map g (beside bound tasks entries k)
-beside_mapped bound g tasks entries k = by_test (nat_lt k bound)
+-- what stands under an id where tasks and spilled ones are mapped is what stood there, mapped
+beside_mapped : (bound : ℕ) (g : Keyed → Keyed) (tasks : ℕ → Option Keyed) (spilled_list : List Keyed) (k : ℕ)
+    → beside bound (λ id. option_map g (tasks id)) (map g spilled_list) k
+    ≡ option_map g (beside bound tasks spilled_list k)
+beside_mapped bound g tasks spilled_list k = by_test (nat_lt k bound)
   where
-    by_test : (b : Bool) → (if b then option_map g (tasks k) else slice_get (map g entries) (k - bound)) ≡ option_map g (if b then tasks k else slice_get entries (k - bound))
+    by_test : (b : Bool) → (if b then option_map g (tasks k) else slice_get (map g spilled_list) (k - bound)) ≡ option_map g (if b then tasks k else slice_get spilled_list (k - bound))
     by_test true = refl
-    by_test false = slice_get-map g entries (k - bound)
+    by_test false = slice_get-map g spilled_list (k - bound)
 
 module _ (old new : View) (r : Renumbers old new) (heir : Option ℕ) where
   abbrev new_keyed : Keyed → Keyed
@@ -85,17 +86,17 @@ module _ (old new : View) (r : Renumbers old new) (heir : Option ℕ) where
   unfolding keyed_as
   spilled_keyed s = keyed_renumbered r.table s.desc.kinds (open_key s) (heir_unless (nat_le s.desc.name.creator (length old.history)) heir)
 
-  entries_keyed : (ss : List Spilled) → map (keyed_spilled (length old.history) heir) (map (renumbered_spilled r.table) ss)
+  all_spilled_keyed : (ss : List Spilled) → map (keyed_spilled (length old.history) heir) (map (renumbered_spilled r.table) ss)
       ≡ map new_keyed (map (keyed_spilled (length old.history) heir) ss)
-  entries_keyed [] = refl
-  entries_keyed (s ∷ ss) = λ i. spilled_keyed s i ∷ entries_keyed ss i
+  all_spilled_keyed [] = refl
+  all_spilled_keyed (s ∷ ss) = λ i. spilled_keyed s i ∷ all_spilled_keyed ss i
 
   -- all tasks are renumbered
   all_renumbered : all_keyed (after old new r) heir
       ≡ order.renumbered_keyed_tasks (place_in r.table) (all_keyed old heir)
   all_renumbered =
       (λ i. beside (length-map old.tasks (option_map (renumbered_task r.table)) i) (λ id. queued_keyed id i)
-      ((ap (map (keyed_spilled (length old.history) heir)) (all_are old new r) ∙ entries_keyed (all_spilled old)) i))
+      ((ap (map (keyed_spilled (length old.history) heir)) (all_are old new r) ∙ all_spilled_keyed (all_spilled old)) i))
       ∙ (λ i k. beside_mapped (length old.tasks) new_keyed (keyed_tasks old) (map (keyed_spilled (length old.history) heir) (all_spilled old)) k i)
 
   -- the table is one of all of them

@@ -2,6 +2,7 @@
 use Rattle.std.proofs.Common.{◌≡◌, ◌<◌, ℕ, Bool, List, Some, refl, sym, ap, subst, ◌∙◌, arith, option_map}
 use Rattle.std.proofs.lemmas.List.{length-map}
 use Rattle.abort_cascade.specs.Cascade.{Marked}
+use Rattle.fractal_vt.proofs.Proved.{is_some_mapped, mapped_some}
 use Rattle.fractal_vt.specs.declared.key.Key.{Key}
 use Rattle.fractal_vt.specs.Keys.{key_cmp, levels}
 use Rattle.fractal_vt.specs.Levels.{levels_cmp}
@@ -19,8 +20,8 @@ use Rattle.spec_state.specs.Aborts.{IsUndone}
 use Rattle.spec_state.specs.Numbers.{Renumbers, renumbered_task}
 use Rattle.spec_law.specs.Renumbering.{RenumberingStaysSound, RenumberingSaysSame, SaySame}
 use Rattle.spec_law.specs.Sound.{Sound}
-use Rattle.spec_law.proofs.Tasks.Beside.{mapped_some}
-use Rattle.spec_law.proofs.Renumbers.One.{after, is_after, now, was, each_now, spilled_now, spilled_was, holds_task, holds_placed, same_order, still_some}
+use Rattle.spec_law.proofs.Renumbers.One.{after, is_after, now, was, each_now, spilled_now, spilled_was}
+use Rattle.spec_law.proofs.Renumbers.One.{holds_task, holds_placed, same_order}
 use Rattle.spec_law.proofs.Renumbers.Alike.{AreAlike, AreKeys, of_queued, of_spilled, IsSameBut, turned, least_spot_forth, heir_forth, conflict_forth, cascade_forth}
 use Rattle.spec_law.proofs.Renumbers.Memory as memory
 use Rattle.spec_law.proofs.Renumbers.Memory.{AreLoggedAlike, by_key_forth, chain_forth, same_undone}
@@ -32,10 +33,10 @@ use Rattle.spec_law.proofs.Renumbers.Few.{numbers_in_use_are_few}
 module _ (old new : View) (r : Renumbers old new) where
   -- a renumbered task is the same but for its key
   same_but : (t : Task) → IsSameBut t (renumbered_task r.table t)
-  same_but t = record { is = refl; dispatched = still_some (place_in r.table) t.key.tb }
+  same_but t = record { is = refl; dispatched = is_some_mapped (place_in r.table) t.key.tb }
 
   same_back : (w t : Task) → t ≡ renumbered_task r.table w → IsSameBut t w
-  same_back w t is = subst (λ x. IsSameBut x w) (sym is) (record { is = refl; dispatched = sym (still_some (place_in r.table) w.key.tb) })
+  same_back w t is = subst (λ x. IsSameBut x w) (sym is) (record { is = refl; dispatched = sym (is_some_mapped (place_in r.table) w.key.tb) })
 
   -- the key of a task in both views
   key_pair : (k l : Key) → AreKeys old (after old new r) k l → HoldsKey r.table k × (l ≡ renumbered_key r.table k)
@@ -86,10 +87,10 @@ module _ (old new : View) (r : Renumbers old new) where
   }
     where
       same_logged : (t : Task) → memory.IsSameLogged (logged_task t) (logged_task (renumbered_task r.table t))
-      same_logged t = record { is = λ i. record (logged_task (renumbered_task r.table t)) { dispatched = still_some (place_in r.table) t.key.tb i } }
+      same_logged t = record { is = λ i. record (logged_task (renumbered_task r.table t)) { dispatched = is_some_mapped (place_in r.table) t.key.tb i } }
 
       logged_back : (t : Task) → memory.IsSameLogged (logged_task (renumbered_task r.table t)) (logged_task t)
-      logged_back t = record { is = λ i. record (logged_task t) { dispatched = sym (still_some (place_in r.table) t.key.tb) i } }
+      logged_back t = record { is = λ i. record (logged_task t) { dispatched = sym (is_some_mapped (place_in r.table) t.key.tb) i } }
 
       pair : (id : ℕ) (x x' : Logged) → logged_tasks old id ≡ Some x → logged_tasks (after old new r) id ≡ Some x'
           → (t : Task) × HoldsKey r.table t.key × (x.levels ≡ levels t.key) × (x'.levels ≡ levels (renumbered_key r.table t.key))

@@ -22,7 +22,7 @@ use Rattle.spec_state.specs.declared.task.Status.{Status}
 use Rattle.spec_state.specs.declared.task.Status.TheVariants.{Idle, Running, Trapped, Finished}
 use Rattle.spec_state.specs.declared.task.Task.{Task}
 use Rattle.spec_state.specs.declared.task.TaskId.{TaskId}
-use Rattle.spec_state.specs.View.{View, version_of, task_at}
+use Rattle.spec_state.specs.View.{View, task_at}
 use Rattle.spec_state.specs.Tasks.{Descriptor, child_descriptor, child_domain, child_kinds, descriptor_of, floor_in, is_dispatched, kind_at, outer_kind, own_level, spilled_descriptor, start_context, sub_bit}
 use Rattle.spec_state.specs.Groups.{all_spilled, bag_spilled, bag_task, bag_tasks, bags_spilled, domains_behind, domains_of, keyed_task, live_creator}
 use Rattle.spec_state.specs.Least.{IsHeir}
@@ -30,7 +30,8 @@ use Rattle.spec_state.specs.Numbers.{Renumbers, renumbered_task}
 use Rattle.spec_law.specs.Sound.{RanTo, done_so_far, AsksNext, StandsAs, IsMadeBy, SoundOrder, SoundTasks}
 use Rattle.spec_law.proofs.Dispatches.Below.{number_of}
 use Rattle.spec_law.proofs.Tasks.Beside.{queued_stands}
-use Rattle.spec_law.proofs.Renumbers.One.{after, all_are, each, each_now, now, spilled_before, still_some}
+use Rattle.spec_law.proofs.Renumbers.One.{after, all_are, each, each_now, now, spilled_before}
+use Rattle.fractal_vt.proofs.Proved.{is_some_mapped}
 
 module _ (table : List ℕ) where
   -- a domain is as deep as before
@@ -73,7 +74,7 @@ module _ (table : List ℕ) where
 
   -- for the bags it is the same task
   bag_same : (t : Task) → bag_task (renumbered_task table t) ≡ bag_task t
-  bag_same t = λ i. record (bag_task t) { depth = deep t.key.domain i + 1; dispatched = still_some (place_in table) t.key.tb i }
+  bag_same t = λ i. record (bag_task t) { depth = deep t.key.domain i + 1; dispatched = is_some_mapped (place_in table) t.key.tb i }
 
   bags_of : (ss : List Spilled) → map bag_spilled (map (renumbered_spilled table) ss) ≡ map bag_spilled ss
   bags_of [] = refl
@@ -120,7 +121,7 @@ module _ (table : List ℕ) where
     asks t p request asked = subst (λ ctx. Asks image budget image.data_size ctx p request) (sym (context_same version t)) asked
 
     is_still : (t : Task) → is_dispatched t ≡ true → is_dispatched (renumbered_task table t) ≡ true
-    is_still t runs = still_some (place_in table) t.key.tb ∙ runs
+    is_still t runs = is_some_mapped (place_in table) t.key.tb ∙ runs
 
     -- it has done what its status says
     pub stands_still : (t : Task) (s : Status) → StandsAs image version budget t s → StandsAs image version budget (renumbered_task table t) s

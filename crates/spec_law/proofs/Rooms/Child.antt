@@ -1,4 +1,4 @@
--- The child of an enqueue that is allowed stands in a place that the law of order has for it, above its creator.
+-- The child of an enqueue that is allowed stands where the law of order lets it, above its creator.
 use Rattle.std.proofs.Common.{◌≡◌, ◌≢◌, ℕ, zero, suc, ◌+◌, ◌-◌, ◌*◌, ◌%◌, ◌^◌, ◌==◌, ◌<◌, ◌≤◌, false, List, [], ◌∷◌, ◌++◌, length, map, take, unwrap_or, Option, Some, None, refl, sym, ap, subst, ◌∙◌, inl, inr, arith}
 use Rattle.std.proofs.lemmas.List.{length-map, length_push, map-append}
 use Rattle.std.specs.Prelude.{Ok}
@@ -143,7 +143,7 @@ module _ (version : ℕ) (task : Task) (id : ℕ) (before : TaskState) where
         },
       ))
 
-  -- in each place
+  -- for each domain of a child
   placed : (number : ℕ) → task.key.tb ≡ Some number → task.kinds < 2 ^ depth_of task → size < MAX_LEVELS → SubFits (depth_of task) task.sub → before.sub ≡ task.sub
       → (place : Place) (asked ts : ℕ) → allowed_at (context (start_context version task) before) asked place ≡ Ok ts → IsPlaced (keyed_task task) (keyed_child place ts)
   placed number numbered low fits shallow subs Same asked ts allows = same_placed asked ts allows
@@ -166,7 +166,7 @@ module _ (image : ImageValue) (view : View) (sound : Sound image view) (id : ℕ
   abbrev at_call : TaskState
   at_call = progress_at view.memory leg.to task
 
-  -- the child that is asked for, where it is allowed, stands in a place that the law of order has for it
+  -- the child that is asked for, where it is allowed, stands where the law of order lets it
   asked_placed : (tile core to : ℕ) (spawn : Spawn) → TakesLeg view tile core leg id task → AllowedBy (context_of view.version task) (Enqueue spawn)
       → IsPlaced (keyed_task task) (keyed_task (child_of view.version id task spawn to))
   asked_placed tile core to spawn takes (asked, allows, is) =

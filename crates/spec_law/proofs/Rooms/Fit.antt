@@ -4,12 +4,11 @@ use Rattle.std.proofs.lemmas.Bool.{cases_eq}
 use Rattle.std.proofs.lemmas.Cmp.{tied_itself}
 use Rattle.std.proofs.lemmas.Option.{slice_get_read}
 use Rattle.std.specs.declared.cmp.Ordering.TheVariants.{Greater}
-use Rattle.fractal_vt.proofs.Proved.{key_cmp_total}
+use Rattle.fractal_vt.proofs.Proved.{first_not_greater, key_cmp_total, mapped_some}
 use Rattle.fractal_vt.specs.Keys.{levels, key_cmp}
 use Rattle.fractal_vt.specs.Levels.{levels_cmp}
 use Rattle.guest_image.specs.ImageValue.{ImageValue}
 use Rattle.task_law.specs.Room as room
-use Rattle.task_law.specs.Room.{RoomTask}
 use Rattle.task_law.specs.Tasks.{In}
 use Rattle.spec_state.specs.declared.task.Creator.{Creator}
 use Rattle.spec_state.specs.declared.task.Creator.TheVariants.{Committed, Live}
@@ -24,8 +23,7 @@ use Rattle.spec_state.specs.Queries.{IsQueued}
 use Rattle.spec_state.specs.Room.{Asker, Enqueuer, Splitter}
 use Rattle.spec_law.specs.RoomLaws.{FirmIsFirm, MovableIsMovable, VictimIsVictim, asking_task}
 use Rattle.spec_law.specs.Sound.{StandsAs}
-use Rattle.spec_law.proofs.Tasks.Beside.{mapped_some}
-use Rattle.spec_law.proofs.Tasks.Ranked.{least_is_one, first_not_greater}
+use Rattle.spec_law.proofs.Tasks.Ranked.{least_is_one}
 
 -- an element, found at a place, stands in the list
 in_list : {X : Type 0} (xs : List X) (x : X) (k : ℕ) → k < length xs → slice_index_or xs k x ≡ x → In x xs

@@ -10,7 +10,6 @@ use Rattle.order_law.specs.Tasks as order
 use Rattle.order_law.specs.Events as events
 use Rattle.order_law.proofs.Proved.{below_dispatched}
 use Rattle.task_law.specs.Room as room
-use Rattle.task_law.specs.Room.{RoomTask}
 use Rattle.task_law.proofs.Proved.{victims_are_legal}
 use Rattle.spec_state.specs.declared.task.Task.{Task}
 use Rattle.spec_state.specs.View.{View, task_at, queue_at}
@@ -20,11 +19,12 @@ use Rattle.spec_state.specs.Least.{Spot, Queued, Spilled_at, IsLeastSpot, IsHeir
 use Rattle.spec_state.specs.Room.{Asker, Enqueuer, Splitter, NoneMoves, IsVictim, IsTakenFor}
 use Rattle.spec_law.specs.RoomLaws.{AsksAsLeast, MayBeTaken, VictimIsLater, asking_task}
 use Rattle.spec_law.specs.Sound.{Sound}
-use Rattle.spec_law.proofs.Tasks.Beside.{mapped_some, spilled_key, queued_stands, spilled_stands, which}
+use Rattle.spec_law.proofs.Tasks.Beside.{spilled_in_keys, queued_stands, spilled_stands, which}
 use Rattle.spec_law.proofs.Tasks.Next.{queued_key, none_below}
 use Rattle.spec_law.proofs.Tasks.Places.{place_in_all}
 use Rattle.spec_law.proofs.Tasks.Ranked.{least_is_one}
 use Rattle.spec_law.proofs.Rooms.Fit.{heirs_are_one, firm_is_firm, movable_is_movable, victim_is_victim}
+use Rattle.fractal_vt.proofs.Proved.{mapped_some}
 
 -- what is there has a value
 pub there_is : {X : Type 0} (o : Option X) → is_some o ≡ true → (x : X) × (o ≡ Some x)
@@ -40,7 +40,7 @@ no_heir view tile place (Some id) least is =
 
 module _ (image : ImageValue) (view : View) (sound : Sound image view) where
   -- an uncommitted creator is dispatched
-  creators_run : room.CreatorsRun (room_tasks view)
+  creators_run : room.CreatorsAreDispatched (room_tasks view)
   creators_run k c w at made =
       let from = mapped_some room_task (task_at view k) w at in
       let of = sym (ap (λ z. z.creator) from.2) ∙ made in
@@ -84,17 +84,17 @@ module _ (image : ImageValue) (view : View) (sound : Sound image view) where
       let s = spot.has.0 in
       let among = place_in_all view.blocks tile is.0.place s spot.has.1 in
       let stands = spilled_stands view sound.heir among.0 s among.1 in
-      let least = least_stands (Spilled_at tile is.0.place) spot stands.0 (spilled_key view sound.heir s) stands.1 (ap levels (sym spot.has.2)) in
+      let least = least_stands (Spilled_at tile is.0.place) spot stands.0 (spilled_in_keys view sound.heir s) stands.1 (ap levels (sym spot.has.2)) in
       record {
         is_heir = sym (no_heir view tile is.0.place sound.heir spot sound.is_heir);
         others_above = λ k w at other runs.
             let from = mapped_some room_task (task_at view k) w at in
             let dispatched : is_dispatched from.0 ≡ true = sym (ap (λ z. z.dispatched) from.2) ∙ runs in
             let apart : k ≢ stands.0 = λ e.
-            let both : Some (keyed_task from.0) ≡ Some (spilled_key view sound.heir s) = sym (queued_stands view sound.heir k from.0 from.1) ∙ ap (all_keyed view sound.heir) e ∙ stands.1 in
-            let same : keyed_task from.0 ≡ spilled_key view sound.heir s = cc in
+            let both : Some (keyed_task from.0) ≡ Some (spilled_in_keys view sound.heir s) = sym (queued_stands view sound.heir k from.0 from.1) ∙ ap (all_keyed view sound.heir) e ∙ stands.1 in
+            let same : keyed_task from.0 ≡ spilled_in_keys view sound.heir s = cc in
             absurd (cc (ap (λ z. is_some z.last.tb) same, dispatched)) in
-            let above = others_above stands.0 k (spilled_key view sound.heir s) from.0 least apart from.1 dispatched in
+            let above = others_above stands.0 k (spilled_in_keys view sound.heir s) from.0 least apart from.1 dispatched in
             subst (λ z. levels_cmp (levels low) z.levels ≡ Less) (sym from.2)
             (subst (λ z. levels_cmp (levels z) (levels from.0.key) ≡ Less) (sym (is.1 ∙ spot.has.2)) above);
       }

@@ -43,7 +43,7 @@ bounded view sizes tile = elim (cases_lt tile (length view.queues)) [
   | inr past ↦ subst (λ queue. length queue ≤ view.settings.task_queue) (sym (get_or_past view.queues tile [] past)) (omega arith)
 ]
 
--- the queue of a tile after an abort
+-- the queue of a tile is no longer after an abort
 aborted_queue : (firsts : ℕ → Type 0) (old new : View) (aborted tile : ℕ) → (aborts : Aborts firsts old aborted new) → length (queue_at new tile) ≤ length (queue_at old tile)
 aborted_queue firsts old new aborted tile aborts =
     subst (λ queue. length queue ≤ length (queue_at old tile)) (sym (ap (λ queues. slice_index_or queues tile []) aborts.queues ∙ queue_is (room_tasks new) old.queues tile))

@@ -1,11 +1,12 @@
--- A coalescing makes queues shorter, and a split returns the least task.
+-- A coalescing makes its tile's queue shorter and none longer; a split returns the least task, where that is in the
+-- tile's block.
 use Rattle.std.proofs.Common.{◌≡◌, ◌≢◌, ℕ, zero, suc, ◌<◌, ◌≤◌, List, [], ◌∷◌, length, map, take, Option, Some, None, option_map, refl, sym, ap, subst, ◌∙◌, inl, inr, arith, slice_get, slice_index_or}
 use Rattle.std.proofs.lemmas.Bool.{cases_lt}
 use Rattle.std.proofs.lemmas.Cmp.{nat_cmp_total, tied_itself}
 use Rattle.std.proofs.lemmas.Option.{slice_get-map}
 use Rattle.std.specs.Ordering.{nat_cmp, ordering_then, ordering_reverse}
 use Rattle.std.specs.declared.cmp.Ordering.TheVariants.{Less, Equal, Greater}
-use Rattle.fractal_vt.proofs.Proved.{key_cmp_total, greater_number, all_get}
+use Rattle.fractal_vt.proofs.Proved.{all_get, first_not_greater, greater_number, key_cmp_total}
 use Rattle.fractal_vt.specs.Keys.{key_cmp}
 use Rattle.spill_store.specs.SpilledTasks.{Spilled, open_key, IsLeastInBlock}
 use Rattle.task_law.specs.Room.{RoomTask, queue_after}
@@ -15,11 +16,11 @@ use Rattle.spec_state.specs.Tasks.{idle_task, spilled_descriptor}
 use Rattle.spec_state.specs.Groups.{room_task, room_tasks}
 use Rattle.spec_state.specs.Least.{Spilled_at, place_cmp, IsLeastSpilled}
 use Rattle.spec_law.specs.RoomLaws.{CoalesceMakesRoom, SplitReturnsLeast}
-use Rattle.spec_law.proofs.Tasks.Ranked.{first_not_greater, not_greater_ties}
+use Rattle.spec_law.proofs.Tasks.Ranked.{not_greater_ties}
 use Rattle.spec_law.proofs.Tasks.Contained.{some_first}
 use Rattle.spec_law.proofs.Rooms.Fit.{contains_in}
 
--- the queue of a tile after those of tasks that have gone were taken out of each
+-- the queue of a tile, once the ids of tasks that have gone are taken out of each queue
 pub queue_is : (new : ℕ → Option RoomTask) (queues : List (List ℕ)) (tile : ℕ) → slice_index_or (map (queue_after new) queues) tile [] ≡ queue_after new (slice_index_or queues tile [])
 queue_is new [] tile = refl
 queue_is new (q ∷ queues) zero = refl

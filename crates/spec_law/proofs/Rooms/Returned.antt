@@ -6,7 +6,7 @@ use Rattle.std.proofs.lemmas.Cmp.{nat_cmp_total, tied_itself}
 use Rattle.std.proofs.lemmas.List.{get_or-set_same, get_or-set_other}
 use Rattle.std.specs.Ordering.{nat_cmp, ordering_then}
 use Rattle.std.specs.declared.cmp.Ordering.TheVariants.{Less, Equal, Greater}
-use Rattle.fractal_vt.proofs.Proved.{key_cmp_total, then_less, then_greater, get_end}
+use Rattle.fractal_vt.proofs.Proved.{first_not_greater, get_end, key_cmp_total, then_greater, then_less}
 use Rattle.fractal_vt.specs.Keys.{key_cmp}
 use Rattle.fractal_vt.specs.declared.key.Key.{Key}
 use Rattle.spill_store.specs.SpilledTasks.{Spilled, open_key}
@@ -19,7 +19,6 @@ use Rattle.spec_state.proofs.Proved.{at_within}
 use Rattle.spec_law.specs.RoomLaws.{SplitKeepsLeast}
 use Rattle.spec_law.specs.Sound.{SoundSizes}
 use Rattle.spec_law.proofs.Tasks.Places.{get_contains}
-use Rattle.spec_law.proofs.Tasks.Ranked.{first_not_greater}
 use Rattle.spec_law.proofs.Rooms.Moved.{split_returns_least}
 
 -- what is found in a list with one element more is that element, at the end, or was found before

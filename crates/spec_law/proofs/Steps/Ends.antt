@@ -108,7 +108,7 @@ module _ (old new : View) (sizes : SoundSizes old) (tile core id : ℕ) (task : 
   finished_last : Contains (finished_at now tile) id
   finished_last = subst (λ ids. Contains ids id) (sym finished_here) (Contains-append_right (finished_at old tile) (id ∷ []) id (0, omega arith, refl))
 
-  -- what is in a commit queue is a finished task of its tile
+  -- what was in a commit queue is a finished task of its tile still
   was_finished : (other k : ℕ) → Contains (finished_at old other) k → HasTask now other k (λ status. status ≡ Finished)
   was_finished other k has = has_forth old new id task ended end_steps (λ status. status ≡ Finished) (λ is. refl) other k ((sizes.finished_are other k).0 has)
 

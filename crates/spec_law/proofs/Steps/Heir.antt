@@ -4,7 +4,7 @@ use Rattle.fractal_vt.specs.declared.key.Key.{Key}
 use Rattle.spec_state.specs.declared.task.Task.{Task}
 use Rattle.spec_state.specs.View.{View, task_at, queue_at}
 use Rattle.spec_state.specs.Least.{Spot, Queued, Spilled_at, HasKey, IsHeir, IsLeastSpot, IsLeastTask}
-use Rattle.spec_law.proofs.Steps.One.{StepsOne, origin, stays_there, stepped_to, worked}
+use Rattle.spec_law.proofs.Steps.One.{StepsOne, origin, stays_there, stepped_to, stepped_task}
 
 -- views whose spots have the same keys have the same least spots
 pub same_least : (a b : View) → ((spot : Spot) (key : Key) → HasKey a spot key → HasKey b spot key) → ((spot : Spot) (key : Key) → HasKey b spot key → HasKey a spot key)
@@ -12,10 +12,10 @@ pub same_least : (a b : View) → ((spot : Spot) (key : Key) → HasKey a spot k
 same_least a b forth back spot least = record { key = least.key; has = forth spot least.key least.has; least = λ other key has. least.least other key (back other key has) }
 
 -- a task that was made as another one has its key and its tile
-pub same_key : (x t : Task) → t ≡ worked x t → t.key ≡ x.key
+pub same_key : (x t : Task) → t ≡ stepped_task x t → t.key ≡ x.key
 same_key x t made = ap (λ z. z.key) made
 
-pub same_tile : (x t : Task) → t ≡ worked x t → t.tile ≡ x.tile
+pub same_tile : (x t : Task) → t ≡ stepped_task x t → t.tile ≡ x.tile
 same_tile x t made = ap (λ z. z.tile) made
 
 -- a task that stays, in a view whose spots have the same keys, is the least one still

@@ -13,7 +13,7 @@ use Rattle.task_request.specs.declared.request.Request.TheVariants as request
 use Rattle.task_request.specs.Conditions.{IsCall}
 use Rattle.task_request.specs.Effects.{Continues, after_request}
 use Rattle.task_request.specs.TaskState.{TaskState, task_at_start}
-use Rattle.task_request.proofs.Proved.{allowed_by-room, AllowedBy, request_at-allowed_spawn}
+use Rattle.task_request.proofs.Proved.{allowed_by-limits, AllowedBy, request_at-allowed_spawn}
 use Rattle.task_law.specs.Logged.{call}
 use Rattle.task_law.proofs.Proved.{on_memory}
 use Rattle.spec_state.specs.declared.task.Status.TheVariants.{Trapped, Finished}
@@ -37,7 +37,7 @@ quantum_stays_sound image old new sound tile core id leg task taken keeps =
     ((stood image old sound tile core id leg task taken).0, ran_leg image old sound tile core id leg task taken))
     (λ is. is, λ is. is) (λ c. (λ is. is, λ is. is)) (sound.sizes.bytes id task taken.takes.runs.on.there)
 
--- the trap is the next step of the run
+-- the trap is the next instruction of the run
 pub trap_stays_sound : TrapStaysSound
 trap_stays_sound image old new sound tile core id cause leg task at keeps =
     let taken = at.is_leg in
@@ -65,7 +65,7 @@ kinds_same task now outer Super kinds key has sub = λ i. child_kinds (record ta
 abbrev pub progressed : Task → TaskState → Task
 progressed task after = record task { core = after.core; spawns = after.spawns; bytes = after.bytes; sub = after.sub }
 
--- a call is none to go on
+-- a call is no request to go on
 call_other : (asked : Request) → IsCall asked → asked ≢ request.Continue
 call_other asked is_call same = subst IsCall same is_call
 
@@ -78,7 +78,7 @@ module _ (image : ImageValue) (old : View) (sound : Sound image old) (tile core 
   left =
       let allows : AllowedBy (context_of old.version task) asked = subst (AllowedBy (context_of old.version task)) at.asks (request_at-allowed_spawn (context_of old.version task) leg.to leg.stop) in
       subst (Leaves (progress_at [] leg.to task)) goes
-      (request_leaves (start_context old.version task) (progress_at [] leg.to task) asked (allowed_by-room (context_of old.version task) asked allows))
+      (request_leaves (start_context old.version task) (progress_at [] leg.to task) asked (allowed_by-limits (context_of old.version task) asked allows))
 
   -- the run goes on by it
   pub ran_call : RanTo image old.version old.settings.budget task (on_memory [] after)
@@ -87,8 +87,8 @@ module _ (image : ImageValue) (old : View) (sound : Sound image old) (tile core 
       (asks_next image old sound tile core id leg task taken asked at.asks (call_other asked is_call)) is_call goes
 
   -- the children that were made stay
-  kids_stay : after.spawns ≡ task.spawns → KeepsChildren task (progressed task after)
-  kids_stay spawns index spawn made =
+  children_stay : after.spawns ≡ task.spawns → KeepsChildren task (progressed task after)
+  children_stay spawns index spawn made =
       let placed : IsPlaced (start_context old.version task).outer (progress_at [] leg.to task) =
       run_placed image old.settings.budget image.data_size (start_context old.version task) (task_at_start old.version task.entry task.key.ts task.args [])
       (ran_leg image old sound tile core id leg task taken) tt
@@ -102,24 +102,24 @@ module _ (image : ImageValue) (old : View) (sound : Sound image old) (tile core 
   -- so the view stays sound
   pub call_keeps : (new : View) → after.spawns ≡ task.spawns → Keeps id (progressed task after) old new → StaysSound image old sound new
   call_keeps new spawns keeps =
-      keeps_sound image old new sound id task (progressed task after) taken.takes.runs.on.there keeps refl refl spawns (kids_stay spawns)
+      keeps_sound image old new sound id task (progressed task after) taken.takes.runs.on.there keeps refl refl spawns (children_stay spawns)
       (subst (StandsAs image old.version old.settings.budget (progressed task after)) (sym taken.takes.runs.running)
       ((stood image old sound tile core id leg task taken).0, ran_call))
       (λ is. is, λ is. is) (λ c. (λ is. is, λ is. is)) (left.1 (sound.sizes.bytes id task taken.takes.runs.on.there))
 
--- a subdomain is one more step of the run
+-- the call for a subdomain is one more instruction of the run
 pub sub_stays_sound : SubStaysSound
 sub_stays_sound image old new sound tile core id leg task kind at keeps =
     call_keeps image old sound tile core id leg task (request.MakeSub kind)
     (record (progress_at [] (after_other_of leg.to) task) { sub = Some kind }) at tt refl new refl keeps
 
--- so is a byte
+-- so is that for a byte
 pub byte_stays_sound : ByteStaysSound
 byte_stays_sound image old new sound tile core id byte leg task at keeps =
     call_keeps image old sound tile core id leg task (request.Emit byte)
     (record (progress_at [] (after_other_of leg.to) task) { bytes = task.bytes ++ byte ∷ [] }) at tt refl new refl keeps
 
--- the end call is the last step of the run
+-- the end call is the last instruction of the run
 pub end_stays_sound : EndStaysSound
 end_stays_sound image old new sound tile core id leg task at few ends =
     let taken = at.is_leg in

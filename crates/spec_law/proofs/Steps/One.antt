@@ -15,12 +15,13 @@ use Rattle.spec_state.specs.View.{View, task_at, ChangesTask}
 use Rattle.spec_state.specs.Filters.{HasNotes}
 use Rattle.spec_state.specs.Groups.{all_keyed, all_spilled, bag_task, bag_tasks, keyed_tasks, keyed_spilled, keyed_task, logged_tasks, logged_task, room_tasks, room_task}
 use Rattle.spec_law.specs.Sound.{SoundMemory, SoundOrder}
-use Rattle.spec_law.proofs.Tasks.Rebound.{rebound, entry_idle}
-use Rattle.spec_law.proofs.Tasks.Beside.{id_below, mapped_some}
+use Rattle.spec_law.proofs.Tasks.Rebound.{rebound, spilled_idle}
+use Rattle.spec_law.proofs.Tasks.Beside.{id_below}
+use Rattle.fractal_vt.proofs.Proved.{mapped_some}
 
 -- what a step may change of a task is as here, and all else as it was
-abbrev pub worked : Task → Task → Task
-worked task work = record task {
+abbrev pub stepped_task : Task → Task → Task
+stepped_task task work = record task {
   status = work.status;
   core = work.core;
   log = work.log;
@@ -37,7 +38,7 @@ stepped_to old new = record old { tasks = new.tasks; memory = new.memory; finish
 -- a step of the task of this id
 pub record StepsOne (old new : View) (id : ℕ) (task work : Task) : Type 0 where
   pub there : task_at old id ≡ Some task
-  pub changes : ChangesTask old new id (Some (worked task work))
+  pub changes : ChangesTask old new id (Some (stepped_task task work))
   pub rest : new ≡ stepped_to old new
 
 -- what is read of the task of each id
@@ -67,12 +68,12 @@ each_stepped old new id now changes holds others this k t at = elim (cases_eq k 
 pub record HasOrigin (view : View) (id : ℕ) (now : Task) : Type 0 where
   pub was : Task
   pub there : task_at view id ≡ Some was
-  pub made : now ≡ worked was now
+  pub made : now ≡ stepped_task was now
 
 module _ (old new : View) (id : ℕ) (task work : Task) (step : StepsOne old new id task work) where
   -- what is read of the task before and after alike is read alike of all
-  pub all_alike : {X : Type 0} (see : Task → X) → see (worked task work) ≡ see task → seen see new ≡ seen see old
-  all_alike see same = λ i k. alike (option_map see) old new id (Some (worked task work)) step.changes (ap Some same ∙ sym (ap (option_map see) step.there)) k i
+  pub all_alike : {X : Type 0} (see : Task → X) → see (stepped_task task work) ≡ see task → seen see new ≡ seen see old
+  all_alike see same = λ i k. alike (option_map see) old new id (Some (stepped_task task work)) step.changes (ap Some same ∙ sym (ap (option_map see) step.there)) k i
 
   -- the order of tasks reads the same
   pub keyed_same : keyed_tasks new ≡ keyed_tasks old
@@ -94,8 +95,8 @@ module _ (old new : View) (id : ℕ) (task work : Task) (step : StepsOne old new
   pub step_keeps_order : (heir : Option ℕ) → SoundOrder old heir → SoundOrder new heir
   step_keeps_order heir sound = subst (λ v. SoundOrder v heir) (sym step.rest) (record { order = kept; numbers = sound.numbers })
     where
-      entries : List Keyed
-      entries = map (keyed_spilled (length old.history) heir) (all_spilled old)
+      spilled_list : List Keyed
+      spilled_list = map (keyed_spilled (length old.history) heir) (all_spilled old)
 
       bounded : (k : ℕ) (x : Keyed) → keyed_tasks old k ≡ Some x → (k < length old.tasks) × (k < length new.tasks)
       bounded k x at =
@@ -107,8 +108,8 @@ module _ (old new : View) (id : ℕ) (task work : Task) (step : StepsOne old new
       kept =
           rename_keeps_order (all_keyed old heir) (all_keyed (stepped_to old new) heir)
           (map closed_level old.path) old.next
-          (subst (λ tasks. Renames (all_keyed old heir) (beside (length new.tasks) tasks entries)) (sym keyed_same)
-          (rebound (length old.tasks) (length new.tasks) (keyed_tasks old) entries bounded (entry_idle (length old.history) heir (all_spilled old))))
+          (subst (λ tasks. Renames (all_keyed old heir) (beside (length new.tasks) tasks spilled_list)) (sym keyed_same)
+          (rebound (length old.tasks) (length new.tasks) (keyed_tasks old) spilled_list bounded (spilled_idle (length old.history) heir (all_spilled old))))
           sound.order
 
   -- memory, where the step does not touch it
@@ -121,20 +122,20 @@ module _ (old new : View) (id : ℕ) (task work : Task) (step : StepsOne old new
           (subst (λ tasks. IsChained old.settings.line tasks serial.memory old.memory) (sym (logged_same log lines)) sound.chained)
 
       noted : (k : ℕ) (t : Task) → task_at new k ≡ Some t → HasNotes t.lines (notes_of old.settings.line t.log)
-      noted = each_stepped old new id (worked task work) step.changes (λ k t. HasNotes t.lines (notes_of old.settings.line t.log))
+      noted = each_stepped old new id (stepped_task task work) step.changes (λ k t. HasNotes t.lines (notes_of old.settings.line t.log))
           (λ k t other at. sound.noted k t at) (subst (λ l. HasNotes l (notes_of old.settings.line work.log)) (sym lines) (subst (λ l. HasNotes task.lines (notes_of old.settings.line l)) (sym log) (sound.noted id task step.there)))
 
   -- each task was there
   pub origin : (k : ℕ) (t : Task) → task_at new k ≡ Some t → HasOrigin old k t
-  origin = each_stepped old new id (worked task work) step.changes (HasOrigin old)
+  origin = each_stepped old new id (stepped_task task work) step.changes (HasOrigin old)
       (λ k t other at. record { was = t; there = at; made = refl }) (record { was = task; there = step.there; made = refl })
 
   -- each task is there still
-  pub stays_there : (k : ℕ) (x : Task) → task_at old k ≡ Some x → (t : Task) × (task_at new k ≡ Some t) × (t ≡ worked x t)
+  pub stays_there : (k : ℕ) (x : Task) → task_at old k ≡ Some x → (t : Task) × (task_at new k ≡ Some t) × (t ≡ stepped_task x t)
   stays_there k x at = elim (cases_eq k id) [
     | inl is ↦
         let both : Some x ≡ Some task = sym at ∙ ap (task_at old) is ∙ step.there in
         let same : task ≡ x = cc in
-        (worked task work, ap (task_at new) is ∙ step.changes.changed, ap (λ t. worked t work) same)
+        (stepped_task task work, ap (task_at new) is ∙ step.changes.changed, ap (λ t. stepped_task t work) same)
     | inr other ↦ (x, step.changes.others k other ∙ at, refl)
   ]

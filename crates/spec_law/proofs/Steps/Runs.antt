@@ -46,11 +46,11 @@ Leaves task (Continues after) =
 Leaves task (Ends after) = Unit {0}
 Leaves task (Traps cause pc) = Unit {0}
 
--- one more byte, where there is room
+-- one more byte, where there are fewer than a task may emit
 one_more : (bytes : List ℕ) (byte : ℕ) → length bytes < MAX_BYTES → length (bytes ++ byte ∷ []) ≤ MAX_BYTES
 one_more bytes byte room = simp length-append (omega (arith, room))
 
--- so with each for which there is room
+-- each request that keeps the limits leaves both so
 pub request_leaves : (ctx : Ctx) (task : TaskState) (asked : Request) → KeepsLimits (context ctx task) asked → Leaves task (after_request task asked)
 request_leaves ctx task request.Continue room = (inl refl, λ low. low)
 request_leaves ctx task (request.Load width rd offset) room = (inl refl, λ low. low)

@@ -11,7 +11,7 @@ use Rattle.spec_state.specs.View.{View, task_at, finished_at, cores_at}
 use Rattle.spec_state.specs.Tasks.{depth_of}
 use Rattle.spec_state.specs.Stored.{HasCore, HasTask}
 use Rattle.spec_law.specs.Sound.{SoundSizes}
-use Rattle.spec_law.proofs.Steps.One.{StepsOne, each_stepped, origin, stepped_to, worked}
+use Rattle.spec_law.proofs.Steps.One.{StepsOne, each_stepped, origin, stepped_to, stepped_task}
 
 -- the commit queues and the cores of a view hold its finished tasks and those on cores, and no more than they may
 pub record FitsLists (view : View) : Type 0 where
@@ -29,14 +29,14 @@ module _ (old new : View) (id : ℕ) (task work : Task) (step : StepsOne old new
     | inl same_id ↦
         let both : Some x ≡ Some task = sym at ∙ ap (task_at old) same_id ∙ step.there in
         let same : x ≡ task = cc in
-        (worked task work, ap (task_at new) same_id ∙ step.changes.changed, ap (λ t. t.tile) (sym same) ∙ in_tile, this (subst (λ t. kind t.status) same is))
+        (stepped_task task work, ap (task_at new) same_id ∙ step.changes.changed, ap (λ t. t.tile) (sym same) ∙ in_tile, this (subst (λ t. kind t.status) same is))
     | inr other ↦ (x, step.changes.others k other ∙ at, in_tile, is)
   ]
 
   -- and had one
   pub has_back : (kind : Status → Type 0) → (kind work.status → kind task.status) → (tile k : ℕ) → HasTask (stepped_to old new) tile k kind → HasTask old tile k kind
   has_back kind this tile k (t, at, in_tile, is) =
-      each_stepped old new id (worked task work) step.changes (λ j z. z.tile ≡ tile → kind z.status → HasTask old tile j kind)
+      each_stepped old new id (stepped_task task work) step.changes (λ j z. z.tile ≡ tile → kind z.status → HasTask old tile j kind)
       (λ j z other there in_this is_this. (z, there, in_this, is_this)) (λ in_this is_this. (task, step.there, in_this, this is_this)) k t at in_tile is
 
   -- lists that stay hold the same tasks, where the task is finished or on a core as before
@@ -82,6 +82,6 @@ module _ (old new : View) (id : ℕ) (task work : Task) (step : StepsOne old new
         kinds = λ k t at.
             (let from = origin old new id task work step k t at in
             subst (λ z. z.kinds < 2 ^ depth_of z) (sym from.made) (sizes.kinds k from.was from.there));
-        bytes = each_stepped old new id (worked task work) step.changes (λ k t. length t.bytes ≤ MAX_EMITTED) (λ k t other at. sizes.bytes k t at) bytes;
+        bytes = each_stepped old new id (stepped_task task work) step.changes (λ k t. length t.bytes ≤ MAX_EMITTED) (λ k t other at. sizes.bytes k t at) bytes;
         spilled = sizes.spilled;
       })

@@ -14,7 +14,7 @@ use Rattle.spec_state.specs.View.{View, task_at}
 use Rattle.spec_state.specs.Tasks.{Descriptor, child_descriptor, descriptor_of, spilled_descriptor}
 use Rattle.spec_state.specs.Groups.{bags_spilled, domains_of}
 use Rattle.spec_law.specs.Sound.{IsMadeBy, SoundTasks, StandsAs}
-use Rattle.spec_law.proofs.Steps.One.{StepsOne, bags_same, each_stepped, origin, stepped_to, worked}
+use Rattle.spec_law.proofs.Steps.One.{StepsOne, bags_same, each_stepped, origin, stepped_to, stepped_task}
 
 -- the children that were made stay so: each stands at its place, and its descriptor is the same one
 abbrev pub KeepsChildren : Task → Task → Type 0
@@ -22,16 +22,16 @@ KeepsChildren task now =
     (index : ℕ) (spawn : Spawn) → slice_get task.spawns index ≡ Some spawn
     → (slice_get now.spawns index ≡ Some spawn) × (child_descriptor now spawn ≡ child_descriptor task spawn)
 
-module _ (old new : View) (id : ℕ) (task work : Task) (step : StepsOne old new id task work) (kids : KeepsChildren task (worked task work)) where
+module _ (old new : View) (id : ℕ) (task work : Task) (step : StepsOne old new id task work) (all_children : KeepsChildren task (stepped_task task work)) where
   -- what a task made it has made still
   pub made_still : (k index : ℕ) (d : Descriptor) → IsMadeBy old k index d → IsMadeBy (stepped_to old new) k index d
   made_still k index d made = elim (cases_eq k id) [
     | inl is ↦
         let both : Some made.creator ≡ Some task = sym made.there ∙ ap (task_at old) is ∙ step.there in
         let same : made.creator ≡ task = cc in
-        let kid = kids index made.spawn (ap (λ t. slice_get t.spawns index) (sym same) ∙ made.made) in
+        let kid = all_children index made.spawn (ap (λ t. slice_get t.spawns index) (sym same) ∙ made.made) in
         record {
-          creator = worked task work;
+          creator = stepped_task task work;
           there = ap (task_at new) is ∙ step.changes.changed;
           spawn = made.spawn;
           made = kid.0;
@@ -59,14 +59,14 @@ module _ (old new : View) (id : ℕ) (task work : Task) (step : StepsOne old new
       (sound.children k from.was creator index from.there (sym (ap (λ z. z.creator) from.made) ∙ is)))
 
   -- all tasks stand as their statuses say, where this one does
-  pub stand_still : (image : ImageValue) (heir : Option ℕ) (serial : SerialState) → SoundTasks image old heir serial → StandsAs image old.version old.settings.budget (worked task work) work.status
+  pub stand_still : (image : ImageValue) (heir : Option ℕ) (serial : SerialState) → SoundTasks image old heir serial → StandsAs image old.version old.settings.budget (stepped_task task work) work.status
       → (k : ℕ) (t : Task) → task_at new k ≡ Some t → StandsAs image old.version old.settings.budget t t.status
   stand_still image heir serial sound stands =
-      each_stepped old new id (worked task work) step.changes (λ k t. StandsAs image old.version old.settings.budget t t.status) (λ k t other at. sound.stands k t at) stands
+      each_stepped old new id (stepped_task task work) step.changes (λ k t. StandsAs image old.version old.settings.budget t t.status) (λ k t other at. sound.stands k t at) stands
 
   -- the group of the view whose other parts are the old ones
   kept : (image : ImageValue) (heir : Option ℕ) (serial : SerialState) → SoundTasks image old heir serial → work.spawns ≡ task.spawns
-      → StandsAs image old.version old.settings.budget (worked task work) work.status → SoundTasks image (stepped_to old new) heir serial
+      → StandsAs image old.version old.settings.budget (stepped_task task work) work.status → SoundTasks image (stepped_to old new) heir serial
   kept image heir serial sound spawns stands =
       record {
         few = sound.few;
@@ -81,6 +81,7 @@ module _ (old new : View) (id : ℕ) (task work : Task) (step : StepsOne old new
       }
 
   pub step_keeps_tasks : (image : ImageValue) (heir : Option ℕ) (serial : SerialState) → SoundTasks image old heir serial → work.spawns ≡ task.spawns
-      → StandsAs image old.version old.settings.budget (worked task work) work.status → SoundTasks image new heir serial
+      → StandsAs image old.version old.settings.budget (stepped_task task work) work.status
+      → SoundTasks image new heir serial
   step_keeps_tasks image heir serial sound spawns stands =
       subst (λ v. SoundTasks image v heir serial) (sym step.rest) (kept image heir serial sound spawns stands)

@@ -1,5 +1,7 @@
 -- What a list contains: decided for ids, an id of a list that isn't empty, and one element fewer.
-use Rattle.std.proofs.Common.{◌≡◌, ◌≢◌, ◌⊎◌, ◌∷◌, ◌++◌, ℕ, zero, suc, List, [], Some, refl, sym, ap, ◌∙◌, inl, inr, arith, drop, take, slice_index_or, slice_get, append_assoc}
+use Rattle.std.proofs.Common.{◌≡◌, ◌≢◌, ◌⊎◌, ◌≤◌, ◌∷◌, ◌++◌, ℕ, zero, suc, List, [], length, Some, refl, sym, ap, ◌∙◌}
+use Rattle.std.proofs.Common.{inl, inr}
+use Rattle.std.proofs.Common.{arith, drop, take, slice_index_or, slice_get, append_assoc}
 use Rattle.std.specs.Prelude.{Contains, flat_map, remove, slice_set}
 use Rattle.std.proofs.lemmas.Bool.{cases_eq}
 use Rattle.spec_state.proofs.Proved.{head_or_tail}
@@ -14,6 +16,11 @@ decided (id ∷ ids) k = elim (cases_eq id k) [
     | inr none ↦ inr (λ c. elim (head_or_tail id ids k c) [ inl same ↦ other same | inr behind ↦ none behind ])
   ]
 ]
+
+-- a list of at least one id has one
+pub some_in : (ids : List ℕ) → 1 ≤ length ids → (id : ℕ) × Contains ids id
+some_in [] some = absurd (omega (arith, some))
+some_in (id ∷ ids) some = (id, (0, omega arith, refl))
 
 -- a list that is not empty has an id
 pub some_first : (ids : List ℕ) → ids ≢ [] → (id : ℕ) × Contains ids id

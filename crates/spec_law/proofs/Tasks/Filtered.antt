@@ -1,4 +1,4 @@
--- What a filter leaves of a list, and what stands at a place of a mapped one.
+-- What filtering leaves of a list, and what stands at a place of a mapped one.
 use Rattle.std.proofs.Common.{◌≡◌, ◌≤◌, ◌∷◌, ℕ, zero, suc, Bool, true, false, List, [], length, not, Option, Some, refl, sym, ap, subst, ◌∙◌, arith, cond, map, slice_get, slice_index_or, is_some}
 use Rattle.std.specs.Prelude.{Contains, filter}
 use Rattle.std.proofs.lemmas.List.Elements.{All-contains, All-contains_itself, All-filter, filter_passes}

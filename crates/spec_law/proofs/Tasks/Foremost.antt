@@ -14,7 +14,8 @@ use Rattle.spec_state.specs.View.{View, task_at}
 use Rattle.spec_state.specs.Groups.{live_creator, keyed_task, all_keyed, all_spilled, heir_unless, bag_creator, bag_task, bag_tasks, bag_spilled, bags_spilled}
 use Rattle.spec_law.specs.Sound.{SoundSizes}
 use Rattle.spec_law.proofs.Tasks.Places.{in_mapped, get_contains}
-use Rattle.spec_law.proofs.Tasks.Beside.{mapped_some, spilled_key, queued_stands, spilled_stands}
+use Rattle.spec_law.proofs.Tasks.Beside.{spilled_in_keys, queued_stands, spilled_stands}
+use Rattle.fractal_vt.proofs.Proved.{mapped_some}
 
 -- a creator that is committed for the bags is so for the order
 committed_is_none : (c : Creator) (turn index : ℕ) → bag_creator c ≡ bags.Committed turn index → live_creator c ≡ None
@@ -56,7 +57,7 @@ module _ (view : View) (sizes : SoundSizes view) (heir : Option ℕ) where
       let deep = (sizes.spilled from.1 (get_contains (all_spilled view) from.0 from.1 from.2)).1 in
       record {
         id = stands.0;
-        x = spilled_key view heir from.1;
+        x = spilled_in_keys view heir from.1;
         there = stands.1;
         committed = ap (λ b. heir_unless b heir) (le-leb from.1.desc.name.creator (length view.history) low);
         deep = ap (λ n. n + 1) (length-map from.1.domain closed_level) ∙ deep ∙ sym (ap (λ e. e.depth) from.3);

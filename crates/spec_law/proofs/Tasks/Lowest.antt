@@ -13,7 +13,7 @@ use Rattle.order_law.specs.Tasks.{Keyed, levels_of}
 abbrev pub IsUpto : Keyed → Keyed → Type 0
 IsUpto x y = is_gt (levels_cmp (levels_of x) (levels_of y)) ≡ false
 
--- one of the tasks below a bound, above none of them
+-- a task that is above none of those under ids below a bound
 pub record IsLowest (tasks : ℕ → Option Keyed) (bound : ℕ) : Type 0 where
   pub id : ℕ
   pub task : Keyed
@@ -23,7 +23,7 @@ pub record IsLowest (tasks : ℕ → Option Keyed) (bound : ℕ) : Type 0 where
 turned : (x z : Keyed) → levels_cmp (levels_of x) (levels_of z) ≡ Greater → IsUpto z x
 turned x z greater = ap is_gt (levels_cmp_total.antisymm (levels_of z) (levels_of x) ∙ ap ordering_reverse greater)
 
--- the task before and one more
+-- with one task more there is a lowest one still
 with_one : (tasks : ℕ → Option Keyed) (bound : ℕ) (z : Keyed) → tasks bound ≡ Some z → IsLowest tasks bound → IsLowest tasks (suc bound)
 with_one tasks bound z is low = by_order (levels_cmp (levels_of low.task) (levels_of z)) refl
   where

@@ -25,12 +25,12 @@ use Rattle.spec_state.specs.Groups.{live_creator, heir_unless, keyed_task, all_k
 use Rattle.spec_state.specs.Least.{Spot, Queued, Spilled_at, IsQueuedAt, HasKey, spot_cmp, IsLeastSpot, IsLeastTask}
 use Rattle.spec_law.specs.Laws.{MayTakeTurn, LeastIsNext, LeastSpilledIsNext}
 use Rattle.spec_law.specs.Sound.{Sound, SoundSizes}
-use Rattle.spec_law.proofs.Tasks.Ranked.{first_not_greater}
 use Rattle.spec_law.proofs.Tasks.Places.{place_in_all, place_in_one, parted, in_map, get_contains}
-use Rattle.spec_law.proofs.Tasks.Beside.{spilled_key, queued_stands, spilled_stands, which}
+use Rattle.spec_law.proofs.Tasks.Beside.{spilled_in_keys, queued_stands, spilled_stands, which}
 use Rattle.spec_law.proofs.Tasks.Foremost.{foremost}
 use Rattle.spec_law.proofs.Tasks.Returned.{spilled_has_turn}
 use Rattle.spec_law.proofs.Tasks.Stacked.{run_stack}
+use Rattle.fractal_vt.proofs.Proved.{first_not_greater}
 
 -- a task without an uncommitted creator has a committed one
 pub none_is_committed : (c : Creator) → live_creator c ≡ None → (turn : ℕ) × (index : ℕ) × (c ≡ Committed turn index)
@@ -141,10 +141,10 @@ module _ (image : ImageValue) (view : View) (sound : Sound image view) where
       let key : is.key ≡ open_key s = spilled_key_is view tile place s is.key at is.has in
       let among = place_in_all view.blocks tile place s at in
       let stands = spilled_stands view sound.heir among.0 s among.1 in
-      let inner = least_is_innermost (Spilled_at tile place) is stands.0 (spilled_key view sound.heir s) stands.1 (ap levels (sym key)) in
+      let inner = least_is_innermost (Spilled_at tile place) is stands.0 (spilled_in_keys view sound.heir s) stands.1 (ap levels (sym key)) in
       let low = firm_is_committed among.0 s among.1 inner.committed in
       let deep = (sound.sizes.spilled s (get_contains (all_spilled view) among.0 s among.1)).1 in
-      let front = foremost view sound.sizes sound.heir (spilled_key view sound.heir s) s.desc.depth s.desc.ts inner (ap (λ n. n + 1) (length-map s.domain closed_level) ∙ deep) refl in
+      let front = foremost view sound.sizes sound.heir (spilled_in_keys view sound.heir s) s.desc.depth s.desc.ts inner (ap (λ n. n + 1) (length-map s.domain closed_level) ∙ deep) refl in
       let around = parted (bags_spilled view) among.0 (bag_spilled s) (slice_get-map bag_spilled (all_spilled view) among.0 ∙ ap (option_map bag_spilled) among.1) in (
         low,
         spilled_has_turn (length view.history) (unwrap_or sound.heir 0) (length view.tasks) (is_some sound.heir) (bag_tasks view) (bags_spilled view)

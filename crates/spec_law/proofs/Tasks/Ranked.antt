@@ -22,12 +22,6 @@ not_greater_ties o Less turned low high = absurd (low turned)
 not_greater_ties o Equal turned low high = turned
 not_greater_ties o Greater turned low high = absurd (high refl)
 
--- where the whole is not greater, the first answer is not
-pub first_not_greater : (o p : Ordering) → ordering_then o p ≢ Greater → o ≢ Greater
-first_not_greater Less p low e = absurd (cc)
-first_not_greater Equal p low e = absurd (cc)
-first_not_greater Greater p low e = low refl
-
 -- places the other way round
 place_turned : (t p u q : ℕ) → place_cmp t p u q ≡ ordering_reverse (place_cmp u q t p)
 place_turned t p u q = then_turned (nat_cmp t u) (nat_cmp p q) (nat_cmp u t) (nat_cmp q p) (nat_cmp_total.antisymm t u) (nat_cmp_total.antisymm p q)
@@ -50,7 +44,7 @@ same_spot (Spilled_at t p) (Spilled_at u q) e = let both = tied_place t p u q e 
 pub ranked_turned : (key : Key) (a : Spot) (other : Key) (b : Spot) → ranked_cmp key a other b ≡ ordering_reverse (ranked_cmp other b key a)
 ranked_turned key a other b = then_turned _ (spot_cmp a b) _ (spot_cmp b a) (key_cmp_total.antisymm key other) (spot_turned a b)
 
--- two spots of which neither ranks above the other are one
+-- two spots of least tasks are one
 pub least_is_one : LeastIsOne
 least_is_one view a b one two =
     let tie = not_greater_ties (ranked_cmp one.key a two.key b) (ranked_cmp two.key b one.key a) (ranked_turned one.key a two.key b)

@@ -1,4 +1,4 @@
--- Of two queued tasks only one comes before the other.
+-- Of two tasks of a queue at most one comes before the other, and so a tile has one least idle task at most.
 use Rattle.std.proofs.Common.{◌≡◌, ℕ, Some, inl, inr, ap, sym, ◌∙◌}
 use Rattle.std.proofs.lemmas.Bool.{cases_eq}
 use Rattle.std.specs.Ordering.{ordering_reverse}

@@ -28,7 +28,7 @@ any-texts : (words : List (Bor Text)) → list_any (λ w. is_stray (word_of w)) 
 any-texts [] = refl
 any-texts (w ∷ ws) = ap (λ b. is_stray (word_of w.now) || b) (any-texts ws)
 
--- an error that isn't want of memory has a kind of the list
+-- where an error isn't want of memory, the list of kinds isn't empty
 some-kind : (kinds : Kinds) (e : Error) → HasKind kinds e → kind_of e ≢ OutOfMemory → kinds ≡ [] → ⊥
 some-kind kinds e (inl memory) other is = other memory
 some-kind kinds e (inr among) other is = subst (IsAmong (kind_of e)) is among

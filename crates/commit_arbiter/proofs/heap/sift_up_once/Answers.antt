@@ -7,7 +7,7 @@ pub returns-then-is_lt-clause-step : goal.returns-then-is_lt-clause-step
 returns-then-is_lt-clause-step c =
     subst (λ v. SiftsUpOnce c.args.slots.now.candidates v.candidates c.args.at true) (sym c.note.ensures)
     (stepped_up c.args.slots.now.candidates c.swap.new.self.candidates c.args.at c.get.result.now c.get-2.result.now c.requires.below c.requires.within c.requires.heap c.get.ensures c.get-2.ensures
-    (ap is_lt (sym c.candidate_order.ensures) ∙ sym c.is_lt.ensures ∙ c.if-is_lt.true) c.swap.ensures.entries)
+    (ap is_lt (sym c.candidate_order.ensures) ∙ sym c.is_lt.ensures ∙ c.if-is_lt.true) c.swap.ensures.candidates)
 
 pub returns-clause-step : goal.returns-clause-step
 returns-clause-step c =

@@ -13,8 +13,8 @@ pub returns : goal.returns
 returns g c tile core task takes =
     let still = c.clear-aborted.ensures.stays tile core task takes in
     let same = same_task g.N.Naming.image _ _ _ _ c.clear-aborted.ensures.stays _ c.requires.asks in
-    let room = ap (λ (s : Spare). s.log) c.clear-aborted.ensures.room in
-    let ok = c.load_at.ensures.covered (log_still c.args.state.now c.clear-aborted.new.state c.args.id.0 same room
+    let spare = ap (λ (s : Spare). s.log) c.clear-aborted.ensures.spare in
+    let ok = c.load_at.ensures.covered (log_still c.args.state.now c.clear-aborted.new.state c.args.id.0 same spare
     c.requires.covered) in
     record {
       mid = c.clear-aborted.new.state.view;

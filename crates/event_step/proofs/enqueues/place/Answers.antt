@@ -29,9 +29,9 @@ pub returns : goal.returns
 returns g c from core task takes =
     let still = stays_asking g.N.Naming.image _ from core _ c.args.tile _ task _ _ c.requires.sound takes
     c.make_room-aborted.ensures.makes in
-    let room = ap (λ (s : Spare). s.spawns) c.make_room-aborted.ensures.room.frame in
+    let spare = ap (λ (s : Spare). s.spawns) c.make_room-aborted.ensures.others.frame in
     let covers = child_still c.args.state.now c.make_room-aborted.new.state c.args.id.0 (still.there ∙ sym
-    takes.runs.on.there) room
+    takes.runs.on.there) spare
     c.requires.covered.child in
     record {
       mid = c.make_room-aborted.new.state.view;

@@ -1,5 +1,5 @@
 use Rattle.std.proofs.Common.{◌≡◌, map, take, ap, arith, ◌∙◌}
-use Rattle.machine_run.proofs.Readings.{next_read, whole_read}
+use Rattle.machine_run.proofs.TapLists.{next_read, whole_read}
 use Rattle.machine_run.proofs.lists.list_of.Goals as goal
 
 pub loop-place-preserved : goal.loop-place-preserved

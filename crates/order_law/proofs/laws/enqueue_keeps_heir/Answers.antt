@@ -1,5 +1,5 @@
-use Rattle.order_law.proofs.Heir.{spawn_heir}
+use Rattle.order_law.proofs.Heir.{enqueue_heir}
 use Rattle.order_law.proofs.laws.enqueue_keeps_heir.Goals as goal
 
 pub returns : goal.returns
-returns c = spawn_heir
+returns c = enqueue_heir

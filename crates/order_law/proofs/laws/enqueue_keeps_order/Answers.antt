@@ -1,5 +1,5 @@
-use Rattle.order_law.proofs.Spawned.{spawn_law}
+use Rattle.order_law.proofs.Spawned.{enqueue_law}
 use Rattle.order_law.proofs.laws.enqueue_keeps_order.Goals as goal
 
 pub returns : goal.returns
-returns c = spawn_law
+returns c = enqueue_law

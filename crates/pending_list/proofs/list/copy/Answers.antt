@@ -6,8 +6,8 @@ use Rattle.pending_list.proofs.Presents.{taken_here, taken_gone, taken_fewer, ta
 use Rattle.pending_list.proofs.list.copy.Goals as goal
 use Rattle.pending_list.proofs.list.copy.Goals.{then-slot, else-slot}
 
-pub push-requires-clause-room : goal.push-requires-clause-room
-push-requires-clause-room c =
+pub push-requires-clause-spare : goal.push-requires-clause-spare
+push-requires-clause-spare c =
     let slots = c.args.slots.now in
     let i = c.loop-slot.slot-index in
     let fewer = taken_fewer slots i (slot_at slots i) (omega arith) refl c.if-slot.true in
@@ -28,19 +28,19 @@ loop-slot-preserved c =
       | then-slot w ↦
           (let more = taken_here slots i (slot_at slots i) (omega arith) refl w.if-slot.true in
           let long = ap length more ∙ length_push (present (take i slots)) (slot_at slots i).task in
-          let room = ap (λ v. v.room) w.list-is in
+          let spare = ap (λ v. v.spare) w.list-is in
           record {
             tasks =
                 ap (λ v. v.tasks) w.list-is ∙ w.push.ensures.tasks
                 ∙ ap (λ ts. ts ++ (slot_at slots i).task ∷ []) c.loop-slot.invariant.tasks ∙ sym more;
-            room = omega (arith, w.push.ensures.room, c.loop-slot.invariant.room);
+            spare = omega (arith, w.push.ensures.spare, c.loop-slot.invariant.spare);
           })
       | else-slot w ↦
           (let same = taken_gone slots i (slot_at slots i) (omega arith) refl w.if-slot.false in
           let long = ap length same in
-          let room = ap (λ v. v.room) w.list-is in
+          let spare = ap (λ v. v.spare) w.list-is in
           record {
             tasks = ap (λ v. v.tasks) w.list-is ∙ c.loop-slot.invariant.tasks ∙ sym same;
-            room = omega (arith, c.loop-slot.invariant.room);
+            spare = omega (arith, c.loop-slot.invariant.spare);
           })
     ]

@@ -5,5 +5,5 @@ use Rattle.pending_list.proofs.list.copy.Given as goal
 abbrev pub invariant-loop-slot : goal.invariant-loop-slot
 invariant-loop-slot l = record {
   tasks : l.list.tasks ≡ present (take l.slot-index l.slots);
-  room : l.list.room + length (present (take l.slot-index l.slots)) ≡ l.fn.list.room;
+  spare : l.list.spare + length (present (take l.slot-index l.slots)) ≡ l.fn.list.spare;
 }

@@ -7,7 +7,7 @@ invariant-loop-slot l = record {
   fewer : length l.slots.items ≤ length l.fn.slots.items;
   front : l.slots.items ≡ take (length l.slots.items) l.fn.slots.items;
   vacant : (k : ℕ) → length l.slots.items ≤ k → (slot_at l.fn.slots.items k).here ≡ false;
-  room : vec_capacity l.slots ≡ vec_capacity l.fn.slots;
+  spare : vec_capacity l.slots ≡ vec_capacity l.fn.slots;
 }
 
 abbrev pub decreases-loop-slot : goal.decreases-loop-slot

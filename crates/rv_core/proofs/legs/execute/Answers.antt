@@ -1,6 +1,6 @@
 use Rattle.std.proofs.Common.{sym, ◌∙◌, arith}
 use Rattle.rv_core.specs.Legs.{core_of_parts}
-use Rattle.rv_core.proofs.Steps.{next_at-effect}
+use Rattle.rv_core.proofs.Effects.{next_at-effect}
 use Rattle.rv_core.proofs.legs.execute.Goals as goal
 
 pub returns-clause-next : goal.returns-clause-next

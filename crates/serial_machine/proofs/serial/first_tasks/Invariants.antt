@@ -8,6 +8,6 @@ abbrev pub invariant-loop-index : goal.invariant-loop-index
 invariant-loop-index l = record {
   tasks : l.found.tasks ++ map (image_task l.kind) (enumerate_from l.index (drop l.index l.tasks))
       ≡ map (image_task l.kind) (enumerate_from 0 l.tasks);
-  room : length l.tasks - l.index ≤ l.found.room;
+  spare : length l.tasks - l.index ≤ l.found.spare;
   before : AllBefore (record { creator = 0; index = l.index }) l.found.tasks;
 }

@@ -6,5 +6,5 @@ pub loop-done-preserved : goal.loop-done-preserved
 loop-done-preserved c = record {
   dropped = drop_next c.args.stack.now.items _ c.take_first-empty.result c.loop-done.done (sym c.loop-done.invariant.dropped ∙ c.take_first-empty.ensures.taken);
   len = omega arith;
-  room = c.take_first-empty.ensures.room ∙ c.loop-done.invariant.room;
+  spare = c.take_first-empty.ensures.spare ∙ c.loop-done.invariant.spare;
 }

@@ -5,5 +5,5 @@ abbrev pub invariant-loop-done : goal.invariant-loop-done
 invariant-loop-done l = record {
   dropped : l.stack.items ≡ drop l.done l.fn.stack.items;
   len : vec_len l.stack + l.done ≡ vec_len l.fn.stack;
-  room : vec_capacity l.stack ≡ vec_capacity l.fn.stack;
+  spare : vec_capacity l.stack ≡ vec_capacity l.fn.stack;
 }

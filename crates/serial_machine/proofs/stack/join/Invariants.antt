@@ -8,6 +8,6 @@ abbrev pub invariant-loop-index : goal.invariant-loop-index
 invariant-loop-index l = record {
   tasks : l.tasks.tasks ++ map (child l.owner) (filter (is_for l.place) (enumerate_from l.index (drop l.index l.spawns)))
       ≡ l.fn.tasks.tasks ++ map (child l.owner) (filter (is_for l.place) (enumerate_from 0 l.spawns));
-  room : length l.spawns - l.index ≤ l.tasks.room;
+  spare : length l.spawns - l.index ≤ l.tasks.spare;
   before : AllBefore (record { creator = l.owner; index = l.index }) l.tasks.tasks;
 }

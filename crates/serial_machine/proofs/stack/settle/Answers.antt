@@ -6,17 +6,17 @@ use Rattle.serial_machine.proofs.Older.{left-older}
 use Rattle.serial_machine.proofs.Stacks.{HaveSpare-drop}
 use Rattle.serial_machine.proofs.stack.settle.Goals as goal
 
-pub join-requires-clause-room : goal.join-requires-clause-room
-join-requires-clause-room c =
-    let HasRoom : List Bag → Type 0 = HaveSpare (length c.args.spawns.now) in
-    let room = subst HasRoom (sym c.drop_first.ensures.dropped ∙ c.take_first-bag.ensures.taken) (HaveSpare-drop (length c.args.spawns.now) c.args.top c.args.stack.now.items c.requires.room) in
-    omega (arith, room.0)
+pub join-requires-clause-spare : goal.join-requires-clause-spare
+join-requires-clause-spare c =
+    let HasSpare : List Bag → Type 0 = HaveSpare (length c.args.spawns.now) in
+    let spare = subst HasSpare (sym c.drop_first.ensures.dropped ∙ c.take_first-bag.ensures.taken) (HaveSpare-drop (length c.args.spawns.now) c.args.top c.args.stack.now.items c.requires.each) in
+    omega (arith, spare.0)
 
-pub join_outside-requires-clause-room : goal.join_outside-requires-clause-room
-join_outside-requires-clause-room c =
-    let HasRoom : List Bag → Type 0 = HaveSpare (length c.args.spawns.now) in
-    let room = subst HasRoom (sym c.drop_first.ensures.dropped ∙ c.take_first-bag.ensures.taken) (HaveSpare-drop (length c.args.spawns.now) c.args.top c.args.stack.now.items c.requires.room) in
-    room.1
+pub join_outside-requires-clause-each : goal.join_outside-requires-clause-each
+join_outside-requires-clause-each c =
+    let HasSpare : List Bag → Type 0 = HaveSpare (length c.args.spawns.now) in
+    let spare = subst HasSpare (sym c.drop_first.ensures.dropped ∙ c.take_first-bag.ensures.taken) (HaveSpare-drop (length c.args.spawns.now) c.args.top c.args.stack.now.items c.requires.each) in
+    spare.1
 
 pub join-requires-clause-older : goal.join-requires-clause-older
 join-requires-clause-older c =

@@ -1,14 +1,14 @@
 use Rattle.std.proofs.Common.{refl, ap, arith}
 use Rattle.spec_state.specs.StateValue.{StateValue}
 use Rattle.spec_state.proofs.Proved.{formed_kept, indexed_set, keeps_some, noted_set, same_place, slots_set, stored_set}
-use Rattle.spec_access.proofs.Asking.{asks_room}
+use Rattle.spec_access.proofs.Asking.{asks_limits}
 use Rattle.spec_access.proofs.calling.open_sub.Goals as goal
 
 pub invariant_of-state : goal.invariant_of-state
 invariant_of-state g c =
     let found = c.index_mut-task.ensures.value in
     let was = c.state.invariant.4.tasks c.args.id.0 _ found in
-    let room = asks_room _ _ _ _ _ _ c.requires.asks
+    let limits = asks_limits _ _ _ _ _ _ c.requires.asks
     (ap (λ (v : StateValue). v.view) c.state.view_is) c.index_mut-task.ensures.value in (
       c.state.invariant.0,
       c.state.invariant.1,
@@ -16,7 +16,7 @@ invariant_of-state g c =
       slots_set _ _ _ _ _ _ _ c.state.invariant.3 found,
       stored_set _ _ c.args.id.0 _ _ _ c.state.invariant.4 found (same_place _ _ refl refl)
           (formed_kept _ _ _ _ was refl refl refl (keeps_some _ _ _)
-          (λ some. omega (arith, was.depth, room.1)) was.children was.accesses) c.state.invariant.4.memory,
+          (λ some. omega (arith, was.depth, limits.1)) was.children was.accesses) c.state.invariant.4.memory,
       indexed_set _ _ _ _ _ _ _ _ c.state.invariant.5 found refl refl,
       noted_set _ _ _ _ _ found refl c.state.invariant.6,
     )

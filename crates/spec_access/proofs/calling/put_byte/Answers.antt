@@ -1,11 +1,11 @@
 use Rattle.std.proofs.Common.{refl, ap}
 use Rattle.spec_state.specs.StateValue.{StateValue}
 use Rattle.spec_state.proofs.Proved.{formed_kept, indexed_set, keeps_some, noted_set, same_place, slots_set, stored_set}
-use Rattle.spec_access.proofs.Asking.{asks_room}
+use Rattle.spec_access.proofs.Asking.{asks_limits}
 use Rattle.spec_access.proofs.calling.put_byte.Goals as goal
 
 pub push-requires : goal.push-requires
-push-requires g c = asks_room _ _ _ _ _ _ c.requires.asks
+push-requires g c = asks_limits _ _ _ _ _ _ c.requires.asks
     (ap (λ (v : StateValue). v.view) c.state.view_is) c.index_mut-task.ensures.value
 
 pub invariant_of-state : goal.invariant_of-state

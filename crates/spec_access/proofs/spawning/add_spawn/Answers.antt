@@ -1,7 +1,7 @@
 use Rattle.std.proofs.Common.{refl, ap}
 use Rattle.spec_state.specs.StateValue.{StateValue}
 use Rattle.spec_state.proofs.Proved.{formed_kept, indexed_set, keeps_some, noted_set, same_place, slots_set, stored_set}
-use Rattle.spec_access.proofs.Asking.{asks_room}
+use Rattle.spec_access.proofs.Asking.{asks_limits}
 use Rattle.spec_access.proofs.Enqueued.{one_more}
 use Rattle.spec_access.proofs.spawning.add_spawn.Goals as goal
 
@@ -9,8 +9,8 @@ pub invariant_of-state : goal.invariant_of-state
 invariant_of-state g c =
     let found = c.index_mut-task.ensures.value in
     let was = c.state.invariant.4.tasks c.args.id.0 _ found in
-    let room = asks_room _ _ _ _ _ _ c.requires.asks (ap (λ (v : StateValue). v.view) c.state.view_is) found in
-    let children = one_more _ c.args.spawn _ c.push_with.ensures room in (
+    let limits = asks_limits _ _ _ _ _ _ c.requires.asks (ap (λ (v : StateValue). v.view) c.state.view_is) found in
+    let children = one_more _ c.args.spawn _ c.push_with.ensures limits in (
       c.state.invariant.0,
       c.state.invariant.1,
       c.state.invariant.2,

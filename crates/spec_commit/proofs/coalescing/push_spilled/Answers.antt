@@ -2,7 +2,7 @@ use Rattle.std.proofs.Common.{rules, ◌<◌, ◌≤◌, ◌+◌, length, ap, �
 use Rattle.spec_state.specs.StateValue.{StateValue}
 use Rattle.spec_state.proofs.Proved.{spare_before}
 use Rattle.spec_commit.specs.Spilling.{KeepsOtherSpare}
-use Rattle.spec_commit.proofs.Blocks.{push_seen, spare_seen, other_room, in_blocks, in_spares, in_room}
+use Rattle.spec_commit.proofs.Blocks.{push_seen, spare_seen, other_spare, in_blocks, in_spares, in_spare}
 use Rattle.spec_commit.proofs.coalescing.push_spilled.Goals as goal
 
 pub push-requires-clause-spare : goal.push-requires-clause-spare
@@ -17,7 +17,7 @@ returns-clause-view g c =
     let r = c.push.ensures in
     in_blocks _ _ _ _ _ _ _ _ c.state.inside.queues.items c.state.inside.finished.items _ _ _ r.one.new_is
     ∙ push_seen _ _ _ _ _ _ _ _ c.state.inside.queues.items c.state.inside.finished.items _ c.state.inside.blocks.items c.args.tile r.before r.after _ (search rules)
-    r.one.before_is r.entries _ (ap (λ (v : StateValue). v.view) c.state.view_is)
+    r.one.before_is r.tasks _ (ap (λ (v : StateValue). v.view) c.state.view_is)
 
 pub returns-clause-spare : goal.returns-clause-spare
 returns-clause-spare g c =
@@ -26,8 +26,8 @@ returns-clause-spare g c =
     (spare_seen c.state.inside.blocks.items c.args.tile r.before r.after (search rules) r.one.before_is r.spare _
     (ap (λ (v : StateValue). v.spare.blocks) c.state.view_is))
 
-pub returns-clause-room : goal.returns-clause-room
-returns-clause-room g c =
+pub returns-clause-others : goal.returns-clause-others
+returns-clause-others g c =
     let r = c.push.ensures in
-    in_room _ _ _ _ _ (KeepsOtherSpare c.args.tile c.args.state.now.spare) r.one.new_is
-    (other_room _ _ _ c.state.inside.blocks.items c.args.tile r.after _ (ap (λ (v : StateValue). v.spare) c.state.view_is))
+    in_spare _ _ _ _ _ (KeepsOtherSpare c.args.tile c.args.state.now.spare) r.one.new_is
+    (other_spare _ _ _ c.state.inside.blocks.items c.args.tile r.after _ (ap (λ (v : StateValue). v.spare) c.state.view_is))

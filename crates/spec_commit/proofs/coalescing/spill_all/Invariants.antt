@@ -7,5 +7,5 @@ abbrev pub invariant-loop-id : goal.invariant-loop-id
 invariant-loop-id g l = record {
   moved : HaveMoved l.tile l.ids l.fn.state.view l.state.view l.id-index;
   spare : 8 ≤ slice_index_or l.state.spare.blocks l.tile 0 + l.id-index;
-  room : KeepsOtherSpare l.tile l.fn.state.spare l.state.spare;
+  others : KeepsOtherSpare l.tile l.fn.state.spare l.state.spare;
 }

@@ -39,6 +39,6 @@ invariant_of-state g c =
           (omega (arith, c.close.ensures.count)) c.close.ensures.capacity,
       stored_dispatched _ _ c.args.tile dispatches g.N.Naming.image.data_size c.state.invariant.4,
       indexed_closed c.state.inside.version c.state.inside.tasks.slots _ _ _ c.args.id.0 c.args.core c.state.inside.next _ _ c.index_mut.result.now c.start.new.task c.state.invariant.5 c.index_mut.ensures.value c.start.ensures
-          c.close.ensures.entries,
+          c.close.ensures.candidates,
       noted_set c.state.inside.tasks.slots _ c.args.id.0 c.index_mut.result.now c.start.new.task c.index_mut.ensures.value (ap (λ (t : Task). t.creator) c.start.ensures) c.state.invariant.6,
     )

@@ -23,5 +23,5 @@ returns g c =
           (λ k d within. (let held = Rattle.std.proofs.Common.slice_index_or s.cores.items k d in
           length-map held.items (option_map (λ (id : TaskId). id.0)) ∙ sym held.ok.0
           ∙ c.state.invariant.2 k d within));
-      blocks = length-map s.blocks.items (λ (b : BlockValue). b.entries) ∙ tiles.block_count;
+      blocks = length-map s.blocks.items (λ (b : BlockValue). b.tasks) ∙ tiles.block_count;
     })

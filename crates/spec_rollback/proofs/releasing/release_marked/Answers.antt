@@ -10,7 +10,7 @@ loop-place-init g c = record {
   takes = none_taken g.N.Naming.image.data_size c.args.state.now.view c.is_stored.ensures
       c.args.state.now.scratch.marks;
   scratch = refl;
-  room = refl;
+  spare = refl;
 }
 
 pub member-id-requires : goal.member-id-requires
@@ -40,7 +40,7 @@ loop-place-preserved g c =
           (subst (λ (s : Scratch). TakesOne s.marks c.member-id.result c.loop-place.state.view
           c.release.new.state.view) c.loop-place.invariant.scratch c.release.ensures.takes);
       scratch = c.release.ensures.scratch ∙ c.loop-place.invariant.scratch;
-      room = c.release.ensures.room ∙ c.loop-place.invariant.room;
+      spare = c.release.ensures.spare ∙ c.loop-place.invariant.spare;
     }
 
 pub returns-clause-takes : goal.returns-clause-takes

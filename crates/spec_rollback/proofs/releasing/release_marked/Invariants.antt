@@ -8,5 +8,5 @@ invariant-loop-place g l = record {
   takes : TakesThese l.initial.state.scratch.marks (among (take l.place l.initial.state.scratch.members))
       l.initial.state.view l.state.view;
   scratch : l.state.scratch ≡ l.initial.state.scratch;
-  room : l.state.spare ≡ l.initial.state.spare;
+  spare : l.state.spare ≡ l.initial.state.spare;
 }

@@ -31,7 +31,7 @@ loop-place-preserved c =
       one_more c.args.tasks.now.slots (map (λ (q : QueueValue). q.ids) c.args.queues.now) c.args.next c.args.tile c.args.arrivals.now.items c.loop-place.arrivals.items c.loop-place.index.candidates
           c.loop-place.place (slice_index_or c.ids-ids.result.now c.loop-place.place 0) c.index.result.now c.requires.theirs c.loop-place.invariant.0 t.2 c.index.ensures
           (omega (arith, below, c.capacity-slots.ensures.slots, c.capacity-slots.ensures.value, c.requires.slots, c.loop-place.invariant.0.slots))
-          c.move_arrival.new.arrivals.items c.move_arrival.new.index.candidates c.move_arrival.ensures.arrivals c.move_arrival.ensures.entries,
+          c.move_arrival.new.arrivals.items c.move_arrival.new.index.candidates c.move_arrival.ensures.arrivals c.move_arrival.ensures.candidates,
       search rules,
       search rules,
     )

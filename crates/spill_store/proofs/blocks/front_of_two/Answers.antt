@@ -8,7 +8,7 @@ use Rattle.spill_store.proofs.blocks.front_of_two.Goals as goal
 pub returns-then-comes_first : goal.returns-then-comes_first
 returns-then-comes_first c =
     let lists = lists_in c.args.blocks.now in
-    let long = length-map c.args.blocks.now (λ (b : BlockValue). b.entries) in
+    let long = length-map c.args.blocks.now (λ (b : BlockValue). b.tasks) in
     takes_over lists c.args.front c.args.tile (omega (arith, long, c.requires.tile)) c.requires.front (sym c.comes_first.ensures ∙ c.if-comes_first.true)
 
 pub returns-else-comes_first : goal.returns-else-comes_first

@@ -10,12 +10,12 @@ use Rattle.task_desc.proofs.record.is_valid.Goals as goal
 abbrev test : ℕ → ℕ → Bool
 test depth kinds = nat_le 1 depth && nat_le depth MAX_DEPTH && nat_lt kinds (2 ^ depth)
 
-pub returns-then-is_of_path-clause-value : goal.returns-then-is_of_path-clause-value
+pub returns-then-is_of_depth-clause-value : goal.returns-then-is_of_depth-clause-value
 unfolding is_record fields_of
-returns-then-is_of_path-clause-value c =
+returns-then-is_of_depth-clause-value c =
     let bytes = c.args.bytes.now in
     let long = length-drop 36 bytes in
     let short : length (drop 36 bytes) ≤ 28 = omega arith in
     let zeros = c.is_zero.ensures ∙ ap (list_all (λ byte. byte == 0)) (take_all 28 (drop 36 bytes) short) in
-    let passed = sym c.if-is_of_path.true ∙ c.is_of_path.ensures.value ∙ ap (λ (n : ℕ). test n c.half-2.result) c.half.ensures ∙ ap (test (half_at bytes 32)) c.half-2.ensures in
+    let passed = sym c.if-is_of_depth.true ∙ c.is_of_depth.ensures.value ∙ ap (λ (n : ℕ). test n c.half-2.result) c.half.ensures ∙ ap (test (half_at bytes 32)) c.half-2.ensures in
     zeros ∙ ap (λ (b : Bool). b && list_all (λ byte. byte == 0) (drop 36 bytes)) passed

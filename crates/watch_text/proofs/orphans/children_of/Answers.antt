@@ -8,7 +8,7 @@ pub returns-in-Some : goal.returns-in-Some
 returns-in-Some g c =
     IfOk-weaker c.widened.result _ _
     (λ wide are id below made. contains_noted c.args.state.now.view c.state.inside.tasks.slots c.state.inside.children
-    c.args.parent c.in-Some.noted.now _ (ap (λ s. s.view.tasks) c.state.view_is) c.state.invariant.6
+    c.args.creator c.in-Some.noted.now _ (ap (λ s. s.view.tasks) c.state.view_is) c.state.invariant.6
     (c.in-Some.ensures.complete.0 refl).0 c.in-Some.ensures.ids are id made)
     c.widened.ensures
 

@@ -14,41 +14,41 @@ push-requires c =
 
 pub sift_up-requires-clause-heap : goal.sift_up-requires-clause-heap
 sift_up-requires-clause-heap c =
-    let entry : Candidate =
+    let candidate : Candidate =
     record { key = c.args.key.now; tile = c.args.tile; arrival = c.args.arrival; id = c.args.id } in
     let old = c.self.inside.slots.candidates in
     let new = c.push.new.self.candidates in
     subst (IsHeapUp upto (candidate_at new) (length new)) (sym c.len-place.ensures)
-    (heap_grown old new entry c.push.ensures.entries c.self.invariant.0.heap)
+    (heap_grown old new candidate c.push.ensures.candidates c.self.invariant.0.heap)
 
 pub invariant_of-self : goal.invariant_of-self
 invariant_of-self c =
-    let entry : Candidate =
+    let candidate : Candidate =
     record { key = c.args.key.now; tile = c.args.tile; arrival = c.args.arrival; id = c.args.id } in
     let old = c.self.inside.slots.candidates in
-    let put = put_in_heap entry old c.push.new.self.candidates c.sift_up.new.slots.candidates c.push.ensures.entries c.sift_up.ensures.permuted in (
+    let put = put_in_heap candidate old c.push.new.self.candidates c.sift_up.new.slots.candidates c.push.ensures.candidates c.sift_up.ensures.permuted in (
       record {
         heap = c.sift_up.ensures.heap;
-        ids = ids_grown entry old c.sift_up.new.slots.candidates (λ has. c.requires.other (subst (λ v. HasId c.args.id v.candidates) c.self.view_is has)) put c.self.invariant.0.ids;
+        ids = ids_grown candidate old c.sift_up.new.slots.candidates (λ has. c.requires.other (subst (λ v. HasId c.args.id v.candidates) c.self.view_is has)) put c.self.invariant.0.ids;
       },
       c.closed_with-self-inside.ensures,
     )
 
 pub closed_with-self-inside-requires : goal.closed_with-self-inside-requires
 closed_with-self-inside-requires c =
-    let entry : Candidate =
+    let candidate : Candidate =
     record { key = c.args.key.now; tile = c.args.tile; arrival = c.args.arrival; id = c.args.id } in
     let old = c.self.inside.slots.candidates in
-    let put = put_in_heap entry old c.push.new.self.candidates c.sift_up.new.slots.candidates c.push.ensures.entries c.sift_up.ensures.permuted in
-    let more = grown_closed entry old c.sift_up.new.slots.candidates put in
+    let put = put_in_heap candidate old c.push.new.self.candidates c.sift_up.new.slots.candidates c.push.ensures.candidates c.sift_up.ensures.permuted in
+    let more = grown_closed candidate old c.sift_up.new.slots.candidates put in
     let was = c.self.invariant.1 in
     omega (arith, more, was)
 
-pub returns-clause-entries : goal.returns-clause-entries
-returns-clause-entries c =
-    let entry : Candidate =
+pub returns-clause-candidates : goal.returns-clause-candidates
+returns-clause-candidates c =
+    let candidate : Candidate =
     record { key = c.args.key.now; tile = c.args.tile; arrival = c.args.arrival; id = c.args.id } in
     let old = c.self.inside.slots.candidates in
-    let put = put_in_heap entry old c.push.new.self.candidates c.sift_up.new.slots.candidates c.push.ensures.entries c.sift_up.ensures.permuted in
-    in_rising_order-permutation (entry ∷ old) c.sift_up.new.slots.candidates put
+    let put = put_in_heap candidate old c.push.new.self.candidates c.sift_up.new.slots.candidates c.push.ensures.candidates c.sift_up.ensures.permuted in
+    in_rising_order-permutation (candidate ∷ old) c.sift_up.new.slots.candidates put
     ∙ ap (λ v. after_insert candidate_cmp (record { key = c.args.key.now; tile = c.args.tile; arrival = c.args.arrival; id = c.args.id }) v.candidates) c.self.view_is

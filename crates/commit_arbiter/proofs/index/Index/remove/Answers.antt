@@ -40,12 +40,12 @@ returns-in-Some-clause-found c =
       λ _. search rules,
     )
 
-pub returns-in-Some-clause-entries : goal.returns-in-Some-clause-entries
-returns-in-Some-clause-entries c =
+pub returns-in-Some-clause-candidates : goal.returns-in-Some-clause-candidates
+returns-in-Some-clause-candidates c =
     let old = c.self.inside.slots.candidates in
     let x = candidate_at old c.in-Some.place in
     let is = c.in-Some.ensures.some in
-    let mine : x.id ≡ c.args.id = ap (λ e. e.id) (get_or_from_slice_get old c.in-Some.place is.entry blank_candidate is.there) ∙ is.id_is in
+    let mine : x.id ≡ c.args.id = ap (λ e. e.id) (get_or_from_slice_get old c.in-Some.place is.candidate blank_candidate is.there) ∙ is.id_is in
     taken_out x old c.take_out.new.slots.candidates c.take_out.ensures.permuted c.self.invariant.0.ids
     ∙ ap (λ n. without_candidate n (in_rising_order old)) mine
     ∙ ap (λ v. without_candidate c.args.id v.candidates) c.self.view_is
@@ -57,7 +57,7 @@ returns-in-None-clause-found c =
       λ has. absurd (c.in-None.ensures.none (search rules) (has_permuted c.args.id (in_rising_order old) old (IsPermutation-sym old (in_rising_order old) (in_rising_order-permutes old)) (subst (λ v. HasId c.args.id v.candidates) (sym c.self.view_is) has))),
     )
 
-pub returns-in-None-clause-entries : goal.returns-in-None-clause-entries
-returns-in-None-clause-entries c =
+pub returns-in-None-clause-candidates : goal.returns-in-None-clause-candidates
+returns-in-None-clause-candidates c =
     let old = c.self.inside.slots.candidates in
     sym (without_absent c.args.id c.args.self.now.candidates (λ has. c.in-None.ensures.none (search rules) (has_permuted c.args.id (in_rising_order old) old (IsPermutation-sym old (in_rising_order old) (in_rising_order-permutes old)) (subst (λ v. HasId c.args.id v.candidates) (sym c.self.view_is) has))))

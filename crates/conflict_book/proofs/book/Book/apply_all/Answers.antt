@@ -21,5 +21,5 @@ loop-event-preserved g c =
           held.happen c.apply_kept.ensures.happens);
       settings = c.apply_kept.ensures.settings ∙ held.settings;
       count = longer c.loop-event.answers.items c.push_answer.new.answers.items c.apply_kept.result c.loop-event.event-index c.push_answer.ensures.items held.count;
-      room = (let had = held.room in let more = c.push_answer.ensures.room in omega (arith, had, more));
+      spare = (let had = held.spare in let more = c.push_answer.ensures.spare in omega (arith, had, more));
     }

@@ -10,5 +10,5 @@ invariant-loop-event g l = record {
       (view_of g.P.Placer.policy g.T.Tap.notes l.self);
   settings : (view_of g.P.Placer.policy g.T.Tap.notes l.self).view.settings ≡ (view_of g.P.Placer.policy g.T.Tap.notes l.fn.self).view.settings;
   count : length l.answers.items ≡ l.event-index;
-  room : length l.fn.events.items ≤ vec_capacity l.answers;
+  spare : length l.fn.events.items ≤ vec_capacity l.answers;
 }

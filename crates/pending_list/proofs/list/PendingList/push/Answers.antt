@@ -13,7 +13,7 @@ invariant_of-self c =
     c.set.ensures ∙ ap (set s.ranks c.len-place.result) c.rank.ensures
     ∙ ap (λ k. set s.ranks k (c.args.task.ts * 2 ^ 32 + k)) here
     in
-    let room = ap (λ v. v.room) c.self.view_is in
+    let spare = ap (λ v. v.spare) c.self.view_is in
     pushed s.slots.items c.push.new.self.items s.ranks c.set.new.self (vec_capacity s.slots)
     (vec_capacity c.push.new.self)
     (record { task = c.args.task; here = true }) c.self.invariant (omega arith) refl (search rules)

@@ -1,8 +1,8 @@
 use Rattle.std.proofs.Common.{◌∙◌}
-use Rattle.rv_core.proofs.Unreached.{steps_keep}
+use Rattle.rv_core.proofs.Unreached.{all_plain_keep}
 use Rattle.rv_core.proofs.noted.NotedCore.run.Goals as goal
 
 pub invariant_of-self : goal.invariant_of-self
 invariant_of-self c still =
     let (was, first) = c.stays_empty-self-inside.ensures still in
-    steps_keep _ _ _ _ _ _ first c.run_in_place-done.ensures.leg.run ∙ c.self.invariant was
+    all_plain_keep _ _ _ _ _ _ first c.run_in_place-done.ensures.leg.run ∙ c.self.invariant was

@@ -5,13 +5,13 @@ use Rattle.tile_queues.specs.Queue.{QueueValue}
 use Rattle.spec_state.specs.StateValue.{StateValue}
 use Rattle.spec_state.specs.Stored.{IsWellFormed, IsIndexed, AreTheirs}
 use Rattle.spec_state.proofs.Joined.{ids_at, not_queued, stored_added}
-use Rattle.spec_state.proofs.Entered.{no_entry}
+use Rattle.spec_state.proofs.Entered.{no_candidate}
 use Rattle.spec_state.proofs.Noted.{noted_others}
 use Rattle.spec_state.proofs.Put.{in_lists, slots_after, adds_seen_at, entered_put_at, has_slot, few_indexed, few_more}
 use Rattle.spec_state.proofs.state.State.put.Goals as goal
 
-pub fresh_arrival-arrival-requires-clause-room : goal.fresh_arrival-arrival-requires-clause-room
-fresh_arrival-arrival-requires-clause-room g c = few_indexed _ _ _ _ _ _ _ c.self.invariant.1 c.self.invariant.3
+pub fresh_arrival-arrival-requires-clause-spare : goal.fresh_arrival-arrival-requires-clause-spare
+fresh_arrival-arrival-requires-clause-spare g c = few_indexed _ _ _ _ _ _ _ c.self.invariant.1 c.self.invariant.3
 
 pub fresh_arrival-arrival-requires-clause-theirs : goal.fresh_arrival-arrival-requires-clause-theirs
 fresh_arrival-arrival-requires-clause-theirs g c =
@@ -30,13 +30,13 @@ put_last-requires-clause-absent g c has =
     not_queued g.N.Naming.image.data_size _ c.tile-tile.result c.put_in-id.result c.self.invariant.4 c.put_in-id.ensures.was_vacant
     (subst (λ ids. Contains ids c.put_in-id.result) (sym held) has)
 
-pub insert-requires-clause-room : goal.insert-requires-clause-room
-insert-requires-clause-room g c =
-    let room = (has_slot _ c.self.inside.queues.items _ _ _ c.self.invariant.1 c.tile-tile.result (search rules) (search rules) _ _ c.self.invariant.3).1 in
-    omega (arith, room, c.fresh_arrival-arrival.ensures.count, c.fresh_arrival-arrival.ensures.capacity)
+pub insert-requires-clause-spare : goal.insert-requires-clause-spare
+insert-requires-clause-spare g c =
+    let slot = (has_slot _ c.self.inside.queues.items _ _ _ c.self.invariant.1 c.tile-tile.result (search rules) (search rules) _ _ c.self.invariant.3).1 in
+    omega (arith, slot, c.fresh_arrival-arrival.ensures.count, c.fresh_arrival-arrival.ensures.capacity)
 
 pub insert-requires-clause-other : goal.insert-requires-clause-other
-insert-requires-clause-other g c = no_entry _ _ _ _ _ _ c.fresh_arrival-arrival.ensures.indexed c.put_in-id.ensures.was_vacant
+insert-requires-clause-other g c = no_candidate _ _ _ _ _ _ c.fresh_arrival-arrival.ensures.indexed c.put_in-id.ensures.was_vacant
 
 pub note-requires : goal.note-requires
 note-requires g c = noted_others _ _ _ _ c.put_in-id.ensures.updates.others c.self.invariant.6
@@ -68,7 +68,7 @@ invariant_of-self g c =
       slots_after _ c.self.inside.queues.items _ _ _ c.self.invariant.1 tile (search rules) queue c.index_mut.ensures.value (search rules) _ _ c.self.invariant.3 id after ids
           c.put_in-id.new.tasks.slots c.put_in-id.new.tasks.capacity (length c.insert.new.self.candidates) c.insert.new.self.capacity _
           c.put_in-id.ensures.len c.put_in-id.ensures.capacity
-          (few_more _ _ _ _ c.insert.ensures.entries c.fresh_arrival-arrival.ensures.count)
+          (few_more _ _ _ _ c.insert.ensures.candidates c.fresh_arrival-arrival.ensures.count)
           (c.insert.ensures.capacity ∙ c.fresh_arrival-arrival.ensures.capacity) (length-set _ id _ ∙ c.fresh_arrival-arrival.ensures.slots),
       stored_added _ _ id c.args.task.now
           (adds_seen_at _ _ _ _ _ _ _ _ c.self.inside.queues.items _ _ _ _ id c.args.task.now queue after tile c.tile-tile.ensures.tile within c.index_mut.ensures.value ids
@@ -78,6 +78,6 @@ invariant_of-self g c =
           c.put_in-id.ensures.was_vacant updates.changed updates.others
           (subst (λ n. id < n) (sym (c.fresh_arrival-arrival.ensures.slots ∙ c.self.invariant.3.arrivals)) (subst (λ n. id < n) c.put_in-id.ensures.capacity c.put_in-id.ensures.key_in_range))
           (λ t k has same. not_queued g.N.Naming.image.data_size _ t id c.self.invariant.4 c.put_in-id.ensures.was_vacant (subst (Contains _) same has))
-          c.index.ensures c.insert.ensures.entries,
+          c.index.ensures c.insert.ensures.candidates,
       c.note.ensures.noted,
     )

@@ -4,7 +4,7 @@ use Rattle.spec_state.specs.View.{core_ids}
 use Rattle.spill_store.specs.SpilledTasks.{Spilled, BlockValue}
 use Rattle.spec_state.specs.StateValue.{StateValue, HasNoLessSpare}
 use Rattle.spec_state.specs.Fits.{view_of_parts}
-use Rattle.spec_state.proofs.Reserved.{same_entries, spare_at, spare_grows, grown_covers, one_more_fits, room_is_there}
+use Rattle.spec_state.proofs.Reserved.{same_lists, spare_at, spare_grows, grown_covers, one_more_fits}
 use Rattle.spec_state.proofs.state.State.reserve.Goals as goal
 
 pub returns-clause-view : goal.returns-clause-view
@@ -12,7 +12,7 @@ returns-clause-view g c =
     let r = c.reserve.ensures.one in
     ap (λ (blocks : List (List Spilled)). view_of_parts c.self.inside.version c.self.inside.settings c.self.inside.tasks.slots c.self.inside.memory c.self.inside.history.entries c.self.inside.output c.self.inside.next c.self.inside.path
     c.self.inside.queues.items c.self.inside.finished.items (map (λ cores. core_ids cores.items) c.self.inside.cores.items) blocks)
-    (ap (map (λ (b : BlockValue). b.entries)) r.one.new_is ∙ same_entries c.self.inside.blocks.items c.args.tile r.before r.after r.one.before_is r.entries)
+    (ap (map (λ (b : BlockValue). b.tasks)) r.one.new_is ∙ same_lists c.self.inside.blocks.items c.args.tile r.before r.after r.one.before_is r.tasks)
     ∙ ap (λ (v : StateValue). v.view) c.self.view_is
 
 pub returns-clause-covers : goal.returns-clause-covers

@@ -1,13 +1,12 @@
-use Rattle.std.proofs.Common.{rules, ◌≡◌, ◌<◌, [], map, sym, ap, subst, refl, ◌∙◌, None, Some, slice_index_or, slice_set, length, arith}
+use Rattle.std.proofs.Common.{rules, ◌≡◌, [], map, sym, ap, subst, refl, ◌∙◌, None, Some, slice_set, length, arith}
 use Rattle.std.specs.Prelude.{Contains}
 use Rattle.std.specs.Vec.{with_items}
-use Rattle.std.proofs.lemmas.List.{with_items_is, get_or_read, get_or-set_same, get_or-set_other}
+use Rattle.std.proofs.lemmas.List.{with_items_is, get_or-set_same, get_or-set_other}
 use Rattle.spec_state.specs.declared.task.Task.{Task}
 use Rattle.spec_state.specs.Leaving.{freed_of, IsHeldAs}
 use Rattle.spec_state.specs.StateValue.{StateValue}
 use Rattle.spec_state.specs.View.{core_ids}
 use Rattle.spec_state.proofs.Moved.{has_candidate}
-use Rattle.spec_state.proofs.Put.{few_indexed}
 use Rattle.spec_state.proofs.Renumbered.{below_slots, ids_of_tile}
 use Rattle.spec_state.proofs.Without.{seen_at}
 use Rattle.spec_state.proofs.Vacated.{own_finished, own_held, stored_back}
@@ -75,7 +74,7 @@ invariant_of-self g c =
       indexed_again _ (slice_set c.self.inside.tasks.slots c.args.id.0 (Some c.reset.new.task)) _ _ _ _ c.args.id.0 c.self.invariant.5
           (λ k other. get_or-set_other c.self.inside.tasks.slots c.args.id.0 k (Some c.reset.new.task) None other) c.reset.new.task
           (get_or-set_same c.self.inside.tasks.slots c.args.id.0 (Some c.reset.new.task) None below) _
-          (c.open.ensures.entries (candidate_of c.self.inside.arrivals.items c.args.id.0 c.index_mut-task.result.now) (c.self.invariant.5.all c.args.id.0 _ c.index_mut-task.ensures.value) refl
+          (c.open.ensures.candidates (candidate_of c.self.inside.arrivals.items c.args.id.0 c.index_mut-task.result.now) (c.self.invariant.5.all c.args.id.0 _ c.index_mut-task.ensures.value) refl
           ∙ ap (λ (t : Task). after_insert candidate_cmp (candidate_of c.self.inside.arrivals.items c.args.id.0 t) (without_candidate c.args.id.0 c.self.inside.index.candidates)) (sym c.reset.ensures)),
       noted_set c.self.inside.tasks.slots _ c.args.id.0 _ c.reset.new.task c.index_mut-task.ensures.value (ap (λ (t : Task). t.creator) c.reset.ensures) c.self.invariant.6,
     )

@@ -78,8 +78,8 @@ invariant_of-self g c =
           (search rules) c.index_mut-3.ensures.value (λ was. search (rules, items, was)),
       slots_left _ _ c.remove.new.self.slots c.self.inside.queues.items _ c.remove.new.self.capacity (length c.remove-2.new.self.candidates) c.remove-2.new.self.capacity c.index-task.result.now.tile
           c.index_mut.result.now c.leave_queue.new.queue c.self.invariant.3 (search rules) c.index_mut.ensures.value c.leave_queue.ensures.one c.remove.ensures.len c.remove.ensures.capacity
-          (subst (λ n. n < length c.self.inside.index.candidates) (sym (ap length c.remove-2.ensures.entries)) less) c.remove-2.ensures.capacity,
+          (subst (λ n. n < length c.self.inside.index.candidates) (sym (ap length c.remove-2.ensures.candidates)) less) c.remove-2.ensures.capacity,
       stored_left g.N.Naming.image.data_size _ _ c.args.id.0 leaves c.self.invariant.4,
-      indexed_gone _ c.remove.new.self.slots _ _ _ _ c.args.id.0 c.self.invariant.5 updates.others updates.changed _ _ leaves.queues c.remove-2.ensures.entries,
+      indexed_gone _ c.remove.new.self.slots _ _ _ _ c.args.id.0 c.self.invariant.5 updates.others updates.changed _ _ leaves.queues c.remove-2.ensures.candidates,
       noted_left _ c.remove.new.self.slots _ c.args.id.0 updates.changed updates.others c.self.invariant.6,
     )

@@ -7,7 +7,7 @@ use Rattle.spill_store.proofs.block.Block.front_key.Goals as goal
 
 pub returns-clause-least : goal.returns-clause-least
 returns-clause-least c =
-    let entries = c.args.self.now.entries in
-    let first : Some c.key.result.now ≡ first_key entries = search rules in
-    let order = subst (λ v. IsInOrder by_key v.entries) c.self.view_is c.self.invariant in
-    subst (λ key. IfSome key (IsLeastKey entries)) (sym first) (key_of_first entries order)
+    let tasks = c.args.self.now.tasks in
+    let first : Some c.key.result.now ≡ first_key tasks = search rules in
+    let order = subst (λ v. IsInOrder by_key v.tasks) c.self.view_is c.self.invariant in
+    subst (λ key. IfSome key (IsLeastKey tasks)) (sym first) (key_of_first tasks order)

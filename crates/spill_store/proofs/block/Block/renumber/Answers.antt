@@ -6,5 +6,5 @@ use Rattle.spill_store.proofs.block.Block.renumber.Goals as goal
 
 pub invariant_of-self : goal.invariant_of-self
 invariant_of-self c =
-    subst (IsInOrder by_key) (sym c.renumber.ensures.entries)
-    (order_renumbered c.args.table.now c.self.inside.shelf.entries (subst (λ v. HoldsSpilled c.args.table.now v.entries) (sym c.self.view_is) c.requires.held) c.self.invariant)
+    subst (IsInOrder by_key) (sym c.renumber.ensures.tasks)
+    (order_renumbered c.args.table.now c.self.inside.shelf.tasks (subst (λ v. HoldsSpilled c.args.table.now v.tasks) (sym c.self.view_is) c.requires.held) c.self.invariant)

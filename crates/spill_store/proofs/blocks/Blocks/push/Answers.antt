@@ -8,12 +8,12 @@ use Rattle.spill_store.proofs.blocks.Blocks.push.Goals as goal
 pub front_of_two-self-inside-requires-clause-front : goal.front_of_two-self-inside-requires-clause-front
 front_of_two-self-inside-requires-clause-front c =
     let blocks = c.self.inside.blocks.items in
-    let entry : Spilled = record { desc = c.args.desc.now; domain = c.args.domain.now } in
+    let task : Spilled = record { desc = c.args.desc.now; domain = c.args.domain.now } in
     let inside : c.args.tile < length blocks = search rules in
-    let own = get_or-map (λ (b : BlockValue). b.entries) blocks c.args.tile c.index_mut.result.now [] inside in
-    let long = length-map blocks (λ (b : BlockValue). b.entries) in
-    let now : lists_in c.as_slice.result.now ≡ set (lists_in blocks) c.args.tile (after_push (slice_index_or (lists_in blocks) c.args.tile []) entry) =
+    let own = get_or-map (λ (b : BlockValue). b.tasks) blocks c.args.tile c.index_mut.result.now [] inside in
+    let long = length-map blocks (λ (b : BlockValue). b.tasks) in
+    let now : lists_in c.as_slice.result.now ≡ set (lists_in blocks) c.args.tile (after_push (slice_index_or (lists_in blocks) c.args.tile []) task) =
     ap lists_in c.as_slice.ensures.value
-    ∙ map-set (λ (b : BlockValue). b.entries) blocks c.args.tile c.push.new.self
-    ∙ ap (set (lists_in blocks) c.args.tile) (c.push.ensures.entries ∙ ap (λ (b : BlockValue). after_push b.entries entry) c.index_mut.ensures.value ∙ ap (λ es. after_push es entry) (sym own)) in
-    pushed_but (lists_in blocks) (lists_in c.as_slice.result.now) c.self.inside.front c.args.tile entry now (omega (arith, long, inside)) c.self.invariant
+    ∙ map-set (λ (b : BlockValue). b.tasks) blocks c.args.tile c.push.new.self
+    ∙ ap (set (lists_in blocks) c.args.tile) (c.push.ensures.tasks ∙ ap (λ (b : BlockValue). after_push b.tasks task) c.index_mut.ensures.value ∙ ap (λ es. after_push es task) (sym own)) in
+    pushed_but (lists_in blocks) (lists_in c.as_slice.result.now) c.self.inside.front c.args.tile task now (omega (arith, long, inside)) c.self.invariant

@@ -6,4 +6,4 @@ use Rattle.spill_store.proofs.blocks.Blocks.reserve.Goals as goal
 pub invariant_of-self : goal.invariant_of-self
 invariant_of-self c =
     subst (λ lists. IsFront lists c.self.inside.front)
-    (sym (same_lists c.self.inside.blocks.items c.args.tile c.index_mut.result.now c.reserve.new.self c.index_mut.ensures.value c.reserve.ensures.entries)) c.self.invariant
+    (sym (same_lists c.self.inside.blocks.items c.args.tile c.index_mut.result.now c.reserve.new.self c.index_mut.ensures.value c.reserve.ensures.tasks)) c.self.invariant

@@ -6,9 +6,9 @@ use Rattle.spill_store.proofs.shelf.Shelf.new.Goals as goal
 
 pub invariant_of-result : goal.invariant_of-result
 invariant_of-result c =
-    let order_room = deque_capacity c.new-2.result in
-    let kept_room = vec_capacity c.new.result in
-    let free_room = vec_capacity c.new-3.result in
-    subst (λ kept. IsShelved kept c.new-2.result.items c.new-3.result.items 0 order_room kept_room free_room) (sym c.new.ensures.items)
-    (subst (λ order. IsShelved [] order c.new-3.result.items 0 order_room kept_room free_room) (sym c.new-2.ensures.items)
-    (subst (λ free. IsShelved [] [] free 0 order_room kept_room free_room) (sym c.new-3.ensures.items) (none_shelved order_room kept_room free_room)))
+    let order_capacity = deque_capacity c.new-2.result in
+    let kept_capacity = vec_capacity c.new.result in
+    let free_capacity = vec_capacity c.new-3.result in
+    subst (λ kept. IsShelved kept c.new-2.result.items c.new-3.result.items 0 order_capacity kept_capacity free_capacity) (sym c.new.ensures.items)
+    (subst (λ order. IsShelved [] order c.new-3.result.items 0 order_capacity kept_capacity free_capacity) (sym c.new-2.ensures.items)
+    (subst (λ free. IsShelved [] [] free 0 order_capacity kept_capacity free_capacity) (sym c.new-3.ensures.items) (none_shelved order_capacity kept_capacity free_capacity)))

@@ -2,7 +2,7 @@ use Rattle.std.proofs.Common.{arith, ◌∙◌, length, sym, ap, subst}
 use Rattle.std.proofs.lemmas.List.{length_push}
 use Rattle.spec_state.specs.Fits.{HistoryValue, HasLimits}
 use Rattle.spec_commit.proofs.Committed.{stored_longer}
-use Rattle.spec_commit.proofs.committing.record_commit.Goals as goal
+use Rattle.spec_commit.proofs.committing.enter_commit.Goals as goal
 
 pub invariant_of-state : goal.invariant_of-state
 invariant_of-state g c =

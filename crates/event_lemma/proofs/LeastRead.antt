@@ -108,16 +108,16 @@ spilled_where view w tile is = (spilled_is_read view w is tile, read_is_spilled 
 pub none_is_least : (view : View) (id : ℕ) → IsAllCommitted view → IsTheLeast view id → ⊥
 none_is_least view id all least = not_all view (least_is_one view) id least.0 least.1 all
 
--- and none is spilled
+-- and none that is spilled is
 pub none_is_spilled : (view : View) (tile : ℕ) → IsAllCommitted view → IsLeastSpilled view tile → ⊥
 none_is_spilled view tile all least = all (Spilled_at tile least.place) least.least.key least.least.has
 
--- where it is read as another than a finished one, none commits
+-- where it is read as another than a finished one, the least task isn't finished, so none commits
 pub none_commits : (view : View) (w : Where) → IsLeast view w → IsUnfinished w → (id : ℕ) (task : Task)
     → IsLeastTask view id task → task.status ≢ Finished
 none_commits view w is free id task least = unfinished view w is free id task least
 
--- as many have committed as may, and a task is left
+-- where as many have committed as may, and a task is left, the run ended at the limit
 pub limit_ends : (view : View) (w : Where) → IsLeast view w → length view.history ≡ view.settings.commits
     → HasEnd view ends.Limit
 limit_ends view w is full = (least_is_uncommitted view w is, full)
