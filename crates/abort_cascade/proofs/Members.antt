@@ -39,14 +39,14 @@ ListsTo-skip upto marks members found within unmarked lists =
 pub ListsTo-more : (upto : ℕ) (marks : List Bool) (members : List ℕ) (found : ℕ)
     → upto < length marks → found < length members → Marked marks upto → ListsTo upto marks members found
     → ListsTo (upto + 1) marks (set members found upto) (found + 1)
-ListsTo-more upto marks members found within room here lists =
+ListsTo-more upto marks members found within inside here lists =
     record {
       marked = λ k below. elim (cases_eq k found) [
-        | inl last ↦ rw last (subst (Marked marks) (sym (get_or-set_same members found upto 0 room)) here)
+        | inl last ↦ rw last (subst (Marked marks) (sym (get_or-set_same members found upto 0 inside)) here)
         | inr other ↦ subst (Marked marks) (sym (get_or-set_other members found k upto 0 other)) (lists.marked k (omega (arith, below, other)))
       ];
       all = λ node below marked. elim (cases_eq node upto) [
-        | inl same ↦ (found, omega arith, get_or-set_same members found upto 0 room ∙ sym same)
+        | inl same ↦ (found, omega arith, get_or-set_same members found upto 0 inside ∙ sym same)
         | inr other ↦
             let old = lists.all node (omega (arith, below, other)) marked in
             (old.0, omega (arith, old.1), get_or-set_other members found old.0 upto 0 (λ same. absurd (omega (arith, old.1, same))) ∙ old.2)
@@ -64,14 +64,14 @@ listed_below marks members found node listed within unmarked =
 pub IsListOf-mark : (marks : List Bool) (members : List ℕ) (found node : ℕ)
     → node < length marks → found < length members → get_or marks node false ≡ false → IsListOf marks members found
     → IsListOf (set marks node true) (set members found node) (found + 1)
-IsListOf-mark marks members found node within room unmarked listed =
+IsListOf-mark marks members found node within inside unmarked listed =
     record {
       marked = λ k below. elim (cases_eq k found) [
-        | inl last ↦ rw last (subst (Marked (set marks node true)) (sym (get_or-set_same members found node 0 room)) (get_or-set_same marks node true false within))
+        | inl last ↦ rw last (subst (Marked (set marks node true)) (sym (get_or-set_same members found node 0 inside)) (get_or-set_same marks node true false within))
         | inr other ↦ subst (Marked (set marks node true)) (sym (get_or-set_other members found k node 0 other)) (stays (get_or members k 0) (listed.marked k (omega (arith, below, other))))
       ];
       all = λ a marked. elim (cases_eq a node) [
-        | inl same ↦ (found, omega arith, get_or-set_same members found node 0 room ∙ sym same)
+        | inl same ↦ (found, omega arith, get_or-set_same members found node 0 inside ∙ sym same)
         | inr other ↦
             let old = listed.all a (sym (get_or-set_other marks node a true false other) ∙ marked) in
             (old.0, omega (arith, old.1), get_or-set_other members found old.0 node 0 (λ same. absurd (omega (arith, old.1, same))) ∙ old.2)
@@ -88,13 +88,13 @@ IsListOf-mark marks members found node within room unmarked listed =
 -- the marked nodes are those at the front of the members
 pub listed_front : (marks : List Bool) (members : List ℕ) (found node : ℕ)
     → found ≤ length members → IsListOf marks members found → Marked marks node ↔ Contains (take found members) node
-listed_front marks members found node room listed = (
+listed_front marks members found node inside listed = (
   λ marked.
       let at = listed.all node marked in
       subst (Contains (take found members)) (get_or-take found members at.0 0 at.1 ∙ at.2) (Contains-get_or (take found members) at.0 0 (omega (arith, at.1, length-take found members))),
   λ there.
       let below : there.0 < found = omega (arith, there.1, length-take found members) in
-      let here = get_or_read members there.0 node (omega (arith, below, room)) (sym there.2 ∙ get_or-take found members there.0 node below) 0 in
+      let here = get_or_read members there.0 node (omega (arith, below, inside)) (sym there.2 ∙ get_or-take found members there.0 node below) 0 in
       subst (Marked marks) (sym here) (listed.marked there.0 below),
 )
 
@@ -134,7 +134,7 @@ module _ (count : ℕ) (pull : ℕ → ℕ → Bool) where
   pub SpreadsTo-mark : (node upto : ℕ) (old new : List Bool) (before after : List ℕ) (found size : ℕ)
       → node < count → upto < count → upto < length new → size < length after → Marked old node → pull node upto ≡ true → get_or new upto false ≡ false
       → SpreadsTo node upto old new before after found size → SpreadsTo node (upto + 1) old (set new upto true) before (set after size upto) found (size + 1)
-  SpreadsTo-mark node upto old new before after found size low high within room marked pulled unmarked to =
+  SpreadsTo-mark node upto old new before after found size low high within inside marked pulled unmarked to =
       let one = Spreads-mark count pull new node upto low high within (to.spreads.stay node marked) pulled in
       record {
         spreads = Spreads-more count pull old new (set new upto true) to.spreads one;
@@ -142,7 +142,7 @@ module _ (count : ℕ) (pull : ℕ → ℕ → Bool) where
           | inl at ↦ rw at (get_or-set_same new upto true false within)
           | inr other ↦ one.stay b (to.all b (omega (arith, below, other)) pulled')
         ];
-        listed = IsListOf-mark new after size upto within room unmarked to.listed;
+        listed = IsListOf-mark new after size upto within inside unmarked to.listed;
         stay = λ k below. get_or-set_other after size k upto 0 (λ same. absurd (omega (arith, same, below, to.more))) ∙ to.stay k below;
         more = omega (arith, to.more);
       }

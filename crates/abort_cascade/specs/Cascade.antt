@@ -10,7 +10,7 @@ Marked marks node = slice_index_or marks node false ≡ true
 abbrev pub IsClosed : ℕ → (ℕ → ℕ → Bool) → (ℕ → Type 0) → Type 0
 IsClosed count pull set = (a b : ℕ) → a < count → b < count → pull a b ≡ true → set a → set b
 
--- the node is one of the first ones, or is pulled from one of them in some steps
+-- the node is one of the first ones, or is pulled from one of them, directly or through others
 pub data Reached (count : ℕ) (pull : ℕ → ℕ → Bool) (firsts : ℕ → Type 0) : ℕ → Type 0 where
   start : (a : ℕ) → firsts a → Reached count pull firsts a
   step : {a : ℕ} (b : ℕ) → Reached count pull firsts a → a < count → b < count → pull a b ≡ true

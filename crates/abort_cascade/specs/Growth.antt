@@ -2,7 +2,7 @@
 use Rattle.std.specs.Prelude.{◌≡◌, ℕ, ◌<◌, Bool, true, false, List, length, count_by, slice_index}
 use Rattle.abort_cascade.specs.Cascade.{Marked, Reached}
 
--- the marks stay, and each new one is pulled from the old ones in some steps
+-- the marks stay, and each new one is pulled from the old ones, directly or through others
 pub record Spreads (count : ℕ) (pull : ℕ → ℕ → Bool) (old new : List Bool) : Type 0 where
   pub stay : (node : ℕ) → Marked old node → Marked new node
   pub reached : (node : ℕ) → Marked new node → Reached count pull (Marked old) node

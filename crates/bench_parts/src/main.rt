@@ -31,7 +31,7 @@ fn main(rt: HostRuntime) -> io::Result<()> {
     }
 }
 
-/// What the work that the words ask for leaves, as one number; None where they ask for none.
+/// What the rounds that the words ask for leave, as one number; None where they ask for none.
 fn answer<R: AllocGlobal>(rt: &R, words: &[&str]) -> io::Result<Option<u64>> {
     match words {
         [_, "index", "ids", size, rounds] => match numbers(size, rounds) {

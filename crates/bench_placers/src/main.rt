@@ -98,7 +98,7 @@ struct Row {
     by_access: u64,
 }
 
-/// Plays rounds on an image until the run is over, and counts.
+/// Plays rounds on an image until the run is over, at most `MOST_ROUNDS`, and counts.
 fn row_of_play<N: Naming, P: Placer>(
     alloc: Global,
     image: &Image,
@@ -121,8 +121,8 @@ fn row_of_play<N: Naming, P: Placer>(
     })
 }
 
-/// A book, and what was counted of its run: rounds; events that were asked for up to the end, and those that a full
-/// queue refused; tasks that were taken back.
+/// A book, and what was counted of its run: rounds; acts up to the end, and those that a full queue refused; tasks that
+/// were taken back.
 #[derive(Drop)]
 struct Play<N: Naming, P: Placer> {
     book: Book<N, P, LineProfile>,
@@ -132,7 +132,7 @@ struct Play<N: Naming, P: Placer> {
     taken_back: u64,
 }
 
-/// Plays rounds on an image until the run is over.
+/// Plays rounds on an image until the run is over, at most `MOST_ROUNDS`.
 fn whole_play<N: Naming, P: Placer>(
     alloc: Global,
     image: &Image,
@@ -171,7 +171,8 @@ impl<N: Naming, P: Placer> Play<N, P> {
         first.saturating_add(self.book.tap_at(0, 1).unwrap_or(0))
     }
 
-    /// Tile after tile dispatches and each core makes a step; then come a commit for each tile and a split of each.
+    /// Tile after tile dispatches, and each of its cores that runs a task makes a step; then come a commit for each
+    /// tile and a split of each.
     fn round(&mut self, image: &Image, tiles: u32, cores: u32)
         requires { image.now ≡ N.image }
     {

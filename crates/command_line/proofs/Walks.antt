@@ -1,4 +1,4 @@
--- What `clap` makes of words is what the grammar makes of them.
+-- Where no word is stray, `clap` makes of the words what the grammar does; else the grammar gives nothing.
 use Rattle.std.proofs.Common.{◌≡◌, ◌⊎◌, inl, inr, ℕ, List, [], ◌∷◌, ◌++◌, Some, None, true, false, Bool, not, ◌&&◌, ◌||◌, refl, ap, sym, ◌∙◌, subst, map, fold, find, if◌then◌else◌, min, ◌+◌}
 use Rattle.std.proofs.lemmas.List.{map-append}
 use Rattle.std.proofs.lemmas.List.Folds.{list_any-append}
@@ -260,7 +260,7 @@ long_off m h p word n v bare long (e ∷ es) is fails = go (is_option n) refl wh
   go true known = unsettled_turn shape m h p word n v e es bare long (long-of n known) is
   go false known = unknown_turn shape m h p word n v bare long (no-long-of n known)
 
--- any word where the last use doesn't settle
+-- any word that isn't stray, where the last use doesn't settle
 dead_turn : (k : Spot) (h : Held) (word : Text) (kind : ArgumentWord) → Reads word kind → is_stray kind ≡ false
     → (o : Kinds) → settle_fault shape.rules shape.args_override_self h ≡ o → Fails o → Fails (turn_fault shape [] (walk_at h (position_at k)) word)
 dead_turn k h word (Whole n v) reads ok o is fails = long_off None h (position_at k) word n (Some v) reads.0 reads.1 o is fails
@@ -304,7 +304,7 @@ dead_name k h n (w ∷ ws) ok pending known there = by_kind (word_of w) (reads w
 abbrev Goes : List Text → Type 0
 Goes ws = (given : List Given) (k : Spot) (m : Option Text) (h : Held) → State given k m h → NoStray ws → Agrees (at m h (position_at k)) ws (read_on given (left_at k) m ws)
 
--- a text for a name, whether it stands in the same word or in the next
+-- a name that waits settles once the next word is its text
 settles_text : (given : List Given) (k : Spot) (h : Held) (n v : Text) → Waits given k n h → Ready (with_text given n v) k (record h { pending = Some (n, v ∷ []) })
 settles_text given k h n v s = record {
   settles = let free : has_row n h.rows ≡ false = ap (has_row n) s.rows ∙ has-rows given n ∙ s.new in rw (id-of n s.known, free) refl;

@@ -11,8 +11,8 @@ module _ {X : Type 0} (le : X → X → Type 0) (trans : (x y z : X) → le x y 
   moved : (a b c d : X) → a ≡ c → b ≡ d → le c d → le a b
   moved a b c d one two fact = subst (λ x. le x b) (sym one) (subst (le c) (sym two) fact)
 
-  pub up_step : (f g : ℕ → X) (many i : ℕ) → IsHeapUp le f many i → 0 < i → i < many → le (f i) (f (parent i)) → Swapped f g i (parent i) → IsHeapUp le g many (parent i)
-  up_step f g many i is pos inside less swapped = record { order = order; over = over }
+  pub up_exchanged : (f g : ℕ → X) (many i : ℕ) → IsHeapUp le f many i → 0 < i → i < many → le (f i) (f (parent i)) → Swapped f g i (parent i) → IsHeapUp le g many (parent i)
+  up_exchanged f g many i is pos inside less swapped = record { order = order; over = over }
     where
       above : parent i < i
       above = parent_less i pos
@@ -55,8 +55,8 @@ module _ {X : Type 0} (le : X → X → Type 0) (trans : (x y z : X) → le x y 
       by_case (inr other) = is.order k kpos kin other
 
   -- below its least child
-  pub apart_step : (f g : ℕ → X) (many i c : ℕ) → IsHeapApart le f many i → 0 < c → c < many → parent c ≡ i → ((k : ℕ) → 0 < k → k < many → parent k ≡ i → le (f c) (f k)) → Swapped f g i c → IsHeapApart le g many c
-  apart_step f g many i c is pos inside child least swapped = record { order = order; over = over }
+  pub apart_exchanged : (f g : ℕ → X) (many i c : ℕ) → IsHeapApart le f many i → 0 < c → c < many → parent c ≡ i → ((k : ℕ) → 0 < k → k < many → parent k ≡ i → le (f c) (f k)) → Swapped f g i c → IsHeapApart le g many c
+  apart_exchanged f g many i c is pos inside child least swapped = record { order = order; over = over }
     where
       above : i < c
       above = let low = parent_less c pos in omega arith

@@ -50,8 +50,8 @@ module _ (table : List Candidate) (order free : List ℕ) (slot : ℕ) (order_ca
       ∙ ap (λ n. insert (in_slots table order) n e) (sym (length-map order (λ s. get_or table s blank_candidate)))
       ∙ insert_end (in_slots table order) e
 
-  inserted_slotted : (e : Candidate) (place more_room less_room : ℕ) → place ≤ length order → order_capacity ≤ more_room → free_capacity ≤ less_room → IsSlotted (set table slot e) (insert order place slot) free more_room less_room
-  inserted_slotted e place more_room less_room upto more less =
+  inserted_slotted : (e : Candidate) (place order_after free_after : ℕ) → place ≤ length order → order_capacity ≤ order_after → free_capacity ≤ free_after → IsSlotted (set table slot e) (insert order place slot) free order_after free_after
+  inserted_slotted e place order_after free_after upto more less =
       let long = length-set table slot e in
       let one_more = length-insert order place slot upto in
       let one_less = length-append free (slot ∷ []) in
@@ -64,10 +64,10 @@ module _ (table : List Candidate) (order free : List ℕ) (slot : ℕ) (order_ca
         free_holds = (let holds = is.free_holds in omega arith);
       }
 
-  pub slotted_pushed : (e : Candidate) (more_room less_room : ℕ) → order_capacity ≤ more_room → free_capacity ≤ less_room → IsSlotted (set table slot e) (order ++ slot ∷ []) free more_room less_room
-  slotted_pushed e more_room less_room more less =
-      subst (λ slots. IsSlotted (set table slot e) slots free more_room less_room) (insert_end order slot)
-      (inserted_slotted e (length order) more_room less_room (omega arith) more less)
+  pub slotted_pushed : (e : Candidate) (order_after free_after : ℕ) → order_capacity ≤ order_after → free_capacity ≤ free_after → IsSlotted (set table slot e) (order ++ slot ∷ []) free order_after free_after
+  slotted_pushed e order_after free_after more less =
+      subst (λ slots. IsSlotted (set table slot e) slots free order_after free_after) (insert_end order slot)
+      (inserted_slotted e (length order) order_after free_after (omega arith) more less)
 
 -- the order's last slot goes to the free ones
 module _ (table : List Candidate) (front free : List ℕ) (slot : ℕ) (order_capacity free_capacity : ℕ) (is : IsSlotted table (front ++ slot ∷ []) free order_capacity free_capacity) where
@@ -77,8 +77,8 @@ module _ (table : List Candidate) (front free : List ℕ) (slot : ℕ) (order_ca
       (IsPermutation-append_left free (front ++ slot ∷ []) (slot ∷ front) (IsPermutation-to_front front slot))
       (IsPermutation-sym (front ++ (free ++ slot ∷ [])) (slot ∷ (front ++ free)) (last_front front free slot))
 
-  pub slotted_popped : (more_room less_room : ℕ) → order_capacity ≤ more_room → free_capacity ≤ less_room → IsSlotted table front (free ++ slot ∷ []) more_room less_room
-  slotted_popped more_room less_room more less =
+  pub slotted_popped : (order_after free_after : ℕ) → order_capacity ≤ order_after → free_capacity ≤ free_after → IsSlotted table front (free ++ slot ∷ []) order_after free_after
+  slotted_popped order_after free_after more less =
       let one_less = length-append front (slot ∷ []) in
       let one_more = length-append free (slot ∷ []) in
       let all = is.all in

@@ -17,7 +17,7 @@ use Rattle.commit_arbiter.specs.Indexed.{candidate_cmp}
 use Rattle.commit_arbiter.specs.Slots.{blank_candidate, in_slots, IsSlotted, candidate_at, HasSwapped}
 use Rattle.commit_arbiter.specs.Heap.{parent, IsHeapBy, IsHeapUp, IsLeastChild, IsHeapApart, IsHeap, SiftsUpOnce, SiftsDownOnce, upto as not_above}
 use Rattle.commit_arbiter.proofs.Places.{candidate_cmp_total}
-use Rattle.commit_arbiter.proofs.Heaps.{up_step, up_end, apart_step, apart_from}
+use Rattle.commit_arbiter.proofs.Heaps.{up_exchanged, up_end, apart_exchanged, apart_from}
 
 get_mapped : {X Y : Type 0} (f : X → Y) (xs : List X) (k : ℕ) (d : X) → get_or (map f xs) k (f d) ≡ f (get_or xs k d)
 get_mapped f [] k d = refl
@@ -51,8 +51,8 @@ slots_swapped table old new candidates a b view is first second =
           permuted = IsPermutation-map (λ slot. get_or table slot blank_candidate) old new (IsPermutation-swap old new a b one two is);
         }
 
-pub slotted_swapped : (table : List Candidate) (old new free : List ℕ) (order_capacity free_capacity more_room : ℕ) (a b : ℕ) → IsSlotted table old free order_capacity free_capacity → a < length old → b < length old → new ≡ swap old a b → order_capacity ≤ more_room → IsSlotted table new free more_room free_capacity
-slotted_swapped table old new free order_capacity free_capacity more_room a b is one two same more =
+pub slotted_swapped : (table : List Candidate) (old new free : List ℕ) (order_capacity free_capacity order_after : ℕ) (a b : ℕ) → IsSlotted table old free order_capacity free_capacity → a < length old → b < length old → new ≡ swap old a b → order_capacity ≤ order_after → IsSlotted table new free order_after free_capacity
+slotted_swapped table old new free order_capacity free_capacity order_after a b is one two same more =
     let moved = IsPermutation-append_left free old new (IsPermutation-swap old new a b one two same) in
     let long : length new ≡ length old = ap length same ∙ length-swap old a b in
     let all = is.all in
@@ -90,13 +90,13 @@ module _ (old new : List Candidate) (at : ℕ) (x y : Candidate) (pos : 0 < at) 
   read_above : y ≡ candidate_at old (parent at)
   read_above = sym (get_or_from_slice_get old (parent at) y blank_candidate above)
 
-  -- a step up that exchanges two candidates, and one that doesn't
-  pub stepped_up : is_lt (candidate_cmp x y) ≡ true → HasSwapped old new at (parent at) → SiftsUpOnce old new at true
-  stepped_up less swapped = record {
+  -- a sift up that exchanges two candidates, and one that doesn't
+  pub sifted_up_once : is_lt (candidate_cmp x y) ≡ true → HasSwapped old new at (parent at) → SiftsUpOnce old new at true
+  sifted_up_once less swapped = record {
     long = swapped.long;
     permuted = swapped.permuted;
     up = λ _. subst (λ n. IsHeapUp not_above (candidate_at new) n (parent at)) (sym swapped.long)
-        (up_step not_above not_above_trans (candidate_at old) (candidate_at new) (length old) at heap pos inside
+        (up_exchanged not_above not_above_trans (candidate_at old) (candidate_at new) (length old) at heap pos inside
         (subst (λ e. not_above e (candidate_at old (parent at))) read_here (subst (not_above x) read_above (less_not_above x y less)))
         (swapped.first, swapped.second, swapped.others));
     all = λ no_way. absurd (cc (no_way));
@@ -150,15 +150,15 @@ module _ (candidates : List Candidate) (at left : ℕ) (is : left ≡ 2 * at + 1
     least = λ k kpos kin child. upto_both c other below k (cases_eq k c) (omega arith);
   }
 
--- a step down
-pub stepped_down : (old new : List Candidate) (at c : ℕ) → IsHeapApart not_above (candidate_at old) (length old) at → IsLeastChild old at c → HasSwapped old new at c → SiftsDownOnce old new at c
-stepped_down old new at c heap is swapped = record {
+-- one exchange down
+pub sifted_down_once : (old new : List Candidate) (at c : ℕ) → IsHeapApart not_above (candidate_at old) (length old) at → IsLeastChild old at c → HasSwapped old new at c → SiftsDownOnce old new at c
+sifted_down_once old new at c heap is swapped = record {
   long = swapped.long;
   permuted = swapped.permuted;
   inside = (let long = swapped.long in let inside = is.inside in omega arith);
   below = (let low = is.child in let pos = is.pos in omega arith);
   apart = subst (λ n. IsHeapApart not_above (candidate_at new) n c) (sym swapped.long)
-      (apart_step not_above not_above_trans (candidate_at old) (candidate_at new) (length old) at c heap is.pos is.inside is.child is.least (swapped.first, swapped.second, swapped.others));
+      (apart_exchanged not_above not_above_trans (candidate_at old) (candidate_at new) (length old) at c heap is.pos is.inside is.child is.least (swapped.first, swapped.second, swapped.others));
 }
 
 pub at_both : (es : List Candidate) (i j : ℕ) (x y : Candidate) → slice_get es i ≡ Some x → slice_get es j ≡ Some y → not_above x y → not_above (candidate_at es i) (candidate_at es j)

@@ -16,7 +16,7 @@ fn sift_up_once(slots: &mut Slots, at: usize) -> bool
     requires within { at < length slots.old.candidates }
     requires heap { IsHeapUp upto (candidate_at slots.old.candidates) (length slots.old.candidates) at }
     ensures capacity { slots.new.capacity ≡ slots.old.capacity }
-    ensures step { SiftsUpOnce slots.old.candidates slots.new.candidates at result }
+    ensures exchange { SiftsUpOnce slots.old.candidates slots.new.candidates at result }
 {
     let above = (at - 1) / 2;
     if candidate_order(slots.get(at), slots.get(above)).is_lt() {
@@ -68,7 +68,7 @@ fn sift_down_once(slots: &mut Slots, at: usize) -> usize
     requires parent { at < length slots.old.candidates / 2 }
     requires heap { IsHeapApart upto (candidate_at slots.old.candidates) (length slots.old.candidates) at }
     ensures capacity { slots.new.capacity ≡ slots.old.capacity }
-    ensures step { SiftsDownOnce slots.old.candidates slots.new.candidates at result }
+    ensures exchange { SiftsDownOnce slots.old.candidates slots.new.candidates at result }
 {
     let child = least_child(slots, at);
     slots.swap(at, child);

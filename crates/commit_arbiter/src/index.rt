@@ -24,7 +24,8 @@ use std::marker::Model;
 /// The queued tasks, in their order: by key, then by tile, by arrival and by id.
 ///
 /// It is a binary heap of slot numbers. `first` costs one look, `insert` and `remove` comparisons in the logarithm
-/// of the length, where the ids are below the capacity; the candidate with a greater id is found by a look at each.
+/// of the length, where the ids are below the capacity. The candidate with another id is found by a look at each, and
+/// so it is found that an id isn't there.
 #[derive(Drop)]
 pub struct Index {
     slots: Slots,

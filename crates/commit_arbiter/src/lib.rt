@@ -1,8 +1,8 @@
 //! The commit arbiter: which task commits next (the global virtual time of Swarm and Fractal, the least key of
 //! all). `least` finds it in a list of keys, by one `cmp` for each and with no memory. `Index` keeps the tasks of
 //! all queues in the order of their keys: it takes its memory once, `first` costs one look, and `insert` and
-//! `remove` cost comparisons in the logarithm of the length, for ids below the capacity. It stands on fractal_vt; the
-//! state of the machine and a bench call it.
+//! `remove` cost comparisons in the logarithm of the length, for ids below the capacity; that an id isn't there is
+//! found by a look at each task. It stands on fractal_vt; the state of the machine and a bench call it.
 #![tactic(auto)]
 
 mod arbiter;

@@ -16,7 +16,7 @@ use Rattle.event_def.specs.Book.{BookView}
 use Rattle.event_def.specs.Closing.{Closes}
 use Rattle.pending_law.proofs.Proved.{pendings_are_serial}
 
--- what is closed has the book's history for its journal
+-- what is closed has the book's journal for its own
 journal_kept : (book : BookView) (closed : Closed) → Closes book closed → closed.journal ≡ book.view.history
 journal_kept book closed closes = closes.journal ∙ ap (λ (v : View). v.history) closes.undone.frame
 

@@ -6,7 +6,7 @@ use Rattle.event_def.specs.declared.event.Applied.{Applied}
 use Rattle.event_def.specs.declared.event.Event.{Event}
 use Rattle.event_def.specs.Book.{BookView}
 use Rattle.event_def.specs.Happens.{Happens, HappenAll}
-use Rattle.event_law.proofs.Proved.{histories_join}
+use Rattle.event_law.proofs.Proved.{events_join}
 
 -- one event more
 pub one_more : (N : Type 0) (old mid new : BookView) (events : List (Event N)) (i : ℕ) (event : Event N) (answers : List Applied) (applied : Applied)
@@ -15,7 +15,7 @@ pub one_more : (N : Type 0) (old mid new : BookView) (events : List (Event N)) (
 one_more N old mid new events i event answers applied inside at happened happens =
     let more : take (i + 1) events ≡ take i events ++ event ∷ [] = take_more events i event inside ∙ ap (λ e. take i events ++ e ∷ []) at in
     subst (λ es. HappenAll old es (answers ++ applied ∷ []) new) (sym more)
-    (histories_join N old mid new (take i events) (event ∷ []) answers (applied ∷ []) happened (new, happens, refl))
+    (events_join N old mid new (take i events) (event ∷ []) answers (applied ∷ []) happened (new, happens, refl))
 
 -- with one answer more
 pub longer : (before after : List Applied) (applied : Applied) (n : ℕ) → after ≡ before ++ applied ∷ [] → length before ≡ n → length after ≡ n + 1

@@ -73,7 +73,7 @@ fn is_given<N: Naming>(state: &State<N>, event: Legless)
     }
 }
 
-/// Law: a leg may be handed in for a tile and a core that are there, since its type keeps whose leg it is.
+/// Law: a leg may be handed in for a tile and a core that are there, since its type keeps of which image it is.
 fn leg_is_given<N: Naming>(state: &State<N>, tile: u32, core: u32, leg: &Leg<N>)
     requires tile { tile < state.now.view.settings.tiles }
     requires core { core < state.now.view.settings.cores }

@@ -66,7 +66,7 @@ fn running_core<N: Naming>(state: &State<N>, tile: u32, core: u32) -> Option<&No
 }
 
 impl<N: Naming, P: Placer, T: Tap> Book<N, P, T> {
-    /// Law: what holds of every book. Its state is sound, so that its history is a run of the image that `N` names;
+    /// Law: what holds of every book. Its state is sound, so that its journal is a run of the image that `N` names;
     /// its settings are valid, with the task budget and the commit limit that `N` names.
     pub fn is_sound(&self)
         ensures sound { Sound N.image (machine_view self.now) }

@@ -65,10 +65,10 @@ pub enum Reply {
     Memory,
 }
 
-/// The answer to an event, and how many tasks it took back.
+/// The reply to an event, and how many tasks it took back.
 #[derive(Clone, Copy, Debug, PartialEq, Eq)]
 pub struct Applied {
-    /// The answer.
+    /// The reply.
     pub reply: Reply,
     /// How many tasks were taken back.
     pub aborted: u32,

@@ -1,4 +1,4 @@
--- From the opening on, each history is a run of the serial machine; lists of events join, and a book counts events.
+-- From the opening on, each journal is a run of the serial machine; lists of events join, and a book counts events.
 use Rattle.std.proofs.Common.{ℕ, ◌≡◌, inl, inr, false, List, [], ◌∷◌, sym, ap, subst, ◌∙◌}
 use Rattle.std.specs.Prelude.{All}
 use Rattle.std.specs.List.{enumerate_from}
@@ -16,12 +16,12 @@ use Rattle.event_def.specs.Events.{IsGiven}
 use Rattle.event_def.specs.Happens.{HappenAll}
 use Rattle.spec_law.specs.Sound.{Sound}
 use Rattle.spec_law.proofs.Proved.{undo_all_is_serial}
-use Rattle.event_law.specs.Laws.{IsSerialRun, HistoriesAreRuns, CloseIsSerial, HistoriesJoin, EventsCountOne}
+use Rattle.event_law.specs.Laws.{IsSerialRun, HistoriesAreRuns, CloseIsSerial, EventsJoin, EventsCountOne}
 use Rattle.event_law.proofs.Openings.Opened.{opening_is_sound}
 use Rattle.event_law.proofs.Openings.Untouched.{all_kept, none_touched}
 use Rattle.event_law.proofs.Keeps.Events.{happens_keeps}
 
--- a sound view's history is a run
+-- a sound view's journal is a run
 sound_is_run : (image : ImageValue) (budget : ℕ) (book : BookView) → book.view.settings.budget ≡ budget → Sound image book.view → IsSerialRun image budget book.view
 sound_is_run image budget book same sound =
     record {
@@ -60,7 +60,7 @@ all_keep N image settings (event ∷ events) (applied ∷ answers) old new given
     let keeps = happens_keeps N image old happen.0 event applied.aborted first sound applied.reply happen.1 in
     all_keep N image settings events answers happen.0 new (All-tail (IsGiven image settings) event events given) (keeps.settings ∙ same) keeps.now happen.2
 
--- each list of events after the opening leaves a history that is a run of the serial machine
+-- each list of events after the opening leaves a journal that is a run of the serial machine
 pub histories_are_runs : (N : Type 0) → HistoriesAreRuns N
 histories_are_runs N image settings placers taps opened book events answers within valid opening given happen =
     let start : BookView = record { view = opening.empty; placers = placers; taps = taps; steps = 0; stopped = false } in
@@ -69,12 +69,12 @@ histories_are_runs N image settings placers taps opened book events answers with
     sound_is_run image settings.budget book (ap (λ s. s.budget) all.0) all.1
 
 -- lists of events, one after the other
-pub histories_join : (N : Type 0) → HistoriesJoin N
-histories_join N old mid new [] second [] others before after = subst (λ b. HappenAll b second others new) (sym before) after
-histories_join N old mid new [] second (applied ∷ answers) others before after = absurd before
-histories_join N old mid new (event ∷ events) second [] others before after = absurd before
-histories_join N old mid new (event ∷ events) second (applied ∷ answers) others before after =
-    (before.0, before.1, histories_join N before.0 mid new events second answers others before.2 after)
+pub events_join : (N : Type 0) → EventsJoin N
+events_join N old mid new [] second [] others before after = subst (λ b. HappenAll b second others new) (sym before) after
+events_join N old mid new [] second (applied ∷ answers) others before after = absurd before
+events_join N old mid new (event ∷ events) second [] others before after = absurd before
+events_join N old mid new (event ∷ events) second (applied ∷ answers) others before after =
+    (before.0, before.1, events_join N before.0 mid new events second answers others before.2 after)
 
 -- an event leaves the count of events, or raises it by one, up to where it stands still
 pub events_count_one : (N : Type 0) → EventsCountOne N

@@ -8,7 +8,7 @@ pub use Rattle.event_law.proofs.Falls.Spilled.{room_leaves_spilled}
 pub use Rattle.event_law.proofs.Few.{least_events_are_few}
 pub use Rattle.event_law.proofs.Given.{leg_is_run, next_event_is_given, running_within}
 pub use Rattle.event_law.proofs.Granted.{is_idle, least_event_is_granted}
-pub use Rattle.event_law.proofs.Histories.{close_is_serial, histories_join}
+pub use Rattle.event_law.proofs.Histories.{close_is_serial, events_join}
 pub use Rattle.event_law.proofs.Keeps.Calls.{filter_fewer, running_is_busy}
 pub use Rattle.event_law.proofs.Keeps.Events.{event_stays_sound, makes_leads, spilled_asks, spilled_no_heir}
 pub use Rattle.event_law.proofs.Keeps.Forced.{heir_is, idle_is_open, least_is_heir, running_is_dispatched, spared_stays}

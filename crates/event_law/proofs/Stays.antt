@@ -1,4 +1,4 @@
--- No event but a commit changes the history or the output.
+-- No event but a commit changes the journal or the output.
 use Rattle.std.proofs.Common.{ℕ, ◌≡◌, List, refl, ap, ◌∙◌}
 use Rattle.place_policy.specs.Policy.{Policy}
 use Rattle.run_journal.specs.declared.journal.Entry.{Entry}

@@ -62,7 +62,7 @@ EventStaysSound N =
     → IsGiven image old.view.settings event → Sound image old.view → Happens old event answer aborted new
     → Sound image new.view
 
--- what a book's history means: it is a run of the serial machine from the image, the output is that run's, and its
+-- what a book's journal means: it is a run of the serial machine from the image, the output is that run's, and its
 -- memory is what is left where all uncommitted tasks are taken back, and nothing else is left then
 pub record IsSerialRun (image : ImageValue) (budget : ℕ) (view : View) : Type 0 where
   pub serial : SerialState
@@ -71,7 +71,7 @@ pub record IsSerialRun (image : ImageValue) (budget : ℕ) (view : View) : Type 
   pub undone : IsUndone view (λ id. true) serial.memory
   pub memory : (memory : List ℕ) → IsUndone view (λ id. true) memory → memory ≡ serial.memory
 
--- from the opening on, whatever events are made and in whatever order, the history is a run of the serial machine
+-- from the opening on, whatever events are made and in whatever order, the journal is a run of the serial machine
 abbrev pub HistoriesAreRuns : Type 0 → Type 0
 HistoriesAreRuns N =
     (image : ImageValue) (settings : Settings) (placers : List Policy) (taps : List TapValue)
@@ -133,8 +133,8 @@ EventsCountOne N =
     → (new.steps ≡ old.steps) ⊎ (new.steps ≡ next_count old.steps)
 
 -- of lists of events, one after the other, the answers are theirs, one after the other
-abbrev pub HistoriesJoin : Type 0 → Type 0
-HistoriesJoin N =
+abbrev pub EventsJoin : Type 0 → Type 0
+EventsJoin N =
     (old mid new : BookView) (first second : List (Event N)) (answers others : List Applied)
     → HappenAll old first answers mid → HappenAll mid second others new
     → HappenAll old (first ++ second) (answers ++ others) new
@@ -145,7 +145,7 @@ NextEventIsGiven N =
     (image : ImageValue) (view : View) (event : Event N) → Sound image view → IsNextEvent image view event
     → IsGiven image view.settings event
 
--- so many events for the least tasks leave a sound view with a history longer by the commits among them, and they are
+-- so many events for the least tasks leave a sound view with a journal longer by the commits among them, and they are
 -- not many: with what is left up to the next commit, at most the budget and 4 for each commit and one more
 pub record AreFew (image : ImageValue) (old : View) (n : ℕ) (new : View) : Type 0 where
   pub sound : Sound image new

@@ -1,7 +1,7 @@
 //! Laws of events. Each is the contract of a function that does nothing.
 
 ghost use Rattle.event_law.specs.Laws.{AdvancesFall, CloseIsSerial, EndIsOne, EndIsSerial, EndIsThere};
-ghost use Rattle.event_law.specs.Laws.{EventStaysSound, EventsCountOne, HistoriesAreRuns, HistoriesJoin};
+ghost use Rattle.event_law.specs.Laws.{EventStaysSound, EventsCountOne, HistoriesAreRuns, EventsJoin};
 ghost use Rattle.event_law.specs.Laws.{LeastEventIsGranted, LeastEventsAreFew, NextEventIsGiven, OpeningIsSound};
 ghost use Rattle.event_law.specs.Laws.{RefusalsChangeNothing, ReplyIsOne, RestIsBounded, RestIsOne, RestIsThere};
 
@@ -40,7 +40,7 @@ pub fn event_stays_sound<N: Naming>()
 {}
 
 /// From the opening on, of an image within its limits and with valid settings, whatever such events are made and in
-/// whatever order, the history is a run of the serial machine, the output is that run's, and its memory is what is
+/// whatever order, the journal is a run of the serial machine, the output is that run's, and its memory is what is
 /// left where all uncommitted tasks are taken back.
 pub fn histories_are_runs<N: Naming>()
     ensures { HistoriesAreRuns N }
@@ -89,8 +89,8 @@ pub fn events_count_one<N: Naming>()
 {}
 
 /// Lists of events, one after the other, are one list, with their answers one after the other.
-pub fn histories_join<N: Naming>()
-    ensures { HistoriesJoin N }
+pub fn events_join<N: Naming>()
+    ensures { EventsJoin N }
 {}
 
 /// The event for the least task of a sound view may be handed in.

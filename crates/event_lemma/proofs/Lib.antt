@@ -3,7 +3,7 @@ pub mod Leasts
 pub mod LeastRead
 pub mod Causes
 pub mod Forced
-pub mod Asker
+pub mod Taker
 pub mod Rooms
 pub mod Made
 pub mod Comes

@@ -1,5 +1,5 @@
 -- What the crates above may cite of these proofs.
-pub use Rattle.event_lemma.proofs.Asker.{commit_leaves_asker, commit_leaves_place, conflicts_leave_asker}
+pub use Rattle.event_lemma.proofs.Taker.{commit_leaves_taker, commit_leaves_place, conflicts_leave_taker}
 pub use Rattle.event_lemma.proofs.Causes.{abort_is_granted, child_no_stall, coalesce_is_granted, commit_is_granted, dispatch_is_granted}
 pub use Rattle.event_lemma.proofs.Causes.{empty_is_refused, free_no_stall, later_no_stall, latest_is_not_least, least_is_not_busy}
 pub use Rattle.event_lemma.proofs.Causes.{no_child_no_stall, no_end_no_stall, stall_is_refused, step_is_granted}

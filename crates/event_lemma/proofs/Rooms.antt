@@ -22,8 +22,8 @@ use Rattle.spec_law.proofs.Proved.{abort_of_one_is_sound, cascade_spares_heir, h
 use Rattle.event_law.proofs.Proved.{abort_leaves_heir, asker_is_there, least_is_heir, not_both, room_follows, room_is_free, room_leaves_spilled, running_is_dispatched, spilled_asks, spilled_no_heir}
 use Rattle.event_law.proofs.Proved.{running_is_busy}
 use Rattle.event_lemma.specs.Forcing.{RunsIfTask, TakesStill}
-use Rattle.event_lemma.specs.Laws.{VictimMoves, RoomIsLeft, AskerStays, conflicts, frees_place, room}
-use Rattle.event_lemma.proofs.Asker.{commit_leaves_asker, conflicts_leave_asker}
+use Rattle.event_lemma.specs.Laws.{VictimMoves, RoomIsLeft, TakerStays, conflicts, frees_place, room}
+use Rattle.event_lemma.proofs.Taker.{commit_leaves_taker, conflicts_leave_taker}
 use Rattle.event_lemma.proofs.Forced.{room_like, takes_still}
 
 -- a task that takes a leg runs, so it may ask
@@ -76,12 +76,12 @@ room_leaves_asker image tile core id to leg task old aborted mid sound takes mak
     id task refl takes.runs.on.there (running_is_busy core task.status takes.runs.running) makes)
 
 -- whatever is forced for a task that takes a leg leaves it so
-pub asker_stays : AskerStays
-asker_stays image old tile core id leg task aborted mid sound takes (conflicts offset write forced) =
-    conflicts_leave_asker image old tile core id leg task offset write aborted mid sound takes forced
-asker_stays image old tile core id leg task aborted mid sound takes (frees_place forced) =
-    commit_leaves_asker image old tile core id leg task aborted mid sound takes forced
-asker_stays image old tile core id leg task aborted mid sound takes (room to forced) =
+pub taker_stays : TakerStays
+taker_stays image old tile core id leg task aborted mid sound takes (conflicts offset write forced) =
+    conflicts_leave_taker image old tile core id leg task offset write aborted mid sound takes forced
+taker_stays image old tile core id leg task aborted mid sound takes (frees_place forced) =
+    commit_leaves_taker image old tile core id leg task aborted mid sound takes forced
+taker_stays image old tile core id leg task aborted mid sound takes (room to forced) =
     room_leaves_asker image tile core id to leg task old aborted mid sound takes forced
 
 -- where a place is free, nothing is changed for another

@@ -1,4 +1,4 @@
--- Laws of what the code of events relies on.
+-- Laws of what the code of events relies on, and one of what is left of the least task's way.
 use Rattle.std.specs.Prelude.{◌+◌, ℕ, Bool, List}
 use Rattle.guest_image.specs.ImageValue.{ImageValue}
 use Rattle.place_policy.specs.Policy.{Policy}
@@ -31,8 +31,8 @@ pub data IsForcedFor (tile id : ℕ) (task : Task) (old : View) (aborted : ℕ) 
 
 -- in a sound view, what an event forces for a task that takes a leg leaves it as it was, with its leg and what it
 -- asks for
-abbrev pub AskerStays : Type 0
-AskerStays =
+abbrev pub TakerStays : Type 0
+TakerStays =
     (image : ImageValue) (old : View) (tile core id : ℕ) (leg : LegValue) (task : Task) (aborted : ℕ) (mid : View)
     → Sound image old
     → TakesLeg old tile core leg id task → IsForcedFor tile id task old aborted mid

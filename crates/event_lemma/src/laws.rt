@@ -1,16 +1,18 @@
-//! Laws of what the code of events relies on. Each is the contract of a function that does nothing.
+//! Laws of what the code of events relies on, and one of what is left of the least task's way. Each is the contract of
+//! a function that does nothing.
 
-ghost use Rattle.event_lemma.specs.Laws.{AskerStays, BoundFalls, IdleStays, MadeIsSound, RoomIsLeft, VictimMoves};
+ghost use Rattle.event_lemma.specs.Laws.{TakerStays, BoundFalls, IdleStays, MadeIsSound, RoomIsLeft, VictimMoves};
 
 use rv_core::Naming;
 
 /// In a sound view, what an event forces for a task that takes a leg leaves a sound view, and that task as it
 /// was, with its leg and what it asks for.
-pub fn asker_stays()
-    ensures { AskerStays }
+pub fn taker_stays()
+    ensures { TakerStays }
 {}
 
-/// What is forced for a core leaves a sound view with a free core, and the least idle task of the tile so.
+/// What is forced for a core leaves a sound view with a free core, and the least idle task of the tile so, where it is
+/// the least task wherever no core is free.
 pub fn idle_stays()
     ensures { IdleStays }
 {}

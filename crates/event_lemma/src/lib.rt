@@ -8,4 +8,4 @@
 
 mod laws;
 
-pub use laws::{asker_stays, bound_falls, idle_stays, made_is_sound, room_is_left, victim_moves};
+pub use laws::{bound_falls, idle_stays, made_is_sound, room_is_left, taker_stays, victim_moves};

@@ -30,7 +30,7 @@ use Rattle.event_def.specs.Events as events
 use Rattle.event_def.specs.Trace.{record_of}
 use Rattle.event_def.specs.Book.{book_of}
 use Rattle.event_lemma.specs.Forcing.{TakesStill}
-use Rattle.event_lemma.proofs.Proved.{commit_leaves_asker, commit_leaves_place, finished_is_later, no_child_no_stall, none_is_later, sound_by_key, stall_is_refused}
+use Rattle.event_lemma.proofs.Proved.{commit_leaves_taker, commit_leaves_place, finished_is_later, no_child_no_stall, none_is_later, sound_by_key, stall_is_refused}
 use Rattle.event_step.specs.Ending.{HasLater, HasNoLater, SaysLater}
 use Rattle.event_step.proofs.Stepping.{asks_same, granted, made_granted}
 
@@ -81,7 +81,7 @@ module _ (image : ImageValue) (old : View) (tile core id : ℕ) (leg : LegValue)
 
   -- the task that ends stays
   pub stays : TakesStill image tile core leg id task old mid
-  stays = commit_leaves_asker image old tile core id leg task aborted mid sound takes frees
+  stays = commit_leaves_taker image old tile core id leg task aborted mid sound takes frees
 
   -- and has the place
   pub has_place : CommitQueueHasRoom mid id

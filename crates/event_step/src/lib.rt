@@ -4,8 +4,9 @@
 //! book of that state, whatever else the book has. `taker` tells which task takes a leg. A step finds the causes to
 //! refuse it, takes its memory, forces what stands in its way and makes one change. It takes memory first, so that
 //! nothing has changed where memory runs out, and never needs any afterwards. It stands on `spec_access`,
-//! `spec_rollback` and `event_room`; the book calls it, and `watch_text` calls `taker`. A step costs a look at each
-//! dispatched task where it is an access, and what it takes back.
+//! `spec_rollback` and `event_room`; the book calls it, and `watch_text` calls `taker`. Beside its change a step
+//! costs a look at each dispatched task where it is an access, one at each tile where it enqueues, looks at the tasks
+//! of a queue that is full for it, and what it takes back; by `step` it also costs what `least` does.
 #![tactic(auto)]
 
 mod accesses;

@@ -69,11 +69,11 @@ pub(crate) fn find<
         Err(fault) => return Finding::NoImage(fault),
     };
     let (_, rest) = bytes.split_at(size);
-    act(rt, alloc, request, image, rest, gate, placers, taps)
+    find_behind(rt, alloc, request, image, rest, gate, placers, taps)
 }
 
 /// Does what is asked for with an image and the bytes behind it.
-fn act<R: Threads + Wait + Sync, G: Gate + Sync, P: Placer + Send, T: Tap + Send>(
+fn find_behind<R: Threads + Wait + Sync, G: Gate + Sync, P: Placer + Send, T: Tap + Send>(
     rt: &R,
     alloc: Global,
     request: Request,

@@ -140,7 +140,7 @@ level_apart : (table : List ℕ) (a b : Open) → IsHeld table a → IsHeld tabl
 level_apart table a b in_a in_b same =
     level_cmp-same a b (sym (level_kept table a b in_a in_b) ∙ ap (λ l. level_cmp l (open_placed table b)) same ∙ tied_itself level_cmp_total (open_placed table b))
 
--- for a map of elements that stay apart, one list begins another where its image does
+-- for a map of elements that stay apart, one list begins another where it does so mapped
 module _ {X : Type 0} (g : X → X) (Ok : X → Type 0) (apart : (x y : X) → Ok x → Ok y → g x ≡ g y → x ≡ y) where
   begins_before : (xs ys : List X) → All Ok xs → All Ok ys → Begins (map g xs) (map g ys) → Begins xs ys
   begins_before [] ys in_x in_y begins = (ys, refl)

@@ -48,7 +48,8 @@ pub fn renumbering_keeps_prefixes()
     ensures { RenumberingKeepsPrefixes }
 {}
 
-/// Law: a key lies in a domain, both with tiebreakers that a table holds, exactly where it does so renumbered.
+/// Law: a domain begins the levels of a key, both with tiebreakers that a table holds, exactly where it does so
+/// renumbered.
 pub fn renumbering_keeps_domains()
     ensures { RenumberingKeepsDomains }
 {}

@@ -19,7 +19,7 @@ use Rattle.machine_run.specs.Played.{StandsAt}
 use Rattle.machine_run.proofs.Standing.{stands_serially}
 
 module _ (last : BookView) (closed : Closed) (closes : Closes last closed) where
-  -- the journal that is left is the book's history
+  -- the journal that is left is the book's journal
   pub journal_left : closed.journal ≡ last.view.history
   journal_left = closes.journal ∙ ap (λ (v : View). v.history) closes.undone.frame
 

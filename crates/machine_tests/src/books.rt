@@ -406,8 +406,8 @@ const ONE_CORE: Settings = Settings {
     ..TWO_TILES
 };
 
-/// Two tasks of one tile take turns on its one core, and whether the tile is ready after each event: it has an idle
-/// task and a free core.
+/// Two tasks of one tile go to its one core, one after the other, and whether the tile is ready after each event: it
+/// has an idle task and a free core.
 static TURNS_ON_ONE_CORE: [(Act, bool); 4] = [
     (Act::Dispatch(0), false),
     (Act::Step(0), true),

@@ -51,7 +51,7 @@ static REPLIES: [Said; 9] = [
 static LINES: &[u8] =
     b"ok 2\nempty 0\nbusy 0\nstall 0\nstale 0\nfirm 0\nended 0\nmoved 4294967295\ncommitted 0\n";
 
-/// A sink with room for 1,000 bytes, which fails at these pieces, counted from 1.
+/// A sink that takes 1,000 bytes at most, and fails at these calls, counted from 1.
 fn sink_of(alloc: Global, fail_at: &[u32]) -> Result<MemSink, AllocError> {
     MemSink::new(alloc, 1000, 1000, fail_at.to_vec(alloc)?)
 }

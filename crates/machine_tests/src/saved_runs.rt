@@ -95,7 +95,7 @@ fn journal_of_both(
     Ok(join_runs(alloc, image, budget, frozen, saved, &run.journal)?)
 }
 
-/// A turn: the creator and the place in its name, its depth and its timestamp.
+/// What an entry has: the creator and the place in a name, a depth and a timestamp.
 type Turn = (u32, u32, u8, u32);
 
 /// A run that is saved, and goes on.
@@ -105,7 +105,7 @@ struct Join {
     settings: Settings,
     /// Whether a task commits before the run is saved.
     is_begun: bool,
-    /// The turns before that, what they emit, and the tasks that pend behind them, as turns with a first argument.
+    /// The turns before that, what they emit, and the tasks that pend behind them, told alike with a first argument.
     one: &'static [Turn],
     output: &'static [u8],
     pending: &'static [(Turn, u32)],
@@ -211,7 +211,7 @@ static JOINS: [Join; 3] = [
     },
 ];
 
-/// Whether these are the turns of a journal.
+/// Whether these are the entries of a journal.
 fn are_turns(journal: &[Entry], turns: &[Turn]) -> bool {
     for (entry, turn) in journal.iter().zip(turns) {
         if (entry.name.creator, entry.name.index, entry.depth, entry.ts) != *turn {

@@ -178,7 +178,7 @@ fn tells_idle<N: Naming>(rt: &impl Abort, state: &State<N>, task: TaskId)
     assert_eq!(rt; state.tile_of(task), 3);
 }
 
-/// Adds a task of the image in a tile with a free place.
+/// Adds a task whose creator is the image in a tile with a free place.
 fn added_to<N: Naming>(rt: &impl Abort, state: &mut State<N>, desc: &Desc, tile: u32) -> TaskId
     requires { DescIsOfImage desc.now }
     ensures { IsSome (task_at state.new.view result.0) }
@@ -248,13 +248,13 @@ fn an_added_task_is_idle(rt: HostRuntime) -> Result<(), Fail> {
     Ok(begins_with_one::<Brand>(&rt, rt.alloc(), &image, DEFAULTS)?)
 }
 
-/// The name of the image's second task.
+/// The name of a second task of an image.
 const SECOND_NAME: Name = Name {
     creator: 0,
     index: 1,
 };
 
-/// A second task of the image.
+/// A second task whose creator is the image; the image itself has the first one alone.
 const SECOND: Desc = Desc {
     name: SECOND_NAME,
     ts: 3,

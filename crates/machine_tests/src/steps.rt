@@ -96,7 +96,7 @@ enum Act {
     Commit,
 }
 
-/// A task of the image.
+/// A task whose creator is the image, under the name 0.0.
 fn image_task(entry: u32, ts: u32) -> Desc
     ensures { DescIsOfImage result }
 {
@@ -114,7 +114,7 @@ fn image_task(entry: u32, ts: u32) -> Desc
     }
 }
 
-/// Adds a task of the image to a tile with a free place.
+/// Adds a task whose creator is the image to a tile with a free place.
 fn add<N: Naming>(rt: &impl Abort, state: &mut State<N>, entry: u32, ts: u32, tile: u32) -> TaskId {
     assert!(rt; tile < state.settings().tiles && state.queue_has_room(tile));
     state.add(&image_task(entry, ts), tile).unwrap()

@@ -24,7 +24,7 @@ use step_script::{Act, Said, Word};
 use tile_worker::OpenGate;
 use trace_tap::LastN;
 
-/// Two tiles of one core, on which two workers work.
+/// Two tiles of one core, for which two workers make the events.
 const TWO_WORKERS: Settings = Settings {
     workers: 2,
     ..TWO_TILES

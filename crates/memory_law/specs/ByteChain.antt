@@ -29,4 +29,4 @@ byte_accesses k (access ∷ log) =
 -- left the byte as it is
 abbrev pub IsByteChain : ℕ → List (ℕ × Option ℕ) → ℕ → Type 0
 IsByteChain byte [] now = byte ≡ now
-IsByteChain byte ((old, new) ∷ events) now = (byte ≡ old) × IsByteChain (unwrap_or new byte) events now
+IsByteChain byte ((old, new) ∷ later) now = (byte ≡ old) × IsByteChain (unwrap_or new byte) later now

@@ -11,7 +11,7 @@ use Rattle.event_def.specs.Events.{IsGiven}
 use Rattle.event_def.specs.Happens.{Happens}
 use Rattle.event_law.proofs.Keeps.Events.{event_stays_sound, happens_keeps}
 use Rattle.event_law.proofs.Given.{next_event_is_given}
-use Rattle.outcome_law.specs.Laws.{AreSameBooks, HistoryIsOne, LeastRunIsOne, CloseIsOne}
+use Rattle.outcome_law.specs.Laws.{AreSameBooks, EventsAreOne, LeastRunIsOne, CloseIsOne}
 use Rattle.outcome_law.proofs.Aborts.{undone_alike}
 use Rattle.outcome_law.proofs.Nexts.{next_one}
 use Rattle.outcome_law.proofs.Outcomes.{outcome_is_one}
@@ -25,19 +25,19 @@ close_is_one old other closed other_closed same one two =
     let steps : other_closed.steps ≡ closed.steps = two.steps ∙ (same.1.steps ∙ sym one.steps) in
     λ i. record { journal = history i; memory = memories i; output = output i; steps = steps i }
 
-pub history_is_one : (N : Type 0) → HistoryIsOne N
-history_is_one N image old other new other_new [] [] [] sound sound' same given has has' one two = (refl, subst (λ (x : BookView). AreSameBooks x other_new) one (subst (λ (y : BookView). AreSameBooks old y) two same))
-history_is_one N image old other new other_new (e ∷ es) (x ∷ xs) (y ∷ ys) sound sound' same given has has' one two =
+pub events_are_one : (N : Type 0) → EventsAreOne N
+events_are_one N image old other new other_new [] [] [] sound sound' same given has has' one two = (refl, subst (λ (x : BookView). AreSameBooks x other_new) one (subst (λ (y : BookView). AreSameBooks old y) two same))
+events_are_one N image old other new other_new (e ∷ es) (x ∷ xs) (y ∷ ys) sound sound' same given has has' one two =
     let is = outcome_is_one N image old other one.0 two.0 e x.reply y.reply x.aborted y.aborted sound sound' same one.1 two.1 has.0 has'.0 in
     let kept = happens_keeps N image old one.0 e x.aborted given.0 sound x.reply one.1 in
     let given' = subst (λ s. IsGiven image s e) (sym (ap (λ v. v.settings) same.1.view.frame)) given.0 in
     let kept' = happens_keeps N image other two.0 e y.aborted given' sound' y.reply two.1 in
-    let rest = history_is_one N image one.0 two.0 new other_new es xs ys kept.now kept'.now is.books (subst (λ s. AllByRecursion (IsGiven image s) es) (sym kept.settings) given.1) has.1 has'.1 one.2 two.2 in
+    let rest = events_are_one N image one.0 two.0 new other_new es xs ys kept.now kept'.now is.books (subst (λ s. AllByRecursion (IsGiven image s) es) (sym kept.settings) given.1) has.1 has'.1 one.2 two.2 in
     ((λ i. record { reply = is.reply_is i; aborted = is.aborted_is i } ∷ rest.0 i), rest.1)
-history_is_one N image old other new other_new [] (x ∷ xs) ys sound sound' same given has has' one two = absurd one
-history_is_one N image old other new other_new [] [] (y ∷ ys) sound sound' same given has has' one two = absurd two
-history_is_one N image old other new other_new (e ∷ es) [] ys sound sound' same given has has' one two = absurd one
-history_is_one N image old other new other_new (e ∷ es) (x ∷ xs) [] sound sound' same given has has' one two = absurd two
+events_are_one N image old other new other_new [] (x ∷ xs) ys sound sound' same given has has' one two = absurd one
+events_are_one N image old other new other_new [] [] (y ∷ ys) sound sound' same given has has' one two = absurd two
+events_are_one N image old other new other_new (e ∷ es) [] ys sound sound' same given has has' one two = absurd one
+events_are_one N image old other new other_new (e ∷ es) (x ∷ xs) [] sound sound' same given has has' one two = absurd two
 
 -- as many events for the least tasks leave sound books that are alike, as the next event needs
 least_runs_keep : (N : Type 0) (image : ImageValue) (n : ℕ) (old other new other_new : BookView) → Sound image old.view → Sound image other.view → AreSameBooks old other

@@ -57,8 +57,8 @@ HasMemory applied = applied.reply ≢ reply.Memory
 
 -- the same events on sound books that are alike have the same answers, want of memory aside, and leave books that
 -- are alike
-abbrev pub HistoryIsOne : Type 0 → Type 0
-HistoryIsOne N =
+abbrev pub EventsAreOne : Type 0 → Type 0
+EventsAreOne N =
     (image : ImageValue) (old other_old new other_new : BookView) (events : List (Event N))
     (answers others : List Applied)
     → Sound image old.view → Sound image other_old.view → AreSameBooks old other_old

@@ -1,6 +1,6 @@
 //! Laws of views and books that are alike. Each is the contract of a function that does nothing.
 
-ghost use Rattle.outcome_law.specs.Laws.{CloseIsOne, EndIsAlike, HistoryIsOne, LeastRunIsOne, OutcomeIsOne};
+ghost use Rattle.outcome_law.specs.Laws.{CloseIsOne, EndIsAlike, EventsAreOne, LeastRunIsOne, OutcomeIsOne};
 ghost use Rattle.outcome_law.specs.Laws.{OpeningIsOne, PlayIsOne, ScriptIsOne};
 ghost use Rattle.outcome_law.specs.Stops.{FrontIsOne, StopIsOne, StopsAreOne};
 
@@ -18,8 +18,8 @@ pub fn outcome_is_one<N: Naming>()
 
 /// The same events on sound books that are alike have the same answers, want of memory aside, and leave books that
 /// are alike.
-pub fn history_is_one<N: Naming>()
-    ensures { HistoryIsOne N }
+pub fn events_are_one<N: Naming>()
+    ensures { EventsAreOne N }
 {}
 
 /// So many events for the least tasks leave books that are alike.

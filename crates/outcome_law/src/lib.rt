@@ -9,6 +9,6 @@
 mod laws;
 
 pub use laws::{
-    close_is_one, end_is_alike, front_is_one, history_is_one, least_run_is_one, opening_is_one,
+    close_is_one, end_is_alike, events_are_one, front_is_one, least_run_is_one, opening_is_one,
     outcome_is_one, play_is_one, script_is_one, stop_is_one, stops_are_one,
 };

@@ -8,7 +8,8 @@ use std::alloc::{AllocError, Global};
 use std::test::Fail;
 
 /// Words of `riscv64-linux-gnu-as -march=rv32i -mabi=ilp32` with the lines that it read: each instruction, and each
-/// form of immediate at its least and its greatest. The three words of FENCE differ in the fields that are ignored.
+/// form of immediate at its least and its greatest. The three words of FENCE differ in the fields that are ignored,
+/// and have one line here; the last two are `fence r,w` and `fence.tso`.
 static LISTING: [(u32, &str); 93] = [
     (0x0000_00b7, "lui x1,0x0"),
     (0xffff_ffb7, "lui x31,0xfffff"),

@@ -304,7 +304,7 @@ fn windowed_run(alloc: Global) -> Result<(Image, Closed), Fail> {
     Ok((image, closed_run(alloc)?))
 }
 
-/// A sink with room for a report, which fails at this call, counted from 1.
+/// A sink that takes a whole report, and fails at this call, counted from 1.
 fn sink_that_fails(alloc: Global, call: u32) -> Result<MemSink, AllocError> {
     let fail_at = [call].to_vec(alloc)?;
     MemSink::new(alloc, 1000, 1000, fail_at)

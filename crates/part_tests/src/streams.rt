@@ -31,7 +31,7 @@ fn failing_source(alloc: Global) -> Result<MemSource, AllocError> {
     Ok(MemSource::new(bytes, 3, fail_at))
 }
 
-/// A sink with room for five bytes, which takes two of them a call at most. The second call fails.
+/// A sink that takes five bytes in all, two of them a call at most. The second call fails.
 fn failing_sink(alloc: Global) -> Result<MemSink, AllocError> {
     let fail_at = [2].to_vec(alloc)?;
     MemSink::new(alloc, 5, 2, fail_at)
@@ -88,7 +88,7 @@ static HANDED: [(usize, u32, usize); 8] = [
     (1, 11, 10),
 ];
 
-/// A sink with room for ten bytes, which takes so many of them a call at most, and of which this call fails.
+/// A sink that takes ten bytes in all, so many of them a call at most, and of which this call fails.
 fn sink_that_fails_at(alloc: Global, takes: usize, call: u32) -> Result<MemSink, AllocError> {
     let fail_at = [call].to_vec(alloc)?;
     MemSink::new(alloc, 10, takes.max(1), fail_at)

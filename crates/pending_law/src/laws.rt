@@ -3,7 +3,7 @@
 ghost use Rattle.pending_law.specs.Laws.{PendingsAreSerial};
 
 /// Law: the tasks that pend in a sound view, sorted by their names, are those of the serial machine's bags after the
-/// history. No code calls it.
+/// journal. No code calls it.
 pub fn pendings_are_serial()
     ensures { PendingsAreSerial }
 {}

@@ -1,7 +1,7 @@
 //! What pends in a sound state is what pends in the serial machine.
 //!
 //! The uncommitted tasks that the image or a committed task made, queued and spilled, are the tasks of the serial
-//! machine's bags after the state's history: each once, with its name, depth, entry address, timestamp and arguments.
+//! machine's bags after the state's journal: each once, with its name, depth, entry address, timestamp and arguments.
 //! The law is the contract of a function that does nothing and costs nothing. It stands on the laws of states and of
 //! runs; the book's proof of a freeze cites the lemma behind it, and saved images rest on that.
 #![tactic(auto)]

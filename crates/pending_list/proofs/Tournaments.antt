@@ -4,7 +4,7 @@ use Rattle.std.proofs.lemmas.Bool.{cases_eq, cases_lt}
 use Rattle.std.proofs.lemmas.List.{get_or-drop, length-drop, get_or_default}
 use Rattle.pending_list.specs.Tournament.{no_rank, node, leaves, IsTournament, IsLeastOf}
 
--- where a parent has the lesser rank of its children, its rank is at most that of each of them
+-- where a node has the lesser rank of its children, its rank is at most that of each of them
 child_above : (nodes : List ℕ) (i p : ℕ) → node nodes p ≡ min (node nodes (2 * p)) (node nodes (2 * p + 1)) → i / 2 ≡ p
     → node nodes p ≤ node nodes i
 child_above nodes i p won half = go (cases_eq i (2 * p)) where

@@ -11,7 +11,7 @@ pub(crate) const NO_RANK: u64 = u64::MAX;
 
 /// A list of ranks. It is kept as the leaves of a binary tree: the children of node k are nodes 2k and 2k + 1, and
 /// each node above the leaves has the lesser rank of its children, so that node 1 has the least of all. A change
-/// costs a step a level.
+/// of a leaf costs a comparison at each node above it.
 #[derive(Drop)]
 pub(crate) struct Tournament {
     nodes: Vec<u64>,

@@ -1,4 +1,4 @@
--- What the steps of the rule do: a store and a load of the words, and what becomes of views where a pass is made,
+-- What the operations of the cell do: a store and a load of the words, and what becomes of views where a pass is made,
 -- split or joined.
 use Rattle.std.specs.Prelude.{◌≡◌, ℕ, ◌<◌, ◌^◌, List, [], ◌∷◌, ◌++◌, All, slice_index}
 use Rattle.progress_cell.specs.Readings.{IsAtMost, StandsIn, last_of}

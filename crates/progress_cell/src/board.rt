@@ -91,8 +91,8 @@ impl Board {
         Ok((Board { cell }, Writer { pass, last }))
     }
 
-    /// Tells a reading, neither number of which may be below that of the last one. Costs 7 steps on the words, and
-    /// waits while a reader that was overtaken holds them.
+    /// Tells a reading, neither number of which may be below that of the last one. Costs 7 atomic operations on the
+    /// words, and waits while a reader that was overtaken holds them.
     pub fn publish<R: Wait>(&self, rt: &R, writer: &mut Writer, reading: Reading)
         requires belongs { writer.old.board ≡ self.now }
         requires rises { IsAtMost (last_of writer.old.told) reading }
@@ -103,7 +103,7 @@ impl Board {
         writer.last = reading;
     }
 
-    /// A new reader, which has seen the last reading that was told. Costs one step, and never waits.
+    /// A new reader, which has seen the last reading that was told. Costs one atomic operation, and never waits.
     pub fn reader(&self, writer: &mut Writer) -> Reader
         requires belongs { writer.old.board ≡ self.now }
         ensures belongs { result.board ≡ self.now }
@@ -115,8 +115,9 @@ impl Board {
         }
     }
 
-    /// The reading that is told at some moment of the call. Neither number is below that of the last one that this
-    /// reader saw. Costs 4 steps; where a reading is told meanwhile, it waits for the words and then holds them.
+    /// The reading that is told at some time in the call. Neither number is below that of the last one that this
+    /// reader saw. Costs 4 atomic operations; where a reading is told meanwhile, it waits for the words and then holds
+    /// them.
     pub fn read<R: Wait>(&self, rt: &R, reader: &mut Reader) -> Reading
         requires belongs { reader.old.board ≡ self.now }
         ensures seen { reader.new ≡ record reader.old { seen = reader.old.seen ++ result ∷ [] } }
@@ -129,7 +130,7 @@ impl Board {
         }
     }
 
-    /// Another reader, which has seen the last reading that this one saw. Costs one step, and never waits.
+    /// Another reader, which has seen the last reading that this one saw. Costs one atomic operation, and never waits.
     pub fn split(&self, reader: &mut Reader) -> Reader
         requires belongs { reader.old.board ≡ self.now }
         ensures belongs { result.board ≡ self.now }
@@ -142,7 +143,7 @@ impl Board {
     }
 
     /// Takes a reader in, and says that whatever it saw was told, in this order: each reading that it saw stands in
-    /// `told`, at places that never fall. Costs 6 steps, and waits as `read` does.
+    /// `told`, at places that never fall. Costs 6 atomic operations, and waits as `read` does.
     pub fn join<R: Wait>(&self, rt: &R, writer: &mut Writer, reader: Reader)
         requires writer_belongs { writer.old.board ≡ self.now }
         requires reader_belongs { reader.board ≡ self.now }

@@ -7,14 +7,15 @@
 //! how fresh one is.
 //!
 //! It stands on the ruled cell of two words of `crossbeam_utils`; `specs/Rule` says what always holds of the words and
-//! of what is known of them, and `specs/Steps` what each step does. `tile_worker` tells a run on it
+//! of what is known of them, and `specs/Steps` what each operation does. `tile_worker` tells a run on it
 //! (`run_watched`), for a library's caller that follows the run from a thread of its own; no command does. The book
 //! tells its counts as a `Reading`.
 //!
-//! `Board::new` alone takes memory. But for it and `Writer::last`, a call makes 1 to 7 atomic steps on the words where
-//! no other call comes between.
-//! `publish` takes the words' own lock for these steps, and so does a `read` or a `join` that was overtaken by it; they
-//! wait for each other's steps and for nothing else. After 2^63 readings were told, that lock is taken no more.
+//! `Board::new` alone takes memory. But for it and `Writer::last`, a call makes 1 to 7 atomic operations on the words
+//! where no other call comes between.
+//! `publish` takes the words' own lock for these operations, and so does a `read` or a `join` that was overtaken by it;
+//! they wait for each other's operations and for nothing else. After 2^63 readings were told, that lock is taken no
+//! more.
 #![tactic(auto)]
 
 mod board;

@@ -1,6 +1,6 @@
-//! The rule of a board's cell, and the names of its six steps, which calls of the cell take: a store by the writer's
-//! pass, a load by a reader's, a load by the writer's, making a reader's pass, handing one over whole, and taking one
-//! in. What they do is said here or in `specs/Steps`.
+//! The rule of a board's cell, and the names of its six operations, which calls of the cell take: a store by the
+//! writer's pass, a load by a reader's, a load by the writer's, making a reader's pass, handing one over whole, and
+//! taking one in. What they do is said here or in `specs/Steps`.
 
 ghost use Rattle.std.specs.Prelude.{[], ◌∷◌};
 ghost use Rattle.progress_cell.specs.Readings.{opening_reading};

@@ -42,7 +42,7 @@ impl Reg {
     }
 }
 
-/// The 32 registers of a hart, each a word. `x0` is always 0.
+/// The 32 registers of a core, each a word. `x0` is always 0.
 #[derive(Clone, Copy, Debug, PartialEq, Eq)]
 pub struct Regs {
     words: [u32; 32],

@@ -54,7 +54,7 @@ impl Model for Progress {
         × AllAccessible (length p.memory) p.log };
 }
 
-/// A task of the image at its start, on this memory.
+/// A pending task at its start, on this memory.
 pub(crate) fn progress_at_start(
     alloc: Global,
     image: &Image,

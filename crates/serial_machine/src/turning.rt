@@ -64,7 +64,7 @@ fn kind_of_first(outer: &[Bag]) -> Option<Kind>
     }
 }
 
-/// What the calls of a task of the image depend on as it starts.
+/// What the calls of a task of a bag depend on as it starts.
 fn context(image: &Image, bag: &Bag, outer: &[Bag], task: &PendingTask) -> Ctx
     ensures { result ≡ context_in_bag image.now.version (bag_value bag.now) (bags outer.now) task.now }
 {

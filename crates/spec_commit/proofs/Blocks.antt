@@ -37,8 +37,8 @@ pub taken_seen : (blocks : List BlockValue) (tile : ℕ) (block after : BlockVal
     → (lists : List (List Spilled)) → lists_in blocks ≡ lists → TakesLeast (slice_index_or lists tile []) (slice_index_or (lists_in (slice_set blocks tile after)) tile []) s
 taken_seen blocks tile block after s within is takes lists same =
     subst (λ lists. TakesLeast (slice_index_or lists tile []) (slice_index_or (lists_in (slice_set blocks tile after)) tile []) s) same
-    (subst (λ entries. TakesLeast entries (slice_index_or (lists_in (slice_set blocks tile after)) tile []) s) (sym (tasks_was blocks tile block within is))
-    (subst (λ entries. TakesLeast block.tasks entries s) (sym (tasks_now blocks tile after within)) takes))
+    (subst (λ spilled. TakesLeast spilled (slice_index_or (lists_in (slice_set blocks tile after)) tile []) s) (sym (tasks_was blocks tile block within is))
+    (subst (λ spilled. TakesLeast block.tasks spilled s) (sym (tasks_now blocks tile after within)) takes))
 
 -- all else of the view stays
 pub block_seen : (version : ℕ) (settings : Settings) (tasks : List (Option Task)) (memory : List ℕ) (history : List Entry) (output : List ℕ) (next : ℕ) (path : List Level)
@@ -71,7 +71,7 @@ push_seen version settings tasks memory history output next path queues finished
     ≡ record view { blocks = slice_set view.blocks tile (after_push (slice_index_or view.blocks tile []) s) }) same
     (ap (view_of_parts version settings tasks memory history output next path queues finished cores)
     (map-set (λ (b : BlockValue). b.tasks) blocks tile after
-    ∙ ap (slice_set (lists_in blocks) tile) (pushes ∙ ap (λ entries. after_push entries s) (sym (tasks_was blocks tile block within is)))))
+    ∙ ap (slice_set (lists_in blocks) tile) (pushes ∙ ap (λ spilled. after_push spilled s) (sym (tasks_was blocks tile block within is)))))
 
 -- its tasks stay
 pub same_seen : (version : ℕ) (settings : Settings) (tasks : List (Option Task)) (memory : List ℕ) (history : List Entry) (output : List ℕ) (next : ℕ) (path : List Level)

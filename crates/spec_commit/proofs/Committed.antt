@@ -25,7 +25,7 @@ use Rattle.spec_state.proofs.Proved.{AreKept, formed_later, indexed_kept, keeps_
 use Rattle.spec_commit.specs.Committing.{IsAdoptedOrSame, after_adoption}
 use Rattle.spec_commit.proofs.Moving.{cores_stay}
 
--- with more in the history what is stored is stored still
+-- with more in the journal what is stored is stored still
 pub stored_longer : (size : ℕ) (view : View) (history : List Entry) (output : List ℕ) (path : List Level)
     → IsStored size view → length view.history ≤ length history → IsStored size (record view { history = history; output = output; path = path })
 stored_longer size view history output path stored longer =
@@ -192,10 +192,10 @@ module _ (id n : ℕ) (tasks now : List (Option Task)) (each : (k : ℕ) → IsA
     ];
   }
 
-  pub indexed_adopted : (queues : List (List ℕ)) (arrivals : List ℕ) (next : ℕ) (entries : List Candidate)
-      → IsIndexed tasks queues arrivals next entries → IsIndexed now queues arrivals next entries
-  indexed_adopted queues arrivals next entries =
-      indexed_kept tasks now queues arrivals next entries (adopted_kept KeepsKey (λ x. record { tile = refl; key = refl }) (λ x. record { tile = refl; key = refl }))
+  pub indexed_adopted : (queues : List (List ℕ)) (arrivals : List ℕ) (next : ℕ) (listed : List Candidate)
+      → IsIndexed tasks queues arrivals next listed → IsIndexed now queues arrivals next listed
+  indexed_adopted queues arrivals next listed =
+      indexed_kept tasks now queues arrivals next listed (adopted_kept KeepsKey (λ x. record { tile = refl; key = refl }) (λ x. record { tile = refl; key = refl }))
 
 pub stored_adopted : (size id n : ℕ) (old : View) (now : List (Option Task)) → ((k : ℕ) → IsAdoptedOrSame id n (task_at old k) (slice_index_or now k None))
     → n ≤ length old.history → IsStored size old → IsStored size (record old { tasks = now })
@@ -314,7 +314,7 @@ commits size id old made left noted new task entry same stored there leaves note
     committed_task size id old left noted new task entry (subst (IsStored size) same stored) there_old (subst (λ v. TaskLeaves id v left) same leaves) noted_is adopts rest named
     (subst (IsLeastTask old id) one least.1) (ap (λ (t : Task). t.status) (sym one) ∙ least.2) least.3.0 least.3.1 (ap (λ (t : Task). t.creator) (sym one) ∙ least.3.2)
 
--- a commit whose entry joins the history before its task leaves
+-- a commit whose entry joins the journal before its task leaves
 pub commits_entered : (size id : ℕ) (old made recorded left new : View) (task : Task) (entry : Entry) → made ≡ old → IsStored size made → task_at made id ≡ Some task
     → recorded ≡ record made { history = made.history ++ entry ∷ []; output = made.output ++ task.bytes; path = task.key.domain ++ own_level task ∷ [] }
     → TaskLeaves id recorded left

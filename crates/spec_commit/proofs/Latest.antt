@@ -55,9 +55,9 @@ module _ (R : ℕ → ℕ → Type 0) (may now : ℕ → Type 0) (most x : ℕ) 
 
   -- where there were too few of them, it is one of the latest
   short : length (a ++ b) < most → AreLatest R now most (a ++ x ∷ b)
-  short room = record {
+  short fewer = record {
     each = each_now;
-    few = (let long = length_midst a b x in omega (arith, long, room));
+    few = (let long = length_midst a b x in omega (arith, long, fewer));
     all = λ less id is. held id is;
     latest = λ stays id is not has. absurd (not (held stays is));
     rising = pairs_midst R a b x was.rising lower upper;
@@ -65,7 +65,7 @@ module _ (R : ℕ → ℕ → Type 0) (may now : ℕ → Type 0) (most x : ℕ) 
     where
       held : (id : ℕ) → now id → Contains (a ++ x ∷ b) id
       held id is = elim (which id is) [
-        | inl old ↦ in_midst a b x id (was.all room id old)
+        | inl old ↦ in_midst a b x id (was.all fewer id old)
         | inr same ↦ subst (Contains (a ++ x ∷ b)) same (is_midst a b x)
       ]
 
@@ -151,11 +151,11 @@ pub one_more : (R : ℕ → ℕ → Type 0) (may now : ℕ → Type 0) (x : ℕ)
     → ((id : ℕ) → now id → may id ⊎ (x ≡ id)) → ((y : ℕ) → Contains (take place ids) y → R y x) → ((y : ℕ) → Contains (drop place ids) y → R x y)
     → ((p q : ℕ) → may p → may q → R p q → R q x → R p x) → AreLatest R now MAX_MOVED (with_one ids place x)
 one_more R may now x ids place was grows comes which lower upper along = elim (cases_lt (length ids) MAX_MOVED) [
-  | inl room ↦
-      let none : length ids + 1 - MAX_MOVED ≡ 0 = omega (arith, room) in
+  | inl fewer ↦
+      let none : length ids + 1 - MAX_MOVED ≡ 0 = omega (arith, fewer) in
       subst (λ n. AreLatest R now MAX_MOVED (drop n (insert ids place x))) (sym none)
       (short R may now MAX_MOVED x (take place ids) (drop place ids) (subst (AreLatest R may MAX_MOVED) (sym (take-append-drop place ids)) was) grows comes which lower upper along
-      (subst (λ xs. length xs < MAX_MOVED) (sym (take-append-drop place ids)) room))
+      (subst (λ xs. length xs < MAX_MOVED) (sym (take-append-drop place ids)) fewer))
   | inr full ↦
       let one : length ids + 1 - MAX_MOVED ≡ 1 = (let few = was.few in omega (arith, full, few)) in
       subst (λ n. AreLatest R now MAX_MOVED (drop n (insert ids place x))) (sym one) (leaves ids place was lower upper full)

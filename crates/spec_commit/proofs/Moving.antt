@@ -129,16 +129,16 @@ queues_after id was now gone others [] = refl
 queues_after id was now gone others (ids ∷ queues) = λ i. without_after id was now gone others ids i ∷ queues_after id was now gone others queues i
 
 -- one more is pushed behind the others
-pushed_more : (entries moved : List Spilled) (s : Spilled) → after_pushes entries (moved ++ s ∷ []) ≡ after_push (after_pushes entries moved) s
-pushed_more entries [] s = refl
-pushed_more entries (x ∷ moved) s = pushed_more (after_push entries x) moved s
+pushed_more : (block moved : List Spilled) (s : Spilled) → after_pushes block (moved ++ s ∷ []) ≡ after_push (after_pushes block moved) s
+pushed_more block [] s = refl
+pushed_more block (x ∷ moved) s = pushed_more (after_push block x) moved s
 
 -- into the block that has been changed before
-set_again : (blocks : List (List Spilled)) (tile : ℕ) (entries : List Spilled) (s : Spilled)
-    → slice_set (slice_set blocks tile entries) tile (after_push (slice_index_or (slice_set blocks tile entries) tile []) s) ≡ slice_set blocks tile (after_push entries s)
-set_again [] tile entries s = refl
-set_again (b ∷ blocks) zero entries s = refl
-set_again (b ∷ blocks) (suc tile) entries s = ap (λ rest. b ∷ rest) (set_again blocks tile entries s)
+set_again : (blocks : List (List Spilled)) (tile : ℕ) (block : List Spilled) (s : Spilled)
+    → slice_set (slice_set blocks tile block) tile (after_push (slice_index_or (slice_set blocks tile block) tile []) s) ≡ slice_set blocks tile (after_push block s)
+set_again [] tile block s = refl
+set_again (b ∷ blocks) zero block s = refl
+set_again (b ∷ blocks) (suc tile) block s = ap (λ rest. b ∷ rest) (set_again blocks tile block s)
 
 zip_more : (R : ℕ → Spilled → Type 0) (ids : List ℕ) (moved : List Spilled) (id : ℕ) (s : Spilled) → AllZip R ids moved → R id s → AllZip R (ids ++ id ∷ []) (moved ++ s ∷ [])
 zip_more R [] [] id s all is = (is, tt)

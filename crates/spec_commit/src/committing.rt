@@ -100,7 +100,7 @@ fn adopt_children<N: Naming>(state: &mut State<N>, id: TaskId)
     state.children.forget(id.0);
 }
 
-/// The entry that a task with a committed creator has in the history.
+/// The entry that a task with a committed creator has in the journal.
 fn entry_of(task: &Task) -> Entry
     requires firm { (turn : ℕ) × (index : ℕ) × (task.now.creator ≡ Committed turn index) }
     requires shallow { length task.now.key.domain < MAX_LEVELS }
@@ -138,7 +138,7 @@ fn reserve_output<N: Naming>(state: &mut State<N>, id: TaskId) -> Result<(), All
     state.buffers.output.reserve(wanted)
 }
 
-/// Adds a task's entry to the history and the task's bytes to the output, for which memory is spare, and makes its
+/// Adds a task's entry to the journal and the task's bytes to the output, for which memory is spare, and makes its
 /// levels the path.
 fn enter_commit<N: Naming>(state: &mut State<N>, id: TaskId) -> Entry
     requires firm { IfSome (task_at state.old.view id.0) (λ task.
@@ -172,7 +172,7 @@ fn enter_commit<N: Naming>(state: &mut State<N>, id: TaskId) -> Entry
 }
 
 /// Commits the least task, which is finished and was made by the image or a committed task: its entry joins the
-/// history, its bytes the output, and its levels are the path. `AllocError` where memory for the bytes isn't spare
+/// journal, its bytes the output, and its levels are the path. `AllocError` where memory for the bytes isn't spare
 /// in the output and runs out; nothing has changed then.
 pub fn commit_task<N: Naming>(state: &mut State<N>, id: TaskId) -> Result<Entry, AllocError>
     requires least { (task : Task) × IsLeastTask state.old.view id.0 task × (task.status ≡ Finished)

@@ -37,10 +37,10 @@ fn has_committed_creator(task: &Task) -> bool
     }
 }
 
-/// Commits the least task, which is finished: its entry joins the history, its bytes the output, and its levels are
+/// Commits the least task, which is finished: its entry joins the journal, its bytes the output, and its levels are
 /// the path. `AllocError` where memory for the bytes isn't spare in the output and runs out; nothing has changed
 /// then.
-/// A task whose creator has not committed has no name in the history; of a sound state the least task is none, and
+/// A task whose creator has not committed has no name in the journal; of a sound state the least task is none, and
 /// here it isn't committed either, which is answered in the same way.
 pub fn commit<N: Naming>(state: &mut State<N>) -> Result<Entry, AllocError>
     requires least { (id : ℕ) × IsLeast state.old.view (Finished (record { 0 = id })) }

@@ -77,9 +77,9 @@ open_here old view same size tile id task was least there stored =
     no_number was size (length old.history) (stored.tasks id was there) (ap (λ (t : Task). t.status) one ∙ least.idle.idle)
 
 -- it has its candidate in the index, with its tiebreaker open
-pub open_in : (tasks : List (Option Task)) (lists : List (List ℕ)) (arrivals : List ℕ) (next id : ℕ) (entries : List Candidate) (task : Task)
-    → IsIndexed tasks lists arrivals next entries → slice_index_or tasks id None ≡ Some task → task.key.tb ≡ None → IsOpenIn id entries
-open_in tasks lists arrivals next id entries task is there none = record {
+pub open_in : (tasks : List (Option Task)) (lists : List (List ℕ)) (arrivals : List ℕ) (next id : ℕ) (listed : List Candidate) (task : Task)
+    → IsIndexed tasks lists arrivals next listed → slice_index_or tasks id None ≡ Some task → task.key.tb ≡ None → IsOpenIn id listed
+open_in tasks lists arrivals next id listed task is there none = record {
   candidate = candidate_of arrivals id task;
   there = is.all id task there;
   id_is = refl;
@@ -87,13 +87,13 @@ open_in tasks lists arrivals next id entries task is there none = record {
 }
 
 -- and closed
-pub indexed_closed : (version : ℕ) (tasks : List (Option Task)) (lists : List (List ℕ)) (arrivals : List ℕ) (next id core number : ℕ) (entries tasks_now : List Candidate) (task now : Task)
-    → IsIndexed tasks lists arrivals next entries → slice_index_or tasks id None ≡ Some task → now ≡ started_task version core number task → IsTied id (Some number) entries tasks_now
-    → IsIndexed (slice_set tasks id (Some now)) lists arrivals next tasks_now
-indexed_closed version tasks lists arrivals next id core number entries tasks_now task now is there starts tie =
+pub indexed_closed : (version : ℕ) (tasks : List (Option Task)) (lists : List (List ℕ)) (arrivals : List ℕ) (next id core number : ℕ) (listed listed_now : List Candidate) (task now : Task)
+    → IsIndexed tasks lists arrivals next listed → slice_index_or tasks id None ≡ Some task → now ≡ started_task version core number task → IsTied id (Some number) listed listed_now
+    → IsIndexed (slice_set tasks id (Some now)) lists arrivals next listed_now
+indexed_closed version tasks lists arrivals next id core number listed listed_now task now is there starts tie =
     subst (IsIndexed (slice_set tasks id (Some now)) lists arrivals next)
-    (sym (tie (candidate_of arrivals id task) (is.all id task there) refl ∙ ap (λ (t : Task). after_insert candidate_cmp (candidate_of arrivals id t) (without_candidate id entries)) (sym starts)))
-    (rekeyed tasks (slice_set tasks id (Some now)) lists arrivals next id entries now is (task_set tasks id task now there) (others_set tasks id now))
+    (sym (tie (candidate_of arrivals id task) (is.all id task there) refl ∙ ap (λ (t : Task). after_insert candidate_cmp (candidate_of arrivals id t) (without_candidate id listed)) (sym starts)))
+    (rekeyed tasks (slice_set tasks id (Some now)) lists arrivals next id listed now is (task_set tasks id task now there) (others_set tasks id now))
 
 -- the dispatch, by the parts
 pub dispatches_seen : (version : ℕ) (settings : Settings) (tasks : List (Option Task)) (memory : List ℕ) (history : List Entry) (output : List ℕ) (next : ℕ) (path : List Level)

@@ -12,17 +12,17 @@ use Rattle.spec_state.specs.declared.task.Task.{Task}
 use Rattle.spec_state.specs.Stored.{IsIndexed, candidate_of}
 use Rattle.spec_state.proofs.Proved.{from_without, has_head, head_or_tail, in_tail, in_without}
 
-module _ (tasks now : List (Option Task)) (lists : List (List ℕ)) (arrivals : List ℕ) (next id : ℕ) (entries : List Candidate) (task : Task)
-    (is : IsIndexed tasks lists arrivals next entries) (here : slice_index_or now id None ≡ Some task)
+module _ (tasks now : List (Option Task)) (lists : List (List ℕ)) (arrivals : List ℕ) (next id : ℕ) (listed : List Candidate) (task : Task)
+    (is : IsIndexed tasks lists arrivals next listed) (here : slice_index_or now id None ≡ Some task)
     (others : (k : ℕ) → k ≢ id → slice_index_or now k None ≡ slice_index_or tasks k None) where
   abbrev own : Candidate
   own = candidate_of arrivals id task
 
   abbrev left : List Candidate
-  left = after_insert candidate_cmp own (without_candidate id entries)
+  left = after_insert candidate_cmp own (without_candidate id listed)
 
-  permutes : IsPermutation (own ∷ without_candidate id entries) left
-  permutes = after_insert-permutes candidate_cmp own (without_candidate id entries)
+  permutes : IsPermutation (own ∷ without_candidate id listed) left
+  permutes = after_insert-permutes candidate_cmp own (without_candidate id listed)
 
   all_in : (k : ℕ) (t : Task) → slice_index_or now k None ≡ Some t → Contains left (candidate_of arrivals k t)
   all_in k t found = elim (cases_eq k id) [
@@ -31,11 +31,11 @@ module _ (tasks now : List (Option Task)) (lists : List (List ℕ)) (arrivals : 
         let it : t ≡ task = cc in
         let e : candidate_of arrivals k t
         ≡ own = ap (λ j. candidate_of arrivals j t) same ∙ ap (candidate_of arrivals id) it in
-        subst (Contains left) (sym e) (Contains-permutation (own ∷ without_candidate id entries) left own permutes (has_head own (without_candidate id entries)))
+        subst (Contains left) (sym e) (Contains-permutation (own ∷ without_candidate id listed) left own permutes (has_head own (without_candidate id listed)))
     | inr other ↦
-        Contains-permutation (own ∷ without_candidate id entries) left (candidate_of arrivals k t) permutes
-        (in_tail own (without_candidate id entries) (candidate_of arrivals k t)
-        (in_without id entries (candidate_of arrivals k t) other (is.all k t (sym (others k other) ∙ found))))
+        Contains-permutation (own ∷ without_candidate id listed) left (candidate_of arrivals k t) permutes
+        (in_tail own (without_candidate id listed) (candidate_of arrivals k t)
+        (in_without id listed (candidate_of arrivals k t) other (is.all k t (sym (others k other) ∙ found))))
   ]
 
   abbrev Has : Candidate → Type 0
@@ -43,10 +43,10 @@ module _ (tasks now : List (Option Task)) (lists : List (List ℕ)) (arrivals : 
 
   each_is : (e : Candidate) → Contains left e → Has e
   each_is e has =
-      elim (head_or_tail own (without_candidate id entries) e (Contains-permutation left (own ∷ without_candidate id entries) e (IsPermutation-sym (own ∷ without_candidate id entries) left permutes) has)) [
+      elim (head_or_tail own (without_candidate id listed) e (Contains-permutation left (own ∷ without_candidate id listed) e (IsPermutation-sym (own ∷ without_candidate id listed) left permutes) has)) [
         | inl head ↦ subst Has head (task, here, refl)
         | inr tail ↦
-            let more = from_without id entries e tail in
+            let more = from_without id listed e tail in
             let was = is.each e more.0 in
             (was.0, others e.id more.1 ∙ was.1, was.2)
       ]

@@ -94,10 +94,10 @@ renumbers_seen version settings tasks memory history output next path queues fin
 
 module _ (view : View) (table : List ℕ) (is : IsNumberTable view table) where
   -- it holds the numbers of the index
-  pub index_held : (arrivals : List ℕ) (next : ℕ) (entries : List Candidate) → IsIndexed view.tasks view.queues arrivals next entries → HoldsCandidates table entries
-  index_held arrivals next entries indexed = λ k d within.
-      (let one = indexed.each (slice_index_or entries k d) (k, within, get_or_default entries k _ d within) in
-      subst (HoldsKey table) (sym (ap (λ (e : Candidate). e.key) one.2)) (table_holds_task view table is (slice_index_or entries k d).id one.0 one.1))
+  pub index_held : (arrivals : List ℕ) (next : ℕ) (listed : List Candidate) → IsIndexed view.tasks view.queues arrivals next listed → HoldsCandidates table listed
+  index_held arrivals next listed indexed = λ k d within.
+      (let one = indexed.each (slice_index_or listed k d) (k, within, get_or_default listed k _ d within) in
+      subst (HoldsKey table) (sym (ap (λ (e : Candidate). e.key) one.2)) (table_holds_task view table is (slice_index_or listed k d).id one.0 one.1))
 
   -- and those of all blocks
   pub blocks_held : All (HoldsSpilled table) view.blocks
@@ -163,14 +163,14 @@ module _ (old new : View) (r : Renumbers old new) where
       })
 
 -- the index holds the renumbered tasks
-pub indexed_renumbered : (table : List ℕ) (tasks : List (Option Task)) (lists : List (List ℕ)) (arrivals : List ℕ) (next : ℕ) (entries : List Candidate)
-    → IsIndexed tasks lists arrivals next entries → IsIndexed (map (option_map (renumbered_task table)) tasks) lists arrivals next (map (renumbered_candidate table) entries)
-indexed_renumbered table tasks lists arrivals next entries is = record {
+pub indexed_renumbered : (table : List ℕ) (tasks : List (Option Task)) (lists : List (List ℕ)) (arrivals : List ℕ) (next : ℕ) (listed : List Candidate)
+    → IsIndexed tasks lists arrivals next listed → IsIndexed (map (option_map (renumbered_task table)) tasks) lists arrivals next (map (renumbered_candidate table) listed)
+indexed_renumbered table tasks lists arrivals next listed is = record {
   all = λ id t there.
       (let one = mapped_some (renumbered_task table) (slice_index_or tasks id None) t (sym (map_at (option_map (renumbered_task table)) tasks id None) ∙ there) in
-      subst (λ x. Contains (map (renumbered_candidate table) entries) (candidate_of arrivals id x)) (sym one.2) (into entries (candidate_of arrivals id one.0) (is.all id one.0 one.1)));
+      subst (λ x. Contains (map (renumbered_candidate table) listed) (candidate_of arrivals id x)) (sym one.2) (into listed (candidate_of arrivals id one.0) (is.all id one.0 one.1)));
   each = λ e has.
-      (let one = from entries e has in
+      (let one = from listed e has in
       let task = is.each one.0 one.1 in
       let ids : e.id ≡ one.0.id = ap (λ (x : Candidate). x.id) one.2 in (
         renumbered_task table task.0,
@@ -191,12 +191,12 @@ indexed_renumbered table tasks lists arrivals next entries is = record {
     from (x ∷ es) e (zero, low, at) = (x, (zero, omega arith, refl), sym at)
     from (x ∷ es) e (suc k, low, at) = (let more = from es e (k, omega (arith, low), at) in (more.0, (suc more.1.0, (let below = more.1.1 in omega (arith, below)), more.1.2), more.2))
 
-pub indexed_after : (table : List ℕ) (tasks now : List (Option Task)) (lists : List (List ℕ)) (arrivals : List ℕ) (next : ℕ) (entries tasks_now : List Candidate)
-    → IsIndexed tasks lists arrivals next entries → now ≡ map (option_map (renumbered_task table)) tasks → tasks_now ≡ map (renumbered_candidate table) entries
-    → IsIndexed now lists arrivals next tasks_now
-indexed_after table tasks now lists arrivals next entries tasks_now is tasks_are entries_are =
-    subst (λ ts. IsIndexed ts lists arrivals next tasks_now) (sym tasks_are)
-    (subst (IsIndexed (map (option_map (renumbered_task table)) tasks) lists arrivals next) (sym entries_are) (indexed_renumbered table tasks lists arrivals next entries is))
+pub indexed_after : (table : List ℕ) (tasks now : List (Option Task)) (lists : List (List ℕ)) (arrivals : List ℕ) (next : ℕ) (listed listed_now : List Candidate)
+    → IsIndexed tasks lists arrivals next listed → now ≡ map (option_map (renumbered_task table)) tasks → listed_now ≡ map (renumbered_candidate table) listed
+    → IsIndexed now lists arrivals next listed_now
+indexed_after table tasks now lists arrivals next listed listed_now is tasks_are listed_are =
+    subst (λ ts. IsIndexed ts lists arrivals next listed_now) (sym tasks_are)
+    (subst (IsIndexed (map (option_map (renumbered_task table)) tasks) lists arrivals next) (sym listed_are) (indexed_renumbered table tasks lists arrivals next listed is))
 
 -- children stay noted
 pub noted_after : (table : List ℕ) (tasks now : List (Option Task)) (children : ChildrenValue)

@@ -6,7 +6,7 @@ use Rattle.spec_state.specs.declared.task.Task.{Task}
 
 -- the numbers of those of these tasks that are dispatched
 abbrev pub dispatch_numbers_of : List (ℕ × Task) → List ℕ
-dispatch_numbers_of tasks = filter_map (λ entry. entry.1.key.tb) tasks
+dispatch_numbers_of tasks = filter_map (λ held. held.1.key.tb) tasks
 
 -- the tiebreakers of the path, and then the numbers of the dispatched tasks
 abbrev pub held_numbers : List Level → Slab Task → List ℕ

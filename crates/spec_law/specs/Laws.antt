@@ -67,13 +67,13 @@ ConflictsSpareAsker =
     → Sound image view → task_at view id ≡ Some task → IsCascade view (Conflicts view task line write) marks
     → Marked marks id → ⊥
 
--- with all uncommitted tasks taken back, memory is that of the serial machine after the history
+-- with all uncommitted tasks taken back, memory is that of the serial machine after the journal
 abbrev pub AllUndoneIsSerial : Type 0
 AllUndoneIsSerial =
     (image : ImageValue) (view : View) (sound : Sound image view) (memory : List ℕ)
     → IsUndone view (λ id. true) memory → memory ≡ sound.serial.memory
 
--- what undoing all uncommitted tasks leaves has the serial machine's memory and output after the history
+-- what taking all uncommitted tasks back leaves has the serial machine's memory and output after the journal
 abbrev pub UndoAllIsSerial : Type 0
 UndoAllIsSerial =
     (image : ImageValue) (old new : View) (sound : Sound image old) → UndoesAll old new

@@ -1,4 +1,4 @@
--- When a view is sound: were all its uncommitted tasks taken back, the serial machine's state after its history
+-- When a view is sound: were all its uncommitted tasks taken back, the serial machine's state after its journal
 -- would be left.
 use Rattle.std.specs.Prelude.{◌≡◌, ◌↔◌, ◌+◌, ◌^◌, ℕ, ◌<◌, ◌≤◌, [], length, map, All, Contains, Option, Some, IsSome}
 use Rattle.std.specs.Prelude.{is_some, unwrap_or, slice_get}
@@ -81,7 +81,7 @@ pub record IsMadeBy (view : View) (id index : ℕ) (d : Descriptor) : Type 0 whe
   pub made : slice_get creator.spawns index ≡ Some spawn
   pub descriptor_is : d ≡ child_descriptor creator spawn
 
--- the group of tasks, against the serial machine's state after the history: the history is no longer than it may
+-- the group of tasks, against the serial machine's state after the journal: the journal is no longer than it may
 -- be; the output is that of the run; names are apart, families whole and spilled tasks firm; the tasks of committed
 -- creators are, at each depth, the pending tasks of the bag there, and their kinds and floors are those of the
 -- bags; each task has done what its status says; and each child is as its creator made it. That names are apart,
@@ -140,7 +140,7 @@ pub record SoundSizes (view : View) : Type 0 where
   pub bytes : (id : ℕ) (task : Task) → task_at view id ≡ Some task → length task.bytes ≤ MAX_EMITTED
   pub spilled : (s : Spilled) → Contains (all_spilled view) s → IsDesc s.desc × (length s.domain + 1 ≡ s.desc.depth)
 
--- the view is sound: its history is a run of the serial machine, the groups hold of the state that this run led to, and
+-- the view is sound: its journal is a run of the serial machine, the groups hold of the state that this run led to, and
 -- its version is that of the image
 pub record Sound (image : ImageValue) (view : View) : Type 0 where
   pub serial : SerialState

@@ -37,13 +37,13 @@ pub fn conflicts_spare_asker()
 {}
 
 /// In a sound view all uncommitted tasks taken back, the latest first, leave the serial machine's memory after the
-/// history.
+/// journal.
 pub fn all_undone_is_serial()
     ensures { AllUndoneIsSerial }
 {}
 
-/// In a sound view what undoing all uncommitted tasks leaves has the serial machine's memory and output after the
-/// history.
+/// In a sound view what taking all uncommitted tasks back leaves has the serial machine's memory and output after the
+/// journal.
 pub fn undo_all_is_serial()
     ensures { UndoAllIsSerial }
 {}

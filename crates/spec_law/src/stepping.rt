@@ -1,5 +1,5 @@
-//! Each change by one running task alone keeps a sound view sound. Each law is the contract of a function that does
-//! nothing.
+//! A quantum, a trap, a call for a subdomain, a call that emits a byte and an end call keep a sound view sound. Each
+//! law is the contract of a function that does nothing.
 
 ghost use Rattle.spec_law.specs.Keeping.{ByteStaysSound, EndStaysSound, QuantumStaysSound, SubStaysSound};
 ghost use Rattle.spec_law.specs.Keeping.{TrapStaysSound};

@@ -12,7 +12,7 @@ use Rattle.spec_state.specs.View.{View, task_at}
 use Rattle.spec_state.specs.Queries.{Conflicts}
 use Rattle.spec_state.specs.Stored.{IsIndexed, candidate_of}
 
-module _ (view : View) (queues : List (List ℕ)) (arrivals : List ℕ) (next : ℕ) (entries : List Candidate) (indexed : IsIndexed view.tasks queues arrivals next entries) (one : closed_in entries ≡ 1)
+module _ (view : View) (queues : List (List ℕ)) (arrivals : List ℕ) (next : ℕ) (listed : List Candidate) (indexed : IsIndexed view.tasks queues arrivals next listed) (one : closed_in listed ≡ 1)
     (id : ℕ) (task : Task) (there : task_at view id ≡ Some task) (some : is_some task.key.tb ≡ true) where
   -- a task doesn't conflict with itself
   other_id : (line : ℕ) (write : Bool) (k : ℕ) → Conflicts view task line write k → id ≢ k
@@ -25,8 +25,8 @@ module _ (view : View) (queues : List (List ℕ)) (arrivals : List ℕ) (next : 
 
   no_conflict : (line : ℕ) (write : Bool) (k : ℕ) → Conflicts view task line write k → ⊥
   no_conflict line write k conflict =
-      let two : 2 ≤ closed_in entries =
-      two_there (candidate_of arrivals id task) (candidate_of arrivals k conflict.other) entries (indexed.all id task there) (indexed.all k conflict.other conflict.later.there)
+      let two : 2 ≤ closed_in listed =
+      two_there (candidate_of arrivals id task) (candidate_of arrivals k conflict.other) listed (indexed.all id task there) (indexed.all k conflict.other conflict.later.there)
       (other_id line write k conflict) some conflict.later.dispatched in
       absurd (omega (arith, two, one))
 

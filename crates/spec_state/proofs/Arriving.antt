@@ -36,9 +36,9 @@ next_tile tasks lists old new bound more t theirs was own others upto fits s id 
         sym here.2 ∙ ap (λ (x : Task). x.tile) one ∙ there.2
 
 -- where all are below a number, that is the next one
-pub all_early : (tasks : List (Option Task)) (lists : List (List ℕ)) (numbers : List ℕ) (next bound count : ℕ) (entries : List Candidate) → IsIndexed tasks lists numbers next entries
-    → AllBelow lists numbers bound count → length lists ≤ count → IsIndexed tasks lists numbers bound entries
-all_early tasks lists numbers next bound count entries is below all = record {
+pub all_early : (tasks : List (Option Task)) (lists : List (List ℕ)) (numbers : List ℕ) (next bound count : ℕ) (listed : List Candidate) → IsIndexed tasks lists numbers next listed
+    → AllBelow lists numbers bound count → length lists ≤ count → IsIndexed tasks lists numbers bound listed
+all_early tasks lists numbers next bound count listed is below all = record {
   all = is.all;
   each = is.each;
   early = λ tile id has. (let within = within_lists lists tile id has in below tile id (omega (arith, within, all)) has);

@@ -54,9 +54,9 @@ stored_empty view size tiles cores tasks queues finished held memory = record {
   memory = memory;
 }
 
-pub indexed_empty : (tasks : List (Option Task)) (queues : List (List ℕ)) (arrivals : List ℕ) (next tiles : ℕ) (entries : List Candidate) → tasks ≡ [] → queues ≡ replicate tiles [] → entries ≡ []
-    → IsIndexed tasks queues arrivals next entries
-indexed_empty tasks queues arrivals next tiles entries none empty nothing = record {
+pub indexed_empty : (tasks : List (Option Task)) (queues : List (List ℕ)) (arrivals : List ℕ) (next tiles : ℕ) (listed : List Candidate) → tasks ≡ [] → queues ≡ replicate tiles [] → listed ≡ []
+    → IsIndexed tasks queues arrivals next listed
+indexed_empty tasks queues arrivals next tiles listed none empty nothing = record {
   all = λ id task at. absurd (cc (at, ap (λ (ts : List (Option Task)). slice_index_or ts id None) none));
   each = λ entry has. (let has' : Contains [] entry = subst (λ es. Contains es entry) nothing has in absurd (omega (arith, has'.1)));
   early = λ tile id has. absurd (none_in queues tiles tile id empty has);

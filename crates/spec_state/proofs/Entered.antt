@@ -31,14 +31,14 @@ pub held_at : (ids : List ℕ) (p id : ℕ) → slice_get ids p ≡ Some id → 
 held_at ids p id at = (p, slice_get_within ids p id at, get_or_from_slice_get ids p id id at)
 
 -- the index holds no candidate of an id that is no task's
-pub no_candidate : (tasks : List (Option Task)) (queues : List (List ℕ)) (arrivals : List ℕ) (next id : ℕ) (entries : List Candidate) → IsIndexed tasks queues arrivals next entries
-    → slice_index_or tasks id None ≡ None → HasId id entries → ⊥
-no_candidate tasks queues arrivals next id entries is vacant (k, e, below, at, same) =
+pub no_candidate : (tasks : List (Option Task)) (queues : List (List ℕ)) (arrivals : List ℕ) (next id : ℕ) (listed : List Candidate) → IsIndexed tasks queues arrivals next listed
+    → slice_index_or tasks id None ≡ None → HasId id listed → ⊥
+no_candidate tasks queues arrivals next id listed is vacant (k, e, below, at, same) =
     let was = is.each e (k, below, at) in
     absurd (cc (was.1, ap (λ j. slice_index_or tasks j None) same, vacant))
 
-module _ (tasks after : List (Option Task)) (queues : List (List ℕ)) (arrivals : List ℕ) (next : ℕ) (entries : List Candidate) (id : ℕ) (task : Task)
-    (is : IsIndexed tasks queues arrivals next entries) (vacant : slice_index_or tasks id None ≡ None) (changed : slice_index_or after id None ≡ Some task)
+module _ (tasks after : List (Option Task)) (queues : List (List ℕ)) (arrivals : List ℕ) (next : ℕ) (listed : List Candidate) (id : ℕ) (task : Task)
+    (is : IsIndexed tasks queues arrivals next listed) (vacant : slice_index_or tasks id None ≡ None) (changed : slice_index_or after id None ≡ Some task)
     (others : (k : ℕ) → k ≢ id → slice_index_or after k None ≡ slice_index_or tasks k None) (below : id < length arrivals) (in_tiles : task.tile < length queues)
     (unqueued : (tile k : ℕ) → Contains (slice_index_or queues tile []) k → k ≢ id) where
   abbrev own : Candidate
@@ -53,8 +53,8 @@ module _ (tasks after : List (Option Task)) (queues : List (List ℕ)) (arrivals
   abbrev lists : List (List ℕ)
   lists = slice_set queues task.tile (own_queue ++ id ∷ [])
 
-  permutes : IsPermutation (own ∷ entries) (after_insert candidate_cmp own entries)
-  permutes = after_insert-permutes candidate_cmp own entries
+  permutes : IsPermutation (own ∷ listed) (after_insert candidate_cmp own listed)
+  permutes = after_insert-permutes candidate_cmp own listed
 
   own_number : slice_index_or numbers id 0 ≡ next
   own_number = get_or-set_same arrivals id next 0 below
@@ -68,25 +68,25 @@ module _ (tasks after : List (Option Task)) (queues : List (List ℕ)) (arrivals
   other_candidate : (k : ℕ) (t : Task) → k ≢ id → candidate_of numbers k t ≡ candidate_of arrivals k t
   other_candidate k t other = λ i. record { key = t.key; tile = t.tile; arrival = other_number k other i; id = k }
 
-  all_in : (k : ℕ) (t : Task) → slice_index_or after k None ≡ Some t → Contains (after_insert candidate_cmp own entries) (candidate_of numbers k t)
+  all_in : (k : ℕ) (t : Task) → slice_index_or after k None ≡ Some t → Contains (after_insert candidate_cmp own listed) (candidate_of numbers k t)
   all_in k t at = elim (cases_eq k id) [
     | inl same ↦
         let both : Some t ≡ Some task = sym at ∙ ap (λ j. slice_index_or after j None) same ∙ changed in
         let it : t ≡ task = cc in
         let e : candidate_of numbers k t ≡ own = ap (λ j. candidate_of numbers j t) same ∙ ap (candidate_of numbers id) it ∙ own_candidate in
-        subst (Contains (after_insert candidate_cmp own entries)) (sym e) (Contains-permutation (own ∷ entries) (after_insert candidate_cmp own entries) own permutes (has_head own entries))
+        subst (Contains (after_insert candidate_cmp own listed)) (sym e) (Contains-permutation (own ∷ listed) (after_insert candidate_cmp own listed) own permutes (has_head own listed))
     | inr other ↦
         let was = is.all k t (sym (others k other) ∙ at) in
-        subst (Contains (after_insert candidate_cmp own entries)) (sym (other_candidate k t other))
-        (Contains-permutation (own ∷ entries) (after_insert candidate_cmp own entries) (candidate_of arrivals k t) permutes (in_tail own entries (candidate_of arrivals k t) was))
+        subst (Contains (after_insert candidate_cmp own listed)) (sym (other_candidate k t other))
+        (Contains-permutation (own ∷ listed) (after_insert candidate_cmp own listed) (candidate_of arrivals k t) permutes (in_tail own listed (candidate_of arrivals k t) was))
   ]
 
   abbrev Has : Candidate → Type 0
   Has e = (t : Task) × (slice_index_or after e.id None ≡ Some t) × (e ≡ candidate_of numbers e.id t)
 
-  each_is : (e : Candidate) → Contains (after_insert candidate_cmp own entries) e → Has e
+  each_is : (e : Candidate) → Contains (after_insert candidate_cmp own listed) e → Has e
   each_is e has =
-      elim (head_or_tail own entries e (Contains-permutation (after_insert candidate_cmp own entries) (own ∷ entries) e (IsPermutation-sym (own ∷ entries) (after_insert candidate_cmp own entries) permutes) has)) [
+      elim (head_or_tail own listed e (Contains-permutation (after_insert candidate_cmp own listed) (own ∷ listed) e (IsPermutation-sym (own ∷ listed) (after_insert candidate_cmp own listed) permutes) has)) [
         | inl head ↦ subst Has head (task, changed, sym own_candidate)
         | inr tail ↦
             let was = is.each e tail in
@@ -149,5 +149,5 @@ module _ (tasks after : List (Option Task)) (queues : List (List ℕ)) (arrivals
         was_rising tile p q a b less (ap (λ ids. slice_get ids p) (sym list) ∙ at) (ap (λ ids. slice_get ids q) (sym list) ∙ bt)
   ]
 
-  pub entered : IsIndexed after lists numbers (next + 1) (after_insert candidate_cmp own entries)
+  pub entered : IsIndexed after lists numbers (next + 1) (after_insert candidate_cmp own listed)
   entered = record { all = all_in; each = each_is; early = early_all; rising = rising_all }

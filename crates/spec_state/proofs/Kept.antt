@@ -132,10 +132,10 @@ stored_but_one size old now id task changed stored there changes queues finished
         subst (IsWellFormed size (length old.history)) (sym one) formed
 
 -- the index still holds what it should
-pub indexed_kept : (old now : List (Option Task)) (queues : List (List ℕ)) (arrivals : List ℕ) (next : ℕ) (entries : List Candidate) → AreKept KeepsKey old now
-    → IsIndexed old queues arrivals next entries → IsIndexed now queues arrivals next entries
-indexed_kept old now queues arrivals next entries kept is = record {
-  all = λ id n at. (let t = kept.back id n at in subst (Contains entries) (sym (same_candidate id t.0 n t.2)) (is.all id t.0 t.1));
+pub indexed_kept : (old now : List (Option Task)) (queues : List (List ℕ)) (arrivals : List ℕ) (next : ℕ) (listed : List Candidate) → AreKept KeepsKey old now
+    → IsIndexed old queues arrivals next listed → IsIndexed now queues arrivals next listed
+indexed_kept old now queues arrivals next listed kept is = record {
+  all = λ id n at. (let t = kept.back id n at in subst (Contains listed) (sym (same_candidate id t.0 n t.2)) (is.all id t.0 t.1));
   each = λ e has. (let was = is.each e has in let n = kept.forth e.id was.0 was.1 in (n.0, n.1, was.2 ∙ sym (same_candidate e.id was.0 n.0 n.2)));
   early = is.early;
   rising = is.rising;
@@ -145,11 +145,11 @@ indexed_kept old now queues arrivals next entries kept is = record {
     same_candidate id t n keeps = λ i. record { key = keeps.key i; tile = keeps.tile i; arrival = slice_index_or arrivals id 0; id = id }
 
 -- where one task is another with its key, in its tile
-pub indexed_but_one : (old now : List (Option Task)) (queues : List (List ℕ)) (arrivals : List ℕ) (next : ℕ) (entries : List Candidate) (id : ℕ) (task changed : Task)
+pub indexed_but_one : (old now : List (Option Task)) (queues : List (List ℕ)) (arrivals : List ℕ) (next : ℕ) (listed : List Candidate) (id : ℕ) (task changed : Task)
     → slice_index_or old id None ≡ Some task → slice_index_or now id None ≡ Some changed → ((k : ℕ) → k ≢ id → slice_index_or now k None ≡ slice_index_or old k None)
-    → changed.tile ≡ task.tile → changed.key ≡ task.key → IsIndexed old queues arrivals next entries → IsIndexed now queues arrivals next entries
-indexed_but_one old now queues arrivals next entries id task changed there here others tile key =
-    indexed_kept old now queues arrivals next entries
+    → changed.tile ≡ task.tile → changed.key ≡ task.key → IsIndexed old queues arrivals next listed → IsIndexed now queues arrivals next listed
+indexed_but_one old now queues arrivals next listed id task changed there here others tile key =
+    indexed_kept old now queues arrivals next listed
     (kept_but_one KeepsKey (λ t. record { tile = refl; key = refl }) old now id task changed there here others (record { tile = tile; key = key }))
 
 -- another task in a slot that is in use
@@ -202,11 +202,11 @@ stored_set size old id task now memory stored there keeps formed long =
     (record { changed = task_set old.tasks id task now there; others = others_set old.tasks id now }) refl refl refl refl (long ∙ sym stored.memory) keeps formed
 
 -- and so does the index, where it keeps its key
-pub indexed_set : (tasks : List (Option Task)) (queues : List (List ℕ)) (arrivals : List ℕ) (next : ℕ) (entries : List Candidate) (id : ℕ) (task now : Task)
-    → IsIndexed tasks queues arrivals next entries → slice_index_or tasks id None ≡ Some task → now.key ≡ task.key → now.tile ≡ task.tile
-    → IsIndexed (slice_set tasks id (Some now)) queues arrivals next entries
-indexed_set tasks queues arrivals next entries id task now is there key tile =
-    indexed_but_one tasks (slice_set tasks id (Some now)) queues arrivals next entries id task now there (task_set tasks id task now there) (others_set tasks id now) tile key is
+pub indexed_set : (tasks : List (Option Task)) (queues : List (List ℕ)) (arrivals : List ℕ) (next : ℕ) (listed : List Candidate) (id : ℕ) (task now : Task)
+    → IsIndexed tasks queues arrivals next listed → slice_index_or tasks id None ≡ Some task → now.key ≡ task.key → now.tile ≡ task.tile
+    → IsIndexed (slice_set tasks id (Some now)) queues arrivals next listed
+indexed_set tasks queues arrivals next listed id task now is there key tile =
+    indexed_but_one tasks (slice_set tasks id (Some now)) queues arrivals next listed id task now there (task_set tasks id task now there) (others_set tasks id now) tile key is
 
 -- whether a task keeps a core doesn't depend on which core it is
 pub keeps_some : (status : Status) (a b : Core) → is_some (kept_core status a) ≡ is_some (kept_core status b)

@@ -83,7 +83,7 @@ module _ (size : ℕ) (view : View) (arrivals : List ℕ) (next : ℕ) (stored :
     first_of = record { place = has.0; queued_at = record { queued = at_place; there = there }; first = first }
 
   -- the first candidate of the index is that of the first queued task
-  pub first_queued : (entries : List Candidate) → IsIndexed view.tasks view.queues arrivals next entries → IsInOrder candidate_cmp entries → (id : ℕ) → first_id entries ≡ Some id
+  pub first_queued : (listed : List Candidate) → IsIndexed view.tasks view.queues arrivals next listed → IsInOrder candidate_cmp listed → (id : ℕ) → first_id listed ≡ Some id
       → (task : Task) × IsFirstQueued view id task
   first_queued [] is order id at = absurd (cc)
   first_queued (e ∷ es) is order id at =
@@ -93,7 +93,7 @@ module _ (size : ℕ) (view : View) (arrivals : List ℕ) (next : ℕ) (stored :
       subst (λ k. (task : Task) × IsFirstQueued view k task) same (mine.0, first_of e es is order mine.0 mine.1 mine.2 has)
 
   -- where the index is empty no task is queued
-  pub none_queued : (entries : List Candidate) → IsIndexed view.tasks view.queues arrivals next entries → first_id entries ≡ None → (tile id : ℕ) → IsQueued view tile id → ⊥
+  pub none_queued : (listed : List Candidate) → IsIndexed view.tasks view.queues arrivals next listed → first_id listed ≡ None → (tile id : ℕ) → IsQueued view tile id → ⊥
   none_queued [] is none tile id has =
       let there = (stored.queued_are tile id).0 has in
       let found = is.all id there.0 there.1 in

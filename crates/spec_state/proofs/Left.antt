@@ -144,21 +144,21 @@ slots_left settings tasks now queues counts slots_now indexed_now capacity_now t
       numbers = has.numbers;
     }
 
-module _ (tasks after : List (Option Task)) (queues : List (List ℕ)) (arrivals : List ℕ) (next : ℕ) (entries : List Candidate) (id : ℕ)
-    (is : IsIndexed tasks queues arrivals next entries) (others : (k : ℕ) → k ≢ id → slice_index_or after k None ≡ slice_index_or tasks k None) where
+module _ (tasks after : List (Option Task)) (queues : List (List ℕ)) (arrivals : List ℕ) (next : ℕ) (listed : List Candidate) (id : ℕ)
+    (is : IsIndexed tasks queues arrivals next listed) (others : (k : ℕ) → k ≢ id → slice_index_or after k None ≡ slice_index_or tasks k None) where
   -- the candidate is that of the task of its id
   abbrev Has : Candidate → Type 0
   Has e = (t : Task) × (slice_index_or after e.id None ≡ Some t) × (e ≡ candidate_of arrivals e.id t)
 
-  other_candidate : (e : Candidate) → Contains (without_candidate id entries) e → Has e
+  other_candidate : (e : Candidate) → Contains (without_candidate id listed) e → Has e
   other_candidate e has =
-      let more = from_without id entries e has in
+      let more = from_without id listed e has in
       let was = is.each e more.0 in
       (was.0, others e.id more.1 ∙ was.1, was.2)
 
-  other_in : (k : ℕ) (t : Task) → k ≢ id → slice_index_or after k None ≡ Some t → Contains (without_candidate id entries) (candidate_of arrivals k t)
+  other_in : (k : ℕ) (t : Task) → k ≢ id → slice_index_or after k None ≡ Some t → Contains (without_candidate id listed) (candidate_of arrivals k t)
   other_in k t other at =
-      in_without id entries (candidate_of arrivals k t) other (is.all k t (sym (others k other) ∙ at))
+      in_without id listed (candidate_of arrivals k t) other (is.all k t (sym (others k other) ∙ at))
 
   -- the index without a task that has left
   module _ (vacant : slice_index_or after id None ≡ None) where
@@ -180,7 +180,7 @@ module _ (tasks after : List (Option Task)) (queues : List (List ℕ)) (arrivals
         subst (λ n. Earlier n b) (get_or_from_slice_get ids p a a at)
         (subst (λ n. Earlier (slice_index_or ids p a) n) (get_or_from_slice_get ids q b a bt) kept)
 
-    indexed_left : IsIndexed after (map (ids_but id) queues) arrivals next (without_candidate id entries)
+    indexed_left : IsIndexed after (map (ids_but id) queues) arrivals next (without_candidate id listed)
     indexed_left = record {
       all = λ k t at. other_in k t (λ same. cc (at, ap (λ j. slice_index_or after j None) same, vacant)) at;
       each = other_candidate;
@@ -189,48 +189,48 @@ module _ (tasks after : List (Option Task)) (queues : List (List ℕ)) (arrivals
           rising_left tile p q a b less (ap (λ ids. slice_get ids p) (sym (queue_left tile)) ∙ at) (ap (λ ids. slice_get ids q) (sym (queue_left tile)) ∙ bt);
     }
 
-    pub indexed_gone : (queues_now : List (List ℕ)) (tasks_now : List Candidate) → queues_now ≡ map (ids_but id) queues → tasks_now ≡ without_candidate id entries
-        → IsIndexed after queues_now arrivals next tasks_now
-    indexed_gone queues_now tasks_now queues_are entries_are =
-        subst (λ lists. IsIndexed after lists arrivals next tasks_now) (sym queues_are)
-        (subst (IsIndexed after (map (ids_but id) queues) arrivals next) (sym entries_are) indexed_left)
+    pub indexed_gone : (queues_now : List (List ℕ)) (listed_now : List Candidate) → queues_now ≡ map (ids_but id) queues → listed_now ≡ without_candidate id listed
+        → IsIndexed after queues_now arrivals next listed_now
+    indexed_gone queues_now listed_now queues_are listed_are =
+        subst (λ lists. IsIndexed after lists arrivals next listed_now) (sym queues_are)
+        (subst (IsIndexed after (map (ids_but id) queues) arrivals next) (sym listed_are) indexed_left)
 
   -- the index with another key of a task, under its number
   module _ (now : Task) (changed : slice_index_or after id None ≡ Some now) where
     abbrev own : Candidate
     own = candidate_of arrivals id now
 
-    permutes : IsPermutation (own ∷ without_candidate id entries) (after_insert candidate_cmp own (without_candidate id entries))
-    permutes = after_insert-permutes candidate_cmp own (without_candidate id entries)
+    permutes : IsPermutation (own ∷ without_candidate id listed) (after_insert candidate_cmp own (without_candidate id listed))
+    permutes = after_insert-permutes candidate_cmp own (without_candidate id listed)
 
-    all_again : (k : ℕ) (t : Task) → slice_index_or after k None ≡ Some t → Contains (after_insert candidate_cmp own (without_candidate id entries)) (candidate_of arrivals k t)
+    all_again : (k : ℕ) (t : Task) → slice_index_or after k None ≡ Some t → Contains (after_insert candidate_cmp own (without_candidate id listed)) (candidate_of arrivals k t)
     all_again k t at =
-        Contains-permutation (own ∷ without_candidate id entries) (after_insert candidate_cmp own (without_candidate id entries)) (candidate_of arrivals k t) permutes (by_id (cases_eq k id))
+        Contains-permutation (own ∷ without_candidate id listed) (after_insert candidate_cmp own (without_candidate id listed)) (candidate_of arrivals k t) permutes (by_id (cases_eq k id))
       where
-        by_id : (k ≡ id) ⊎ (k ≢ id) → Contains (own ∷ without_candidate id entries) (candidate_of arrivals k t)
-        by_id (inr other) = in_tail own (without_candidate id entries) (candidate_of arrivals k t) (other_in k t other at)
+        by_id : (k ≡ id) ⊎ (k ≢ id) → Contains (own ∷ without_candidate id listed) (candidate_of arrivals k t)
+        by_id (inr other) = in_tail own (without_candidate id listed) (candidate_of arrivals k t) (other_in k t other at)
         by_id (inl same) =
             let both : Some t ≡ Some now = sym at ∙ ap (λ j. slice_index_or after j None) same ∙ changed in
             let it : t ≡ now = cc in
-            subst (Contains (own ∷ without_candidate id entries)) (sym (ap (λ j. candidate_of arrivals j t) same ∙ ap (candidate_of arrivals id) it)) (has_head own (without_candidate id entries))
+            subst (Contains (own ∷ without_candidate id listed)) (sym (ap (λ j. candidate_of arrivals j t) same ∙ ap (candidate_of arrivals id) it)) (has_head own (without_candidate id listed))
 
-    each_again : (e : Candidate) → Contains (after_insert candidate_cmp own (without_candidate id entries)) e → Has e
+    each_again : (e : Candidate) → Contains (after_insert candidate_cmp own (without_candidate id listed)) e → Has e
     each_again e has =
-        elim (head_or_tail own (without_candidate id entries) e
-        (Contains-permutation (after_insert candidate_cmp own (without_candidate id entries)) (own ∷ without_candidate id entries) e (IsPermutation-sym (own ∷ without_candidate id entries) (after_insert candidate_cmp own (without_candidate id entries)) permutes) has)) [
+        elim (head_or_tail own (without_candidate id listed) e
+        (Contains-permutation (after_insert candidate_cmp own (without_candidate id listed)) (own ∷ without_candidate id listed) e (IsPermutation-sym (own ∷ without_candidate id listed) (after_insert candidate_cmp own (without_candidate id listed)) permutes) has)) [
           | inl head ↦ subst Has head (now, changed, refl)
           | inr tail ↦ other_candidate e tail
         ]
 
-    pub indexed_again : (tasks_now : List Candidate) → tasks_now ≡ after_insert candidate_cmp own (without_candidate id entries) → IsIndexed after queues arrivals next tasks_now
-    indexed_again tasks_now entries_are =
-        subst (IsIndexed after queues arrivals next) (sym entries_are) (record { all = all_again; each = each_again; early = is.early; rising = is.rising })
+    pub indexed_again : (listed_now : List Candidate) → listed_now ≡ after_insert candidate_cmp own (without_candidate id listed) → IsIndexed after queues arrivals next listed_now
+    indexed_again listed_now listed_are =
+        subst (IsIndexed after queues arrivals next) (sym listed_are) (record { all = all_again; each = each_again; early = is.early; rising = is.rising })
 
-    pub again_put : (kept : Task) (arrival : ℕ) (tasks_now : List Candidate) → slice_index_or after id None ≡ Some kept → arrival ≡ slice_index_or arrivals id 0
-        → tasks_now ≡ after_insert candidate_cmp (record { key = kept.key; tile = kept.tile; arrival = arrival; id = id }) (without_candidate id entries)
-        → IsIndexed after queues arrivals next tasks_now
-    again_put kept arrival tasks_now found same_arrival entries_are =
+    pub again_put : (kept : Task) (arrival : ℕ) (listed_now : List Candidate) → slice_index_or after id None ≡ Some kept → arrival ≡ slice_index_or arrivals id 0
+        → listed_now ≡ after_insert candidate_cmp (record { key = kept.key; tile = kept.tile; arrival = arrival; id = id }) (without_candidate id listed)
+        → IsIndexed after queues arrivals next listed_now
+    again_put kept arrival listed_now found same_arrival listed_are =
         let both : Some kept ≡ Some now = sym found ∙ changed in
         let same : kept ≡ now = cc in
-        indexed_again tasks_now (entries_are
-        ∙ λ i. after_insert candidate_cmp (record { key = (same i).key; tile = (same i).tile; arrival = same_arrival i; id = id }) (without_candidate id entries))
+        indexed_again listed_now (listed_are
+        ∙ λ i. after_insert candidate_cmp (record { key = (same i).key; tile = (same i).tile; arrival = same_arrival i; id = id }) (without_candidate id listed))

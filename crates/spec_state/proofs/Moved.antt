@@ -16,60 +16,60 @@ use Rattle.spec_state.specs.Stored.{IsIndexed, AreTheirs, candidate_of}
 use Rattle.spec_state.proofs.Entered.{head_or_tail, has_head, in_tail, held_at}
 
 -- what is left of a list without an id
-left_cons : (id : ℕ) (e : Candidate) (entries : List Candidate) (b : Bool) → (e.id == id) ≡ b → without_candidate id (e ∷ entries) ≡ cond (not b) (e ∷ without_candidate id entries) (without_candidate id entries)
-left_cons id e entries b is =
-    ap (λ t. cond (not t) (e ∷ without_candidate id entries) (without_candidate id entries)) is
+left_cons : (id : ℕ) (e : Candidate) (listed : List Candidate) (b : Bool) → (e.id == id) ≡ b → without_candidate id (e ∷ listed) ≡ cond (not b) (e ∷ without_candidate id listed) (without_candidate id listed)
+left_cons id e listed b is =
+    ap (λ t. cond (not t) (e ∷ without_candidate id listed) (without_candidate id listed)) is
 
 -- is what was there with another id
-pub in_without : (id : ℕ) (entries : List Candidate) (e : Candidate) → e.id ≢ id → Contains entries e → Contains (without_candidate id entries) e
+pub in_without : (id : ℕ) (listed : List Candidate) (e : Candidate) → e.id ≢ id → Contains listed e → Contains (without_candidate id listed) e
 in_without id [] e other has = absurd (omega (arith, has.1))
-in_without id (x ∷ entries) e other has = by_case (x.id == id) refl (in_without id entries e other)
+in_without id (x ∷ listed) e other has = by_case (x.id == id) refl (in_without id listed e other)
   where
-    by_case : (b : Bool) → (x.id == id) ≡ b → (Contains entries e → Contains (without_candidate id entries) e) → Contains (without_candidate id (x ∷ entries)) e
-    by_case true is more = subst (λ es. Contains es e) (sym (left_cons id x entries true is)) (elim (head_or_tail x entries e has) [
+    by_case : (b : Bool) → (x.id == id) ≡ b → (Contains listed e → Contains (without_candidate id listed) e) → Contains (without_candidate id (x ∷ listed)) e
+    by_case true is more = subst (λ es. Contains es e) (sym (left_cons id x listed true is)) (elim (head_or_tail x listed e has) [
       | inl head ↦ absurd (other (ap (λ y. y.id) (sym head) ∙ grind (arith, nat_tests)))
       | inr tail ↦ more tail
     ])
-    by_case false is more = subst (λ es. Contains es e) (sym (left_cons id x entries false is)) (elim (head_or_tail x entries e has) [
-      | inl head ↦ subst (Contains (x ∷ without_candidate id entries)) head (has_head x (without_candidate id entries))
-      | inr tail ↦ in_tail x (without_candidate id entries) e (more tail)
+    by_case false is more = subst (λ es. Contains es e) (sym (left_cons id x listed false is)) (elim (head_or_tail x listed e has) [
+      | inl head ↦ subst (Contains (x ∷ without_candidate id listed)) head (has_head x (without_candidate id listed))
+      | inr tail ↦ in_tail x (without_candidate id listed) e (more tail)
     ])
 
-pub from_without : (id : ℕ) (entries : List Candidate) (e : Candidate) → Contains (without_candidate id entries) e → Contains entries e × (e.id ≢ id)
+pub from_without : (id : ℕ) (listed : List Candidate) (e : Candidate) → Contains (without_candidate id listed) e → Contains listed e × (e.id ≢ id)
 from_without id [] e has = absurd (omega (arith, has.1))
-from_without id (x ∷ entries) e has = by_case (x.id == id) refl (from_without id entries e)
+from_without id (x ∷ listed) e has = by_case (x.id == id) refl (from_without id listed e)
   where
-    by_case : (b : Bool) → (x.id == id) ≡ b → (Contains (without_candidate id entries) e → Contains entries e × (e.id ≢ id)) → Contains (x ∷ entries) e × (e.id ≢ id)
-    by_case true is behind = let more = behind (subst (λ es. Contains es e) (left_cons id x entries true is) has) in (in_tail x entries e more.0, more.1)
-    by_case false is behind = elim (head_or_tail x (without_candidate id entries) e (subst (λ es. Contains es e) (left_cons id x entries false is) has)) [
-      | inl head ↦ (subst (Contains (x ∷ entries)) head (has_head x entries), λ same. (let mine : x.id ≡ id = ap (λ y. y.id) head ∙ same in absurd (grind (arith, nat_tests))))
-      | inr tail ↦ (let more = behind tail in (in_tail x entries e more.0, more.1))
+    by_case : (b : Bool) → (x.id == id) ≡ b → (Contains (without_candidate id listed) e → Contains listed e × (e.id ≢ id)) → Contains (x ∷ listed) e × (e.id ≢ id)
+    by_case true is behind = let more = behind (subst (λ es. Contains es e) (left_cons id x listed true is) has) in (in_tail x listed e more.0, more.1)
+    by_case false is behind = elim (head_or_tail x (without_candidate id listed) e (subst (λ es. Contains es e) (left_cons id x listed false is) has)) [
+      | inl head ↦ (subst (Contains (x ∷ listed)) head (has_head x listed), λ same. (let mine : x.id ≡ id = ap (λ y. y.id) head ∙ same in absurd (grind (arith, nat_tests))))
+      | inr tail ↦ (let more = behind tail in (in_tail x listed e more.0, more.1))
     ]
 
 -- without an id that is there fewer are left
-pub fewer : (id : ℕ) (entries : List Candidate) → HasId id entries
-    → length (without_candidate id entries) < length entries
+pub fewer : (id : ℕ) (listed : List Candidate) → HasId id listed
+    → length (without_candidate id listed) < length listed
 fewer id [] has = absurd (omega (arith, has.2))
-fewer id (x ∷ entries) has = by_case (x.id == id) refl (fewer id entries)
+fewer id (x ∷ listed) has = by_case (x.id == id) refl (fewer id listed)
   where
-    behind : (x.id == id) ≡ false → HasId id (x ∷ entries) → HasId id entries
+    behind : (x.id == id) ≡ false → HasId id (x ∷ listed) → HasId id listed
     behind is (zero, e, below, at, same) = (let mine : x.id ≡ id = ap (λ y. y.id) at ∙ same in absurd (grind (arith, nat_tests)))
     behind is (suc k, e, below, at, same) = (k, e, omega (arith, below), at, same)
 
-    by_case : (b : Bool) → (x.id == id) ≡ b → (HasId id entries → length (without_candidate id entries) < length entries) → length (without_candidate id (x ∷ entries)) < suc (length entries)
+    by_case : (b : Bool) → (x.id == id) ≡ b → (HasId id listed → length (without_candidate id listed) < length listed) → length (without_candidate id (x ∷ listed)) < suc (length listed)
     by_case true is more =
-        let short = length-without_candidate id entries in
-        let long = ap length (left_cons id x entries true is) in
+        let short = length-without_candidate id listed in
+        let long = ap length (left_cons id x listed true is) in
         omega (arith, short, long)
     by_case false is more =
-        let long = ap length (left_cons id x entries false is) in
+        let long = ap length (left_cons id x listed false is) in
         let less = more (behind is has) in
         omega (arith, long, less)
 
-pub no_more : (id : ℕ) (entries new : List Candidate) (e : Candidate) → HasId id entries → new ≡ after_insert candidate_cmp e (without_candidate id entries) → length new ≤ length entries
-no_more id entries new e has is =
-    let long = ap length is ∙ length-after_insert candidate_cmp e (without_candidate id entries) in
-    let less = fewer id entries has in
+pub no_more : (id : ℕ) (listed new : List Candidate) (e : Candidate) → HasId id listed → new ≡ after_insert candidate_cmp e (without_candidate id listed) → length new ≤ length listed
+no_more id listed new e has is =
+    let long = ap length is ∙ length-after_insert candidate_cmp e (without_candidate id listed) in
+    let less = fewer id listed has in
     omega (arith, long, less)
 
 -- something stands before what isn't first in a list
@@ -78,7 +78,7 @@ before [] q b at = absurd (cc)
 before (x ∷ xs) zero b at = (x, refl)
 before (x ∷ xs) (suc q) b at = before xs q b at
 
-module _ (tasks : List (Option Task)) (lists : List (List ℕ)) (arrivals : List ℕ) (next : ℕ) (entries : List Candidate) (is : IsIndexed tasks lists arrivals next entries) where
+module _ (tasks : List (Option Task)) (lists : List (List ℕ)) (arrivals : List ℕ) (next : ℕ) (listed : List Candidate) (is : IsIndexed tasks lists arrivals next listed) where
   -- the number of a task is its place at least
   pub place_upto : (tile q b : ℕ) → slice_get (slice_index_or lists tile []) q ≡ Some b → q ≤ slice_index_or arrivals b 0
   place_upto tile zero b at = omega arith
@@ -89,7 +89,7 @@ module _ (tasks : List (Option Task)) (lists : List (List ℕ)) (arrivals : List
       omega (arith, upto, less)
 
   -- each task has a candidate
-  pub has_candidate : (id : ℕ) (task : Task) → slice_index_or tasks id None ≡ Some task → HasId id entries
+  pub has_candidate : (id : ℕ) (task : Task) → slice_index_or tasks id None ≡ Some task → HasId id listed
   has_candidate id task at = let found =
       is.all id task at in (found.0, candidate_of arrivals id task, found.1, found.2, refl)
 
@@ -103,10 +103,10 @@ module _ (tasks : List (Option Task)) (lists : List (List ℕ)) (arrivals : List
     numbers = slice_set arrivals id place
 
     abbrev left : List Candidate
-    left = after_insert candidate_cmp own (without_candidate id entries)
+    left = after_insert candidate_cmp own (without_candidate id listed)
 
-    permutes : IsPermutation (own ∷ without_candidate id entries) left
-    permutes = after_insert-permutes candidate_cmp own (without_candidate id entries)
+    permutes : IsPermutation (own ∷ without_candidate id listed) left
+    permutes = after_insert-permutes candidate_cmp own (without_candidate id listed)
 
     own_number : slice_index_or numbers id 0 ≡ place
     own_number = get_or-set_same arrivals id place 0 below
@@ -126,11 +126,11 @@ module _ (tasks : List (Option Task)) (lists : List (List ℕ)) (arrivals : List
           let both : Some t ≡ Some task = sym found ∙ ap (λ j. slice_index_or tasks j None) same ∙ there in
           let it : t ≡ task = cc in
           let e : candidate_of numbers k t ≡ own = ap (λ j. candidate_of numbers j t) same ∙ ap (candidate_of numbers id) it ∙ own_candidate in
-          subst (Contains left) (sym e) (Contains-permutation (own ∷ without_candidate id entries) left own permutes (has_head own (without_candidate id entries)))
+          subst (Contains left) (sym e) (Contains-permutation (own ∷ without_candidate id listed) left own permutes (has_head own (without_candidate id listed)))
       | inr other ↦
           subst (Contains left) (sym (other_candidate k t other))
-          (Contains-permutation (own ∷ without_candidate id entries) left (candidate_of arrivals k t) permutes
-          (in_tail own (without_candidate id entries) (candidate_of arrivals k t) (in_without id entries (candidate_of arrivals k t) other (is.all k t found))))
+          (Contains-permutation (own ∷ without_candidate id listed) left (candidate_of arrivals k t) permutes
+          (in_tail own (without_candidate id listed) (candidate_of arrivals k t) (in_without id listed (candidate_of arrivals k t) other (is.all k t found))))
     ]
 
     abbrev Has : Candidate → Type 0
@@ -138,10 +138,10 @@ module _ (tasks : List (Option Task)) (lists : List (List ℕ)) (arrivals : List
 
     each_is : (e : Candidate) → Contains left e → Has e
     each_is e has =
-        elim (head_or_tail own (without_candidate id entries) e (Contains-permutation left (own ∷ without_candidate id entries) e (IsPermutation-sym (own ∷ without_candidate id entries) left permutes) has)) [
+        elim (head_or_tail own (without_candidate id listed) e (Contains-permutation left (own ∷ without_candidate id listed) e (IsPermutation-sym (own ∷ without_candidate id listed) left permutes) has)) [
           | inl head ↦ subst Has head (task, there, sym own_candidate)
           | inr tail ↦
-              let more = from_without id entries e tail in
+              let more = from_without id listed e tail in
               let was = is.each e more.0 in
               (was.0, was.1, was.2 ∙ sym (other_candidate e.id was.0 more.1))
         ]

@@ -89,21 +89,21 @@ firm_noted tasks children id turn index task there by = no_child_noted tasks chi
     absurd (cc (sym by ∙ ap (λ (t : Task). t.creator) one ∙ is.made_by))))
 
 -- a task is the child at one place of one creator
-same_maker : (a b p q : ℕ) (stands : Option Task) → IsChildAt a p stands → IsChildAt b q stands
+same_creator_and_place : (a b p q : ℕ) (stands : Option Task) → IsChildAt a p stands → IsChildAt b q stands
     → Live (record { 0 = a }) p ≡ Live (record { 0 = b }) q
-same_maker a b p q stands one other =
+same_creator_and_place a b p q stands one other =
     let both : Some one.child ≡ Some other.child = sym one.there ∙ other.there in
     let task : one.child ≡ other.child = cc in
     sym one.made_by ∙ ap (λ (t : Task). t.creator) task ∙ other.made_by
 
 same_creator : (a b p q : ℕ) (stands : Option Task) → IsChildAt a p stands → IsChildAt b q stands → a ≡ b
 same_creator a b p q stands one other =
-    let made = same_maker a b p q stands one other in
+    let made = same_creator_and_place a b p q stands one other in
     let ids : ◌≡◌ {A = TaskId} (record { 0 = a }) (record { 0 = b }) = cc (made) in
     ap (λ (t : TaskId). t.0) ids
 
 same_place : (a b p q : ℕ) (stands : Option Task) → IsChildAt a p stands → IsChildAt b q stands → p ≡ q
-same_place a b p q stands one other = (let made = same_maker a b p q stands one other in cc (made))
+same_place a b p q stands one other = (let made = same_creator_and_place a b p q stands one other in cc (made))
 
 -- whichever way the child is told, it can be noted
 pub notable_as : (tasks : List (Option Task)) (children : ChildrenValue) (id creator place : ℕ)

@@ -89,21 +89,21 @@ adds_seen version settings tasks memory history output next path queues finished
     })
 
 -- it enters the index
-pub entered_put : (tasks now : List (Option Task)) (queues : List QueueValue) (arrivals : List ℕ) (arrival : ℕ) (entries tasks_now : List Candidate) (id : ℕ) (task kept : Task) (queue after : QueueValue)
-    → IsIndexed tasks (map (λ q. q.ids) queues) arrivals arrival entries → task.tile < length queues → queue ≡ slice_index_or queues task.tile queue → after.ids ≡ queue.ids ++ id ∷ []
+pub entered_put : (tasks now : List (Option Task)) (queues : List QueueValue) (arrivals : List ℕ) (arrival : ℕ) (listed listed_now : List Candidate) (id : ℕ) (task kept : Task) (queue after : QueueValue)
+    → IsIndexed tasks (map (λ q. q.ids) queues) arrivals arrival listed → task.tile < length queues → queue ≡ slice_index_or queues task.tile queue → after.ids ≡ queue.ids ++ id ∷ []
     → slice_index_or tasks id None ≡ None → slice_index_or now id None ≡ Some task → ((k : ℕ) → k ≢ id → slice_index_or now k None ≡ slice_index_or tasks k None) → id < length arrivals
     → ((tile k : ℕ) → Contains (slice_index_or (map (λ q. q.ids) queues) tile []) k → k ≢ id) → slice_index_or now id None ≡ Some kept
-    → tasks_now
-    ≡ after_insert candidate_cmp (record { key = kept.key; tile = task.tile; arrival = arrival; id = id }) entries
-    → IsIndexed now (map (λ q. q.ids) (slice_set queues task.tile after)) (slice_set arrivals id arrival) (arrival + 1) tasks_now
-entered_put tasks now queues arrivals arrival entries tasks_now id task kept queue after is within there ids vacant changed others below unqueued found entries_are =
+    → listed_now
+    ≡ after_insert candidate_cmp (record { key = kept.key; tile = task.tile; arrival = arrival; id = id }) listed
+    → IsIndexed now (map (λ q. q.ids) (slice_set queues task.tile after)) (slice_set arrivals id arrival) (arrival + 1) listed_now
+entered_put tasks now queues arrivals arrival listed listed_now id task kept queue after is within there ids vacant changed others below unqueued found listed_are =
     let same : kept ≡ task = same_Some kept task (sym found ∙ changed) in
     let in_map : task.tile < length (map (λ q. q.ids) queues) = omega (arith, length-map queues (λ (q : QueueValue). q.ids), within) in
-    let entries_is : after_insert candidate_cmp (record { key = task.key; tile = task.tile; arrival = arrival; id = id }) entries ≡ tasks_now =
-    sym (entries_are ∙ ap (λ (t : Task). after_insert candidate_cmp (record { key = t.key; tile = task.tile; arrival = arrival; id = id }) entries) same) in
-    subst (λ lists. IsIndexed now lists (slice_set arrivals id arrival) (arrival + 1) tasks_now) (sym (queued queues task.tile id queue after within there ids))
-    (subst (IsIndexed now (slice_set (map (λ q. q.ids) queues) task.tile (slice_index_or (map (λ q. q.ids) queues) task.tile [] ++ id ∷ [])) (slice_set arrivals id arrival) (arrival + 1)) entries_is
-    (entered tasks now (map (λ q. q.ids) queues) arrivals arrival entries id task is vacant changed others below in_map unqueued))
+    let listed_is : after_insert candidate_cmp (record { key = task.key; tile = task.tile; arrival = arrival; id = id }) listed ≡ listed_now =
+    sym (listed_are ∙ ap (λ (t : Task). after_insert candidate_cmp (record { key = t.key; tile = task.tile; arrival = arrival; id = id }) listed) same) in
+    subst (λ lists. IsIndexed now lists (slice_set arrivals id arrival) (arrival + 1) listed_now) (sym (queued queues task.tile id queue after within there ids))
+    (subst (IsIndexed now (slice_set (map (λ q. q.ids) queues) task.tile (slice_index_or (map (λ q. q.ids) queues) task.tile [] ++ id ∷ [])) (slice_set arrivals id arrival) (arrival + 1)) listed_is
+    (entered tasks now (map (λ q. q.ids) queues) arrivals arrival listed id task is vacant changed others below in_map unqueued))
 
 -- where a queue has a free place, the slab has a free slot, and the index a free place
 pub has_slot : (settings : Settings) (queues finished : List QueueValue) (core_lists block_lists : ℕ) → HasTiles settings queues finished core_lists block_lists
@@ -156,15 +156,15 @@ adds_seen_at version settings tasks memory history output next path queues finis
     (adds_seen version settings tasks memory history output next path queues finished cores blocks now id task queue after (subst (λ (t : ℕ). t < length queues) is_tile within)
     (subst (λ (t : ℕ). queue ≡ slice_index_or queues t queue) is_tile is) ids vacant changed others view same)
 
-pub entered_put_at : (tasks now : List (Option Task)) (queues : List QueueValue) (arrivals : List ℕ) (arrival : ℕ) (entries tasks_now : List Candidate) (id : ℕ) (task kept : Task) (queue after : QueueValue)
-    (tile : ℕ) → tile ≡ task.tile → IsIndexed tasks (map (λ q. q.ids) queues) arrivals arrival entries → tile < length queues → queue ≡ slice_index_or queues tile queue → after.ids ≡ queue.ids ++ id ∷ []
+pub entered_put_at : (tasks now : List (Option Task)) (queues : List QueueValue) (arrivals : List ℕ) (arrival : ℕ) (listed listed_now : List Candidate) (id : ℕ) (task kept : Task) (queue after : QueueValue)
+    (tile : ℕ) → tile ≡ task.tile → IsIndexed tasks (map (λ q. q.ids) queues) arrivals arrival listed → tile < length queues → queue ≡ slice_index_or queues tile queue → after.ids ≡ queue.ids ++ id ∷ []
     → slice_index_or tasks id None ≡ None → slice_index_or now id None ≡ Some task → ((k : ℕ) → k ≢ id → slice_index_or now k None ≡ slice_index_or tasks k None) → id < length arrivals
     → ((tile k : ℕ) → Contains (slice_index_or (map (λ q. q.ids) queues) tile []) k → k ≢ id) → slice_index_or now id None ≡ Some kept
-    → tasks_now
-    ≡ after_insert candidate_cmp (record { key = kept.key; tile = tile; arrival = arrival; id = id }) entries
-    → IsIndexed now (map (λ q. q.ids) (slice_set queues tile after)) (slice_set arrivals id arrival) (arrival + 1) tasks_now
-entered_put_at tasks now queues arrivals arrival entries tasks_now id task kept queue after tile is_tile is within there ids vacant changed others below unqueued found entries_are =
-    subst (λ (t : ℕ). IsIndexed now (map (λ q. q.ids) (slice_set queues t after)) (slice_set arrivals id arrival) (arrival + 1) tasks_now) (sym is_tile)
-    (entered_put tasks now queues arrivals arrival entries tasks_now id task kept queue after is (subst (λ (t : ℕ). t < length queues) is_tile within)
+    → listed_now
+    ≡ after_insert candidate_cmp (record { key = kept.key; tile = tile; arrival = arrival; id = id }) listed
+    → IsIndexed now (map (λ q. q.ids) (slice_set queues tile after)) (slice_set arrivals id arrival) (arrival + 1) listed_now
+entered_put_at tasks now queues arrivals arrival listed listed_now id task kept queue after tile is_tile is within there ids vacant changed others below unqueued found listed_are =
+    subst (λ (t : ℕ). IsIndexed now (map (λ q. q.ids) (slice_set queues t after)) (slice_set arrivals id arrival) (arrival + 1) listed_now) (sym is_tile)
+    (entered_put tasks now queues arrivals arrival listed listed_now id task kept queue after is (subst (λ (t : ℕ). t < length queues) is_tile within)
     (subst (λ (t : ℕ). queue ≡ slice_index_or queues t queue) is_tile there) ids vacant changed others below unqueued found
-    (entries_are ∙ ap (λ (t : ℕ). after_insert candidate_cmp (record { key = kept.key; tile = t; arrival = arrival; id = id }) entries) is_tile))
+    (listed_are ∙ ap (λ (t : ℕ). after_insert candidate_cmp (record { key = kept.key; tile = t; arrival = arrival; id = id }) listed) is_tile))

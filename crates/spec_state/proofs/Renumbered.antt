@@ -17,15 +17,15 @@ use Rattle.spec_state.proofs.Joined.{ids_at}
 use Rattle.spec_state.proofs.Moved.{moved}
 
 -- those at the places before this one have numbers below it, and the numbers of all others stay
-pub record IsRenumbered (tasks : List (Option Task)) (lists : List (List ℕ)) (next : ℕ) (ids first numbers : List ℕ) (entries : List Candidate) (place : ℕ) : Type 0 where
-  pub indexed : IsIndexed tasks lists numbers next entries
+pub record IsRenumbered (tasks : List (Option Task)) (lists : List (List ℕ)) (next : ℕ) (ids first numbers : List ℕ) (listed : List Candidate) (place : ℕ) : Type 0 where
+  pub indexed : IsIndexed tasks lists numbers next listed
   pub early : (p a : ℕ) → p < place → slice_get ids p ≡ Some a → slice_index_or numbers a 0 < place
   pub others : KeepsOthers ids first numbers
   pub slots : length numbers ≡ length first
 
-pub begun : (tasks : List (Option Task)) (lists : List (List ℕ)) (next : ℕ) (ids numbers : List ℕ) (entries : List Candidate) → IsIndexed tasks lists numbers next entries
-    → IsRenumbered tasks lists next ids numbers numbers entries 0
-begun tasks lists next ids numbers entries is = record { indexed = is; early = λ p a less at. absurd (omega (arith, less)); others = λ id not. refl; slots = refl }
+pub begun : (tasks : List (Option Task)) (lists : List (List ℕ)) (next : ℕ) (ids numbers : List ℕ) (listed : List Candidate) → IsIndexed tasks lists numbers next listed
+    → IsRenumbered tasks lists next ids numbers numbers listed 0
+begun tasks lists next ids numbers listed is = record { indexed = is; early = λ p a less at. absurd (omega (arith, less)); others = λ id not. refl; slots = refl }
 
 -- a task that is there has a slot
 pub below_slots : (tasks : List (Option Task)) (id : ℕ) (task : Task) → slice_index_or tasks id None ≡ Some task → id < length tasks
@@ -34,8 +34,8 @@ below_slots tasks id task at = elim (Rattle.std.proofs.lemmas.Bool.cases_lt id (
   | inr past ↦ absurd (cc (get_or_past tasks id None past, at))
 ]
 
-module _ (tasks : List (Option Task)) (lists : List (List ℕ)) (next tile : ℕ) (first numbers : List ℕ) (entries : List Candidate) (place id : ℕ) (task : Task)
-    (theirs : AreTheirs tasks lists) (was : IsRenumbered tasks lists next (slice_index_or lists tile []) first numbers entries place)
+module _ (tasks : List (Option Task)) (lists : List (List ℕ)) (next tile : ℕ) (first numbers : List ℕ) (listed : List Candidate) (place id : ℕ) (task : Task)
+    (theirs : AreTheirs tasks lists) (was : IsRenumbered tasks lists next (slice_index_or lists tile []) first numbers listed place)
     (at : slice_get (slice_index_or lists tile []) place ≡ Some id) (there : slice_index_or tasks id None ≡ Some task) (below : id < length numbers) where
   abbrev ids : List ℕ
   ids = slice_index_or lists tile []
@@ -52,22 +52,22 @@ module _ (tasks : List (Option Task)) (lists : List (List ℕ)) (next tile : ℕ
   ]
 
   pub one_more : (after : List ℕ) (now : List Candidate) → after ≡ slice_set numbers id place
-      → now ≡ after_insert candidate_cmp (record { key = task.key; tile = task.tile; arrival = place; id = id }) (without_candidate id entries)
+      → now ≡ after_insert candidate_cmp (record { key = task.key; tile = task.tile; arrival = place; id = id }) (without_candidate id listed)
       → IsRenumbered tasks lists next ids first after now (place + 1)
-  one_more after now is entries_are =
+  one_more after now is listed_are =
       subst (λ ns. IsRenumbered tasks lists next ids first ns now (place + 1)) (sym is)
-      (subst (λ es. IsRenumbered tasks lists next ids first (slice_set numbers id place) es (place + 1)) (sym entries_are)
+      (subst (λ es. IsRenumbered tasks lists next ids first (slice_set numbers id place) es (place + 1)) (sym listed_are)
       (record {
-        indexed = moved tasks lists numbers next entries was.indexed theirs tile place id task at there below was.early;
+        indexed = moved tasks lists numbers next listed was.indexed theirs tile place id task at there below was.early;
         early = early_more;
         others = λ k not. get_or-set_other numbers id k place 0 (λ same. not (subst (Contains ids) (sym same) (held_at ids place id at))) ∙ was.others k not;
         slots = length-set numbers id place ∙ was.slots;
       }))
 
 -- at the end each has a number below their count
-pub all_below : (tasks : List (Option Task)) (lists : List (List ℕ)) (next : ℕ) (ids first numbers : List ℕ) (entries : List Candidate) (place : ℕ)
-    → IsRenumbered tasks lists next ids first numbers entries place → length ids ≤ place → place ≤ length ids → AreBelow numbers ids (length ids)
-all_below tasks lists next ids first numbers entries place is end upto id has =
+pub all_below : (tasks : List (Option Task)) (lists : List (List ℕ)) (next : ℕ) (ids first numbers : List ℕ) (listed : List Candidate) (place : ℕ)
+    → IsRenumbered tasks lists next ids first numbers listed place → length ids ≤ place → place ≤ length ids → AreBelow numbers ids (length ids)
+all_below tasks lists next ids first numbers listed place is end upto id has =
     let less = is.early has.0 id (omega (arith, has.1, end)) (slice_get-get_or ids has.0 id has.1 ∙ ap Some has.2) in
     omega (arith, less, upto)
 

@@ -126,7 +126,7 @@ after_commit id n k None = None
 after_commit id n k (Some task) =
     if k == id then None else Some (record task { creator = creator_after id n task.creator })
 
--- a commit: the least task, which is finished, leaves; its entry joins the history and its bytes the output, and
+-- a commit: the least task, which is finished, leaves; its entry joins the journal and its bytes the output, and
 -- the levels of its key are the path
 pub record Commits (old new : View) : Type 0 where
   pub id : ℕ

@@ -37,7 +37,7 @@ view_of_parts version settings tasks memory history output next path queues fini
   blocks = blocks;
 }
 
--- the settings are valid, with these limits, and the history has memory for all commits
+-- the settings are valid, with these limits, and the journal has memory for all commits
 pub record HasLimits (budget commits : ℕ) (settings : Settings) (limit : ℕ) : Type 0 where
   pub valid : IsValid settings
   pub budget_is : settings.budget ≡ budget

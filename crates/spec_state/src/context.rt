@@ -116,7 +116,7 @@ impl<N: Naming> State<N> {
         context(self.version, self.task(task))
     }
 
-    /// Its history, its memory and its output, as they stand. It takes no memory.
+    /// Its journal, its memory and its output, as they stand. It takes no memory.
     pub fn into_parts(self) -> Parts
         ensures journal { result.journal ≡ self.view.history }
         ensures memory { result.memory ≡ self.view.memory }

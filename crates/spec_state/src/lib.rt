@@ -2,11 +2,11 @@
 //!
 //! State and tasks stand as code keeps them: the tasks in a slab, four lists by tile beside it. As definitions
 //! stand here what contracts see of a state (`View`), the words that its readers promise, and what each change does
-//! to it, for the crates that change it. A task is found by its id in one step, and nothing is copied to look at
+//! to it, for the crates that change it. A task is found by its id with no search, and nothing is copied to look at
 //! one. When a view is sound is said in the crate of its laws, so that what changes a state stands on definitions
 //! alone. It stands on the parts of the machine: keys, index, queues, blocks, filters and logs. The crates that
-//! change it call it (`spec_access`, `spec_dispatch`, `spec_rollback`, `spec_commit`), and those of events; the host
-//! takes settings and what pends from it, and `watch_text` and `watch_play` read it.
+//! change it call it (`spec_access`, `spec_dispatch`, `spec_rollback`, `spec_commit`), those of events, and the book,
+//! which makes and ends it; the host takes settings and what pends from it, and `watch_text` and `watch_play` read it.
 #![tactic(auto)]
 
 mod adding;

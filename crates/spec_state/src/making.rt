@@ -158,7 +158,7 @@ impl TaskMemory {
 
 impl<N: Naming> State<N> {
     /// A state without a task, of a machine of valid settings, with the image's data. It has memory for all tasks of
-    /// its queues, for the whole history, for the marks of a cascade and for a renumbering; `AllocError` where
+    /// its queues, for the whole journal, for the marks of a cascade and for a renumbering; `AllocError` where
     /// memory runs out.
     pub fn new(alloc: Global, image: &Image, settings: Settings) -> Result<State<N>, AllocError>
         requires valid { IsValid settings }

@@ -21,7 +21,7 @@ use undo_log::Memory;
 ///
 /// Contracts see it as a `View` beside the memory that is spare for the next event and its notes of
 /// a cascade. Its type keeps that the settings are valid, with the limits that `N` names, that the
-/// history has memory for all commits, that each tile has its queues, of the capacities of the
+/// journal has memory for all commits, that each tile has its queues, of the capacities of the
 /// settings, its cores and its block, (`IsStored`) that queues, commit queues and cores hold the
 /// tasks of their tile and nothing else, each as its status says, that each task is well formed,
 /// that the data has the image's size, (`IsIndexed`) that the index holds the queued tasks in their

@@ -138,8 +138,8 @@ desc_back desc fits is =
 bytes_from : (k : ℕ) (bytes : List ℕ) → AreBytes bytes → AreBytes (drop k bytes)
 bytes_from k bytes are j = subst (λ x. x < 256) (sym (get_or-drop k bytes j 0)) (are (k + j))
 
-room_from : (k n : ℕ) (bytes : List ℕ) → length bytes ≡ 64 → k + n ≤ 64 → n ≤ length (drop k bytes)
-room_from k n bytes long fits = let rest = length-drop k bytes in omega arith
+long_from : (k n : ℕ) (bytes : List ℕ) → length bytes ≡ 64 → k + n ≤ 64 → n ≤ length (drop k bytes)
+long_from k n bytes long fits = let rest = length-drop k bytes in omega arith
 
 both_true : (a b : Bool) → (a && b) ≡ true → b ≡ true
 both_true true b e = e
@@ -173,8 +173,8 @@ taken_in_turn xs =
 pub bytes_back : (bytes : List ℕ) → AreBytes bytes → length bytes ≡ 64 → is_record bytes ≡ true → record_bytes (fields_of bytes) ≡ bytes
 unfolding record_bytes fields_of word_at half_at in_turn
 bytes_back bytes are long valid =
-    let word : (k : ℕ) → k + 4 ≤ 64 → word_bytes (little_number 4 (drop k bytes)) ≡ take 4 (drop k bytes) = λ k fits. word_back (drop k bytes) (bytes_from k bytes are) (room_from k 4 bytes long fits) in
-    let half : (k : ℕ) → k + 2 ≤ 64 → half_bytes (little_number 2 (drop k bytes)) ≡ take 2 (drop k bytes) = λ k fits. half_back (drop k bytes) (bytes_from k bytes are) (room_from k 2 bytes long fits) in
+    let word : (k : ℕ) → k + 4 ≤ 64 → word_bytes (little_number 4 (drop k bytes)) ≡ take 4 (drop k bytes) = λ k fits. word_back (drop k bytes) (bytes_from k bytes are) (long_from k 4 bytes long fits) in
+    let half : (k : ℕ) → k + 2 ≤ 64 → half_bytes (little_number 2 (drop k bytes)) ≡ take 2 (drop k bytes) = λ k fits. half_back (drop k bytes) (bytes_from k bytes are) (long_from k 2 bytes long fits) in
     let same : record_bytes (fields_of bytes) ≡ in_turn (take 4 (drop 0 bytes)) (take 4 (drop 4 bytes)) (take 4 (drop 8 bytes)) (take 4 (drop 12 bytes)) (take 4 (drop 16 bytes)) (take 4 (drop 20 bytes)) (take 4 (drop 24 bytes)) (take 4 (drop 28 bytes)) (take 2 (drop 32 bytes)) (take 2 (drop 34 bytes)) (drop 36 bytes) =
     λ i. in_turn (word 0 (omega arith) i) (word 4 (omega arith) i) (word 8 (omega arith) i) (word 12 (omega arith) i) (word 16 (omega arith) i) (word 20 (omega arith) i) (word 24 (omega arith) i) (word 28 (omega arith) i) (half 32 (omega arith) i) (half 34 (omega arith) i) (filled bytes long valid i)
     in

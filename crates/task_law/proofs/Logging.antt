@@ -86,9 +86,9 @@ module _ (image : ImageValue) (budget : ℕ) (ctx : Ctx) (memory : List ℕ) whe
       let new : TaskState = on_memory (after_accesses memory more) after in
       let at : next_at image (length t.memory) budget t.core ≡ Stops asks.found = sized log task ∙ asks.stands in
       let goes_on : after_stop ctx t asks.found ≡ Continues new = ap (after_request t) asks.asks ∙ goes in
-      let room : t.core.used < budget = budget_left t asks.found new at goes_on in
+      let left_over : t.core.used < budget = budget_left t asks.found new at goes_on in
       record {
-        within = omega (arith, room, counts);
+        within = omega (arith, left_over, counts);
         same = before.same ∙ after_instructions-stop image budget ctx t asks.found at before.within
             ∙ ap (task_end_after (after_instructions image budget ctx (budget - (t.core.used + 1)))) goes_on
             ∙ ap (λ n. after_instructions image budget ctx (budget - n) new) (sym counts);
@@ -100,9 +100,9 @@ module _ (image : ImageValue) (budget : ℕ) (ctx : Ctx) (memory : List ℕ) whe
       let before = runs_so start run low chain in
       let t : TaskState = on_memory (after_accesses memory log) task in
       let step : next_at image (length t.memory) budget t.core ≡ Goes core = sized log task ∙ at in
-      let room = PlainInstruction-within image (length t.memory) budget t.core core step in
+      let left_over = PlainInstruction-within image (length t.memory) budget t.core core step in
       let counts = PlainInstruction-counted image (length t.memory) budget t.core core step in
-      record { within = omega (arith, room, counts); same = before.same ∙ after_instructions-one_plain image budget ctx t core step }
+      record { within = omega (arith, left_over, counts); same = before.same ∙ after_instructions-one_plain image budget ctx t core step }
   runs_so start (call {log} {task} request after run asks is_call goes) low chain =
       ask_on start log log task after request (runs_so start run low chain) asks
       (call-on (after_accesses memory log) task request is_call ∙ ap (stepped_on (after_accesses memory log)) goes)

@@ -123,7 +123,7 @@ module _ (image : ImageValue) (size other budget : ℕ) (core : Core) where
 
 -- an access that fits ends within so many bytes of data
 ends_within : (start addr offset width bytes size : ℕ) → offset ≡ addr - start → width ≡ bytes → offset + width ≤ size → addr + bytes ≤ start + size
-ends_within start addr offset width bytes size is_offset is_width room = omega (arith, is_offset, is_width, room)
+ends_within start addr offset width bytes size is_offset is_width inside = omega (arith, is_offset, is_width, inside)
 
 module _ (image : ImageValue) (budget size : ℕ) (ctx : Ctx) (start : TaskState) (memory : List ℕ) where
   -- the last access of a log that replays fits
@@ -157,17 +157,17 @@ module _ (image : ImageValue) (budget size : ℕ) (ctx : Ctx) (start : TaskState
   load_on : {task : TaskState} (access : Access) {width : LoadWidth} {rd : ℕ} → Asks image budget size ctx task (ask.Load width rd access.offset)
       → access.width ≡ load_width width → access.offset + access.width ≤ length memory
       → Asks image budget (length memory) ctx task (ask.Load width rd access.offset)
-  load_on {task} access {width} {rd} asks is_width room =
+  load_on {task} access {width} {rd} asks is_width inside =
       let at = request_at-load (context ctx task) task.core asks.found width rd access.offset asks.asks in
       let Near : Stop → Type 0 = λ found. Reaches (length memory) (Stops found) in
-      asks_on asks (subst Near (sym at.is) (ends_within DATA_START at.addr access.offset access.width (load_width width) (length memory) at.offset_is is_width room))
+      asks_on asks (subst Near (sym at.is) (ends_within DATA_START at.addr access.offset access.width (load_width width) (length memory) at.offset_is is_width inside))
 
   store_on : {task : TaskState} (access : Access) {value : ℕ} → Asks image budget size ctx task (ask.Store access.offset access.width value)
       → access.offset + access.width ≤ length memory → Asks image budget (length memory) ctx task (ask.Store access.offset access.width value)
-  store_on {task} access {value} asks room =
+  store_on {task} access {value} asks inside =
       let at = request_at-store (context ctx task) task.core asks.found access.offset access.width value asks.asks in
       let Near : Stop → Type 0 = λ found. Reaches (length memory) (Stops found) in
-      asks_on asks (subst Near (sym at.is) (ends_within DATA_START at.addr access.offset access.width (store_width at.width) (length memory) at.offset_is at.bytes_is room))
+      asks_on asks (subst Near (sym at.is) (ends_within DATA_START at.addr access.offset access.width (store_width at.width) (length memory) at.offset_is at.bytes_is inside))
 
   -- a run whose log replays on the memory is one for data of its size
   pub logged_on : {log : List Access} {task : TaskState} → LoggedRun image budget size ctx start log task → Replays memory log

@@ -121,7 +121,8 @@ abbrev pub queue_after : (ℕ → Option RoomTask) → List ℕ → List ℕ
 queue_after new [] = []
 queue_after new (k ∷ ks) = kept_by (is_some (new k)) k (queue_after new ks)
 
--- after the cascade of a victim the queue is shorter, or an idle firm task stands in it, which moves
+-- after the cascade of a victim, or of its creator, the queue is shorter, or the victim stands in it, idle and firm,
+-- and moves
 abbrev pub VictimMakesRoom : Type 0
 VictimMakesRoom =
     (tasks new : ℕ → Option RoomTask) (heir : Option ℕ) (queue : List ℕ) (asker : Option ℕ) (low : List Open)

@@ -24,8 +24,8 @@ body_of p = record { entry = p.entry; args = p.args }
 abbrev pub spawn_body : Spawn → Body
 spawn_body spawn = record { entry = spawn.entry; args = spawn.args }
 
--- what the bags read of a queued task: its depth, what it runs, its timestamp and creator, and the children that it
--- has made so far
+-- what the bags read of a queued task: its depth, what it runs, its timestamp and creator, whether it is dispatched,
+-- and the children that it has made so far
 pub record BagTask : Type 0 where
   pub depth : ℕ
   pub body : Body

@@ -14,7 +14,8 @@ pub fn victim_is_legal()
     ensures { VictimIsLegal }
 {}
 
-/// After the abort of a victim the queue is shorter, or the victim is an idle firm task of it, which moves next.
+/// After the abort of a victim, or of its creator, the queue is shorter, or the victim is an idle firm task of it,
+/// which moves next.
 pub fn victim_makes_room()
     ensures { VictimMakesRoom }
 {}

@@ -16,7 +16,7 @@ begins_longer before xs more front =
     let within : length before ≤ length xs = subst (λ n. n ≤ length xs) size (min-le_right (length before) (length xs)) in
     take-append-le (length before) xs more within ∙ front
 
--- so a history, and an output, that go on
+-- so a journal, and an output, that go on
 pub entries_grow : (old new : View) (before : List Entry) → Grows old new → take (length before) old.history ≡ before
     → take (length before) new.history ≡ before
 entries_grow old new before grows front =

@@ -1,4 +1,4 @@
--- Events leave the history and the output as they are, but for a commit, which adds an entry to the history and the
+-- Events leave the journal and the output as they are, but for a commit, which adds an entry to the journal and the
 -- task's bytes to the output.
 use Rattle.std.proofs.Common.{ℕ, zero, suc, List, [], ◌++◌, refl, sym, ap, subst, ◌∙◌}
 use Rattle.std.proofs.lemmas.List.{append-nil, append_assoc}

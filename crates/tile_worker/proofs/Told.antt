@@ -34,7 +34,7 @@ longer image budget journal more reading is =
       output = is.output;
     }
 
--- readings of a history stay readings of it
+-- readings of a journal stay readings of it
 pub readings_grow : (image : ImageValue) (budget : ℕ) (old new : View) (told : List Reading) → Grows old new → AreReadings image budget old.history told
     → AreReadings image budget new.history told
 readings_grow image budget old new told grows are =
@@ -59,7 +59,7 @@ pub counts_held : (N : Type 0) (old new : BookView) (last : Reading) → HoldsOn
     → IsAtMost last (counts_of new.view)
 counts_held N old new last once is = counts_rise old.view new.view last (holds_grow N old new once) is
 
--- the counts of a sound view are a reading of its history
+-- the counts of a sound view are a reading of its journal
 pub counts_are_reading : (image : ImageValue) (budget : ℕ) (view : View) → Sound image view → view.settings.budget ≡ budget
     → IsReading image budget view.history (counts_of view)
 counts_are_reading image budget view sound same =

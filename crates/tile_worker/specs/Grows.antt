@@ -3,7 +3,7 @@ use Rattle.std.specs.Prelude.{◌≡◌, ◌++◌, ℕ, List}
 use Rattle.run_journal.specs.declared.journal.Entry.{Entry}
 use Rattle.spec_state.specs.View.{View}
 
--- the history goes on where it ended, and so does the output
+-- the journal goes on where it ended, and so does the output
 pub record Grows (old new : View) : Type 0 where
   pub entries : List Entry
   pub history : new.history ≡ old.history ++ entries

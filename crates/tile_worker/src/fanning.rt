@@ -59,7 +59,7 @@ impl<L: Ledger> Gathered<L> {
     }
 }
 
-/// Runs so many workers, from the first on, each in a thread. Where none can be started the caller does the same work.
+/// Runs so many workers, from the first on, each in a thread. Where none can be started the caller runs them itself.
 pub(crate) fn fan<
     N: Naming + Send + Sync,
     L: Ledger + Send + Sync,

@@ -42,7 +42,7 @@ impl Followable for Brand {
 }
 
 /// What stands in the lock of a run that is told: a book with its ledger, and the writer of the board. All that was
-/// told are readings of the book's history, and the last one is the book's counts.
+/// told are readings of the book's journal, and the last one is the book's counts.
 #[derive(Drop)]
 pub(crate) struct Followed<N: Naming, L: Followable, P: Placer, T: Tap> {
     pub(crate) tallied: Tallied<N, L, P, T>,

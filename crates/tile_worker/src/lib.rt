@@ -7,11 +7,11 @@
 //!
 //! With a board, the workers tell how far the run has come (`run_watched`): in the hold in which a task was committed,
 //! and once more at the end. The type of the lock's value then keeps that all that was told are readings of the book's
-//! history, the last one its counts.
+//! journal, the last one its counts.
 //!
 //! It stands on the book, on the board and on the lock of the standard library; `machine_run` calls it, with no board.
 //! A hold costs one event and a look at each core of the worker's own tiles, and with a board, after a commit, what
-//! it costs to tell a reading. Where no thread can be started, the caller does the same work. The program
+//! it costs to tell a reading. Where no thread can be started, the caller runs the workers itself. The program
 //! hands in the gate.
 #![tactic(auto)]
 

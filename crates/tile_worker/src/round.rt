@@ -7,7 +7,7 @@ ghost use Rattle.tile_worker.specs.Rounds.{index_of, rest_until};
 use crate::waiting::{Bell, Pace};
 use std::sync::Wait;
 
-/// How many events are made before a core that stalled, with its tile, or a tile that had nothing to dispatch, is
+/// How many events are made before a core that stalled, with its tile, or a tile whose dispatch was refused, is
 /// tried again. In so many events for the least tasks all that a commit queue may hold can commit, so that what
 /// stalled doesn't stall again at once, and the core that the least task took isn't filled again before it commits.
 const PATIENCE: u64 = 512;

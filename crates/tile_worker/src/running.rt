@@ -108,7 +108,7 @@ fn work_all<
     settle(tallied, mine, gathered)
 }
 
-/// Why a book stands where it does: its end, or that memory ran out.
+/// Why a book stands where it does: its end; or that memory ran out, or it was stopped.
 fn halt_of<N: Naming, P: Placer, T: Tap>(book: &Book<N, P, T>) -> Halt
     ensures { HaltsAt (machine_view book.now) result }
 {

@@ -13,7 +13,7 @@ const LONG_LEG: u32 = 256;
 /// How often a worker tries the lock before it sleeps until it is free.
 const TRIES: u32 = 256;
 
-/// How often it does where there are more workers than processors, and a try may keep another from its work.
+/// How often it does where there are more workers than processors, and a try may keep another from running.
 const CROWDED_TRIES: u32 = 8;
 
 /// After so many misses a worker without a long leg naps between two tries, where it only paused before.

@@ -28,7 +28,7 @@ use trace_tap::Tap;
 /// A book that workers ran and told of, and the writer by which they did.
 #[derive(Drop)]
 pub struct Watched<N: Naming, P: Placer = Box<dyn Placer + Send>, T: Tap = Box<dyn Tap + Send>> {
-    /// The book, how many events each worker made, and why they stopped.
+    /// The book, how many events each worker made, and why the run stopped.
     pub drained: Drained<N, P, T>,
     /// The writer, which has told the book's counts last.
     pub writer: Writer,
@@ -83,9 +83,9 @@ fn watch_all<
 
 /// Runs a book by 1 to 16 workers up to the end of the run, or as far as memory goes, and tells on the writer's board
 /// how far the book has come: in the hold of the lock in which a task was committed, and once more at the end. So
-/// each reading that stands on the board meanwhile is one of the book's history.
+/// each reading that stands on the board meanwhile is one of the book's journal.
 ///
-/// What the writer has told before has to be readings of the book's history, the last one its counts, as with a new
+/// What the writer has told before has to be readings of the book's journal, the last one its counts, as with a new
 /// board's writer and a new book.
 #[tactic(auto, using(crate::proofs::Growing::grows_trans))]
 pub fn run_watched<

@@ -64,8 +64,8 @@ pub(crate) fn drive<
 ///
 /// It hands in legs of its running cores, each after it passed the gate, and dispatches where an own tile has an
 /// idle task and a free core. Only where it has neither, or all of these were refused, it makes the event for the
-/// least task. What was refused is let be for 512 events of the book: a core whose leg stalled gets no leg, and in a
-/// tile whose dispatch was refused none is tried, even if a task has come to stand there meanwhile.
+/// least task. What was refused is let be for 512 events of the book: a core whose leg stalled gets no leg, and in its
+/// tile, as in one whose dispatch was refused, no dispatch is tried, even if a task has come to stand there meanwhile.
 ///
 /// A hold costs one event and a look at each core of its own tiles; a leg is computed outside the lock, on the text
 /// itself, since no decoded one is handed in.

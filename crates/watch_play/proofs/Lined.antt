@@ -36,13 +36,13 @@ table_stays {N} (Hands e) answer aborted old new table is came refused =
 table_stays (Says word) answer aborted old new table is came refused =
     is ∙ ap (λ (book : BookView). table_of book.view) (sym came.2)
 
-module _ (N : Type 0) (image : ImageValue) (at place : ℕ) (act : Act) (old new : PlayState) (asks : Attempt N)
+module _ (N : Type 0) (image : ImageValue) (at number : ℕ) (act : Act) (old new : PlayState) (asks : Attempt N)
     (task : Option ℕ) (request : Option Request) (answer : Reply) (aborted : ℕ) where
   -- the moment
   abbrev pub made : Moment N
   made = record {
     at = at;
-    number = place;
+    number = number;
     act = act;
     asks = asks;
     task = task;
@@ -56,11 +56,11 @@ module _ (N : Type 0) (image : ImageValue) (at place : ℕ) (act : Act) (old new
   pub is_made : AsksFor image act old asks new.held → IsAbout old.book.view asks task
       → IsAskedFor old.book.view asks request → answer ≢ reply.Memory
       → AttemptComes asks answer aborted old.book new.book
-      → IsMomentAt image at place act made old new
+      → IsMomentAt image at number act made old new
   is_made asked about asked_for there came = record {
     act_is = refl;
     at_is = refl;
-    place_is = refl;
+    number_is = refl;
     moment = record {
       old_is = refl;
       new_is = refl;
@@ -75,10 +75,10 @@ module _ (N : Type 0) (image : ImageValue) (at place : ℕ) (act : Act) (old new
   pub moment_is : (seen : View) (after : PlayState) → seen ≡ old.book.view → after ≡ new
       → AsksFor image act old asks new.held → IsAbout seen asks task → IsAskedFor seen asks request
       → answer ≢ reply.Memory → AttemptComes asks answer aborted old.book new.book
-      → IsMomentAt image at place act made old
+      → IsMomentAt image at number act made old
       after
   moment_is seen after same left asked about asked_for there came =
-      subst (λ p. IsMomentAt image at place act made old p) (sym left)
+      subst (λ p. IsMomentAt image at number act made old p) (sym left)
       (is_made asked (subst (λ v. IsAbout v asks task) same about)
       (subst (λ v. IsAskedFor v asks request) same asked_for)
       there came)
@@ -88,14 +88,14 @@ module _ (N : Type 0) (image : ImageValue) (at place : ℕ) (act : Act) (old new
       (said : Reply) (took : ℕ) → cleared ≡ [] → front ≡ cleared ++ front_text at act asks task request
       → table ≡ table_of old.book.view → output ≡ length old.book.view.output → said ≡ answer → took ≡ aborted
       → line ≡ front ++ rest_text table output new.book.view asks task request said took new.book.steps
-      ++ view_text each place new.book.view new.book.steps → line ≡ moment_lines each made
+      ++ view_text each number new.book.view new.book.steps → line ≡ moment_lines each made
   unfolding line_of
   line_is each cleared front line table output said took none begun table_is output_is said_is took_is is =
       let first : front ≡ front_text at act asks task request =
       begun ∙ ap (λ l. l ++ front_text at act asks task request) none in
       let text = λ (t : List (Option Before)) (n : ℕ) (r : Reply) (a : ℕ).
       rest_text t n new.book.view asks task request r a new.book.steps in
-      let behind = view_text each place new.book.view new.book.steps in
+      let behind = view_text each number new.book.view new.book.steps in
       let rest : text table output said took
       ≡ text (table_of old.book.view) (length old.book.view.output) answer aborted =
       (λ i. text (table_is i) (output_is i) (said_is i) (took_is i)) in

@@ -42,9 +42,9 @@ use Rattle.watch_text.specs.Asking.{Hands}
 use Rattle.watch_text.specs.Changes.{arrived_in, child_at, child_in, done_in, is_child_at, is_child, is_some_child}
 use Rattle.watch_text.specs.Changes.{last_child, last_child_of, last_item}
 use Rattle.watch_text.specs.Moments.{IsAbout, IsAskedFor}
-use Rattle.watch_text.specs.Taking.{before_of, creator_undone, has_left, id_count, ids_back, ids_spilled, is_back, is_id}
-use Rattle.watch_text.specs.Taking.{remembered, some_creator_undone, table_of, undone_by, waits, was_at}
-use Rattle.watch_text.specs.Taking.{was_discarded, was_spilled, was_undone}
+use Rattle.watch_text.specs.Taking.{before_of, creator_taken, has_left, id_count, ids_back, ids_spilled, is_back, is_id}
+use Rattle.watch_text.specs.Taking.{remembered, some_creator_taken, table_of, taken_by, waits, was_at}
+use Rattle.watch_text.specs.Taking.{was_discarded, was_spilled, was_taken}
 use Rattle.watch_text.specs.declared.before.Before.{Before}
 use Rattle.watch_play.specs.Room.{HasItsRoom}
 
@@ -177,8 +177,8 @@ module _ (was now : Option Task) (arrived : Bool) (still : IsStill was now) (fre
       by_case (Some x) (Some y) false keeps came is = refl
 
   -- nor was it taken back
-  not_undone : undone_by (option_map before_of was) ((is_none now || arrived) || waits now) ≡ false
-  not_undone = by_case was now arrived still fresh
+  not_taken : taken_by (option_map before_of was) ((is_none now || arrived) || waits now) ≡ false
+  not_taken = by_case was now arrived still fresh
     where
       both : (d e : Bool) → (d ≡ true → e ≡ true) → (d && ((false || false) || not e)) ≡ false
       both false e keeps = refl
@@ -186,7 +186,7 @@ module _ (was now : Option Task) (arrived : Bool) (still : IsStill was now) (fre
       both true false keeps = (let no_way : false ≡ true = keeps refl in absurd (cc (no_way)))
 
       by_case : (s t : Option Task) (a : Bool) → IsStill s t → (a ≡ true → s ≡ None)
-          → undone_by (option_map before_of s) ((is_none t || a) || waits t) ≡ false
+          → taken_by (option_map before_of s) ((is_none t || a) || waits t) ≡ false
       by_case None t a keeps came = refl
       by_case (Some x) None a keeps came = absurd keeps
       by_case (Some x) (Some y) true keeps came = (let none : Some x ≡ None = came refl in absurd (cc (none)))
@@ -208,11 +208,11 @@ module _ (old new : View) (arrived done : Option ℕ) (kept : IsKept old new arr
   ]
 
   module _ (id : ℕ) where
-    undone_no : is_id done id ≡ false → was_undone table new arrived id ≡ false
-    undone_no other = elim (at_id id) [
-      | inl there ↦ ap (λ t. undone_by t (has_left new arrived id || waits (task_at new id))) there
-          ∙ not_undone (task_at old id) (task_at new id) (is_id arrived id) (kept.still id other) (kept.fresh id)
-      | inr nothing ↦ ap (λ t. undone_by t (has_left new arrived id || waits (task_at new id))) nothing
+    taken_no : is_id done id ≡ false → was_taken table new arrived id ≡ false
+    taken_no other = elim (at_id id) [
+      | inl there ↦ ap (λ t. taken_by t (has_left new arrived id || waits (task_at new id))) there
+          ∙ not_taken (task_at old id) (task_at new id) (is_id arrived id) (kept.still id other) (kept.fresh id)
+      | inr nothing ↦ ap (λ t. taken_by t (has_left new arrived id || waits (task_at new id))) nothing
     ]
 
     -- nothing was there, or it has not left
@@ -227,19 +227,19 @@ module _ (old new : View) (arrived done : Option ℕ) (kept : IsKept old new arr
             (λ none. (let clash : Some task ≡ None = sym there ∙ none in absurd (cc (clash)))))
 
     -- the one that commits has no uncommitted creator
-    done_no : is_id done id ≡ true → some_creator_undone table new arrived (was_at table id) ≡ false
+    done_no : is_id done id ≡ true → some_creator_taken table new arrived (was_at table id) ≡ false
     done_no is = by_case (task_at old id) refl
       where
         by_case : (s : Option Task) → task_at old id ≡ s
-            → some_creator_undone table new arrived (was_at table id) ≡ false
-        by_case None none = ap (some_creator_undone table new arrived) (none_was id none)
+            → some_creator_taken table new arrived (was_at table id) ≡ false
+        by_case None none = ap (some_creator_taken table new arrived) (none_was id none)
         by_case (Some task) there =
             let root = kept.free id task is there in
             elim (at_id id) [
               | inl remembers ↦
-                  ap (some_creator_undone table new arrived) (remembers ∙ ap (option_map before_of) there)
-                  ∙ ap (λ creator. creator_undone table new arrived creator) root.2
-              | inr nothing ↦ ap (some_creator_undone table new arrived) nothing
+                  ap (some_creator_taken table new arrived) (remembers ∙ ap (option_map before_of) there)
+                  ∙ ap (λ creator. creator_taken table new arrived creator) root.2
+              | inr nothing ↦ ap (some_creator_taken table new arrived) nothing
             ]
 
     discarded_no : was_discarded table new arrived id ≡ false
@@ -249,9 +249,9 @@ module _ (old new : View) (arrived done : Option ℕ) (kept : IsKept old new arr
         by_done true is =
             ap (λ b. has_left new arrived id && b) (done_no is) ∙ and_right (has_left new arrived id) false refl
         by_done false other = elim (left_no other) [
-          | inl nothing ↦ ap (λ t. has_left new arrived id && some_creator_undone table new arrived t) nothing
+          | inl nothing ↦ ap (λ t. has_left new arrived id && some_creator_taken table new arrived t) nothing
               ∙ and_right (has_left new arrived id) false refl
-          | inr stays ↦ ap (λ b. b && some_creator_undone table new arrived (was_at table id)) stays
+          | inr stays ↦ ap (λ b. b && some_creator_taken table new arrived (was_at table id)) stays
         ]
 
     back_no : is_back table new arrived done id ≡ false
@@ -259,10 +259,10 @@ module _ (old new : View) (arrived done : Option ℕ) (kept : IsKept old new arr
       where
         by_done : (b : Bool) → is_id done id ≡ b → is_back table new arrived done id ≡ false
         by_done true is =
-            ap (λ b. not b && (was_undone table new arrived id || was_discarded table new arrived id)) is
+            ap (λ b. not b && (was_taken table new arrived id || was_discarded table new arrived id)) is
         by_done false other =
-            ap (λ b. not b && (was_undone table new arrived id || was_discarded table new arrived id)) other
-            ∙ ap (λ b. b || was_discarded table new arrived id) (undone_no other) ∙ discarded_no
+            ap (λ b. not b && (was_taken table new arrived id || was_discarded table new arrived id)) other
+            ∙ ap (λ b. b || was_discarded table new arrived id) (taken_no other) ∙ discarded_no
 
     spilled_no : was_spilled table new arrived done id ≡ false
     spilled_no = by_done (is_id done id) refl

@@ -48,7 +48,7 @@ module _ (N : Type 0) (image : ImageValue) (script : List Act) (opening : BookVi
   one_act : (n : ℕ) (front moments : List (Moment N)) (old last : PlayState) → PlaysSo n front old
       → ActComes image (OfScript script) n front old moments last → PlaysSo (suc n) moments last
   one_act n front moments old last plays (Passes act is unasked same stays) = absurd (unasked tt)
-  one_act n front moments old last plays (Makes m is asked at_is place_is moment more) =
+  one_act n front moments old last plays (Makes m is asked at_is number_is moment more) =
       let found : slice_get script n ≡ Some m.act = script_act script n m.act is in
       let within : ActIsInRange opening.view.settings.tiles opening.view.settings.cores m.act =
       subst (ActIsInRange opening.view.settings.tiles opening.view.settings.cores)

@@ -22,10 +22,10 @@ use Rattle.spec_state.specs.Groups.{live_creator}
 use Rattle.spec_state.specs.Aborts.{Aborts, IsChildOf, PullsInView, is_marked, is_marked_creator, taken_back}
 use Rattle.spec_law.specs.Sound.{Sound, StandsAs}
 use Rattle.spec_law.proofs.Proved.{abort_takes}
-use Rattle.watch_text.specs.Taking.{before_of, creator_undone, has_left, id_count, ids_back}
+use Rattle.watch_text.specs.Taking.{before_of, creator_taken, has_left, id_count, ids_back}
 use Rattle.watch_text.specs.Taking.{is_back, is_id, remembered}
-use Rattle.watch_text.specs.Taking.{some_creator_undone, table_of, undone_by, waits, was_at, was_discarded}
-use Rattle.watch_text.specs.Taking.{was_spilled, was_undone}
+use Rattle.watch_text.specs.Taking.{some_creator_taken, table_of, taken_by, waits, was_at, was_discarded}
+use Rattle.watch_text.specs.Taking.{was_spilled, was_taken}
 use Rattle.watch_text.specs.declared.before.Before.{Before}
 use Rattle.watch_play.specs.Cascades.{AllHavePlaces, TellsTaken}
 
@@ -345,20 +345,20 @@ module _ (image : ImageValue) (old new : View) (sound : Sound image old) (marks 
               (is_id arrived id) (fares_at id task there) (idle_again old.version task)
               (left_by true false marked creator) refl marked
 
-      -- a dispatched task is undone where it is marked
-      undone_is : is_dispatched task ≡ true → was_undone table new arrived id ≡ is_marked marks id
-      undone_is dispatched =
-          ap (λ w. undone_by w (left_or_waits id)) (was_some id task there)
+      -- a dispatched task has left, or waits again, where it is marked, and else has not
+      taken_is : is_dispatched task ≡ true → was_taken table new arrived id ≡ is_marked marks id
+      taken_is dispatched =
+          ap (λ w. taken_by w (left_or_waits id)) (was_some id task there)
           ∙ (ap (λ d. d && left_or_waits id) dispatched ∙ by_mark (is_marked marks id) refl)
         where
           by_mark : (b : Bool) → is_marked marks id ≡ b → left_or_waits id ≡ is_marked marks id
           by_mark true marked = is_back_now marked ∙ sym marked
           by_mark false out = stays out dispatched ∙ sym out
 
-      -- another is not
-      undone_not : is_dispatched task ≡ false → was_undone table new arrived id ≡ false
-      undone_not idle =
-          ap (λ w. undone_by w (left_or_waits id)) (was_some id task there) ∙ ap (λ d. d && left_or_waits id) idle
+      -- it is said of no other task
+      taken_not : is_dispatched task ≡ false → was_taken table new arrived id ≡ false
+      taken_not idle =
+          ap (λ w. taken_by w (left_or_waits id)) (was_some id task there) ∙ ap (λ d. d && left_or_waits id) idle
 
       -- a task of a marked creator is marked
       marked_with : is_creator_marked ≡ true → is_marked marks id ≡ true
@@ -377,21 +377,21 @@ module _ (image : ImageValue) (old new : View) (sound : Sound image old) (marks 
     -- ---- who is told
 
     module _ (id : ℕ) (task : Task) (there : task_at old id ≡ Some task) where
-      -- its creator is undone where that is marked
-      creator_is : creator_undone table new arrived task.creator ≡ is_marked_creator marks (live_creator task.creator)
+      -- its creator was taken back where that is marked
+      creator_is : creator_taken table new arrived task.creator ≡ is_marked_creator marks (live_creator task.creator)
       creator_is = by_creator task.creator refl
         where
           by_creator : (creator : Creator) → task.creator ≡ creator
-              → creator_undone table new arrived creator ≡ is_marked_creator marks (live_creator creator)
+              → creator_taken table new arrived creator ≡ is_marked_creator marks (live_creator creator)
           by_creator (Committed turn index) made = refl
           by_creator (Live c index) made =
               let x = creator_runs image old sound id task c.0 index there made in
-              undone_is c.0 x.0 x.1 x.2
+              taken_is c.0 x.0 x.1 x.2
 
       -- and it is discarded there
       discarded_is : was_discarded table new arrived id ≡ is_marked_creator marks (live_creator task.creator)
       discarded_is =
-          ap (λ w. has_left new arrived id && some_creator_undone table new arrived w) (was_some id task there)
+          ap (λ w. has_left new arrived id && some_creator_taken table new arrived w) (was_some id task there)
           ∙ (ap (λ b. has_left new arrived id && b) creator_is ∙ by_creator (is_creator_marked id task there) refl)
         where
           by_creator : (c : Bool) → is_creator_marked id task there ≡ c
@@ -404,7 +404,7 @@ module _ (image : ImageValue) (old new : View) (sound : Sound image old) (marks 
               ∙ (and_right (has_left new arrived id) false refl ∙ sym creator)
 
       -- so it is told where it is marked
-      told_is : (was_undone table new arrived id || was_discarded table new arrived id) ≡ is_marked marks id
+      told_is : (was_taken table new arrived id || was_discarded table new arrived id) ≡ is_marked marks id
       told_is = by_task (is_dispatched task) (is_marked marks id) refl refl
         where
           -- what its marks and that of its creator say
@@ -425,18 +425,18 @@ module _ (image : ImageValue) (old new : View) (sound : Sound image old) (marks 
               ∙ (ap (is_marked_creator marks) made ∙ marked))
 
           by_task : (d m : Bool) → is_dispatched task ≡ d → is_marked marks id ≡ m
-              → (was_undone table new arrived id || was_discarded table new arrived id) ≡ is_marked marks id
+              → (was_taken table new arrived id || was_discarded table new arrived id) ≡ is_marked marks id
           by_task true true dispatched marked =
-              ap (λ b. b || was_discarded table new arrived id) (undone_is id task there dispatched ∙ marked)
+              ap (λ b. b || was_discarded table new arrived id) (taken_is id task there dispatched ∙ marked)
               ∙ sym marked
           by_task true false dispatched out =
-              ap (λ b. b || was_discarded table new arrived id) (undone_is id task there dispatched ∙ out)
+              ap (λ b. b || was_discarded table new arrived id) (taken_is id task there dispatched ∙ out)
               ∙ (out_too out ∙ sym out)
           by_task false true idle marked =
-              ap (λ b. b || was_discarded table new arrived id) (undone_not id task there idle)
+              ap (λ b. b || was_discarded table new arrived id) (taken_not id task there idle)
               ∙ (goes idle (takes.from id marked) ∙ sym marked)
           by_task false false idle out =
-              ap (λ b. b || was_discarded table new arrived id) (undone_not id task there idle)
+              ap (λ b. b || was_discarded table new arrived id) (taken_not id task there idle)
               ∙ (out_too out ∙ sym out)
 
     -- ---- who is told as spilled
@@ -516,8 +516,8 @@ module _ (image : ImageValue) (old new : View) (sound : Sound image old) (marks 
     -- and none told
     none_told : (id : ℕ) → was_at table id ≡ None → is_back table new arrived None id ≡ false
     none_told id none =
-        ap (λ w. undone_by w (left_or_waits id)
-        || has_left new arrived id && some_creator_undone table new arrived w) none
+        ap (λ w. taken_by w (left_or_waits id)
+        || has_left new arrived id && some_creator_taken table new arrived w) none
         ∙ and_right (has_left new arrived id) false refl
 
     back_is : (id : ℕ) → id < id_count old → is_back table new arrived None id ≡ is_marked marks id

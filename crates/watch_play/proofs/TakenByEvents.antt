@@ -36,7 +36,7 @@ use Rattle.event_def.specs.Events.{AbortEvent, ComesTo, DispatchEvent, EnqueueEv
 use Rattle.event_def.specs.Events.{SplitEvent}
 use Rattle.event_law.proofs.Proved.{heir_is, idle_is_open}
 use Rattle.event_lemma.specs.Forcing.{RunsIfTask, TakesStill}
-use Rattle.event_lemma.proofs.Proved.{commit_leaves_asker, conflicts_leave_asker, core_leaves_idle, room_leaves}
+use Rattle.event_lemma.proofs.Proved.{commit_leaves_taker, conflicts_leave_taker, core_leaves_idle, room_leaves}
 use Rattle.event_lemma.proofs.Proved.{holder_is_dispatched, room_leaves_asker, taken_is_live, taker_asks}
 use Rattle.fractal_vt.proofs.Proved.{is_some_mapped}
 use Rattle.watch_text.specs.Asking.{Hands}
@@ -475,12 +475,12 @@ module _ (N : Type 0) (image : ImageValue) (book : BookView) (sound : Sound imag
     by_request requests.Continue made = quiet_taken made.1.none _ made.0.changes refl
     by_request (requests.Load width rd offset) made =
         own_taken made.0.mid made.0.forced.marks (conflicts_forced offset false made.0.mid made.0.forced)
-        (conflicts_leave_asker image book.view tile core id leg task offset false aborted made.0.mid sound takes
+        (conflicts_leave_taker image book.view tile core id leg task offset false aborted made.0.mid sound takes
         made.0.forced).there
         _ made.0.change.changes refl
     by_request (requests.Store offset width value) made =
         own_taken made.0.mid made.0.forced.marks (conflicts_forced offset true made.0.mid made.0.forced)
-        (conflicts_leave_asker image book.view tile core id leg task offset true aborted made.0.mid sound takes
+        (conflicts_leave_taker image book.view tile core id leg task offset true aborted made.0.mid sound takes
         made.0.forced).there
         _ made.0.change.changes refl
     by_request (requests.Enqueue spawn) made = enqueue_taken spawn made
@@ -489,7 +489,7 @@ module _ (N : Type 0) (image : ImageValue) (book : BookView) (sound : Sound imag
     by_request requests.End made =
         own_taken made.0.mid (commit_marks tile task book.view made.0.forced)
         (commit_forced image book.view sound tile task made.0.forced)
-        (commit_leaves_asker image book.view tile core id leg task aborted made.0.mid sound takes made.0.forced).there
+        (commit_leaves_taker image book.view tile core id leg task aborted made.0.mid sound takes made.0.forced).there
         _ made.0.change.changes refl
     by_request (requests.Trap cause) made = quiet_taken made.1.none _ made.0.changes refl
 

@@ -88,9 +88,9 @@ module _ (N : Type 0) (plan : Plan) (opening : BookView) (start : SinkState) whe
         goes_more m comes =
             let act_is : course_act plan.course count ≡ Some m.act = is ∙ ap Some (sym comes.act_is) in
             let asked_is = subst (IsAskedBy plan.course old.book.view) (sym comes.act_is) asked in
-            let place : m.number ≡ length moments + 1 = comes.place_is ∙ ap (λ n. n + 1) (sym so_far.1.told_are) in
+            let number : m.number ≡ length moments + 1 = comes.number_is ∙ ap (λ n. n + 1) (sym so_far.1.told_are) in
             subst (λ n. StoryLeads plan.image plan.course opening n (longer m) new) (sym (add-one count))
-            (moments, old, so_far.1.goes, Makes m act_is asked_is comes.at_is place comes.moment refl)
+            (moments, old, so_far.1.goes, Makes m act_is asked_is comes.at_is number comes.moment refl)
 
         has_more : (m : Moment N) → IsMomentAt plan.image (count + 1) (told + 1) act m old new
             → HasStory plan opening (longer m) new.book

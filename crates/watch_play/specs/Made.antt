@@ -30,13 +30,13 @@ AttemptComes (Hands event) answer aborted old new = Happens old event answer abo
 AttemptComes (Says word) answer aborted old new = (answer ≡ word) × (aborted ≡ 0) × (new ≡ old)
 
 -- an act is played and told: it is a moment, whose lines the sink took, or a front of them, or nothing; or it is none
-abbrev pub TellsAct : Type 0 → ImageValue → Option ℕ → (at place : ℕ) → Act → PlayState → PlayState → SinkState
+abbrev pub TellsAct : Type 0 → ImageValue → Option ℕ → (at number : ℕ) → Act → PlayState → PlayState → SinkState
     → SinkState → Result (Unit {0}) Stop → Type 0
-TellsAct N image each at place act old new before after (Ok done) =
-    (m : Moment N) × IsMomentAt image at place act m old new
+TellsAct N image each at number act old new before after (Ok done) =
+    (m : Moment N) × IsMomentAt image at number act m old new
     × Writes {E = Stop} before after (Ok done) (moment_lines each m)
-TellsAct N image each at place act old new before after (Err stops.Memory) =
-    (((m : Moment N) × IsMomentAt image at place act m old new) ⊎ (new.book ≡ old.book)) × (after ≡ before)
-TellsAct N image each at place act old new before after (Err stops.Sink) =
-    (m : Moment N) × IsMomentAt image at place act m old new
+TellsAct N image each at number act old new before after (Err stops.Memory) =
+    (((m : Moment N) × IsMomentAt image at number act m old new) ⊎ (new.book ≡ old.book)) × (after ≡ before)
+TellsAct N image each at number act old new before after (Err stops.Sink) =
+    (m : Moment N) × IsMomentAt image at number act m old new
     × Writes {E = Stop} before after (Err stops.Sink) (moment_lines each m)

@@ -9,20 +9,20 @@ use Rattle.watch_play.specs.Texts.{moment_lines}
 use Rattle.watch_play.specs.declared.playing.PlayedAct.{PlayedAct}
 use Rattle.watch_play.specs.declared.playing.PlayedAct.TheVariants as came
 
--- the act is the moment of this number and place
-pub record IsMomentAt {N : Type 0} (image : ImageValue) (at place : ℕ) (act : Act) (m : Moment N)
+-- the act is this moment: the `at`-th act of the course, and the `number`-th that is told
+pub record IsMomentAt {N : Type 0} (image : ImageValue) (at number : ℕ) (act : Act) (m : Moment N)
     (old new : PlayState) : Type 0 where
   pub act_is : m.act ≡ act
   pub at_is : m.at ≡ at
-  pub place_is : m.number ≡ place
+  pub number_is : m.number ≡ number
   pub moment : IsMoment image m old new
 
 -- the act is a moment, and its line stands ready; or no memory is left for the line; or it is none, and the book stays
-abbrev pub ComesToLine : Type 0 → ImageValue → Option ℕ → (at place : ℕ) → Act → PlayState → PlayedAct → List ℕ
+abbrev pub ComesToLine : Type 0 → ImageValue → Option ℕ → (at number : ℕ) → Act → PlayState → PlayedAct → List ℕ
     → PlayState
     → Type 0
-ComesToLine N image each at place act old came.Told line new =
-    (m : Moment N) × IsMomentAt image at place act m old new × (line ≡ moment_lines each m)
-ComesToLine N image each at place act old came.Untold line new =
-    (m : Moment N) × IsMomentAt image at place act m old new
-ComesToLine N image each at place act old came.Unmade line new = new.book ≡ old.book
+ComesToLine N image each at number act old came.Told line new =
+    (m : Moment N) × IsMomentAt image at number act m old new × (line ≡ moment_lines each m)
+ComesToLine N image each at number act old came.Untold line new =
+    (m : Moment N) × IsMomentAt image at number act m old new
+ComesToLine N image each at number act old came.Unmade line new = new.book ≡ old.book

@@ -13,11 +13,11 @@ use Rattle.watch_play.specs.Courses.{Course, course_word}
 
 -- the view is told behind the last of so many moments
 abbrev pub is_due : Option ℕ → ℕ → Bool
-is_due None place = false
-is_due (Some each) place = place % each == 0
+is_due None number = false
+is_due (Some each) number = number % each == 0
 
 abbrev pub view_text : Option ℕ → ℕ → View → ℕ → List ℕ
-view_text each place view events = if is_due each place then view_line view events else []
+view_text each number view events = if is_due each number then view_line view events else []
 
 -- the lines of a moment: its own, and the view behind each so many of them
 abbrev pub moment_lines : {N : Type 0} → Option ℕ → Moment N → List ℕ

@@ -78,13 +78,13 @@ fn make<N: Naming, P: Placer, T: Tap>(
 }
 
 /// Whether the view is told behind the last of so many moments.
-fn is_due(each: Option<u32>, place: u64) -> bool
-    requires { IfSome each (λ number. 1 ≤ number) }
-    ensures { result ≡ is_due each place }
+fn is_due(each: Option<u32>, number: u64) -> bool
+    requires { IfSome each (λ every. 1 ≤ every) }
+    ensures { result ≡ is_due each number }
 {
     match each {
         None => false,
-        Some(number) => place % u64::from(number) == 0,
+        Some(every) => number % u64::from(every) == 0,
     }
 }
 
@@ -93,13 +93,13 @@ fn put_view_behind<N: Naming, P: Placer, T: Tap>(
     line: &mut String,
     book: &Book<N, P, T>,
     each: Option<u32>,
-    place: u64,
+    number: u64,
 ) -> Result<(), AllocError>
-    requires { IfSome each (λ number. 1 ≤ number) }
+    requires { IfSome each (λ every. 1 ≤ every) }
     ensures { OnOk result (string_bytes line.new ≡ string_bytes line.old
-        ++ view_text each place (machine_view book.now) (events_made book.now)) }
+        ++ view_text each number (machine_view book.now) (events_made book.now)) }
 {
-    if is_due(each, place) {
+    if is_due(each, number) {
         put_view(line, book.state(), book.steps())
     } else {
         Ok(())

@@ -8,9 +8,9 @@ use Rattle.std.specs.List.{range_with_len}
 use Rattle.std.specs.declared.option.Option.{Option}
 use Rattle.spec_state.specs.View.{View, task_at}
 use Rattle.watch_text.specs.declared.before.Before.{Before}
-use Rattle.watch_text.specs.Taking.{creator_undone, has_left, ids_affected, ids_back, ids_gone, ids_spilled}
-use Rattle.watch_text.specs.Taking.{is_affected, is_back, is_gone, is_id, some_creator_undone, undone_by, waits, was_at}
-use Rattle.watch_text.specs.Taking.{was_discarded, was_spilled, was_undone}
+use Rattle.watch_text.specs.Taking.{creator_taken, has_left, ids_affected, ids_back, ids_gone, ids_spilled}
+use Rattle.watch_text.specs.Taking.{is_affected, is_back, is_gone, is_id, some_creator_taken, taken_by, waits, was_at}
+use Rattle.watch_text.specs.Taking.{was_discarded, was_spilled, was_taken}
 
 -- what is taken back or spilled has left, or was dispatched and waits
 left_or_waits : (done left dispatched waiting creator : Bool)
@@ -31,12 +31,12 @@ module _ (table : List (Option Before)) (new : View) (arrived done : Option ℕ)
       → is_affected table new arrived done id
       ≡ (not (is_id done id) && (has_left new arrived id || (was.dispatched && waits (task_at new id))))
   affected_some was is =
-      ap (λ w. (not (is_id done id) && (undone_by w (has_left new arrived id || waits (task_at new id))
-      || (has_left new arrived id && some_creator_undone table new arrived w)))
+      ap (λ w. (not (is_id done id) && (taken_by w (has_left new arrived id || waits (task_at new id))
+      || (has_left new arrived id && some_creator_taken table new arrived w)))
       || (not (is_id done id) && (is_some w && (has_left new arrived id
-      && not (has_left new arrived id && some_creator_undone table new arrived w))))) is
+      && not (has_left new arrived id && some_creator_taken table new arrived w))))) is
       ∙ left_or_waits (is_id done id) (has_left new arrived id) was.dispatched (waits (task_at new id))
-      (creator_undone table new arrived was.creator)
+      (creator_taken table new arrived was.creator)
 
 -- ---- those among the affected ones
 
@@ -69,7 +69,7 @@ module _ (table : List (Option Before)) (new : View) (arrived done : Option ℕ)
 
   gone_back : (k : ℕ) → is_gone table new arrived done k ≡ true → is_back table new arrived done k ≡ true
   gone_back k =
-      by_tests (not (is_id done k)) (was_undone table new arrived k) (was_discarded table new arrived k)
+      by_tests (not (is_id done k)) (was_taken table new arrived k) (was_discarded table new arrived k)
     where
       by_tests : (a b c : Bool) → (a && c) ≡ true → (a && (b || c)) ≡ true
       by_tests true b true is = or_right b true refl

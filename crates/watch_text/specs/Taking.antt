@@ -44,31 +44,31 @@ waits (Some task) = not (is_dispatched task)
 abbrev pub has_left : View → (arrived : Option ℕ) → ℕ → Bool
 has_left new arrived id = is_none (task_at new id) || is_id arrived id
 
-abbrev pub undone_by : Option Before → Bool → Bool
-undone_by None gone = false
-undone_by (Some was) gone = was.dispatched && gone
+abbrev pub taken_by : Option Before → Bool → Bool
+taken_by None gone = false
+taken_by (Some was) gone = was.dispatched && gone
 
 -- it was dispatched, and has left or waits again
-abbrev pub was_undone : List (Option Before) → View → (arrived : Option ℕ) → ℕ → Bool
-was_undone table new arrived id = undone_by (was_at table id) (has_left new arrived id || waits (task_at new id))
+abbrev pub was_taken : List (Option Before) → View → (arrived : Option ℕ) → ℕ → Bool
+was_taken table new arrived id = taken_by (was_at table id) (has_left new arrived id || waits (task_at new id))
 
 -- so was its creator
-abbrev pub creator_undone : List (Option Before) → View → (arrived : Option ℕ) → Creator → Bool
-creator_undone table new arrived (Committed turn index) = false
-creator_undone table new arrived (Live task index) = was_undone table new arrived task.0
+abbrev pub creator_taken : List (Option Before) → View → (arrived : Option ℕ) → Creator → Bool
+creator_taken table new arrived (Committed turn index) = false
+creator_taken table new arrived (Live task index) = was_taken table new arrived task.0
 
-abbrev pub some_creator_undone : List (Option Before) → View → (arrived : Option ℕ) → Option Before → Bool
-some_creator_undone table new arrived None = false
-some_creator_undone table new arrived (Some was) = creator_undone table new arrived was.creator
+abbrev pub some_creator_taken : List (Option Before) → View → (arrived : Option ℕ) → Option Before → Bool
+some_creator_taken table new arrived None = false
+some_creator_taken table new arrived (Some was) = creator_taken table new arrived was.creator
 
 -- it has left, since its creator was taken back
 abbrev pub was_discarded : List (Option Before) → View → (arrived : Option ℕ) → ℕ → Bool
-was_discarded table new arrived id = has_left new arrived id && some_creator_undone table new arrived (was_at table id)
+was_discarded table new arrived id = has_left new arrived id && some_creator_taken table new arrived (was_at table id)
 
 -- it was taken back, where this one committed
 abbrev pub is_back : List (Option Before) → View → (arrived done : Option ℕ) → ℕ → Bool
 is_back table new arrived done id =
-    not (is_id done id) && (was_undone table new arrived id || was_discarded table new arrived id)
+    not (is_id done id) && (was_taken table new arrived id || was_discarded table new arrived id)
 
 -- and is gone
 abbrev pub is_gone : List (Option Before) → View → (arrived done : Option ℕ) → ℕ → Bool

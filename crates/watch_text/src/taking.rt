@@ -6,9 +6,9 @@ ghost use Rattle.spec_state.specs.View.{task_at};
 ghost use Rattle.watch_text.specs.Asking.{asks_of};
 ghost use Rattle.watch_text.specs.Changes.{affected_in, arrived_in};
 ghost use Rattle.watch_text.specs.Moments.{task_of};
-ghost use Rattle.watch_text.specs.Taking.{creator_undone, has_left, ids_affected, ids_back, ids_gone, ids_spilled};
-ghost use Rattle.watch_text.specs.Taking.{is_affected, is_back, is_gone, is_id, some_creator_undone, waits, was_at};
-ghost use Rattle.watch_text.specs.Taking.{was_discarded, was_spilled, was_undone};
+ghost use Rattle.watch_text.specs.Taking.{creator_taken, has_left, ids_affected, ids_back, ids_gone, ids_spilled};
+ghost use Rattle.watch_text.specs.Taking.{is_affected, is_back, is_gone, is_id, some_creator_taken, waits, was_at};
+ghost use Rattle.watch_text.specs.Taking.{was_discarded, was_spilled, was_taken};
 
 use crate::about::About;
 use crate::asking::Asked;
@@ -55,13 +55,13 @@ fn waits<N: Naming>(state: &State<N>, id: usize) -> bool
 }
 
 /// Whether the task of an id was dispatched, and has left or waits again.
-fn was_undone<N: Naming>(
+fn was_taken<N: Naming>(
     state: &State<N>,
     table: &[Option<Before>],
     arrived: Option<usize>,
     id: usize,
 ) -> bool
-    ensures { result ≡ was_undone table.now state.now.view arrived id }
+    ensures { result ≡ was_taken table.now state.now.view arrived id }
 {
     match was_at(table, id) {
         None => false,
@@ -69,31 +69,31 @@ fn was_undone<N: Naming>(
     }
 }
 
-fn creator_undone<N: Naming>(
+fn creator_taken<N: Naming>(
     state: &State<N>,
     table: &[Option<Before>],
     arrived: Option<usize>,
     creator: Creator,
 ) -> bool
-    ensures { result ≡ creator_undone table.now state.now.view arrived creator }
+    ensures { result ≡ creator_taken table.now state.now.view arrived creator }
 {
     match creator {
         Creator::Committed { .. } => false,
-        Creator::Live { task, .. } => was_undone(state, table, arrived, task.0),
+        Creator::Live { task, .. } => was_taken(state, table, arrived, task.0),
     }
 }
 
-fn some_creator_undone<N: Naming>(
+fn some_creator_taken<N: Naming>(
     state: &State<N>,
     table: &[Option<Before>],
     arrived: Option<usize>,
     was: Option<Before>,
 ) -> bool
-    ensures { result ≡ some_creator_undone table.now state.now.view arrived was }
+    ensures { result ≡ some_creator_taken table.now state.now.view arrived was }
 {
     match was {
         None => false,
-        Some(was) => creator_undone(state, table, arrived, was.creator),
+        Some(was) => creator_taken(state, table, arrived, was.creator),
     }
 }
 
@@ -106,7 +106,7 @@ fn was_discarded<N: Naming>(
 ) -> bool
     ensures { result ≡ was_discarded table.now state.now.view arrived id }
 {
-    has_left(state, arrived, id) && some_creator_undone(state, table, arrived, was_at(table, id))
+    has_left(state, arrived, id) && some_creator_taken(state, table, arrived, was_at(table, id))
 }
 
 /// Whether the task of an id was taken back, where this one committed.
@@ -120,7 +120,7 @@ fn is_back<N: Naming>(
     ensures { result ≡ is_back table.now state.now.view arrived done id }
 {
     !is_id(done, id)
-        && (was_undone(state, table, arrived, id) || was_discarded(state, table, arrived, id))
+        && (was_taken(state, table, arrived, id) || was_discarded(state, table, arrived, id))
 }
 
 /// Whether it is gone then.

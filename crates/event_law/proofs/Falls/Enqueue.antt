@@ -70,28 +70,28 @@ module _ (image : ImageValue) (book : BookView) (sound : Sound image book.view) 
   at = record { is_leg = taken; asks = ap (λ v. request_at (context_of v task) leg.to leg.stop) (follows.now.version ∙ sym sound.version) ∙ asks_it }
 
   -- the task, once it has made the child
-  abbrev work : Task
-  work = record (task_past_leg task leg) { spawns = task.spawns ++ spawn ∷ [] }
+  abbrev behind : Task
+  behind = record (task_past_leg task leg) { spawns = task.spawns ++ spawn ∷ [] }
 
   -- the view without the child, where the task has made its step
   abbrev stepped : View
   stepped = without_child made.mid new made.change.child
 
-  step : StepsOne made.mid stepped id task work
+  step : StepsOne made.mid stepped id task behind
   step = steps_one image made.mid new follows.now tile core id to leg task spawn at made.change
 
   -- in which it is the heir
   heir_stepped : IsHeir stepped (Some id)
   heir_stepped =
-      step_keeps_heir made.mid stepped id task work step (Some id)
+      step_keeps_heir made.mid stepped id task behind step (Some id)
       (room_leaves_heir image book.view sound id heir to made.forced)
 
   -- and below the child
   child_above : (h : ℕ) (x : Task) → Some id ≡ Some h → task_at stepped h ≡ Some x → key_cmp x.key (child_of made.mid.version id task spawn to).key ≡ Less
   child_above h x same at =
       let id_is : id ≡ h = cc in
-      let both : Some x ≡ Some work = sym at ∙ (ap (task_at stepped) (sym id_is) ∙ step.changes.changed) in
-      let one : x ≡ work = cc in
+      let both : Some x ≡ Some behind = sym at ∙ (ap (task_at stepped) (sym id_is) ∙ step.changes.changed) in
+      let one : x ≡ behind = cc in
       ap (λ (t : Task). key_cmp t.key (child_of made.mid.version id task spawn to).key) one
       ∙ (child_is_above image book.view tile core id to leg task spawn sound takes asks_it).1
 
@@ -114,6 +114,6 @@ module _ (image : ImageValue) (book : BookView) (sound : Sound image book.view) 
   pub enqueue_falls : after < before
   enqueue_falls =
       runs_further image book.view sound tile core leg next goes_on before had id task takes new
-      (ap (λ view. view.settings) made.change.frame ∙ follows.settings) after has work
-      (heir_is_least new id work heir_now made.change.creator) takes.runs.running
-      (ask_leads_on image book.view.settings.budget book.view.settings.quantum leg next.runs_on.is_leg (context_of book.view.version task) (Enqueue spawn) asks_it tt work.core refl)
+      (ap (λ view. view.settings) made.change.frame ∙ follows.settings) after has behind
+      (heir_is_least new id behind heir_now made.change.creator) takes.runs.running
+      (ask_leads_on image book.view.settings.budget book.view.settings.quantum leg next.runs_on.is_leg (context_of book.view.version task) (Enqueue spawn) asks_it tt behind.core refl)

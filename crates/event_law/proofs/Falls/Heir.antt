@@ -45,19 +45,19 @@ module _ (image : ImageValue) (old : View) (sound : Sound image old) (id : ℕ) 
       (cascade_spares_heir image old first task aborts.marks sound there (other_heir first other) aborts.cascade) sound.order sound.sizes sound.is_heir)
 
   -- one of all that conflict with an access leaves it as it was
-  pub conflicts_leave_it : (asker line : ℕ) (task : Task) (write : Bool) (aborted : ℕ) (mid : View) → task_at old asker ≡ Some task
+  pub conflicts_leave_it : (taker line : ℕ) (task : Task) (write : Bool) (aborted : ℕ) (mid : View) → task_at old taker ≡ Some task
       → Aborts (Conflicts old task line write) old aborted mid → task_at mid id ≡ task_at old id
-  conflicts_leave_it asker line task write aborted mid there aborts =
+  conflicts_leave_it taker line task write aborted mid there aborts =
       spared_stays (Conflicts old task line write) old mid aborted id aborts
-      (conflicts_spare_heir image old asker line task write aborts.marks sound there aborts.cascade id the_heir)
+      (conflicts_spare_heir image old taker line task write aborts.marks sound there aborts.cascade id the_heir)
 
   -- and the heir
-  pub conflicts_leave_heir : (asker line : ℕ) (task : Task) (write : Bool) (aborted : ℕ) (mid : View) → task_at old asker ≡ Some task
+  pub conflicts_leave_heir : (taker line : ℕ) (task : Task) (write : Bool) (aborted : ℕ) (mid : View) → task_at old taker ≡ Some task
       → Aborts (Conflicts old task line write) old aborted mid → IsHeir mid (Some id)
-  conflicts_leave_heir asker line task write aborted mid there aborts =
+  conflicts_leave_heir taker line task write aborted mid there aborts =
       subst (IsHeir mid) the_heir
       (abort_keeps_heir aborts.marks old mid sound.heir (abort_takes (Conflicts old task line write) old aborted mid aborts)
-      (conflicts_spare_heir image old asker line task write aborts.marks sound there aborts.cascade) sound.order sound.sizes sound.is_heir)
+      (conflicts_spare_heir image old taker line task write aborts.marks sound there aborts.cascade) sound.order sound.sizes sound.is_heir)
 
   -- so does a coalescing
   pub coalesce_leaves_heir : (tile : ℕ) (new : View) → Coalesces tile old new → IsHeir new (Some id)

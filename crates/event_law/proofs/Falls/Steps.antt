@@ -94,10 +94,10 @@ module _ (image : ImageValue) (old : View) (sound : Sound image old) (tile core 
           omega (arith, most, first)
 
     -- a change of the task alone leaves it the least one
-    kept_least : (new : View) (work : Task) → Keeps id (stepped_task task work) old new → IsLeastTask new id (stepped_task task work)
-    kept_least new work keeps =
-        heir_is_least new id (stepped_task task work)
-        (step_keeps_heir old new id task work (keeps_steps old new id task work takes.runs.on.there keeps) (Some id) taker_is_heir) keeps.changes.changed
+    kept_least : (new : View) (behind : Task) → Keeps id (stepped_task task behind) old new → IsLeastTask new id (stepped_task task behind)
+    kept_least new behind keeps =
+        heir_is_least new id (stepped_task task behind)
+        (step_keeps_heir old new id task behind (keeps_steps old new id task behind takes.runs.on.there keeps) (Some id) taker_is_heir) keeps.changes.changed
 
   module _ (new : View) (after : ℕ) (has : HasRest new after) (id : ℕ) (task : Task) (takes : TakesLeg old tile core leg id task) where
     -- a leg that did its quantum
@@ -115,12 +115,12 @@ module _ (image : ImageValue) (old : View) (sound : Sound image old) (tile core 
         runs_out id task takes new (ap (λ view. view.settings) change.frame) after has now (kept_least id task takes new now change) refl
 
     -- a subdomain or a byte
-    call_falls : (asked : Request) → request_of old task leg ≡ asked → IsExecuted asked → (work : Task) → work.status ≡ task.status → work.core.used ≡ leg.to.used + 1
-        → Keeps id (stepped_task task work) old new → after < before
-    call_falls asked asks is_executed work same counts change =
-        runs_further id task takes new (ap (λ view. view.settings) change.frame) after has (stepped_task task work)
-        (kept_least id task takes new work change) (same ∙ takes.runs.running)
-        (ask_leads_on image old.settings.budget old.settings.quantum leg next.runs_on.is_leg (context_of old.version task) asked asks is_executed work.core counts)
+    call_falls : (asked : Request) → request_of old task leg ≡ asked → IsExecuted asked → (behind : Task) → behind.status ≡ task.status → behind.core.used ≡ leg.to.used + 1
+        → Keeps id (stepped_task task behind) old new → after < before
+    call_falls asked asks is_executed behind same counts change =
+        runs_further id task takes new (ap (λ view. view.settings) change.frame) after has (stepped_task task behind)
+        (kept_least id task takes new behind change) (same ∙ takes.runs.running)
+        (ask_leads_on image old.settings.budget old.settings.quantum leg next.runs_on.is_leg (context_of old.version task) asked asks is_executed behind.core counts)
 
     pub sub_falls : (kind : Kind) → request_of old task leg ≡ MakeSub kind → MakesSub id task leg kind old new → after < before
     sub_falls kind asks change = call_falls (MakeSub kind) asks tt (record (task_past_leg task leg) { sub = Some kind }) refl refl change

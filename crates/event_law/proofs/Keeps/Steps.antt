@@ -68,9 +68,9 @@ module _ (image : ImageValue) (old : View) (sound : Sound image old) (tile core 
         abort_follows image (Conflicts old task (offset / old.settings.line) write) old mid aborted forced
         (abort_of_conflicts_is_sound image id (offset / old.settings.line) task write old aborted mid sound there forced).0
 
-    -- the asker stays as it was
-    asker_stays : task_at mid id ≡ Some task
-    asker_stays =
+    -- the task that makes the access stays as it was
+    taker_stays : task_at mid id ≡ Some task
+    taker_stays =
         spared_stays (Conflicts old task (offset / old.settings.line) write) old mid aborted id forced
         (false_from_ne_true (is_marked forced.marks id)
         (conflicts_spare_asker image old id (offset / old.settings.line) task write forced.marks sound there forced.cascade))
@@ -78,7 +78,7 @@ module _ (image : ImageValue) (old : View) (sound : Sound image old) (tile core 
 
     -- and asks for the same
     asks_still : (request : Request) → request_of old task leg ≡ request → AsksAt image mid tile core leg id task request
-    asks_still request asks = record { is_leg = still_taken image old sound mid tile core id leg task conflicts_follow asker_stays is_taken; asks = ap (λ v. request_at (context_of v task) leg.to leg.stop) (conflicts_follow.now.version ∙ sym sound.version) ∙ asks }
+    asks_still request asks = record { is_leg = still_taken image old sound mid tile core id leg task conflicts_follow taker_stays is_taken; asks = ap (λ v. request_at (context_of v task) leg.to leg.stop) (conflicts_follow.now.version ∙ sym sound.version) ∙ asks }
 
     -- and nothing conflicts any more: what conflicted was taken back, and what was taken back is idle
     none_conflicts : NoneConflicts mid task offset write

@@ -44,7 +44,7 @@ flat_none : (n : ℕ) → flat_map (λ (xs : List Spilled). xs) (replicate n [])
 flat_none zero = refl
 flat_none (suc n) = flat_none n
 
--- the free tasks of a view with an empty history
+-- the free tasks of a view with an empty journal
 abbrev pub Free : View → ℕ → PendingTask → Type 0
 Free view depth p = IsFree (bag_tasks view) (IsSpilled (bags_spilled view)) 0 depth p
 

@@ -134,7 +134,7 @@ module _ (image : ImageValue) (settings : Settings) (among : ℕ → ImageTask �
     noted = no_notes;
   }
 
-  -- the history, in which no task has committed, is a run that leads to the opening
+  -- the journal, in which no task has committed, is a run that leads to the opening
   is_run : IsRun image view.settings.budget view.history (opening image)
   is_run = subst (λ journal. IsRun image view.settings.budget journal (opening image)) (sym is.history) refl
 

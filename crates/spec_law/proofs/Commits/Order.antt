@@ -43,7 +43,7 @@ least_of_all view sizes heir id task is =
 freed_is : (x : Keyed) → x.creator ≡ None → without_creator x ≡ x
 freed_is x none = λ i. record x { creator = sym none i }
 
--- the history is one longer
+-- the journal is one longer
 pub one_longer : (old new : View) → Commits old new → length new.history ≡ length old.history + 1
 one_longer old new commit = ap length commit.history ∙ length-append old.history _
 

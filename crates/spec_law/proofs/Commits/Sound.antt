@@ -22,7 +22,7 @@ module _ (image : ImageValue) (old new : View) (sound : Sound image old) (commit
   abbrev entry : Entry
   entry = record { name = record { creator = commit.turn; index = commit.index }; depth = depth_of commit.task; ts = commit.task.key.ts }
 
-  -- the history is a run with the turn at its end
+  -- the journal is a run with the turn at its end
   runs_on : IsRun image new.settings.budget new.history (state image old new sound commit)
   runs_on =
       subst (λ s. IsRun image s.budget new.history (state image old new sound commit)) (sym (ap (λ v. v.settings) commit.frame))

@@ -136,7 +136,7 @@ module _ (image : ImageValue) (old new : View) (sound : Sound image old) (commit
     before : (s : Spilled) → Contains (all_spilled new) s → Contains (all_spilled old) s
     before s has = subst (λ ss. Contains ss s) same_spilled has
 
-    -- what holds at the next number holds at that of the new history
+    -- what holds at the next number holds at that of the new journal
     names_now : AreSound (length new.history) (unwrap_or heir 0) (is_some heir) (bag_tasks new) (bags_spilled new)
     names_now =
         subst (λ ss. AreSound (length new.history) (unwrap_or heir 0) (is_some heir) (bag_tasks new) (map bag_spilled ss)) (sym same_spilled)

@@ -68,7 +68,7 @@ module _ (image : ImageValue) (old new : View) (sound : Sound image old) (commit
   pub is_heir : sound.heir ≡ Some commit.id
   is_heir = least_is_heir old sound.heir sound.is_heir commit.id commit.task commit.least runs
 
-  -- the serial machine has taken as many turns as the history is long
+  -- the serial machine has taken as many turns as the journal is long
   pub counted : sound.serial.count ≡ length old.history
   counted = count-run image old.settings.budget old.history sound.serial sound.is_run
 

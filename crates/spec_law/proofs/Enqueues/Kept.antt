@@ -49,21 +49,21 @@ below_third a b c upto below = by_order (key_cmp a b) refl
 
 -- the task of this id makes the child of the other id: where its tasks are without the child, the view is one after a step of the task, and
 -- then the child comes to be
-pub record MakesChild (image : ImageValue) (old new : View) (tasks : List (Option Task)) (id c : ℕ) (task work child : Task) (spawn : Spawn) : Type 0 where
-  pub step : StepsOne old (record old { tasks = tasks }) id task work
-  pub log : work.log ≡ task.log
-  pub lines : work.lines ≡ task.lines
-  pub all_children : KeepsChildren task (stepped_task task work)
-  pub stands : StandsAs image old.version old.settings.budget (stepped_task task work) work.status
+pub record MakesChild (image : ImageValue) (old new : View) (tasks : List (Option Task)) (id c : ℕ) (task behind child : Task) (spawn : Spawn) : Type 0 where
+  pub step : StepsOne old (record old { tasks = tasks }) id task behind
+  pub log : behind.log ≡ task.log
+  pub lines : behind.lines ≡ task.lines
+  pub all_children : KeepsChildren task (stepped_task task behind)
+  pub stands : StandsAs image old.version old.settings.budget (stepped_task task behind) behind.status
   pub lists : FitsLists (record old { tasks = tasks })
-  pub bytes : length work.bytes ≤ MAX_EMITTED
+  pub bytes : length behind.bytes ≤ MAX_EMITTED
   pub number : ℕ
   pub numbered : task.key.tb ≡ Some number
   pub adds : Adds c child (record old { tasks = tasks }) new
   pub idle : child ≡ idle_again old.version child
   pub creator : child.creator ≡ Live (record { 0 = id }) (length task.spawns)
-  pub made : slice_get work.spawns (length task.spawns) ≡ Some spawn
-  pub descriptor : descriptor_of child ≡ child_descriptor (stepped_task task work) spawn
+  pub made : slice_get behind.spawns (length task.spawns) ≡ Some spawn
+  pub descriptor : descriptor_of child ≡ child_descriptor (stepped_task task behind) spawn
   pub bags : grows.EnqueuesInBags (bag_tasks old) (bag_tasks new) id c (bag_task task) spawn (depth_of child)
   pub placed : IsPlaced (keyed_task task) (keyed_task child)
   pub above : key_cmp task.key child.key ≡ Less
@@ -71,26 +71,26 @@ pub record MakesChild (image : ImageValue) (old new : View) (tasks : List (Optio
   pub free : QueueHasRoom old child.tile
   pub kinds : child.kinds < 2 ^ depth_of child
 
-module _ (image : ImageValue) (old new : View) (tasks : List (Option Task)) (id c : ℕ) (task work child : Task) (spawn : Spawn) (makes : MakesChild image old new tasks id c task work child spawn) where
+module _ (image : ImageValue) (old new : View) (tasks : List (Option Task)) (id c : ℕ) (task behind child : Task) (spawn : Spawn) (makes : MakesChild image old new tasks id c task behind child spawn) where
   -- the view without the child
   abbrev mid : View
   mid = record old { tasks = tasks }
 
   pub make_keeps_order : (heir : Option ℕ) → SoundOrder old heir → SoundOrder new heir
   make_keeps_order heir sound =
-      add_keeps_order mid new c child makes.adds heir id makes.number (stepped_task task work) makes.step.changes.changed makes.numbered
-      (ap (λ t. t.key.tb) makes.idle) (ap live_creator makes.creator) makes.placed (step_keeps_order old mid id task work makes.step heir sound)
+      add_keeps_order mid new c child makes.adds heir id makes.number (stepped_task task behind) makes.step.changes.changed makes.numbered
+      (ap (λ t. t.key.tb) makes.idle) (ap live_creator makes.creator) makes.placed (step_keeps_order old mid id task behind makes.step heir sound)
 
   pub make_keeps_sizes : SoundSizes old → SoundSizes new
   make_keeps_sizes sizes =
-      add_keeps_sizes mid new c child makes.adds (step_keeps_sizes old mid id task work makes.step sizes makes.lists makes.bytes) makes.within makes.free makes.idle makes.kinds
+      add_keeps_sizes mid new c child makes.adds (step_keeps_sizes old mid id task behind makes.step sizes makes.lists makes.bytes) makes.within makes.free makes.idle makes.kinds
 
   -- the heir is below the child, since it is not above the task that makes it
   heir_below : SoundSizes old → (heir : Option ℕ) → IsHeir old heir → (h : ℕ) (x : Task) → heir ≡ Some h → task_at mid h ≡ Some x → key_cmp x.key child.key ≡ Less
   heir_below sizes heir is_heir h x is at =
       let least = heir_is_least old heir h is_heir is in
       let upto = not_below_least old sizes h id least.0 task least.1 makes.step.there in
-      each_stepped old mid id (stepped_task task work) makes.step.changes (λ k t. k ≡ h → key_cmp t.key child.key ≡ Less)
+      each_stepped old mid id (stepped_task task behind) makes.step.changes (λ k t. k ≡ h → key_cmp t.key child.key ≡ Less)
       (λ k t other there same. (
       let both : Some t ≡ Some least.0 = sym there ∙ ap (task_at old) same ∙ least.1.queued_at.there in
       let eq : t ≡ least.0 = cc in
@@ -101,17 +101,17 @@ module _ (image : ImageValue) (old new : View) (tasks : List (Option Task)) (id 
   pub make_keeps_heir : SoundSizes old → (heir : Option ℕ) → IsHeir old heir → IsHeir new heir
   make_keeps_heir sizes heir is =
       add_keeps_heir mid new c child makes.adds (subst (λ n. child.tile < n) (sym sizes.queues) makes.within) heir makes.idle
-      (heir_below sizes heir is) (step_keeps_heir old mid id task work makes.step heir is)
+      (heir_below sizes heir is) (step_keeps_heir old mid id task behind makes.step heir is)
 
   module _ (heir : Option ℕ) (serial : SerialState) (sound : SoundTasks image old heir serial) where
     -- all tasks but the child stand as their statuses say
     stand_mid : (k : ℕ) (t : Task) → task_at mid k ≡ Some t → StandsAs image old.version old.settings.budget t t.status
-    stand_mid = stand_still old mid id task work makes.step makes.all_children image heir serial sound makes.stands
+    stand_mid = stand_still old mid id task behind makes.step makes.all_children image heir serial sound makes.stands
 
     pub make_keeps_memory : SoundMemory old serial → SoundMemory new serial
     make_keeps_memory memory =
         add_keeps_memory mid new c child makes.adds makes.idle image serial stand_mid
-        (step_keeps_memory old mid id task work makes.step serial refl makes.log makes.lines memory)
+        (step_keeps_memory old mid id task behind makes.step serial refl makes.log makes.lines memory)
 
     same_free : SameFree (length old.history) (bag_tasks old) (bags_spilled old) (bag_tasks new) (bags_spilled old)
         × (AreSound (length old.history) (unwrap_or heir 0) (is_some heir) (bag_tasks old) (bags_spilled old)
@@ -131,8 +131,8 @@ module _ (image : ImageValue) (old new : View) (tasks : List (Option Task)) (id 
     child_made : IsMadeBy (added_to mid new) id (length task.spawns) (descriptor_of child)
     child_made =
         record {
-          creator = stepped_task task work;
-          there = still_there mid new c child makes.adds id (stepped_task task work) makes.step.changes.changed;
+          creator = stepped_task task behind;
+          there = still_there mid new c child makes.adds id (stepped_task task behind) makes.step.changes.changed;
           spawn = spawn;
           made = makes.made;
           descriptor_is = makes.descriptor;
@@ -160,18 +160,18 @@ module _ (image : ImageValue) (old new : View) (tasks : List (Option Task)) (id 
           names = same_free.1 sound.names;
           matches = matches;
           domains = λ k t turn index at. each_stepped mid new c child makes.adds.changes InBags
-              (λ j x other there turn index made. domains_still old mid id task work makes.step makes.all_children image heir serial sound j x turn index there made)
+              (λ j x other there turn index made. domains_still old mid id task behind makes.step makes.all_children image heir serial sound j x turn index there made)
               (λ turn index made. absurd (cc (makes.creator, made))) k t at turn index;
           spilled_domains = sound.spilled_domains;
           stands = each_stepped mid new c child makes.adds.changes (λ k t. StandsAs image old.version old.settings.budget t t.status) (λ k t other there. stand_mid k t there)
               (subst (StandsAs image old.version old.settings.budget child) (sym (ap (λ t. t.status) makes.idle)) makes.idle);
           children = λ k t creator index at. each_stepped mid new c child makes.adds.changes IsMade
               (λ j x other there creator index made. made_now creator.0 index (descriptor_of x)
-              (children_still old mid id task work makes.step makes.all_children image heir serial sound j x creator index there made))
+              (children_still old mid id task behind makes.step makes.all_children image heir serial sound j x creator index there made))
               child_is_made k t at creator index;
           spilled_children = λ s has next. (
               let was = sound.spilled_children s has next in
-              (was.0, was.1, made_now was.0 s.desc.name.index (spilled_descriptor s) (made_still old mid id task work makes.step makes.all_children was.0 s.desc.name.index (spilled_descriptor s) was.2))
+              (was.0, was.1, made_now was.0 s.desc.name.index (spilled_descriptor s) (made_still old mid id task behind makes.step makes.all_children was.0 s.desc.name.index (spilled_descriptor s) was.2))
               );
         }
 

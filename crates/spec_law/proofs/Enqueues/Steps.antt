@@ -41,12 +41,12 @@ module _ (image : ImageValue) (old new : View) (sound : Sound image old) (tile c
   taken = at.is_leg
 
   -- the task that makes it, once it has
-  abbrev pub work : Task
-  work = record (task_past_leg task leg) { spawns = task.spawns ++ spawn ∷ [] }
+  abbrev pub behind : Task
+  behind = record (task_past_leg task leg) { spawns = task.spawns ++ spawn ∷ [] }
 
   -- as its run has it
   abbrev after : TaskState
-  after = progress_at [] work.core work
+  after = progress_at [] behind.core behind
 
   abbrev pub child : Task
   child = child_of old.version id task spawn target
@@ -73,7 +73,7 @@ module _ (image : ImageValue) (old new : View) (sound : Sound image old) (tile c
   ]
 
   -- a step of the task that makes it
-  pub steps_one : StepsOne old mid id task work
+  pub steps_one : StepsOne old mid id task behind
   steps_one = record {
     there = there;
     changes = record { changed = as_new id apart ∙ does.creator; others = others };
@@ -90,14 +90,14 @@ module _ (image : ImageValue) (old new : View) (sound : Sound image old) (tile c
   }
 
   -- the children that it made stay so
-  pub all_children : KeepsChildren task work
+  pub all_children : KeepsChildren task behind
   all_children index made there_is = (
     get_front task.spawns (spawn ∷ []) index made there_is,
     descriptor_same task leg made spawn,
   )
 
   -- the new one is its last
-  pub last_made : slice_get work.spawns (length task.spawns) ≡ Some spawn
+  pub last_made : slice_get behind.spawns (length task.spawns) ≡ Some spawn
   last_made = get_end task.spawns spawn
 
   -- there is a domain for it
@@ -110,8 +110,8 @@ module _ (image : ImageValue) (old new : View) (sound : Sound image old) (tile c
       placed_at (start_context old.version task).outer after.sub after.spawns (length task.spawns) spawn placed last_made
 
   -- it runs on
-  pub stands_on : StandsAs image old.version old.settings.budget work task.status
-  stands_on = subst (StandsAs image old.version old.settings.budget work) (sym taken.takes.runs.running)
+  pub stands_on : StandsAs image old.version old.settings.budget behind task.status
+  stands_on = subst (StandsAs image old.version old.settings.budget behind) (sym taken.takes.runs.running)
       ((stood image old sound tile core id leg task taken).0, ran_call image old sound tile core id leg task (Enqueue spawn) after at tt refl)
 
   -- for the bags it is an enqueue
@@ -129,10 +129,10 @@ module _ (image : ImageValue) (old new : View) (sound : Sound image old) (tile c
 
   -- the lists of commit queues and cores stay
   lists : FitsLists mid
-  lists = lists_stay old mid id task work steps_one sound.sizes refl refl (λ is. is, λ is. is) (λ held. (λ is. is, λ is. is))
+  lists = lists_stay old mid id task behind steps_one sound.sizes refl refl (λ is. is, λ is. is) (λ held. (λ is. is, λ is. is))
 
   -- it makes a child
-  makes : target < old.settings.tiles → QueueHasRoom old target → MakesChild image old new (slice_set new.tasks does.child None) id does.child task work child spawn
+  makes : target < old.settings.tiles → QueueHasRoom old target → MakesChild image old new (slice_set new.tasks does.child None) id does.child task behind child spawn
   makes within free =
       let number = there_is task.key.tb (stood image old sound tile core id leg task taken).0 in
       let above = child_is_above image old tile core id target leg task spawn sound taken.takes at.asks in
@@ -161,7 +161,7 @@ module _ (image : ImageValue) (old new : View) (sound : Sound image old) (tile c
 
   pub enqueued : target < old.settings.tiles → QueueHasRoom old target → StaysSound image old sound new
   enqueued within free =
-      make_stays_sound image old new (slice_set new.tasks does.child None) id does.child task work child spawn (makes within free) sound
+      make_stays_sound image old new (slice_set new.tasks does.child None) id does.child task behind child spawn (makes within free) sound
 
 pub enqueue_stays_sound : EnqueueStaysSound
 enqueue_stays_sound image old new sound tile core id target leg task spawn at within free does =

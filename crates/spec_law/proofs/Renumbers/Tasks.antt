@@ -1,4 +1,5 @@
--- A renumbering keeps the group of tasks: it reads of keys how deep they are, their timestamps, and whether they are dispatched.
+-- A renumbering keeps the group of tasks: it reads of keys how deep they are, their timestamps, whether they are
+-- dispatched, and that a child's domain is the one that its creator's key gives, which is renumbered as that key is.
 use Rattle.std.proofs.Common.{◌≡◌, ◌+◌, ◌-◌, ◌*◌, ◌/◌, ◌%◌, ◌^◌, ◌≤◌, ◌++◌, ◌∷◌, ℕ, zero, suc, true, List, [], length, Option, Some, None, refl, sym, ap, subst, ◌∙◌, map, take, option_map, is_some, unwrap_or}
 use Rattle.std.specs.Prelude.{Contains}
 use Rattle.std.proofs.lemmas.List.{length-map}

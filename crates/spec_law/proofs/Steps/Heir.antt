@@ -31,7 +31,7 @@ stays_least a b forth back queues k x t there tile least =
       least = subst (λ n. IsLeastSpot b (Queued n least.place)) (sym tile) (same_least a b forth back (Queued x.tile least.place) least.least);
     }
 
-module _ (old new : View) (id : ℕ) (task work : Task) (step : StepsOne old new id task work) where
+module _ (old new : View) (id : ℕ) (task behind : Task) (step : StepsOne old new id task behind) where
   -- the view after it, whose queues and blocks are the old ones
   abbrev now : View
   now = stepped_to old new
@@ -39,27 +39,27 @@ module _ (old new : View) (id : ℕ) (task work : Task) (step : StepsOne old new
   -- the spots of before have their keys still
   forth : (spot : Spot) (key : Key) → HasKey old spot key → HasKey now spot key
   forth (Queued tile place) key (k, x, at, is) =
-      let stays = stays_there old new id task work step k x at.there in
+      let stays = stays_there old new id task behind step k x at.there in
       (k, stays.0, record { queued = at.queued; there = stays.1 }, is ∙ sym (same_key x stays.0 stays.2))
   forth (Spilled_at tile place) key has = has
 
   -- and no others
   back : (spot : Spot) (key : Key) → HasKey now spot key → HasKey old spot key
   back (Queued tile place) key (k, t, at, is) =
-      let from = origin old new id task work step k t at.there in
+      let from = origin old new id task behind step k t at.there in
       (k, from.was, record { queued = at.queued; there = from.there }, is ∙ same_key from.was t from.made)
   back (Spilled_at tile place) key has = has
 
   -- the heir of that view
   kept : (heir : Option ℕ) → IsHeir old heir → IsHeir now heir
   kept (Some k) (x, least, runs) =
-      let stays = stays_there old new id task work step k x least.queued_at.there in (
+      let stays = stays_there old new id task behind step k x least.queued_at.there in (
         stays.0,
         stays_least old now forth back refl k x stays.0 stays.1 (same_tile x stays.0 stays.2) least,
         ap (λ key. is_some key.tb) (same_key x stays.0 stays.2) ∙ runs,
       )
   kept None none = λ k t least runs.
-      (let from = origin old new id task work step k t least.queued_at.there in
+      (let from = origin old new id task behind step k t least.queued_at.there in
       none k from.was
       (stays_least now old back forth refl k t from.was from.there (sym (same_tile from.was t from.made)) least)
       (ap (λ key. is_some key.tb) (sym (same_key from.was t from.made)) ∙ runs))

@@ -1,4 +1,4 @@
--- A quantum, a trap, a call and an end keep a view sound.
+-- A quantum, a trap, a call for a subdomain, a call that emits a byte and an end call keep a view sound.
 use Rattle.std.proofs.Common.{◌≡◌, ◌≢◌, ◌⊎◌, ◌≤◌, ◌∷◌, ◌++◌, ℕ, [], length, Option, Some, None, refl, sym, ap, subst, ◌∙◌, inl, inr, is_some, slice_get}
 use Rattle.guest_image.specs.declared.image.Kind.{Kind}
 use Rattle.guest_image.specs.ImageValue.{ImageValue}

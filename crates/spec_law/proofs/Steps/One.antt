@@ -21,14 +21,14 @@ use Rattle.fractal_vt.proofs.Proved.{mapped_some}
 
 -- what a step may change of a task is as here, and all else as it was
 abbrev pub stepped_task : Task → Task → Task
-stepped_task task work = record task {
-  status = work.status;
-  core = work.core;
-  log = work.log;
-  lines = work.lines;
-  spawns = work.spawns;
-  bytes = work.bytes;
-  sub = work.sub;
+stepped_task task behind = record task {
+  status = behind.status;
+  core = behind.core;
+  log = behind.log;
+  lines = behind.lines;
+  spawns = behind.spawns;
+  bytes = behind.bytes;
+  sub = behind.sub;
 }
 
 -- the view as it was, but for what such a step changes
@@ -36,9 +36,9 @@ abbrev pub stepped_to : View → View → View
 stepped_to old new = record old { tasks = new.tasks; memory = new.memory; finished = new.finished; cores = new.cores }
 
 -- a step of the task of this id
-pub record StepsOne (old new : View) (id : ℕ) (task work : Task) : Type 0 where
+pub record StepsOne (old new : View) (id : ℕ) (task behind : Task) : Type 0 where
   pub there : task_at old id ≡ Some task
-  pub changes : ChangesTask old new id (Some (stepped_task task work))
+  pub changes : ChangesTask old new id (Some (stepped_task task behind))
   pub rest : new ≡ stepped_to old new
 
 -- what is read of the task of each id
@@ -70,25 +70,26 @@ pub record HasOrigin (view : View) (id : ℕ) (now : Task) : Type 0 where
   pub there : task_at view id ≡ Some was
   pub made : now ≡ stepped_task was now
 
-module _ (old new : View) (id : ℕ) (task work : Task) (step : StepsOne old new id task work) where
+module _ (old new : View) (id : ℕ) (task behind : Task) (step : StepsOne old new id task behind) where
   -- what is read of the task before and after alike is read alike of all
-  pub all_alike : {X : Type 0} (see : Task → X) → see (stepped_task task work) ≡ see task → seen see new ≡ seen see old
-  all_alike see same = λ i k. alike (option_map see) old new id (Some (stepped_task task work)) step.changes (ap Some same ∙ sym (ap (option_map see) step.there)) k i
+  pub all_alike : {X : Type 0} (see : Task → X) → see (stepped_task task behind) ≡ see task
+      → seen see new ≡ seen see old
+  all_alike see same = λ i k. alike (option_map see) old new id (Some (stepped_task task behind)) step.changes (ap Some same ∙ sym (ap (option_map see) step.there)) k i
 
   -- the order of tasks reads the same
   pub keyed_same : keyed_tasks new ≡ keyed_tasks old
   keyed_same = all_alike keyed_task refl
 
   -- so does room in a queue
-  pub waiting_same : room_tasks new ≡ room_tasks old
-  waiting_same = all_alike room_task refl
+  pub room_same : room_tasks new ≡ room_tasks old
+  room_same = all_alike room_task refl
 
   -- so does memory, where log and lines stay
-  pub logged_same : work.log ≡ task.log → work.lines ≡ task.lines → logged_tasks new ≡ logged_tasks old
+  pub logged_same : behind.log ≡ task.log → behind.lines ≡ task.lines → logged_tasks new ≡ logged_tasks old
   logged_same log lines = all_alike logged_task (λ i. logged_task (record task { log = log i; lines = lines i }))
 
   -- so do the bags, where the children stay
-  pub bags_same : work.spawns ≡ task.spawns → bag_tasks new ≡ bag_tasks old
+  pub bags_same : behind.spawns ≡ task.spawns → bag_tasks new ≡ bag_tasks old
   bags_same spawns = all_alike bag_task (λ i. bag_task (record task { spawns = spawns i }))
 
   -- the order of all uncommitted tasks
@@ -113,7 +114,7 @@ module _ (old new : View) (id : ℕ) (task work : Task) (step : StepsOne old new
           sound.order
 
   -- memory, where the step does not touch it
-  pub step_keeps_memory : (serial : SerialState) → new.memory ≡ old.memory → work.log ≡ task.log → work.lines ≡ task.lines → SoundMemory old serial → SoundMemory new serial
+  pub step_keeps_memory : (serial : SerialState) → new.memory ≡ old.memory → behind.log ≡ task.log → behind.lines ≡ task.lines → SoundMemory old serial → SoundMemory new serial
   step_keeps_memory serial memory log lines sound = subst (λ v. SoundMemory v serial) (sym step.rest) (record { chained = chained; noted = noted })
     where
       chained : IsChained old.settings.line (logged_tasks new) serial.memory new.memory
@@ -122,12 +123,12 @@ module _ (old new : View) (id : ℕ) (task work : Task) (step : StepsOne old new
           (subst (λ tasks. IsChained old.settings.line tasks serial.memory old.memory) (sym (logged_same log lines)) sound.chained)
 
       noted : (k : ℕ) (t : Task) → task_at new k ≡ Some t → HasNotes t.lines (notes_of old.settings.line t.log)
-      noted = each_stepped old new id (stepped_task task work) step.changes (λ k t. HasNotes t.lines (notes_of old.settings.line t.log))
-          (λ k t other at. sound.noted k t at) (subst (λ l. HasNotes l (notes_of old.settings.line work.log)) (sym lines) (subst (λ l. HasNotes task.lines (notes_of old.settings.line l)) (sym log) (sound.noted id task step.there)))
+      noted = each_stepped old new id (stepped_task task behind) step.changes (λ k t. HasNotes t.lines (notes_of old.settings.line t.log))
+          (λ k t other at. sound.noted k t at) (subst (λ l. HasNotes l (notes_of old.settings.line behind.log)) (sym lines) (subst (λ l. HasNotes task.lines (notes_of old.settings.line l)) (sym log) (sound.noted id task step.there)))
 
   -- each task was there
   pub origin : (k : ℕ) (t : Task) → task_at new k ≡ Some t → HasOrigin old k t
-  origin = each_stepped old new id (stepped_task task work) step.changes (HasOrigin old)
+  origin = each_stepped old new id (stepped_task task behind) step.changes (HasOrigin old)
       (λ k t other at. record { was = t; there = at; made = refl }) (record { was = task; there = step.there; made = refl })
 
   -- each task is there still
@@ -136,6 +137,6 @@ module _ (old new : View) (id : ℕ) (task work : Task) (step : StepsOne old new
     | inl is ↦
         let both : Some x ≡ Some task = sym at ∙ ap (task_at old) is ∙ step.there in
         let same : task ≡ x = cc in
-        (stepped_task task work, ap (task_at new) is ∙ step.changes.changed, ap (λ t. stepped_task t work) same)
+        (stepped_task task behind, ap (task_at new) is ∙ step.changes.changed, ap (λ t. stepped_task t behind) same)
     | inr other ↦ (x, step.changes.others k other ∙ at, refl)
   ]

@@ -48,15 +48,15 @@ Leaves task (Traps cause pc) = Unit {0}
 
 -- one more byte, where there are fewer than a task may emit
 one_more : (bytes : List ℕ) (byte : ℕ) → length bytes < MAX_BYTES → length (bytes ++ byte ∷ []) ≤ MAX_BYTES
-one_more bytes byte room = simp length-append (omega (arith, room))
+one_more bytes byte few = simp length-append (omega (arith, few))
 
 -- each request that keeps the limits leaves both so
 pub request_leaves : (ctx : Ctx) (task : TaskState) (asked : Request) → KeepsLimits (context ctx task) asked → Leaves task (after_request task asked)
-request_leaves ctx task request.Continue room = (inl refl, λ low. low)
-request_leaves ctx task (request.Load width rd offset) room = (inl refl, λ low. low)
-request_leaves ctx task (request.Store offset bytes value) room = (inl refl, λ low. low)
-request_leaves ctx task (request.Enqueue child) room = (inl refl, λ low. low)
-request_leaves ctx task (request.MakeSub kind) room = (inr room.0, λ low. low)
-request_leaves ctx task (request.Emit byte) room = (inl refl, λ low. one_more task.bytes byte room)
-request_leaves ctx task request.End room = tt
-request_leaves ctx task (request.Trap cause) room = tt
+request_leaves ctx task request.Continue keeps = (inl refl, λ low. low)
+request_leaves ctx task (request.Load width rd offset) keeps = (inl refl, λ low. low)
+request_leaves ctx task (request.Store offset bytes value) keeps = (inl refl, λ low. low)
+request_leaves ctx task (request.Enqueue child) keeps = (inl refl, λ low. low)
+request_leaves ctx task (request.MakeSub kind) keeps = (inr keeps.0, λ low. low)
+request_leaves ctx task (request.Emit byte) keeps = (inl refl, λ low. one_more task.bytes byte keeps)
+request_leaves ctx task request.End keeps = tt
+request_leaves ctx task (request.Trap cause) keeps = tt

@@ -1,4 +1,5 @@
--- A step of one task keeps the group of sizes, where commit queues and cores hold what they may.
+-- A step of one task keeps the group of sizes, where commit queues and cores hold what they may, and the task has no
+-- more bytes than it may.
 use Rattle.std.proofs.Common.{◌≡◌, ◌≤◌, ◌<◌, ◌^◌, ℕ, [], length, Some, sym, ap, subst, ◌∙◌, inl, inr, slice_get, slice_index_or}
 use Rattle.std.specs.Prelude.{◌↔◌, All, Contains}
 use Rattle.std.proofs.lemmas.Bool.{cases_eq}
@@ -22,26 +23,26 @@ pub record FitsLists (view : View) : Type 0 where
   pub finished_are : (tile id : ℕ) → Contains (finished_at view tile) id ↔ HasTask view tile id (λ status. status ≡ Finished)
   pub held_are : (tile core id : ℕ) → (slice_get (cores_at view tile) core ≡ Some (Some id)) ↔ HasTask view tile id (λ status. HasCore status core)
 
-module _ (old new : View) (id : ℕ) (task work : Task) (step : StepsOne old new id task work) where
+module _ (old new : View) (id : ℕ) (task behind : Task) (step : StepsOne old new id task behind) where
   -- a task whose status is of a kind has such a one still, where that is kept of the changed one
-  pub has_forth : (kind : Status → Type 0) → (kind task.status → kind work.status) → (tile k : ℕ) → HasTask old tile k kind → HasTask (stepped_to old new) tile k kind
+  pub has_forth : (kind : Status → Type 0) → (kind task.status → kind behind.status) → (tile k : ℕ) → HasTask old tile k kind → HasTask (stepped_to old new) tile k kind
   has_forth kind this tile k (x, at, in_tile, is) = elim (cases_eq k id) [
     | inl same_id ↦
         let both : Some x ≡ Some task = sym at ∙ ap (task_at old) same_id ∙ step.there in
         let same : x ≡ task = cc in
-        (stepped_task task work, ap (task_at new) same_id ∙ step.changes.changed, ap (λ t. t.tile) (sym same) ∙ in_tile, this (subst (λ t. kind t.status) same is))
+        (stepped_task task behind, ap (task_at new) same_id ∙ step.changes.changed, ap (λ t. t.tile) (sym same) ∙ in_tile, this (subst (λ t. kind t.status) same is))
     | inr other ↦ (x, step.changes.others k other ∙ at, in_tile, is)
   ]
 
   -- and had one
-  pub has_back : (kind : Status → Type 0) → (kind work.status → kind task.status) → (tile k : ℕ) → HasTask (stepped_to old new) tile k kind → HasTask old tile k kind
+  pub has_back : (kind : Status → Type 0) → (kind behind.status → kind task.status) → (tile k : ℕ) → HasTask (stepped_to old new) tile k kind → HasTask old tile k kind
   has_back kind this tile k (t, at, in_tile, is) =
-      each_stepped old new id (stepped_task task work) step.changes (λ j z. z.tile ≡ tile → kind z.status → HasTask old tile j kind)
+      each_stepped old new id (stepped_task task behind) step.changes (λ j z. z.tile ≡ tile → kind z.status → HasTask old tile j kind)
       (λ j z other there in_this is_this. (z, there, in_this, is_this)) (λ in_this is_this. (task, step.there, in_this, this is_this)) k t at in_tile is
 
   -- lists that stay hold the same tasks, where the task is finished or on a core as before
-  pub lists_stay : SoundSizes old → new.finished ≡ old.finished → new.cores ≡ old.cores → (work.status ≡ Finished) ↔ (task.status ≡ Finished)
-      → ((core : ℕ) → HasCore work.status core ↔ HasCore task.status core) → FitsLists (stepped_to old new)
+  pub lists_stay : SoundSizes old → new.finished ≡ old.finished → new.cores ≡ old.cores → (behind.status ≡ Finished) ↔ (task.status ≡ Finished)
+      → ((core : ℕ) → HasCore behind.status core ↔ HasCore task.status core) → FitsLists (stepped_to old new)
   lists_stay sizes finished cores ends holds =
       record {
         finished = ap length finished ∙ sizes.finished;
@@ -62,7 +63,7 @@ module _ (old new : View) (id : ℕ) (task work : Task) (step : StepsOne old new
         );
       }
 
-  pub step_keeps_sizes : SoundSizes old → FitsLists (stepped_to old new) → length work.bytes ≤ MAX_EMITTED → SoundSizes new
+  pub step_keeps_sizes : SoundSizes old → FitsLists (stepped_to old new) → length behind.bytes ≤ MAX_EMITTED → SoundSizes new
   step_keeps_sizes sizes lists bytes = subst SoundSizes (sym step.rest)
       (record {
         settings = sizes.settings;
@@ -80,8 +81,8 @@ module _ (old new : View) (id : ℕ) (task work : Task) (step : StepsOne old new
         finished_are = lists.finished_are;
         held_are = lists.held_are;
         kinds = λ k t at.
-            (let from = origin old new id task work step k t at in
+            (let from = origin old new id task behind step k t at in
             subst (λ z. z.kinds < 2 ^ depth_of z) (sym from.made) (sizes.kinds k from.was from.there));
-        bytes = each_stepped old new id (stepped_task task work) step.changes (λ k t. length t.bytes ≤ MAX_EMITTED) (λ k t other at. sizes.bytes k t at) bytes;
+        bytes = each_stepped old new id (stepped_task task behind) step.changes (λ k t. length t.bytes ≤ MAX_EMITTED) (λ k t other at. sizes.bytes k t at) bytes;
         spilled = sizes.spilled;
       })

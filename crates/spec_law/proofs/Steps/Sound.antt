@@ -25,28 +25,28 @@ use Rattle.spec_law.proofs.Steps.Sizes.{FitsLists, lists_stay, step_keeps_sizes}
 use Rattle.spec_law.proofs.Steps.Runs.{run_on}
 
 -- a step that leaves memory, log and children as they were, after which the task stands as its status says and the lists fit
-pub step_stays_sound : (image : ImageValue) (old new : View) (sound : Sound image old) (id : ℕ) (task work : Task) → StepsOne old new id task work
-    → new.memory ≡ old.memory → work.log ≡ task.log → work.lines ≡ task.lines → work.spawns ≡ task.spawns → KeepsChildren task (stepped_task task work)
-    → StandsAs image old.version old.settings.budget (stepped_task task work) work.status → FitsLists (stepped_to old new) → length work.bytes ≤ MAX_EMITTED
+pub step_stays_sound : (image : ImageValue) (old new : View) (sound : Sound image old) (id : ℕ) (task behind : Task) → StepsOne old new id task behind
+    → new.memory ≡ old.memory → behind.log ≡ task.log → behind.lines ≡ task.lines → behind.spawns ≡ task.spawns → KeepsChildren task (stepped_task task behind)
+    → StandsAs image old.version old.settings.budget (stepped_task task behind) behind.status → FitsLists (stepped_to old new) → length behind.bytes ≤ MAX_EMITTED
     → StaysSound image old sound new
-step_stays_sound image old new sound id task work step memory log lines spawns all_children stands lists bytes = (
+step_stays_sound image old new sound id task behind step memory log lines spawns all_children stands lists bytes = (
   record {
     version = ap (λ v. v.version) step.rest ∙ sound.version;
     serial = sound.serial;
     is_run = subst (λ v. IsRun image v.settings.budget v.history sound.serial) (sym step.rest) sound.is_run;
     heir = sound.heir;
-    is_heir = step_keeps_heir old new id task work step sound.heir sound.is_heir;
-    tasks = step_keeps_tasks old new id task work step all_children image sound.heir sound.serial sound.tasks spawns stands;
-    memory = step_keeps_memory old new id task work step sound.serial memory log lines sound.memory;
-    order = step_keeps_order old new id task work step sound.heir sound.order;
-    sizes = step_keeps_sizes old new id task work step sound.sizes lists bytes;
+    is_heir = step_keeps_heir old new id task behind step sound.heir sound.is_heir;
+    tasks = step_keeps_tasks old new id task behind step all_children image sound.heir sound.serial sound.tasks spawns stands;
+    memory = step_keeps_memory old new id task behind step sound.serial memory log lines sound.memory;
+    order = step_keeps_order old new id task behind step sound.heir sound.order;
+    sizes = step_keeps_sizes old new id task behind step sound.sizes lists bytes;
   },
   refl,
 )
 
 -- a change of one task and nothing else is a step of it
-pub keeps_steps : (old new : View) (id : ℕ) (task work : Task) → task_at old id ≡ Some task → Keeps id (stepped_task task work) old new → StepsOne old new id task work
-keeps_steps old new id task work there keeps =
+pub keeps_steps : (old new : View) (id : ℕ) (task behind : Task) → task_at old id ≡ Some task → Keeps id (stepped_task task behind) old new → StepsOne old new id task behind
+keeps_steps old new id task behind there keeps =
     record {
       there = there;
       changes = keeps.changes;
@@ -60,14 +60,14 @@ keeps_steps old new id task work there keeps =
     }
 
 -- such a change keeps the view sound, where after it the task is finished, or on a core, just where it was before
-pub keeps_sound : (image : ImageValue) (old new : View) (sound : Sound image old) (id : ℕ) (task work : Task) → task_at old id ≡ Some task
-    → Keeps id (stepped_task task work) old new → work.log ≡ task.log → work.lines ≡ task.lines → work.spawns ≡ task.spawns → KeepsChildren task (stepped_task task work)
-    → StandsAs image old.version old.settings.budget (stepped_task task work) work.status → (work.status ≡ Finished) ↔ (task.status ≡ Finished)
-    → ((core : ℕ) → HasCore work.status core ↔ HasCore task.status core) → length work.bytes ≤ MAX_EMITTED → StaysSound image old sound new
-keeps_sound image old new sound id task work there keeps log lines spawns all_children stands ends holds bytes =
-    let step = keeps_steps old new id task work there keeps in
-    step_stays_sound image old new sound id task work step (ap (λ v. v.memory) keeps.frame) log lines spawns all_children stands
-    (lists_stay old new id task work step sound.sizes (ap (λ v. v.finished) keeps.frame) (ap (λ v. v.cores) keeps.frame) ends holds) bytes
+pub keeps_sound : (image : ImageValue) (old new : View) (sound : Sound image old) (id : ℕ) (task behind : Task) → task_at old id ≡ Some task
+    → Keeps id (stepped_task task behind) old new → behind.log ≡ task.log → behind.lines ≡ task.lines → behind.spawns ≡ task.spawns → KeepsChildren task (stepped_task task behind)
+    → StandsAs image old.version old.settings.budget (stepped_task task behind) behind.status → (behind.status ≡ Finished) ↔ (task.status ≡ Finished)
+    → ((core : ℕ) → HasCore behind.status core ↔ HasCore task.status core) → length behind.bytes ≤ MAX_EMITTED → StaysSound image old sound new
+keeps_sound image old new sound id task behind there keeps log lines spawns all_children stands ends holds bytes =
+    let step = keeps_steps old new id task behind there keeps in
+    step_stays_sound image old new sound id task behind step (ap (λ v. v.memory) keeps.frame) log lines spawns all_children stands
+    (lists_stay old new id task behind step sound.sizes (ap (λ v. v.finished) keeps.frame) (ap (λ v. v.cores) keeps.frame) ends holds) bytes
 
 module _ (image : ImageValue) (old : View) (sound : Sound image old) (tile core id : ℕ) (leg : LegValue) (task : Task) (taken : IsLegOf image old tile core leg id task) where
   -- what a running task has done

@@ -22,7 +22,7 @@ KeepsChildren task now =
     (index : ℕ) (spawn : Spawn) → slice_get task.spawns index ≡ Some spawn
     → (slice_get now.spawns index ≡ Some spawn) × (child_descriptor now spawn ≡ child_descriptor task spawn)
 
-module _ (old new : View) (id : ℕ) (task work : Task) (step : StepsOne old new id task work) (all_children : KeepsChildren task (stepped_task task work)) where
+module _ (old new : View) (id : ℕ) (task behind : Task) (step : StepsOne old new id task behind) (all_children : KeepsChildren task (stepped_task task behind)) where
   -- what a task made it has made still
   pub made_still : (k index : ℕ) (d : Descriptor) → IsMadeBy old k index d → IsMadeBy (stepped_to old new) k index d
   made_still k index d made = elim (cases_eq k id) [
@@ -31,7 +31,7 @@ module _ (old new : View) (id : ℕ) (task work : Task) (step : StepsOne old new
         let same : made.creator ≡ task = cc in
         let kid = all_children index made.spawn (ap (λ t. slice_get t.spawns index) (sym same) ∙ made.made) in
         record {
-          creator = stepped_task task work;
+          creator = stepped_task task behind;
           there = ap (task_at new) is ∙ step.changes.changed;
           spawn = made.spawn;
           made = kid.0;
@@ -44,7 +44,7 @@ module _ (old new : View) (id : ℕ) (task work : Task) (step : StepsOne old new
   pub domains_still : (image : ImageValue) (heir : Option ℕ) (serial : SerialState) → SoundTasks image old heir serial
       → (k : ℕ) (t : Task) (turn index : ℕ) → task_at new k ≡ Some t → t.creator ≡ Committed turn index → FitsBags (domains_of t.kinds t.key.domain) serial.stack
   domains_still image heir serial sound k t turn index at creator =
-      let from = origin old new id task work step k t at in
+      let from = origin old new id task behind step k t at in
       subst (λ z. FitsBags (domains_of z.kinds z.key.domain) serial.stack) (sym from.made)
       (sound.domains k from.was turn index from.there (sym (ap (λ z. z.creator) from.made) ∙ creator))
 
@@ -53,26 +53,26 @@ module _ (old new : View) (id : ℕ) (task work : Task) (step : StepsOne old new
       → (k : ℕ) (t : Task) (creator : TaskId) (index : ℕ) → task_at new k ≡ Some t → t.creator ≡ Live creator index
       → IsMadeBy (stepped_to old new) creator.0 index (descriptor_of t)
   children_still image heir serial sound k t creator index at is =
-      let from = origin old new id task work step k t at in
+      let from = origin old new id task behind step k t at in
       made_still creator.0 index (descriptor_of t)
       (subst (λ z. IsMadeBy old creator.0 index (descriptor_of z)) (sym from.made)
       (sound.children k from.was creator index from.there (sym (ap (λ z. z.creator) from.made) ∙ is)))
 
   -- all tasks stand as their statuses say, where this one does
-  pub stand_still : (image : ImageValue) (heir : Option ℕ) (serial : SerialState) → SoundTasks image old heir serial → StandsAs image old.version old.settings.budget (stepped_task task work) work.status
+  pub stand_still : (image : ImageValue) (heir : Option ℕ) (serial : SerialState) → SoundTasks image old heir serial → StandsAs image old.version old.settings.budget (stepped_task task behind) behind.status
       → (k : ℕ) (t : Task) → task_at new k ≡ Some t → StandsAs image old.version old.settings.budget t t.status
   stand_still image heir serial sound stands =
-      each_stepped old new id (stepped_task task work) step.changes (λ k t. StandsAs image old.version old.settings.budget t t.status) (λ k t other at. sound.stands k t at) stands
+      each_stepped old new id (stepped_task task behind) step.changes (λ k t. StandsAs image old.version old.settings.budget t t.status) (λ k t other at. sound.stands k t at) stands
 
   -- the group of the view whose other parts are the old ones
-  kept : (image : ImageValue) (heir : Option ℕ) (serial : SerialState) → SoundTasks image old heir serial → work.spawns ≡ task.spawns
-      → StandsAs image old.version old.settings.budget (stepped_task task work) work.status → SoundTasks image (stepped_to old new) heir serial
+  kept : (image : ImageValue) (heir : Option ℕ) (serial : SerialState) → SoundTasks image old heir serial → behind.spawns ≡ task.spawns
+      → StandsAs image old.version old.settings.budget (stepped_task task behind) behind.status → SoundTasks image (stepped_to old new) heir serial
   kept image heir serial sound spawns stands =
       record {
         few = sound.few;
         output = sound.output;
-        names = subst (λ tasks. AreSound (length old.history) (unwrap_or heir 0) (is_some heir) tasks (bags_spilled old)) (sym (bags_same old new id task work step spawns)) sound.names;
-        matches = subst (λ tasks. Matches (length old.history) tasks (bags_spilled old) serial.stack) (sym (bags_same old new id task work step spawns)) sound.matches;
+        names = subst (λ tasks. AreSound (length old.history) (unwrap_or heir 0) (is_some heir) tasks (bags_spilled old)) (sym (bags_same old new id task behind step spawns)) sound.names;
+        matches = subst (λ tasks. Matches (length old.history) tasks (bags_spilled old) serial.stack) (sym (bags_same old new id task behind step spawns)) sound.matches;
         domains = domains_still image heir serial sound;
         spilled_domains = sound.spilled_domains;
         stands = stand_still image heir serial sound stands;
@@ -80,8 +80,8 @@ module _ (old new : View) (id : ℕ) (task work : Task) (step : StepsOne old new
         spilled_children = λ s has next. (let was = sound.spilled_children s has next in (was.0, was.1, made_still was.0 s.desc.name.index (spilled_descriptor s) was.2));
       }
 
-  pub step_keeps_tasks : (image : ImageValue) (heir : Option ℕ) (serial : SerialState) → SoundTasks image old heir serial → work.spawns ≡ task.spawns
-      → StandsAs image old.version old.settings.budget (stepped_task task work) work.status
+  pub step_keeps_tasks : (image : ImageValue) (heir : Option ℕ) (serial : SerialState) → SoundTasks image old heir serial → behind.spawns ≡ task.spawns
+      → StandsAs image old.version old.settings.budget (stepped_task task behind) behind.status
       → SoundTasks image new heir serial
   step_keeps_tasks image heir serial sound spawns stands =
       subst (λ v. SoundTasks image v heir serial) (sym step.rest) (kept image heir serial sound spawns stands)

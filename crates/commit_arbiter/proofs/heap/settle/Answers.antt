@@ -8,13 +8,13 @@ use Rattle.commit_arbiter.proofs.heap.settle.Goals as goal
 
 pub loop-at-preserved : goal.loop-at-preserved
 loop-at-preserved c =
-    let step = c.sift_down_once-at.ensures.step in
+    let exchange = c.sift_down_once-at.ensures.exchange in
     record {
-      within = step.inside;
-      long = step.long ∙ c.loop-at.invariant.long;
-      heap = step.apart;
+      within = exchange.inside;
+      long = exchange.long ∙ c.loop-at.invariant.long;
+      heap = exchange.apart;
       capacity = c.sift_down_once-at.ensures.capacity ∙ c.loop-at.invariant.capacity;
-      permuted = IsPermutation-trans c.args.slots.now.candidates c.loop-at.slots.candidates c.sift_down_once-at.new.slots.candidates c.loop-at.invariant.permuted step.permuted;
+      permuted = IsPermutation-trans c.args.slots.now.candidates c.loop-at.slots.candidates c.sift_down_once-at.new.slots.candidates c.loop-at.invariant.permuted exchange.permuted;
     }
 
 pub sift_up-requires-clause-heap : goal.sift_up-requires-clause-heap

@@ -1,4 +1,4 @@
-use Rattle.event_lemma.proofs.Proved.{conflicts_leave_asker}
+use Rattle.event_lemma.proofs.Proved.{conflicts_leave_taker}
 use Rattle.event_step.proofs.Accessing.{conflicts_taken}
 use Rattle.event_step.proofs.accesses.clear.Goals as goal
 
@@ -10,6 +10,6 @@ returns-clause-conflicts g c tile core task takes =
 
 pub returns-clause-stays : goal.returns-clause-stays
 returns-clause-stays g c tile core task takes =
-    conflicts_leave_asker g.N.Naming.image _ tile core c.args.id.0 c.args.leg.now task c.args.offset
+    conflicts_leave_taker g.N.Naming.image _ tile core c.args.id.0 c.args.leg.now task c.args.offset
     c.args.write c.abort_conflicts.result _
     c.requires.sound takes (returns-clause-conflicts g c tile core task takes)

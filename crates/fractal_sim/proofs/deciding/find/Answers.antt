@@ -40,6 +40,6 @@ returns g c =
       limits = limits;
     } in
     record {
-      found = found_given input request image c.split_at.result.1.now c.act.result given c.act.ensures.found;
-      writable = c.act.ensures.writable;
+      found = found_given input request image c.split_at.result.1.now c.find_behind.result given c.find_behind.ensures.found;
+      writable = c.find_behind.ensures.writable;
     }

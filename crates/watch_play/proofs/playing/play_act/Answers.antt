@@ -14,7 +14,7 @@ use Rattle.watch_play.proofs.playing.play_act.Goals as goal
 
 pub returns-in-Ok-tell_rest-clause-comes : goal.returns-in-Ok-tell_rest-clause-comes
 returns-in-Ok-tell_rest-clause-comes g c =
-    let place = c.args.watch.now.count + 1 in
+    let number = c.args.watch.now.count + 1 in
     let old = play_of g.P.Placer.policy g.T.Tap.notes c.args.watch.now in
     let new : PlayState = record {
       book = view_of g.P.Placer.policy g.T.Tap.notes c.make-applied.new.book;
@@ -29,13 +29,13 @@ returns-in-Ok-tell_rest-clause-comes g c =
     let there : c.make-applied.result.reply ≢ reply.Memory = search rules in
     let effect = c.in-Ok-effect_of.effect in
     let told = c.in-Ok-effect_of.ensures in (
-      made g.row.N.Denot g.N.Naming.image c.args.at place c.args.act old new asks task request answer aborted,
-      moment_is g.row.N.Denot g.N.Naming.image c.args.at place c.args.act old new asks task request answer aborted
+      made g.row.N.Denot g.N.Naming.image c.args.at number c.args.act old new asks task request answer aborted,
+      moment_is g.row.N.Denot g.N.Naming.image c.args.at number c.args.act old new asks task request answer aborted
           c.state.result.now.view (play_of g.P.Placer.policy g.T.Tap.notes c.tell_rest.new.watch) c.state.ensures.view
           c.tell_rest.ensures.play
           c.in-Ok.ensures.asks c.about_of-about.ensures.task c.about_of-about.ensures.request there
           c.make-applied.ensures.comes,
-      line_is g.row.N.Denot g.N.Naming.image c.args.at place c.args.act old new asks task request answer aborted
+      line_is g.row.N.Denot g.N.Naming.image c.args.at number c.args.act old new asks task request answer aborted
           c.args.watch.now.each (string_bytes c.clear.new.self) (string_bytes c.put_front.new.line)
           (string_bytes c.tell_rest.new.watch.line) c.args.watch.now.table.items effect.output effect.reply effect.aborted
           (search rules) (search rules) c.requires.table (told.output ∙ c.in-Ok-read_ahead.ensures.output) told.reply
@@ -45,7 +45,7 @@ returns-in-Ok-tell_rest-clause-comes g c =
 
 pub returns-clause-comes : goal.returns-clause-comes
 returns-clause-comes g c =
-    let place = c.args.watch.now.count + 1 in
+    let number = c.args.watch.now.count + 1 in
     let old = play_of g.P.Placer.policy g.T.Tap.notes c.args.watch.now in
     let new : PlayState = record {
       book = view_of g.P.Placer.policy g.T.Tap.notes c.make-applied.new.book;
@@ -58,8 +58,8 @@ returns-clause-comes g c =
     let answer = c.make-applied.result.reply in
     let aborted = c.make-applied.result.aborted in
     let there : c.make-applied.result.reply ≢ reply.Memory = search rules in (
-      made g.row.N.Denot g.N.Naming.image c.args.at place c.args.act old new asks task request answer aborted,
-      moment_is g.row.N.Denot g.N.Naming.image c.args.at place c.args.act old new asks task request answer aborted
+      made g.row.N.Denot g.N.Naming.image c.args.at number c.args.act old new asks task request answer aborted,
+      moment_is g.row.N.Denot g.N.Naming.image c.args.at number c.args.act old new asks task request answer aborted
           c.state.result.now.view (play_of g.P.Placer.policy g.T.Tap.notes c.tell_rest.new.watch) c.state.ensures.view
           c.tell_rest.ensures.play
           c.in-Ok.ensures.asks c.about_of-about.ensures.task c.about_of-about.ensures.request there
@@ -68,7 +68,7 @@ returns-clause-comes g c =
 
 pub returns-in_default-effect_of-clause-comes : goal.returns-in_default-effect_of-clause-comes
 returns-in_default-effect_of-clause-comes g c =
-    let place = c.args.watch.now.count + 1 in
+    let number = c.args.watch.now.count + 1 in
     let old = play_of g.P.Placer.policy g.T.Tap.notes c.args.watch.now in
     let new : PlayState = record {
       book = view_of g.P.Placer.policy g.T.Tap.notes c.make-applied.new.book;
@@ -81,8 +81,8 @@ returns-in_default-effect_of-clause-comes g c =
     let answer = c.make-applied.result.reply in
     let aborted = c.make-applied.result.aborted in
     let there : c.make-applied.result.reply ≢ reply.Memory = search rules in (
-      made g.row.N.Denot g.N.Naming.image c.args.at place c.args.act old new asks task request answer aborted,
-      moment_is g.row.N.Denot g.N.Naming.image c.args.at place c.args.act old new asks task request answer aborted
+      made g.row.N.Denot g.N.Naming.image c.args.at number c.args.act old new asks task request answer aborted,
+      moment_is g.row.N.Denot g.N.Naming.image c.args.at number c.args.act old new asks task request answer aborted
           c.state.result.now.view new c.state.ensures.view refl
           c.in-Ok.ensures.asks c.about_of-about.ensures.task c.about_of-about.ensures.request there
           c.make-applied.ensures.comes,

@@ -87,17 +87,17 @@ module _ (image : ImageValue) (old : View) (sound : Sound image old) (tile core 
       subst (λ s. length (finished_at new tile) < s.commit_queue) (sym (ap (λ view. view.settings) aborts.frame)) less
 
 -- where what conflicts with an access is taken back, the task that makes it stays and asks for the same
-pub conflicts_leave_asker : (image : ImageValue) (old : View) (tile core id : ℕ) (leg : LegValue) (task : Task) (offset : ℕ) (write : Bool) (aborted : ℕ) (mid : View)
+pub conflicts_leave_taker : (image : ImageValue) (old : View) (tile core id : ℕ) (leg : LegValue) (task : Task) (offset : ℕ) (write : Bool) (aborted : ℕ) (mid : View)
     → Sound image old → TakesLeg old tile core leg id task → TakesConflicts task offset write old aborted mid
     → TakesStill image tile core leg id task old mid
-conflicts_leave_asker image old tile core id leg task offset write aborted mid sound takes forced =
+conflicts_leave_taker image old tile core id leg task offset write aborted mid sound takes forced =
     conflicts_spare image old sound tile core id leg task takes offset write aborted mid forced
 
 -- where a place of the commit queue is freed for its end call, likewise
-pub commit_leaves_asker : (image : ImageValue) (old : View) (tile core id : ℕ) (leg : LegValue) (task : Task) (aborted : ℕ) (mid : View)
+pub commit_leaves_taker : (image : ImageValue) (old : View) (tile core id : ℕ) (leg : LegValue) (task : Task) (aborted : ℕ) (mid : View)
     → Sound image old → TakesLeg old tile core leg id task → FreesCommit tile task old aborted mid
     → TakesStill image tile core leg id task old mid
-commit_leaves_asker image old tile core id leg task aborted mid sound takes forced =
+commit_leaves_taker image old tile core id leg task aborted mid sound takes forced =
     let spared = commit_spares image old sound tile core id leg task takes forced in
     takes_still image old mid tile core id leg task sound takes spared.0 (commit_like tile task old forced) spared.1
 

@@ -1,7 +1,7 @@
 use Rattle.std.proofs.Common.{map, rules}
 use Rattle.fractal_sim.proofs.Found.{saved_behind}
 use Rattle.fractal_sim.proofs.Kept.{run_found_behind, run_writable}
-use Rattle.fractal_sim.proofs.deciding.act.Goals as goal
+use Rattle.fractal_sim.proofs.deciding.find_behind.Goals as goal
 
 pub returns-in-Check-clause-found : goal.returns-in-Check-clause-found
 returns-in-Check-clause-found g c = c.check_report.ensures.found _ _
