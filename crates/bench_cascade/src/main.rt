@@ -1,8 +1,9 @@
 //! Closes a set of nodes again and again, so that what that costs can be measured from outside.
 //!
 //! The words are the number of nodes, the shape of the relation (`rising`, `falling` or `star`) and how often to
-//! close the set of one node, as in `1024 falling 100`. It prints the size of the closed set. `bench/run` calls it.
-//! It stands on `abort_cascade`. A round costs one `close`; two slices of that many items are taken once.
+//! close the set of one node, as in `1024 falling 100`. It prints the size of the closed set, or 0 where that is closed
+//! no time. `bench/run` calls it. It stands on `abort_cascade`. A round costs one `close`; two slices of that many
+//! items are taken once.
 #![tactic(auto)]
 
 mod relation;
@@ -51,7 +52,7 @@ fn kind_of(word: &str) -> Option<RelationKind> {
     }
 }
 
-/// Closes the set of the node that leads to all so many times, and tells its size.
+/// Closes the set of the node that leads to all so many times, and tells its size; with no round it tells 0.
 fn size_of(shape: &Relation, rounds: u32, marks: &mut [bool], members: &mut [usize]) -> usize
     requires marks { length marks.old ≡ shape.now.nodes }
     requires members { length members.old ≡ shape.now.nodes }

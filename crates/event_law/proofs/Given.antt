@@ -17,7 +17,7 @@ use Rattle.task_request.specs.Requests.{request_at}
 use Rattle.task_request.specs.TaskState.{TaskState, task_at_start, context}
 use Rattle.task_request.proofs.Proved.{after_request-used, HasUsed}
 use Rattle.undo_log.specs.declared.access.Access.{Access}
-use Rattle.task_law.specs.Logged.{Asks, LoggedRun, none, plain, call, load, store}
+use Rattle.task_law.specs.Logged.{CoreAsks, LoggedRun, none, plain, call, load, store}
 use Rattle.spec_state.specs.declared.task.Status.TheVariants.{Running}
 use Rattle.spec_state.specs.declared.task.Task.{Task}
 use Rattle.spec_state.specs.View.{View, task_at, cores_at}
@@ -35,7 +35,7 @@ use Rattle.event_law.proofs.Falls.Legs.{counted, stands}
 
 module _ (image : ImageValue) (budget size : ℕ) (ctx : Ctx) where
   -- a task that asks for something else than a trap has not used up its budget
-  asks_within : (task : TaskState) (request : Request) → Asks image budget size ctx task request → ((cause : ℕ) → request ≢ Trap cause)
+  asks_within : (task : TaskState) (request : Request) → CoreAsks image budget size ctx task request → ((cause : ℕ) → request ≢ Trap cause)
       → task.core.used < budget
   asks_within task request asks other = elim (cases_lt task.core.used budget) [
     | inl below ↦ below

@@ -5,8 +5,8 @@ use Rattle.sim_io.specs.Streams.{SinkState}
 use Rattle.spec_state.specs.declared.settings.Settings.{Settings}
 use Rattle.event_def.specs.Book.{BookView}
 use Rattle.step_script.specs.declared.act.Act.{Act}
-use Rattle.watch_play.specs.declared.stop.Stop.{Stop}
-use Rattle.watch_play.specs.declared.stop.Stop.TheVariants as stops
+use Rattle.watch_play.specs.declared.stop.StoryStop.{StoryStop}
+use Rattle.watch_play.specs.declared.stop.StoryStop.TheVariants as stops
 use Rattle.watch_play.specs.Courses.{course_word}
 use Rattle.watch_play.specs.Stories.{begun}
 use Rattle.watch_play.specs.Telling.{HasStory, Plan, Tells, TellsOpening}
@@ -28,7 +28,7 @@ module _ (N : Type 0) (plan : Plan) (opening : BookView) where
   nothing_yet book same = record { count = 0; last = begun opening; goes = (refl, refl); book_is = same }
 
   -- the lines before the first act weren't all told
-  pub opening_stopped : (book : BookView) (before after : SinkState) (stop : Stop) → book ≡ opening
+  pub opening_stopped : (book : BookView) (before after : SinkState) (stop : StoryStop) → book ≡ opening
       → TellsOpening plan opening before after (Err stop) → Tells N plan opening book before after (Err stop)
   opening_stopped book before after stops.Memory same told =
       record { moments = []; story = nothing_yet book same; took = inl (refl, told) }

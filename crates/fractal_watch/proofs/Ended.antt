@@ -12,8 +12,8 @@ use Rattle.event_def.specs.Book.{BookView}
 use Rattle.event_def.specs.Closing.{Closes}
 use Rattle.machine_run.specs.Least.{run_of_closed}
 use Rattle.machine_run.specs.Played.{StandsAt}
-use Rattle.watch_play.specs.declared.stop.Stop.{Stop}
-use Rattle.watch_play.specs.declared.stop.Stop.TheVariants as stops
+use Rattle.watch_play.specs.declared.stop.StoryStop.{StoryStop}
+use Rattle.watch_play.specs.declared.stop.StoryStop.TheVariants as stops
 use Rattle.watch_text.specs.Views.{last_line}
 use Rattle.program_call.specs.declared.outcome.Outcome.{Outcome}
 use Rattle.fractal_watch.specs.Closing.{EndCut, EndTold, EndUntold, StoryFinishes, HoldsClosed, IsClosedAs, stop_status}
@@ -40,7 +40,7 @@ module _ (image : ImageValue) (commits budget : ℕ) (book : BookView) (closed :
       EndTold end (closed_so (watch_status end) (Some end) o stands holds) stands took
 
   -- or it wasn't
-  pub end_stopped : (end : End) (before after : SinkState) (stop : Stop) (o : Outcome) → StandsAt book.view end
+  pub end_stopped : (end : End) (before after : SinkState) (stop : StoryStop) (o : Outcome) → StandsAt book.view end
       → TellsEnd (text_left end) before after (Err stop) → HoldsClosed closed (stop_status stop) None o
       → StoryFinishes image commits budget book before after o
   end_stopped end before after stops.Memory o stands told holds = EndUntold (closed_so 5 None o tt holds) told

@@ -18,8 +18,8 @@ use Rattle.event_def.specs.Opening.{IsOpening}
 use Rattle.machine_run.specs.Leaving.{LeavesRun}
 use Rattle.machine_run.proofs.Leaving.{run_left}
 use Rattle.step_script.specs.declared.act.Act.{Act}
-use Rattle.watch_play.specs.declared.stop.Stop.{Stop}
-use Rattle.watch_play.specs.declared.stop.Stop.TheVariants as stops
+use Rattle.watch_play.specs.declared.stop.StoryStop.{StoryStop}
+use Rattle.watch_play.specs.declared.stop.StoryStop.TheVariants as stops
 use Rattle.watch_play.specs.Telling.{HasStory, IsAllTold, Tells}
 use Rattle.watch_text.specs.Moments.{Moment}
 use Rattle.watch_text.specs.Views.{last_line}
@@ -149,7 +149,7 @@ module _ (N : Type 0) (input : Input) (asking : Asking) (image : ImageValue) (be
       }
 
   -- a course that was told in part
-  pub stopped_tells : (before after : SinkState) (stop : Stop) (o : Outcome)
+  pub stopped_tells : (before after : SinkState) (stop : StoryStop) (o : Outcome)
       → Tells N (plan_of asking image script) opening book before after (Err stop)
       → IsClosedAs image commits budget book (stop_status stop) None o → TellsRun N input before after o
   stopped_tells before after stops.Memory o told c = record {

@@ -12,15 +12,15 @@ use Rattle.event_def.specs.Closing.{Closes}
 use Rattle.serial_machine.specs.WholeRun.{IsRunOf}
 use Rattle.machine_run.specs.Least.{run_of_closed}
 use Rattle.machine_run.specs.Played.{StandsAt}
-use Rattle.watch_play.specs.declared.stop.Stop.{Stop}
-use Rattle.watch_play.specs.declared.stop.Stop.TheVariants as stops
+use Rattle.watch_play.specs.declared.stop.StoryStop.{StoryStop}
+use Rattle.watch_play.specs.declared.stop.StoryStop.TheVariants as stops
 use Rattle.watch_text.specs.Views.{last_line}
 use Rattle.program_call.specs.declared.outcome.Outcome.{Outcome}
 use Rattle.program_call.specs.Outcomes.{closed_of}
 use Rattle.fractal_watch.specs.Texts.{watch_status}
 
 -- the status of a story that ended before its course did
-abbrev pub stop_status : Stop → ℕ
+abbrev pub stop_status : StoryStop → ℕ
 stop_status stops.Memory = 5
 stop_status stops.Sink = 7
 
@@ -39,7 +39,7 @@ pub record IsClosedAs (image : ImageValue) (commits budget : ℕ) (book : BookVi
   pub holds : HoldsClosed closed status end o
 
 -- the last line was told, or not, by what is answered
-abbrev pub TellsEnd : List ℕ → SinkState → SinkState → Result (Unit {0}) Stop → Type 0
+abbrev pub TellsEnd : List ℕ → SinkState → SinkState → Result (Unit {0}) StoryStop → Type 0
 TellsEnd text before after (Ok done) = SinkTakes before after text
 TellsEnd text before after (Err stops.Memory) = after ≡ before
 TellsEnd text before after (Err stops.Sink) = TakesFront before after text × Rose before.faults after.faults

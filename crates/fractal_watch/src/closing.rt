@@ -20,7 +20,7 @@ use rv_core::Naming;
 use sim_io::{Sink, write_all};
 use std::alloc::AllocError;
 use trace_tap::Tap;
-use watch_play::Stop;
+use watch_play::StoryStop;
 use watch_text::put_end;
 
 /// How the run of a book stands: its end, or unfinished where it isn't over.
@@ -84,7 +84,7 @@ fn tell_end<K: Sink>(
     image: &Image,
     closed: &Closed,
     end: End,
-) -> Result<(), Stop>
+) -> Result<(), StoryStop>
     requires { length closed.now.memory ≡ image.now.data_size }
     ensures { let text = last_line image.now end closed.now.steps (length closed.now.journal) closed.now.output
         closed.now.memory in
@@ -92,21 +92,21 @@ fn tell_end<K: Sink>(
 {
     line.clear();
     if put_end(line, image, closed, end).is_err() {
-        return Err(Stop::Memory);
+        return Err(StoryStop::Memory);
     }
     match write_all(sink, line.as_bytes()) {
         Ok(()) => Ok(()),
-        Err(_) => Err(Stop::Sink),
+        Err(_) => Err(StoryStop::Sink),
     }
 }
 
 /// The status of a story that ended before its course did.
-fn stop_status(stop: Stop) -> u8
+fn stop_status(stop: StoryStop) -> u8
     ensures { result ≡ stop_status stop }
 {
     match stop {
-        Stop::Memory => NO_MEMORY,
-        Stop::Sink => SINK_FAULT,
+        StoryStop::Memory => NO_MEMORY,
+        StoryStop::Sink => SINK_FAULT,
     }
 }
 
@@ -132,7 +132,10 @@ pub(crate) fn finish<N: Naming, P: Placer, T: Tap, K: Sink>(
 }
 
 /// Closes a book whose story ended before its course did.
-pub(crate) fn break_off<N: Naming, P: Placer, T: Tap>(book: Book<N, P, T>, stop: Stop) -> Outcome
+pub(crate) fn break_off<N: Naming, P: Placer, T: Tap>(
+    book: Book<N, P, T>,
+    stop: StoryStop,
+) -> Outcome
     requires { IsImage N.image }
     ensures { IsClosedAs N.image N.commits N.budget (view_of P.policy T.notes book) (stop_status stop) None result }
 {

@@ -22,7 +22,7 @@ use sim_io::Sink;
 use std::alloc::Global;
 use step_script::Act;
 use trace_tap::{LastN, Tap};
-use watch_play::{Stop, Watch, play_least, play_rounds, play_script, tell_opening};
+use watch_play::{StoryStop, Watch, play_least, play_rounds, play_script, tell_opening};
 use watch_text::CourseWord;
 
 /// Plays a course behind its opening, and tells both.
@@ -32,7 +32,7 @@ fn tell_course<N: Naming, P: Placer, T: Tap, K: Sink>(
     image: &Image,
     course: CourseWord,
     script: &[Act],
-) -> Result<(), Stop>
+) -> Result<(), StoryStop>
     requires image { image.now ≡ N.image }
     requires few { length script.now < 2 ^ 32 }
     requires each { IfSome watch.old.each (λ number. 1 ≤ number) }

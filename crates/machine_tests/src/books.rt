@@ -31,7 +31,7 @@ fn book_is_sent<N: Naming + Send>(book: &Book<N>) {
     is_sent(book);
 }
 
-/// What a schedule asks for; a step is one of the first core of a tile.
+/// What a script asks for; a step is one of the first core of a tile.
 #[derive(Clone, Copy)]
 enum Act {
     Dispatch(u32),
@@ -60,7 +60,7 @@ const STALL: Applied = Applied {
     aborted: 0,
 };
 
-/// The schedule in which the writer comes last and is to come first, and the answer to each event.
+/// The script in which the writer comes last and is to come first, and the answer to each event.
 static LATE_WRITER: [(Act, Applied); 17] = [
     (Act::Dispatch(0), OK),
     (Act::Step(0), OK),
@@ -81,7 +81,7 @@ static LATE_WRITER: [(Act, Applied); 17] = [
     (Act::Commit, OK),
 ];
 
-/// The schedule in which a task of four cores is spilled, and the answer to each event.
+/// The script in which a task of four cores is spilled, and the answer to each event.
 static FULL_QUEUE: [(Act, Applied); 7] = [
     (Act::Dispatch(0), OK),
     (Act::Dispatch(0), OK),
@@ -175,18 +175,18 @@ fn add<N: Naming>(events: &mut Vec<Event<N>>, event: Option<Event<N>>) -> Result
     }
 }
 
-/// The events of a schedule, which a book makes one after another; each is answered as the schedule says.
+/// The events of a script, which are handed in to a book one after another; each is answered as the script says.
 fn events_of<N: Naming>(
     rt: &impl Abort,
     alloc: Global,
     image: &Image,
     book: &mut Hinted<N>,
-    schedule: &[(Act, Applied)],
+    script: &[(Act, Applied)],
 ) -> Result<Vec<Event<N>>, AllocError>
     requires image { image.now ≡ N.image }
 {
     let mut events = Vec::new(alloc);
-    for (place, (act, answer)) in schedule.iter().enumerate() {
+    for (place, (act, answer)) in script.iter().enumerate() {
         add(&mut events, event_of(image, book, *act))?;
         assert!(rt; is_answered(image, book, *act, answer), "event {place}");
     }
@@ -222,13 +222,13 @@ fn is_whole<N: Naming>(rt: &impl Abort, book: Hinted<N>) {
     leaves_whole(rt, book);
 }
 
-/// A book on which the events of a schedule were made one after another.
+/// A book to which the events of a script were handed in one after another.
 fn book_after<N: Naming>(
     rt: &impl Abort,
     alloc: Global,
     image: &Image,
     settings: Settings,
-    schedule: &[(Act, Applied)],
+    script: &[(Act, Applied)],
 ) -> Result<Hinted<N>, Fail>
     requires valid { IsValid settings }
     requires image { image.now ≡ N.image }
@@ -236,11 +236,11 @@ fn book_after<N: Naming>(
     requires commits { settings.commits ≡ N.commits }
 {
     let mut book = book_with_tap::<N>(alloc, image, settings)?;
-    let _events = events_of(rt, alloc, image, &mut book, schedule)?;
+    let _events = events_of(rt, alloc, image, &mut book, script)?;
     Ok(book)
 }
 
-/// The events of the first schedule are made one after another.
+/// The events of the first script are made one after another.
 fn made_one_by_one<N: Naming>(
     rt: &impl Abort,
     alloc: Global,
@@ -265,13 +265,13 @@ fn a_late_writer_takes_the_reader_back(rt: HostRuntime) -> Result<(), Fail> {
     made_one_by_one::<Brand>(&rt, rt.alloc(), &image, TWO_TILES)
 }
 
-/// The events of a schedule, as another book that makes them one after another tells them.
+/// The events of a script, as another book to which they are handed in one after another tells them.
 fn events_to_make<N: Naming>(
     rt: &impl Abort,
     alloc: Global,
     image: &Image,
     settings: Settings,
-    schedule: &[(Act, Applied)],
+    script: &[(Act, Applied)],
 ) -> Result<Vec<Event<N>>, Fail>
     requires valid { IsValid settings }
     requires image { image.now ≡ N.image }
@@ -279,32 +279,32 @@ fn events_to_make<N: Naming>(
     requires commits { settings.commits ≡ N.commits }
 {
     let mut book = book_with_tap::<N>(alloc, image, settings)?;
-    Ok(events_of(rt, alloc, image, &mut book, schedule)?)
+    Ok(events_of(rt, alloc, image, &mut book, script)?)
 }
 
-/// The answers are those of a schedule.
-fn are_as_scheduled(rt: &impl Abort, answers: &[Applied], schedule: &[(Act, Applied)]) {
-    assert_eq!(rt; answers.len(), schedule.len());
-    for (answer, (_, wanted)) in answers.iter().zip(schedule) {
+/// The answers are those of a script.
+fn are_as_scripted(rt: &impl Abort, answers: &[Applied], script: &[(Act, Applied)]) {
+    assert_eq!(rt; answers.len(), script.len());
+    for (answer, (_, wanted)) in answers.iter().zip(script) {
         assert_eq!(rt; answer, wanted);
     }
 }
 
-/// The book, on which these events were made as one list, and answered as the schedule says.
+/// The book, to which these events were handed in as one list, and answered as the script says.
 fn made_as_list<N: Naming>(
     rt: &impl Abort,
     book: Hinted<N>,
     events: Vec<Event<N>>,
-    schedule: &[(Act, Applied)],
+    script: &[(Act, Applied)],
 ) -> Result<Hinted<N>, AllocError> {
     let mut book = book;
     assert!(rt; may_take_all(&book, &events));
     let answers = book.apply_all(events)?;
-    are_as_scheduled(rt, &answers, schedule);
+    are_as_scripted(rt, &answers, script);
     Ok(book)
 }
 
-/// The events of the first schedule are made as one list.
+/// The events of the first script are made as one list.
 fn made_at_once<N: Naming>(
     rt: &impl Abort,
     alloc: Global,
@@ -335,7 +335,7 @@ fn is_full<N: Naming>(rt: &impl Abort, book: &Hinted<N>) {
     assert_eq!(rt; book.loads().as_slice(), [4].as_slice());
 }
 
-/// The events of the second schedule are made as one list.
+/// The events of the second script are handed in as one list.
 fn stalls_at_once<N: Naming>(
     rt: &impl Abort,
     alloc: Global,
@@ -408,7 +408,7 @@ const ONE_CORE: Settings = Settings {
 
 /// Two tasks of one tile go to its one core, one after the other, and whether the tile is ready after each event: it
 /// has an idle task and a free core.
-static TURNS_ON_ONE_CORE: [(Act, bool); 4] = [
+static ACTS_ON_ONE_CORE: [(Act, bool); 4] = [
     (Act::Dispatch(0), false),
     (Act::Step(0), true),
     (Act::Dispatch(0), false),
@@ -421,7 +421,7 @@ fn is_ready<N: Naming>(book: &Hinted<N>, tile: u32) -> bool {
 }
 
 /// The tile is ready as long as a dispatch would be made at once.
-fn is_ready_by_turns<N: Naming>(
+fn is_ready_after_each<N: Naming>(
     rt: &impl Abort,
     alloc: Global,
     image: &Image,
@@ -434,7 +434,7 @@ fn is_ready_by_turns<N: Naming>(
 {
     let mut book = book_with_tap::<N>(alloc, image, settings)?;
     assert!(rt; is_ready(&book, 0));
-    for (act, ready) in &TURNS_ON_ONE_CORE {
+    for (act, ready) in &ACTS_ON_ONE_CORE {
         assert!(rt; is_answered(image, &mut book, *act, &OK));
         assert!(rt; is_ready(&book, 0) == *ready);
     }
@@ -444,7 +444,7 @@ fn is_ready_by_turns<N: Naming>(
 #[test]
 fn a_tile_with_an_idle_task_and_a_free_core_is_ready(rt: HostRuntime) -> Result<(), Fail> {
     let image = image_of(rt.alloc(), &ENDERS)?;
-    is_ready_by_turns::<Brand>(&rt, rt.alloc(), &image, ONE_CORE)
+    is_ready_after_each::<Brand>(&rt, rt.alloc(), &image, ONE_CORE)
 }
 
 #[test]
@@ -478,7 +478,7 @@ const STACK_KEEPER: Program = Program {
     tasks: &[(0x0001_0000, 2), (0x0001_002c, 1)],
 };
 
-/// The schedule in which the writer takes the other task back, which then runs anew.
+/// The script in which the writer takes the other task back, which then runs anew.
 static STACK_TAKEN_BACK: [(Act, Applied); 14] = [
     (Act::Dispatch(0), OK),
     (Act::Step(0), OK),

@@ -212,11 +212,11 @@ module _ (r : Renaming) (ma mb : List Bool) (marks : AreMarkedAlike r ma mb) whe
   kept_too = filter_mapped r.to (λ id. not (is_marked ma id)) (λ id. not (is_marked mb id)) (λ id. ap not (marks.same id))
 
 -- an id is that of a task in both, or in neither
-pub waiting_same : (to : ℕ → ℕ) (s t : Option Task) → IsAlikeAt to s t → is_some (option_map room_task t) ≡ is_some (option_map room_task s)
-waiting_same to None None alike = refl
-waiting_same to (Some x) (Some y) alike = refl
-waiting_same to None (Some y) alike = absurd alike
-waiting_same to (Some x) None alike = absurd alike
+pub there_same : (to : ℕ → ℕ) (s t : Option Task) → IsAlikeAt to s t → is_some (option_map room_task t) ≡ is_some (option_map room_task s)
+there_same to None None alike = refl
+there_same to (Some x) (Some y) alike = refl
+there_same to None (Some y) alike = absurd alike
+there_same to (Some x) None alike = absurd alike
 
 -- an abort takes as many back, and leaves views that are alike
 pub record AbortAlike (r : Renaming) (n m : ℕ) (new new' : View) : Type 0 where
@@ -243,7 +243,7 @@ module _ (r : Renaming) (a b : View) (alike : AreAlike r a b) (firsts firsts' : 
     alike = record {
       tasks = tasks_alike;
       queues = two.queues ∙ (ap (map (queue_after (room_tasks new'))) alike.queues
-          ∙ (map_same (queue_after (room_tasks new')) (map r.to) (map r.to) (queue_after (room_tasks new)) (left_mapped r.to (room_tasks new) (room_tasks new') (λ k. waiting_same r.to (task_at new k) (task_at new' (r.to k)) (tasks_alike k))) a.queues
+          ∙ (map_same (queue_after (room_tasks new')) (map r.to) (map r.to) (queue_after (room_tasks new)) (left_mapped r.to (room_tasks new) (room_tasks new') (λ k. there_same r.to (task_at new k) (task_at new' (r.to k)) (tasks_alike k))) a.queues
           ∙ ap (map (map r.to)) (sym one.queues)));
       finished = two.finished ∙ (ap (map (filter (λ id. not (is_marked two.marks id)))) alike.finished
           ∙ (map_same (filter (λ id. not (is_marked two.marks id))) (map r.to) (map r.to) (filter (λ id. not (is_marked one.marks id))) (kept_too r one.marks two.marks marks) a.finished

@@ -22,7 +22,7 @@ use Rattle.spec_state.specs.Room.{IsMovable, AreChosen, IsSpilledAs, Coalesces}
 use Rattle.spec_law.proofs.Proved.{contains_in, in_contains}
 use Rattle.outcome_law.specs.Alike.{Renaming, inverse_of, renamed_creator, IsAlikeAt, AreAlike}
 use Rattle.outcome_law.proofs.Alike.{partner, alike_turned}
-use Rattle.outcome_law.proofs.Aborts.{was_in, in_renamed, one_to, waiting_same}
+use Rattle.outcome_law.proofs.Aborts.{was_in, in_renamed, one_to, there_same}
 use Rattle.outcome_law.proofs.Leasts.{block_too, precedes_too, name_too}
 use Rattle.outcome_law.proofs.Lists.{contains_mapped, map_same, left_mapped}
 use Rattle.outcome_law.proofs.Queries.{idle_firm_too}
@@ -87,7 +87,7 @@ module _ (r : Renaming) (a b : View) (alike : AreAlike r a b) where
       record {
         tasks = tasks;
         queues = two.queues ∙ (ap (map (queue_after (room_tasks b'))) alike.queues
-            ∙ (map_same (queue_after (room_tasks b')) (map r.to) (map r.to) (queue_after (room_tasks a')) (left_mapped r.to (room_tasks a') (room_tasks b') (λ k. waiting_same r.to (task_at a' k) (task_at b' (r.to k)) (tasks k))) a.queues
+            ∙ (map_same (queue_after (room_tasks b')) (map r.to) (map r.to) (queue_after (room_tasks a')) (left_mapped r.to (room_tasks a') (room_tasks b') (λ k. there_same r.to (task_at a' k) (task_at b' (r.to k)) (tasks k))) a.queues
             ∙ ap (map (map r.to)) (sym one.queues)));
         finished = ap (λ v. v.finished) two.frame ∙ (alike.finished ∙ ap (λ v. map (map r.to) v.finished) (sym one.frame));
         cores = ap (λ v. v.cores) two.frame ∙ (alike.cores ∙ ap (λ v. map (map (option_map r.to)) v.cores) (sym one.frame));

@@ -8,8 +8,8 @@ use Rattle.spec_state.specs.Filters.{has_touched, has_written}
 use Rattle.spec_state.specs.View.{View, task_at}
 use Rattle.event_def.specs.Book.{BookView}
 
--- each id has another id, and no two have the same one: all ids, so that it maps lists of them, and a new task swaps
--- two of them
+-- each id is given an id, maybe the same, and no two are given the same one: all ids, so that it maps lists of them,
+-- and a new task swaps two of them
 pub record Renaming : Type 0 where
   pub to : ℕ → ℕ
   pub from : ℕ → ℕ
@@ -20,7 +20,7 @@ pub record Renaming : Type 0 where
 abbrev pub inverse_of : Renaming → Renaming
 inverse_of r = record { to = r.from; from = r.to; back = r.forth; forth = r.back }
 
--- the creator under its other id
+-- the creator under the id that it is given
 abbrev pub renamed_creator : (ℕ → ℕ) → Creator → Creator
 renamed_creator to (Committed turn index) = Committed turn index
 renamed_creator to (Live task index) = Live (record { 0 = to task.0 }) index

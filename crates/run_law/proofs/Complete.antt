@@ -12,7 +12,7 @@ use Rattle.serial_machine.specs.Names.{one, times, times_in}
 use Rattle.serial_machine.specs.Turn.{child}
 use Rattle.serial_machine.specs.Run.{Runs, IsRun, opening, image_task}
 use Rattle.serial_machine.proofs.Proved.{AreNamed-opening, all_children, times_in-inner, turn-done}
-use Rattle.run_law.specs.Laws.{is_same, turns_of, NameIsOfImage, IsChild, NameIsMade, IsCompleteRun}
+use Rattle.run_law.specs.Laws.{is_same, turns_of, NameIsOfImage, NameIsOfChild, NameIsMade, IsCompleteRun}
 use Rattle.run_law.proofs.Turned.{Turned, turn-did}
 use Rattle.run_law.proofs.RunSteps.{Runs-more, turn-taken}
 use Rattle.run_law.proofs.Distinct.{turn-at-most, distinct}
@@ -50,16 +50,17 @@ from-turn false a k m c P le h later make = go (later (omega (arith, h))) where
 
 -- a name that takes a turn is pending now, or a turn of the journal makes it
 made-before : (x : Name) (image : ImageValue) (budget : ℕ) (front : List Entry) (s : SerialState) → IsRun image budget front s → (es : List Entry) (after : SerialState) → Runs image budget s es after
-    → 1 ≤ turns_of x es → (1 ≤ times_in x s.stack) ⊎ IsChild image budget (front ++ es) x
+    → 1 ≤ turns_of x es → (1 ≤ times_in x s.stack) ⊎ NameIsOfChild image budget (front ++ es) x
 made-before x image budget front s run [] after on h = absurd (omega (arith, h))
 made-before x image budget front s run (e ∷ es) after (mid, t, rest) h =
     let d = turn-did image budget s mid e.name e t in
     let step = turn-at-most x image budget s mid e d in
     let count = count-run image budget front s run in
-    let later : 1 ≤ turns_of x es → (1 ≤ times_in x mid.stack) ⊎ IsChild image budget (front ++ e ∷ es) x =
-    λ more. subst (λ j. (1 ≤ times_in x mid.stack) ⊎ IsChild image budget j x) (append_assoc front (e ∷ []) es)
+    let later : 1 ≤ turns_of x es → (1 ≤ times_in x mid.stack) ⊎ NameIsOfChild image budget (front ++ e ∷ es) x =
+    λ more. subst (λ j. (1 ≤ times_in x mid.stack) ⊎ NameIsOfChild image budget j x) (append_assoc front (e ∷ []) es)
     (made-before x image budget (front ++ e ∷ []) mid (Runs-more image budget front (opening image) s mid e run t) es after rest more) in
-    let make : 1 ≤ times x (all_children (s.count + 1) 0 d.done.spawns) → IsChild image budget (front ++ e ∷ es) x =
+    let make : 1 ≤ times x (all_children (s.count + 1) 0 d.done.spawns)
+    → NameIsOfChild image budget (front ++ e ∷ es) x =
     λ one. let parts = one-parts (s.count + 1) x.creator x.index (length d.done.spawns) (omega (arith, one, times-children x (s.count + 1) d.done.spawns)) in
     record {
       before = front;
@@ -79,7 +80,7 @@ made-before x image budget front s run (e ∷ es) after (mid, t, rest) h =
 
 only-made : (image : ImageValue) (budget : ℕ) (journal : List Entry) (state : SerialState) → IsRun image budget journal state → (x : Name) → 1 ≤ turns_of x journal → NameIsMade image budget journal x
 only-made image budget journal state run x h = go (made-before x image budget [] (opening image) refl journal state run h) where
-  go : (1 ≤ times_in x (opening image).stack) ⊎ IsChild image budget journal x → NameIsMade image budget journal x
+  go : (1 ≤ times_in x (opening image).stack) ⊎ NameIsOfChild image budget journal x → NameIsMade image budget journal x
   go (inl first) = inl (one-parts 0 x.creator x.index (length image.tasks) (omega (arith, first, times-image x image)))
   go (inr made) = inr made
 
@@ -89,7 +90,7 @@ image-taken image budget journal state run x of =
     let kept = times_in-runs x image budget (opening image) journal state (AreNamed-opening image.kind image.tasks _ refl) run in
     omega (arith, kept, times-image x image, one-whole 0 x.creator x.index (length image.tasks) of.0 of.1)
 
-child-taken : (image : ImageValue) (budget : ℕ) (journal : List Entry) (state : SerialState) → IsRun image budget journal state → (x : Name) → IsChild image budget journal x → 1 ≤ turns_of x journal + times_in x state.stack
+child-taken : (image : ImageValue) (budget : ℕ) (journal : List Entry) (state : SerialState) → IsRun image budget journal state → (x : Name) → NameIsOfChild image budget journal x → 1 ≤ turns_of x journal + times_in x state.stack
 child-taken image budget journal state run x made =
     let taken = turn-taken image budget journal state made.before made.state made.entry run made.stands in
     let same = same_Some _ _ (sym taken.taken ∙ turn-done image budget made.state made.entry.name made.bag made.outer made.task made.done made.may made.ran) in

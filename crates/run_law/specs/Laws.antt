@@ -38,7 +38,7 @@ abbrev pub NameIsOfImage : ImageValue → Name → Type 0
 NameIsOfImage image name = (name.creator ≡ 0) × (name.index < length image.tasks)
 
 -- a child has the number of the turn that made it, counted from 1, and its place among the children of that turn
-pub record IsChild (image : ImageValue) (budget : ℕ) (journal : List Entry) (name : Name) : Type 0 where
+pub record NameIsOfChild (image : ImageValue) (budget : ℕ) (journal : List Entry) (name : Name) : Type 0 where
   pub before : List Entry
   pub state : SerialState
   pub entry : Entry
@@ -54,7 +54,7 @@ pub record IsChild (image : ImageValue) (budget : ℕ) (journal : List Entry) (n
 
 -- the image or a turn of the journal made a task of this name
 abbrev pub NameIsMade : ImageValue → ℕ → List Entry → Name → Type 0
-NameIsMade image budget journal name = NameIsOfImage image name ⊎ IsChild image budget journal name
+NameIsMade image budget journal name = NameIsOfImage image name ⊎ NameIsOfChild image budget journal name
 
 -- only tasks that were made take a turn, and where no task is pending each of them took one
 pub record IsCompleteRun (image : ImageValue) (budget : ℕ) (journal : List Entry) (state : SerialState) : Type 0 where

@@ -19,7 +19,7 @@ use Rattle.task_request.specs.TaskState.{TaskState, task_at_start}
 use Rattle.tile_queues.specs.Queue.{AreDistinct}
 use Rattle.task_law.specs.Commit.{Matches}
 use Rattle.task_law.specs.Domains.{FitsBags}
-use Rattle.task_law.specs.Logged.{Asks, LoggedRun}
+use Rattle.task_law.specs.Logged.{CoreAsks, LoggedRun}
 use Rattle.task_law.specs.Sound.{AreSound}
 use Rattle.spec_state.specs.declared.emitted.TheConstants.{MAX_EMITTED}
 use Rattle.spec_state.specs.declared.numbers.TheConstants.{DISPATCH_NUMBERS}
@@ -52,7 +52,7 @@ module _ (image : ImageValue) (version budget : ℕ) where
 
   -- what stands next in the task's run asks for this
   abbrev pub AsksNext : Task → TaskState → Request → Type 0
-  AsksNext task = Asks image budget image.data_size (start_context version task)
+  AsksNext task = CoreAsks image budget image.data_size (start_context version task)
 
   -- the task's run led to what it has done so far, and what stands next is this trap
   pub record TrapsNext (task : Task) (cause : ℕ) : Type 0 where

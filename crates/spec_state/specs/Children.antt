@@ -41,8 +41,8 @@ pub record Notes (creator place id : ℕ) (old new : ChildrenValue) : Type 0 whe
   pub others : (k : ℕ) → k ≢ creator → noted_of new k ≡ noted_of old k
 
 -- the child at this place of this task doesn't stand where it was noted, unless that is under this id
-abbrev pub IsFree : List (Option Task) → ℕ → ℕ → ℕ → ChildrenValue → Type 0
-IsFree tasks id creator place children = (k : ℕ) → slice_get (noted_of children creator) place ≡ Some k → k ≢ id
+abbrev pub IsVacantPlace : List (Option Task) → ℕ → ℕ → ℕ → ChildrenValue → Type 0
+IsVacantPlace tasks id creator place children = (k : ℕ) → slice_get (noted_of children creator) place ≡ Some k → k ≢ id
     → IsChildAt creator place (slice_index_or tasks k None) → ⊥
 
 -- the notes have memory for this id at this place of this task: each place below it is noted
@@ -54,5 +54,5 @@ pub record HasPlace (id creator place : ℕ) (children : ChildrenValue) : Type 0
 
 -- the child under this id can be noted at this place of this task
 pub record IsNotable (tasks : List (Option Task)) (id creator place : ℕ) (children : ChildrenValue) : Type 0 where
-  pub free : IsFree tasks id creator place children
+  pub free : IsVacantPlace tasks id creator place children
   pub has_place : HasPlace id creator place children

@@ -3,7 +3,7 @@
 ghost use Rattle.std.specs.Prelude.{◌≡◌, ◌≢◌, ◌≤◌, ◌<◌, ◌↔◌, ℕ, [], true, length, replicate, slice_get};
 ghost use Rattle.std.specs.Prelude.{IsTrue, IfOk, IsSome, IfSome};
 ghost use Rattle.slab.specs.Slab.{get};
-ghost use Rattle.spec_state.specs.Children.{AreNoted, AreNotedBut, HasPlace, IsChildAt, IsFree, IsNotable};
+ghost use Rattle.spec_state.specs.Children.{AreNoted, AreNotedBut, HasPlace, IsChildAt, IsVacantPlace, IsNotable};
 ghost use Rattle.spec_state.specs.Children.{Notes, NotesAt, noted_of};
 
 use crate::task::{Creator, Task};
@@ -143,7 +143,7 @@ impl Children {
 
     /// Whether the child at this place of this creator doesn't stand where it was noted, unless that is under this id.
     fn is_free(&self, tasks: &KeptSlab<Task>, id: usize, creator: usize, place: usize) -> bool
-        ensures { IsTrue result ↔ IsFree tasks.now.slots id creator place self.now }
+        ensures { IsTrue result ↔ IsVacantPlace tasks.now.slots id creator place self.now }
     {
         match self.noted_id(creator, place) {
             Some(noted) => noted == id || !is_child_at(tasks, noted, creator, place),

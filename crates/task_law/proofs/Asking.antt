@@ -9,11 +9,11 @@ use Rattle.task_request.specs.Effects.{after_request}
 use Rattle.task_request.specs.TaskState.{TaskState, context}
 use Rattle.task_request.proofs.Proved.{AllowedBy, request_at-allowed_spawn}
 use Rattle.serial_machine.proofs.Proved.{HoldsAfter}
-use Rattle.task_law.specs.Logged.{Asks, LoggedRun, none, plain, call, load, store}
+use Rattle.task_law.specs.Logged.{CoreAsks, LoggedRun, none, plain, call, load, store}
 
 module _ (image : ImageValue) (budget size : ℕ) (ctx : Ctx) where
   -- the rules of calls allow what a task asks for
-  pub asks-allowed : (task : TaskState) (request : Request) → Asks image budget size ctx task request → AllowedBy (context ctx task) request
+  pub asks-allowed : (task : TaskState) (request : Request) → CoreAsks image budget size ctx task request → AllowedBy (context ctx task) request
   asks-allowed task request asks = subst (AllowedBy (context ctx task)) asks.asks (request_at-allowed_spawn (context ctx task) task.core asks.found)
 
   -- what each instruction and each request that is allowed keeps holds along the run

@@ -23,7 +23,7 @@ use Rattle.serial_machine.proofs.Proved.{spent_traps, after_instructions-task_at
 use Rattle.serial_machine.proofs.Proved.{after_instructions-stop, turn-done}
 use Rattle.memory_law.specs.Accesses.{written_if, after_access, after_accesses, Replays}
 use Rattle.memory_law.proofs.Proved.{length-after_accesses, after_accesses-append, Replays-back, Replays-front}
-use Rattle.task_law.specs.Logged.{Asks, LoggedRun, none, plain, call, load, store, IsFinished, IsTrapped, LoggedRunIsTurn, LoggedTrapIsSerial}
+use Rattle.task_law.specs.Logged.{CoreAsks, LoggedRun, none, plain, call, load, store, FinishesWithLog, TrapsWithLog, LoggedRunIsTurn, LoggedTrapIsSerial}
 
 -- a log's last access
 after_accesses-more : (memory : List ℕ) (log : List Access) (access : Access) → after_accesses memory (log ++ access ∷ []) ≡ after_access (after_accesses memory log) access
@@ -78,7 +78,7 @@ module _ (image : ImageValue) (budget : ℕ) (ctx : Ctx) (memory : List ℕ) whe
 
   -- one more request that goes on
   ask_on : (start : TaskState) (log more : List Access) (task after : TaskState) (request : Request) → Runs start log task
-      → Asks image budget (length memory) ctx task request
+      → CoreAsks image budget (length memory) ctx task request
       → after_request (on_memory (after_accesses memory log) task) request ≡ Continues (on_memory (after_accesses memory more) after) → after.core.used ≡ task.core.used + 1
       → Runs start more after
   ask_on start log more task after request before asks goes counts =
@@ -128,7 +128,7 @@ module _ (image : ImageValue) (budget : ℕ) (ctx : Ctx) (memory : List ℕ) whe
   -- a request that ends the run on this memory
   last_ask : (task : PendingTask) (log : List Access) (before : TaskState) (request : Request) (x : Continuation)
       → LoggedRun image budget (length memory) ctx (task_at_start image.version task.entry ctx.ts task.args []) log before → Replays memory log
-      → Asks image budget (length memory) ctx before request → after_request (on_memory (after_accesses memory log) before) request ≡ x
+      → CoreAsks image budget (length memory) ctx before request → after_request (on_memory (after_accesses memory log) before) request ≡ x
       → task_run image budget ctx task.entry task.args memory ≡ task_end_after (after_instructions image budget ctx (budget - (before.core.used + 1))) x
   last_ask task log before request x run chain asks leads =
       let start : TaskState = task_at_start image.version task.entry ctx.ts task.args [] in
@@ -142,14 +142,14 @@ module _ (image : ImageValue) (budget : ℕ) (ctx : Ctx) (memory : List ℕ) whe
       (ap (after_request t) asks.asks ∙ leads)
 
   -- a logged run that came to its end call
-  pub finished : (task : PendingTask) (log : List Access) (after : TaskState) → IsFinished image budget (length memory) ctx task log after → Replays memory log
+  pub finished : (task : PendingTask) (log : List Access) (after : TaskState) → FinishesWithLog image budget (length memory) ctx task log after → Replays memory log
       → task_run image budget ctx task.entry task.args memory ≡ Done (on_memory (after_accesses memory log) after)
   finished task log after is chain =
       last_ask task log is.before ask.End (Ends (on_memory (after_accesses memory log) after)) is.run chain is.ends
       (ap (λ t. Ends (on_memory (after_accesses memory log) t)) (sym is.leaves))
 
   -- a logged run that came to a trap
-  pub trapped : (task : PendingTask) (log : List Access) (cause pc : ℕ) → IsTrapped image budget (length memory) ctx task log cause pc → Replays memory log
+  pub trapped : (task : PendingTask) (log : List Access) (cause pc : ℕ) → TrapsWithLog image budget (length memory) ctx task log cause pc → Replays memory log
       → task_run image budget ctx task.entry task.args memory ≡ Trapped cause pc
   trapped task log cause pc is chain =
       last_ask task log is.before (ask.Trap cause) (Traps cause pc) is.run chain is.traps (ap (Traps cause) (sym is.at))

@@ -26,7 +26,7 @@ use Rattle.task_request.specs.Conditions.{IsCall}
 use Rattle.task_request.specs.TaskState.{TaskState, context}
 use Rattle.task_request.proofs.Proved.{request_at-call, request_at-end, request_at-load, request_at-store}
 use Rattle.task_desc.specs.declared.desc.Ctx.{Ctx}
-use Rattle.task_law.specs.Logged.{Asks, LoggedRun, none, plain, call, load, store}
+use Rattle.task_law.specs.Logged.{CoreAsks, LoggedRun, none, plain, call, load, store}
 use Rattle.undo_log.specs.declared.access.Access.{Access}
 
 -- what stands next is no trap, and an access ends within so many bytes of data
@@ -133,37 +133,37 @@ module _ (image : ImageValue) (budget size : ℕ) (ctx : Ctx) (start : TaskState
       omega (arith, fits.within, length-after_accesses memory log)
 
   -- what a task asks for at one size it asks for at the memory's, where it reaches no further
-  asks_on : {task : TaskState} {request : Request} (asks : Asks image budget size ctx task request) → Reaches (length memory) (Stops asks.found)
-      → Asks image budget (length memory) ctx task request
+  asks_on : {task : TaskState} {request : Request} (asks : CoreAsks image budget size ctx task request) → Reaches (length memory) (Stops asks.found)
+      → CoreAsks image budget (length memory) ctx task request
   asks_on {task} asks reaches = record {
     found = asks.found;
     stands = stands_so image size (length memory) budget task.core (Stops asks.found) asks.stands reaches;
     asks = asks.asks;
   }
 
-  call_on : {task : TaskState} {request : Request} → Asks image budget size ctx task request → IsCall request → Asks image budget (length memory) ctx task request
+  call_on : {task : TaskState} {request : Request} → CoreAsks image budget size ctx task request → IsCall request → CoreAsks image budget (length memory) ctx task request
   call_on {task} asks is_call =
       let at_call = request_at-call (context ctx task) task.core asks.found (subst IsCall (sym asks.asks) is_call) in
       let Near : Stop → Type 0 = λ found. Reaches (length memory) (Stops found) in
       asks_on asks (subst Near (sym at_call) tt)
 
   -- an end call
-  pub end_on : {task : TaskState} → Asks image budget size ctx task ask.End → Asks image budget (length memory) ctx task ask.End
+  pub end_on : {task : TaskState} → CoreAsks image budget size ctx task ask.End → CoreAsks image budget (length memory) ctx task ask.End
   end_on {task} asks =
       let at_call = request_at-end (context ctx task) task.core asks.found asks.asks in
       let Near : Stop → Type 0 = λ found. Reaches (length memory) (Stops found) in
       asks_on asks (subst Near (sym at_call) tt)
 
-  load_on : {task : TaskState} (access : Access) {width : LoadWidth} {rd : ℕ} → Asks image budget size ctx task (ask.Load width rd access.offset)
+  load_on : {task : TaskState} (access : Access) {width : LoadWidth} {rd : ℕ} → CoreAsks image budget size ctx task (ask.Load width rd access.offset)
       → access.width ≡ load_width width → access.offset + access.width ≤ length memory
-      → Asks image budget (length memory) ctx task (ask.Load width rd access.offset)
+      → CoreAsks image budget (length memory) ctx task (ask.Load width rd access.offset)
   load_on {task} access {width} {rd} asks is_width inside =
       let at = request_at-load (context ctx task) task.core asks.found width rd access.offset asks.asks in
       let Near : Stop → Type 0 = λ found. Reaches (length memory) (Stops found) in
       asks_on asks (subst Near (sym at.is) (ends_within DATA_START at.addr access.offset access.width (load_width width) (length memory) at.offset_is is_width inside))
 
-  store_on : {task : TaskState} (access : Access) {value : ℕ} → Asks image budget size ctx task (ask.Store access.offset access.width value)
-      → access.offset + access.width ≤ length memory → Asks image budget (length memory) ctx task (ask.Store access.offset access.width value)
+  store_on : {task : TaskState} (access : Access) {value : ℕ} → CoreAsks image budget size ctx task (ask.Store access.offset access.width value)
+      → access.offset + access.width ≤ length memory → CoreAsks image budget (length memory) ctx task (ask.Store access.offset access.width value)
   store_on {task} access {value} asks inside =
       let at = request_at-store (context ctx task) task.core asks.found access.offset access.width value asks.asks in
       let Near : Stop → Type 0 = λ found. Reaches (length memory) (Stops found) in

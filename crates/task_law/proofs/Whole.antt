@@ -15,7 +15,7 @@ use Rattle.task_law.specs.Tasks.{pending}
 use Rattle.task_law.specs.Commit.{Matches, HasTurn, HaveDomains}
 use Rattle.task_law.specs.Domains.{context_of_domains}
 use Rattle.memory_law.specs.Accesses.{after_accesses}
-use Rattle.task_law.specs.Logged.{IsFinished, IsTrapped}
+use Rattle.task_law.specs.Logged.{FinishesWithLog, TrapsWithLog}
 use Rattle.task_law.specs.Turns.{IsSerialTurn, LeastCommitsSerially, LeastTrapsSerially}
 use Rattle.task_law.proofs.Turning.{least_has_turn, commit_is_turn}
 use Rattle.task_law.proofs.Fitting.{contexts_fit}
@@ -57,8 +57,9 @@ least_commits image budget id turn_number index s old new spilled task own outer
     context : context_in_bag image.version next.bag next.outer p ≡ context_of_domains image.version own outer task.ts
     context = contexts_fit image.version s.stack p own outer is_stack ready.fits (record { bag = next.bag; outer = next.outer; may = next.may; deep = next.deep ∙ ready.deep })
 
-    ended : IsFinished image budget (length s.memory) (context_in_bag image.version next.bag next.outer p) p log after
-    ended = subst (λ c. IsFinished image budget (length s.memory) c p log after) (sym context) ready.finished
+    ended : FinishesWithLog image budget (length s.memory) (context_in_bag image.version next.bag next.outer p) p log
+        after
+    ended = subst (λ c. FinishesWithLog image budget (length s.memory) c p log after) (sym context) ready.finished
 
     falls : IsStack (next.bag ∷ next.outer)
     falls = subst IsStack next.may.top (IsStack-inner s.stack is_stack)
@@ -89,7 +90,7 @@ least_commits image budget id turn_number index s old new spilled task own outer
 pub least_traps : LeastTrapsSerially
 least_traps image budget id turn_number index runs s tasks spilled task own outer log cause pc sound matches is_stack is_least fits deep trapped chain =
     logged_trap_is_serial image budget task.depth s p log cause pc next
-    (subst (λ c. IsTrapped image budget (length s.memory) c p log cause pc) (sym context) trapped) chain
+    (subst (λ c. TrapsWithLog image budget (length s.memory) c p log cause pc) (sym context) trapped) chain
   where
     p : PendingTask
     p = pending turn_number index task.body task.ts

@@ -23,7 +23,7 @@ use Rattle.task_law.specs.Commit.{HasTurn}
 
 module _ (image : ImageValue) (budget size : ℕ) (ctx : Ctx) where
   -- what stands next at the task's core, with data of this size, asks for this
-  pub record Asks (task : TaskState) (request : Request) : Type 0 where
+  pub record CoreAsks (task : TaskState) (request : Request) : Type 0 where
     pub found : Stop
     pub stands : next_at image size budget task.core ≡ Stops found
     pub asks : request_at (context ctx task) task.core found ≡ request
@@ -35,27 +35,28 @@ module _ (image : ImageValue) (budget size : ℕ) (ctx : Ctx) where
     plain : {log : List Access} {task : TaskState} (core : Core) → LoggedRun start log task
         → next_at image size budget task.core ≡ Goes core → LoggedRun start log (record task { core = core })
     call : {log : List Access} {task : TaskState} (request : Request) (after : TaskState) → LoggedRun start log task
-        → Asks task request → IsCall request → after_request task request ≡ Continues after → LoggedRun start log after
+        → CoreAsks task request → IsCall request → after_request task request ≡ Continues after
+        → LoggedRun start log after
     load : {log : List Access} {task : TaskState} (access : Access) (width : LoadWidth) (rd : ℕ)
         → LoggedRun start log task
-        → Asks task (Load width rd access.offset) → access.width ≡ load_width width → access.new ≡ None
+        → CoreAsks task (Load width rd access.offset) → access.width ≡ load_width width → access.new ≡ None
         → LoggedRun start (log ++ access ∷ []) (record task { core = after_load_of task.core width rd access.old })
     store : {log : List Access} {task : TaskState} (access : Access) (value : ℕ) → LoggedRun start log task
-        → Asks task (Store access.offset access.width value) → access.new ≡ Some value
+        → CoreAsks task (Store access.offset access.width value) → access.new ≡ Some value
         → LoggedRun start (log ++ access ∷ []) (task_at_next task)
 
   -- the task's run with this log came to its end call, which leaves this
-  pub record IsFinished (task : PendingTask) (log : List Access) (after : TaskState) : Type 0 where
+  pub record FinishesWithLog (task : PendingTask) (log : List Access) (after : TaskState) : Type 0 where
     pub before : TaskState
     pub run : LoggedRun (task_at_start image.version task.entry ctx.ts task.args []) log before
-    pub ends : Asks before End
+    pub ends : CoreAsks before End
     pub leaves : after ≡ task_at_next before
 
   -- the task's run with this log came to this trap
-  pub record IsTrapped (task : PendingTask) (log : List Access) (cause pc : ℕ) : Type 0 where
+  pub record TrapsWithLog (task : PendingTask) (log : List Access) (cause pc : ℕ) : Type 0 where
     pub before : TaskState
     pub run : LoggedRun (task_at_start image.version task.entry ctx.ts task.args []) log before
-    pub traps : Asks before (Trap cause)
+    pub traps : CoreAsks before (Trap cause)
     pub at : pc ≡ before.core.pc
 
 -- where the log of a finished task replays on the serial memory, its turn is the serial machine's, with the log's
@@ -65,7 +66,8 @@ LoggedRunIsTurn =
     (image : ImageValue) (budget depth : ℕ) (s : SerialState) (task : PendingTask) (log : List Access)
     (after : TaskState)
     (next : HasTurn s.stack depth task)
-    → IsFinished image budget (length s.memory) (context_in_bag image.version next.bag next.outer task) task log after
+    → FinishesWithLog image budget (length s.memory) (context_in_bag image.version next.bag next.outer task) task log
+    after
     → Replays s.memory log
     → turn image budget s task.name ≡ Some (
       record {
@@ -82,6 +84,7 @@ abbrev pub LoggedTrapIsSerial : Type 0
 LoggedTrapIsSerial =
     (image : ImageValue) (budget depth : ℕ) (s : SerialState) (task : PendingTask) (log : List Access) (cause pc : ℕ)
     (next : HasTurn s.stack depth task)
-    → IsTrapped image budget (length s.memory) (context_in_bag image.version next.bag next.outer task) task log cause pc
+    → TrapsWithLog image budget (length s.memory) (context_in_bag image.version next.bag next.outer task) task log cause
+    pc
     → Replays s.memory log
     → TrapsSo image budget s task.name cause pc

@@ -11,7 +11,7 @@ use Rattle.task_law.specs.Sound.{AreSound}
 use Rattle.task_law.specs.Commit.{Matches, IsLeastInBags, IsNextTurn}
 use Rattle.task_law.specs.Domains.{Domain, FitsBags, context_of_domains}
 use Rattle.memory_law.specs.Accesses.{after_accesses, Replays}
-use Rattle.task_law.specs.Logged.{IsFinished, IsTrapped}
+use Rattle.task_law.specs.Logged.{FinishesWithLog, TrapsWithLog}
 
 -- a finished least task: its run by its log, from its own context, came to its end call, and the log replays on the
 -- serial memory
@@ -20,7 +20,7 @@ pub record IsReadyToCommit (image : ImageValue) (budget : ℕ) (s : SerialState)
     (outer : List Domain) (log : List Access) (after : TaskState) : Type 0 where
   pub fits : FitsBags (own ∷ outer) s.stack
   pub deep : task.depth ≡ length outer + 1
-  pub finished : IsFinished image budget (length s.memory) (context_of_domains image.version own outer task.ts)
+  pub finished : FinishesWithLog image budget (length s.memory) (context_of_domains image.version own outer task.ts)
       (pending turn index task.body task.ts) log after
   pub spawns : task.spawns ≡ after.spawns
   pub replays : Replays s.memory log
@@ -61,7 +61,7 @@ LeastTrapsSerially =
     → AreSound s.count id runs tasks spilled → Matches s.count tasks spilled s.stack → IsStack s.stack
     → IsLeastInBags s.count tasks spilled id task turn_number index → FitsBags (own ∷ outer) s.stack
     → task.depth ≡ length outer + 1
-    → IsTrapped image budget (length s.memory) (context_of_domains image.version own outer task.ts)
+    → TrapsWithLog image budget (length s.memory) (context_of_domains image.version own outer task.ts)
     (pending turn_number index task.body task.ts) log cause pc
     → Replays s.memory log
     → TrapsSo image budget s (record { creator = turn_number; index = index }) cause pc

@@ -21,7 +21,7 @@ use Rattle.watch_text.specs.Changes.{arrived_in, child_in, done_in, last_item}
 use Rattle.watch_text.specs.Moments.{IsAbout, IsAskedFor}
 use Rattle.watch_text.specs.Taking.{id_count, is_back, table_of, was_discarded}
 use Rattle.watch_text.specs.Taking.{was_spilled}
-use Rattle.watch_play.specs.Cascades.{AllHavePlaces, BackIsCascade, TellsTaken, marks_of, spilled_of}
+use Rattle.watch_play.specs.Cascades.{AllHavePlaces, BackIsCascade, TellsTaken, marks_of, spilled_by}
 use Rattle.watch_play.proofs.NothingTaken.{nothing_taken}
 use Rattle.watch_play.proofs.TakenBack.{table_length, Taken, taken_is_told}
 use Rattle.watch_play.proofs.TakenByEvents.{abort_taken, coalesce_taken, dispatch_taken, none_in, split_taken}
@@ -84,7 +84,7 @@ abbrev TellsOf : {N : Type 0} (old new : BookView) (aborted : ℕ) (task : Optio
     (e : Event N) → Happens old e reply.Ok aborted new → Type 0
 TellsOf old new aborted task request e happens =
     TellsTaken (marks_of old e aborted new.view new.placers happens.makes)
-    (spilled_of old e aborted new.view new.placers happens.makes) aborted old.view new.view
+    (spilled_by old e aborted new.view new.placers happens.makes) aborted old.view new.view
     (arrived_in new.view (Hands e) task request) (done_in (Hands e) task)
 
 pub back_is_cascade : (N : Type 0) → BackIsCascade N

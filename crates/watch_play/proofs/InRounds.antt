@@ -8,7 +8,7 @@ use Rattle.spec_state.specs.declared.settings.Settings.{Settings}
 use Rattle.spec_state.specs.Settings.{IsValid}
 use Rattle.step_script.specs.declared.act.Act.{Act}
 use Rattle.step_script.specs.Playing.{PlayState}
-use Rattle.watch_play.specs.declared.stop.Stop.{Stop}
+use Rattle.watch_play.specs.declared.stop.StoryStop.{StoryStop}
 use Rattle.watch_play.specs.Courses.{OfRounds, Order, next_order, order_after, round_length}
 use Rattle.watch_play.specs.Telling.{AreActsOf, RoundGoesOn}
 use Rattle.watch_play.proofs.Rounds.{order_more, round_is_there}
@@ -34,7 +34,7 @@ few_acts settings valid =
 
 module _ (N : Type 0) (image : ImageValue) (each : Option ℕ) (rounds seed : ℕ) (settings : Settings)
     (first : PlayState) (began : SinkState) (before told new_told round drawn next_drawn : ℕ) (list next : List Act)
-    (old new : PlayState) (now after : SinkState) (r : Result (Unit {0}) Stop) (every : Option ℕ)
+    (old new : PlayState) (now after : SinkState) (r : Result (Unit {0}) StoryStop) (every : Option ℕ)
     (goes : CourseGoes N image each (OfRounds rounds seed settings) first began before told old now)
     (order : ◌≡◌ {A = Order} (record { drawn = drawn; acts = list }) (order_after seed settings round))
     (length_is : length list ≡ round_length settings) (before_is : before ≡ round * round_length settings)

@@ -10,7 +10,7 @@ use Rattle.event_def.specs.End.{IsOver}
 use Rattle.step_script.specs.declared.act.Act.{Act}
 use Rattle.step_script.specs.declared.act.Act.TheVariants as acts
 use Rattle.step_script.specs.Playing.{PlayState}
-use Rattle.watch_play.specs.declared.stop.Stop.{Stop}
+use Rattle.watch_play.specs.declared.stop.StoryStop.{StoryStop}
 use Rattle.watch_play.specs.Courses.{OfLeast, OfScript, course_act}
 use Rattle.watch_play.specs.Made.{TellsAct}
 use Rattle.watch_play.proofs.Tellings.{CourseGoes, CourseGoesOn, course_goes_on}
@@ -36,7 +36,7 @@ least_act_is n = refl
 module _ (N : Type 0) (image : ImageValue) (each : Option ℕ) (first : PlayState) (began : SinkState) where
   -- the next act of a script is told, by what is counted on the way
   pub script_goes_on : (script : List Act) (i at count : ℕ) (every : Option ℕ) (d : Act) (old new : PlayState)
-      (now after : SinkState) (r : Result (Unit {0}) Stop) → i < length script → at ≡ i → count ≡ i → every ≡ each
+      (now after : SinkState) (r : Result (Unit {0}) StoryStop) → i < length script → at ≡ i → count ≡ i → every ≡ each
       → CourseGoes N image each (OfScript script) first began i i old now
       → TellsAct N image every (at + 1) (count + 1) (slice_index_or script i d) old new now after r
       → CourseGoesOn N image each (OfScript script) first began (i + 1) (i + 1) new after r
@@ -51,7 +51,7 @@ module _ (N : Type 0) (image : ImageValue) (each : Option ℕ) (first : PlayStat
 
   -- the next event for the least task is told
   pub least_goes_on : (i count : ℕ) (every : Option ℕ) (old new : PlayState) (now after : SinkState)
-      (r : Result (Unit {0}) Stop) → count ≡ i → every ≡ each → (IsOver old.book.view → ⊥)
+      (r : Result (Unit {0}) StoryStop) → count ≡ i → every ≡ each → (IsOver old.book.view → ⊥)
       → CourseGoes N image each OfLeast first began i i old now
       → TellsAct N image every (i + 1) (count + 1) acts.Advance old new now after r
       → CourseGoesOn N image each OfLeast first began (i + 1) (i + 1) new after r

@@ -17,8 +17,8 @@ use Rattle.event_def.specs.End.{IsOver}
 use Rattle.step_script.specs.declared.act.Act.{Act}
 use Rattle.step_script.specs.Playing.{PlayState}
 use Rattle.watch_text.specs.Moments.{Moment}
-use Rattle.watch_play.specs.declared.stop.Stop.{Stop}
-use Rattle.watch_play.specs.declared.stop.Stop.TheVariants as stops
+use Rattle.watch_play.specs.declared.stop.StoryStop.{StoryStop}
+use Rattle.watch_play.specs.declared.stop.StoryStop.TheVariants as stops
 use Rattle.watch_play.specs.Courses.{Course, IsAskedBy, IsAskedInRound, IsThrough, OfRounds, course_act}
 use Rattle.watch_play.specs.Made.{TellsAct}
 use Rattle.watch_play.specs.Playing.{IsMomentAt}
@@ -118,13 +118,13 @@ module _ (N : Type 0) (plan : Plan) (opening : BookView) (start : SinkState) whe
         }
 
         -- and told, or not
-        pub goes_on : (after : SinkState) (r : Result (Unit {0}) Stop)
+        pub goes_on : (after : SinkState) (r : Result (Unit {0}) StoryStop)
             → TellsAct N plan.image plan.each (count + 1) (told + 1) act old new now after r
             → GoesOn N plan opening (count + 1) (told + 1) new start after r
         goes_on after (Ok done) tells =
             let m = tells.0 in
             let more : Wrote start after (lines_by plan opening moments ++ moment_lines plan.each m) =
-            wrote_more {E = Stop} start now after (lines_by plan opening moments) (moment_lines plan.each m) wrote
+            wrote_more {E = StoryStop} start now after (lines_by plan opening moments) (moment_lines plan.each m) wrote
             tells.2 in
             let text : lines_by plan opening moments ++ moment_lines plan.each m ≡ lines_by plan opening (longer m) =
             ap (λ l. lines_by plan opening moments ++ l) (sym (append-nil (moment_lines plan.each m)))
@@ -141,7 +141,7 @@ module _ (N : Type 0) (plan : Plan) (opening : BookView) (start : SinkState) whe
         goes_on after (Err stops.Sink) tells =
             let m = tells.0 in
             let cut =
-            subst (Writes {E = Stop} start after (Err stops.Sink)) (sym (lines_more plan opening moments m))
+            subst (Writes {E = StoryStop} start after (Err stops.Sink)) (sym (lines_more plan opening moments m))
             (wrote_front start now after stops.Sink (lines_by plan opening moments) (moment_lines plan.each m) []
             wrote tells.2) in
             record { moments = longer m; story = has_more m tells.1; took = cut.err; rose = cut.cause.failed }
@@ -176,7 +176,7 @@ CourseGoes N image each course first begun_at count told play now =
 
 -- and led on, or the course ended there
 abbrev pub CourseGoesOn : (N : Type 0) → ImageValue → Option ℕ → Course → (first : PlayState) → SinkState
-    → (count told : ℕ) → PlayState → SinkState → Result (Unit {0}) Stop → Type 0
+    → (count told : ℕ) → PlayState → SinkState → Result (Unit {0}) StoryStop → Type 0
 CourseGoesOn N image each course first begun_at count told play now r =
     (plan : Plan) (opening : BookView) (start : SinkState) → plan.image ≡ image → plan.each ≡ each
     → plan.course ≡ course → IsOpened plan opening first start begun_at
@@ -192,7 +192,7 @@ module _ (N : Type 0) (image : ImageValue) (each : Option ℕ) (course : Course)
     module _ (count told : ℕ) (old : PlayState) (now : SinkState)
         (so_far : CourseGoes N image each course first begun_at count told old now) where
       pub course_goes_on : (act : Act) → course_act course count ≡ Some act → IsAskedBy course old.book.view act
-          → (new : PlayState) (after : SinkState) (r : Result (Unit {0}) Stop)
+          → (new : PlayState) (after : SinkState) (r : Result (Unit {0}) StoryStop)
           → TellsAct N image each (count + 1) (told + 1) act old new now after r
           → CourseGoesOn N image each course first begun_at (count + 1) (told + 1) new after r
       course_goes_on act is asked new after r tells plan opening start image_is each_is course_is opened =
@@ -222,14 +222,14 @@ module _ (N : Type 0) (image : ImageValue) (each : Option ℕ) (course : Course)
           wants N plan opening start count told old now (so_far plan opening start image_is each_is course_is opened)
 
     -- by how the act came out
-    pub course_told : (count told : ℕ) (play : PlayState) (now : SinkState) (r : Result (Unit {0}) Stop)
+    pub course_told : (count told : ℕ) (play : PlayState) (now : SinkState) (r : Result (Unit {0}) StoryStop)
         → CourseGoesOn N image each course first begun_at count told play now r → r ≡ Ok tt
         → CourseGoes N image each course first begun_at count told play now
     course_told count told play now r goes is =
         subst (CourseGoesOn N image each course first begun_at count told play now) is goes
 
-    pub course_stops : (count told : ℕ) (play : PlayState) (now : SinkState) (r q : Result (Unit {0}) Stop)
-        (stop : Stop)
+    pub course_stops : (count told : ℕ) (play : PlayState) (now : SinkState) (r q : Result (Unit {0}) StoryStop)
+        (stop : StoryStop)
         → CourseGoesOn N image each course first begun_at count told play now r → r ≡ Err stop → q ≡ Err stop
         → TellsCourse N image each course first play.book begun_at now q
     course_stops count told play now r q stop goes is told_is =
@@ -240,7 +240,7 @@ module _ (N : Type 0) (image : ImageValue) (each : Option ℕ) (course : Course)
 
 -- an act that is asked for, and told
 pub act_goes_on : (N : Type 0) (image : ImageValue) (each : Option ℕ) (number : ℕ) (act : Act) (told new_told : ℕ)
-    (old new : PlayState) (now after : SinkState) (r : Result (Unit {0}) Stop)
+    (old new : PlayState) (now after : SinkState) (r : Result (Unit {0}) StoryStop)
     → ((IsOver old.book.view → ⊥) × IsAskedInRound old.book.view act)
     → TellsAct N image each (number + 1) (told + 1) act old new now after r → OnOk r (new_told ≡ told + 1)
     → ActGoesOn N image each number act told new_told old new now after r
@@ -252,7 +252,7 @@ act_goes_on N image each number act told new_told old new now after r asked tell
     (subst (λ e. TellsAct N plan.image e (number + 1) (told + 1) act old new now after r) (sym each_is)
     (subst (λ i. TellsAct N i each (number + 1) (told + 1) act old new now after r) (sym image_is) tells)))
   where
-    by_result : (q : Result (Unit {0}) Stop) → OnOk q (new_told ≡ told + 1)
+    by_result : (q : Result (Unit {0}) StoryStop) → OnOk q (new_told ≡ told + 1)
         → GoesOn N plan opening (number + 1) (told + 1) new start after q
         → GoesOn N plan opening (number + 1) new_told new start after q
     by_result (Ok done) counts goes =
@@ -287,7 +287,7 @@ module _ (N : Type 0) (image : ImageValue) (each : Option ℕ) (list : List Act)
 
   -- the act of the next place, by what is counted on the way
   module _ (place mid_told new_told : ℕ) (every : Option ℕ) (d : Act) (old new : PlayState) (now after : SinkState)
-      (r : Result (Unit {0}) Stop) (inside : place < length list) (every_is : every ≡ each)
+      (r : Result (Unit {0}) StoryStop) (inside : place < length list) (every_is : every ≡ each)
       (so_far : RoundGoes N image each list before told first begun_at (before + place) mid_told old now)
       (acts_on : ActGoesOn N image every (before + place) (slice_index_or list place d) mid_told new_told old new now
       after r)
@@ -309,7 +309,7 @@ module _ (N : Type 0) (image : ImageValue) (each : Option ℕ) (list : List Act)
           (subst (GoesOn N plan opening (before + place + 1) new_told new start after) is
           (led_on rounds seed settings plan opening start image_is each_is course_is are goes))
 
-      pub round_stops : (q : Result (Unit {0}) Stop) (stop : Stop) → r ≡ Err stop → q ≡ Err stop
+      pub round_stops : (q : Result (Unit {0}) StoryStop) (stop : StoryStop) → r ≡ Err stop → q ≡ Err stop
           → RoundGoesOn N image each before list told new_told first new begun_at after q
       round_stops q stop is told_is rounds seed settings plan opening start image_is each_is course_is are goes =
           subst (GoesOn N plan opening (before + length list) new_told new start after) (sym told_is)

@@ -95,14 +95,14 @@ request_spilled tile core leg id task (requests.Enqueue spawn) book aborted new 
 request_spilled tile core leg id task other book aborted new placers made = []
 
 -- for an event
-abbrev pub spilled_of : {N : Type 0} (book : BookView) (e : Event N) (aborted : ℕ) (new : View) (placers : List Policy)
+abbrev pub spilled_by : {N : Type 0} (book : BookView) (e : Event N) (aborted : ℕ) (new : View) (placers : List Policy)
     → Makes book e aborted new placers → List ℕ
-spilled_of book (event.Step tile core leg) aborted new placers made =
+spilled_by book (event.Step tile core leg) aborted new placers made =
     request_spilled tile core leg made.id made.task (request_of book.view made.task leg) book aborted new placers
     made.comes
-spilled_of book (event.Coalesce tile) aborted new placers made = made.0.ids
-spilled_of book (event.Split tile) aborted new placers made = room_spilled tile Splitter book.view made.0.forced
-spilled_of book other aborted new placers made = []
+spilled_by book (event.Coalesce tile) aborted new placers made = made.0.ids
+spilled_by book (event.Split tile) aborted new placers made = room_spilled tile Splitter book.view made.0.forced
+spilled_by book other aborted new placers made = []
 
 -- ---- the law
 
@@ -130,5 +130,5 @@ BackIsCascade N =
     → (happens : Happens old e reply.Ok aborted new) → IsAbout old.view (Hands e) task
     → IsAskedFor old.view (Hands e) request
     → TellsTaken (marks_of old e aborted new.view new.placers happens.makes)
-    (spilled_of old e aborted new.view new.placers happens.makes) aborted old.view new.view
+    (spilled_by old e aborted new.view new.placers happens.makes) aborted old.view new.view
     (arrived_in new.view (Hands e) task request) (done_in (Hands e) task)

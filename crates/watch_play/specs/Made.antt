@@ -14,8 +14,8 @@ use Rattle.step_script.specs.declared.act.Act.{Act}
 use Rattle.step_script.specs.Playing.{PlayState}
 use Rattle.watch_text.specs.Asking.{Attempt, Hands, Says}
 use Rattle.watch_text.specs.Moments.{Moment}
-use Rattle.watch_play.specs.declared.stop.Stop.{Stop}
-use Rattle.watch_play.specs.declared.stop.Stop.TheVariants as stops
+use Rattle.watch_play.specs.declared.stop.StoryStop.{StoryStop}
+use Rattle.watch_play.specs.declared.stop.StoryStop.TheVariants as stops
 use Rattle.watch_play.specs.declared.watch.Watch.{Watch}
 use Rattle.watch_play.specs.Playing.{IsMomentAt}
 use Rattle.watch_play.specs.Texts.{moment_lines}
@@ -31,12 +31,12 @@ AttemptComes (Says word) answer aborted old new = (answer ≡ word) × (aborted 
 
 -- an act is played and told: it is a moment, whose lines the sink took, or a front of them, or nothing; or it is none
 abbrev pub TellsAct : Type 0 → ImageValue → Option ℕ → (at number : ℕ) → Act → PlayState → PlayState → SinkState
-    → SinkState → Result (Unit {0}) Stop → Type 0
+    → SinkState → Result (Unit {0}) StoryStop → Type 0
 TellsAct N image each at number act old new before after (Ok done) =
     (m : Moment N) × IsMomentAt image at number act m old new
-    × Writes {E = Stop} before after (Ok done) (moment_lines each m)
+    × Writes {E = StoryStop} before after (Ok done) (moment_lines each m)
 TellsAct N image each at number act old new before after (Err stops.Memory) =
     (((m : Moment N) × IsMomentAt image at number act m old new) ⊎ (new.book ≡ old.book)) × (after ≡ before)
 TellsAct N image each at number act old new before after (Err stops.Sink) =
     (m : Moment N) × IsMomentAt image at number act m old new
-    × Writes {E = Stop} before after (Err stops.Sink) (moment_lines each m)
+    × Writes {E = StoryStop} before after (Err stops.Sink) (moment_lines each m)

@@ -10,8 +10,8 @@ use Rattle.event_def.specs.Book.{BookView}
 use Rattle.step_script.specs.declared.act.Act.{Act}
 use Rattle.step_script.specs.Playing.{PlayState}
 use Rattle.watch_text.specs.Moments.{Moment}
-use Rattle.watch_play.specs.declared.stop.Stop.{Stop}
-use Rattle.watch_play.specs.declared.stop.Stop.TheVariants as stops
+use Rattle.watch_play.specs.declared.stop.StoryStop.{StoryStop}
+use Rattle.watch_play.specs.declared.stop.StoryStop.TheVariants as stops
 use Rattle.watch_play.specs.Courses.{Course, IsThrough, OfRounds, course_act}
 use Rattle.watch_play.specs.Stories.{StoryLeads, begun}
 use Rattle.watch_play.specs.Texts.{opening_lines, story_lines}
@@ -66,7 +66,7 @@ pub record IsCutOff (N : Type 0) (plan : Plan) (opening book : BookView) (before
   pub rose : Rose before.faults after.faults
 
 -- how far a story was told, by what is answered
-abbrev pub Tells : Type 0 → Plan → BookView → BookView → SinkState → SinkState → Result (Unit {0}) Stop → Type 0
+abbrev pub Tells : Type 0 → Plan → BookView → BookView → SinkState → SinkState → Result (Unit {0}) StoryStop → Type 0
 Tells N plan opening book before after (Ok done) = IsAllTold N plan opening book before after
 Tells N plan opening book before after (Err stops.Memory) = IsToldInPart N plan opening book before after
 Tells N plan opening book before after (Err stops.Sink) = IsCutOff N plan opening book before after
@@ -94,14 +94,14 @@ GoesSoFar N plan opening count told play before now =
 
 -- so many acts of the course led on from there, or the story ended on the way
 abbrev pub GoesOn : (N : Type 0) → Plan → BookView → (count told : ℕ) → (new : PlayState)
-    → (before after : SinkState) → Result (Unit {0}) Stop → Type 0
+    → (before after : SinkState) → Result (Unit {0}) StoryStop → Type 0
 GoesOn N plan opening count told new before after (Ok done) =
     GoesSoFar N plan opening count told new before after
 GoesOn N plan opening count told new before after (Err stop) = Tells N plan opening new.book before after (Err stop)
 
 -- whatever story of a course in rounds led to the act of this number, it leads on, or the story ends there
 abbrev pub ActGoesOn : (N : Type 0) → ImageValue → Option ℕ → (number : ℕ) → Act → (told new_told : ℕ)
-    → (old new : PlayState) → (now after : SinkState) → Result (Unit {0}) Stop → Type 0
+    → (old new : PlayState) → (now after : SinkState) → Result (Unit {0}) StoryStop → Type 0
 ActGoesOn N image each number act told new_told old new now after result =
     (rounds seed : ℕ) (settings : Settings) (plan : Plan) (opening : BookView) (start : SinkState)
     → plan.image ≡ image → plan.each ≡ each → plan.course ≡ OfRounds rounds seed settings
@@ -110,7 +110,7 @@ ActGoesOn N image each number act told new_told old new now after result =
 
 -- likewise the acts of a round, from this number on
 abbrev pub RoundGoesOn : (N : Type 0) → ImageValue → Option ℕ → (number : ℕ) → List Act → (told new_told : ℕ)
-    → (old new : PlayState) → (now after : SinkState) → Result (Unit {0}) Stop → Type 0
+    → (old new : PlayState) → (now after : SinkState) → Result (Unit {0}) StoryStop → Type 0
 RoundGoesOn N image each number acts told new_told old new now after result =
     (rounds seed : ℕ) (settings : Settings) (plan : Plan) (opening : BookView) (start : SinkState)
     → plan.image ≡ image → plan.each ≡ each → plan.course ≡ OfRounds rounds seed settings
@@ -120,7 +120,7 @@ RoundGoesOn N image each number acts told new_told old new now after result =
 -- ---- the opening
 
 -- the lines before the first act were told, or not, by what is answered
-abbrev pub TellsOpening : Plan → BookView → SinkState → SinkState → Result (Unit {0}) Stop → Type 0
+abbrev pub TellsOpening : Plan → BookView → SinkState → SinkState → Result (Unit {0}) StoryStop → Type 0
 TellsOpening plan opening before after (Ok done) =
     SinkTakes before after (opening_lines plan.course plan.settings plan.image opening.view)
     × (before.faults ≤ after.faults)
@@ -137,7 +137,7 @@ pub record IsOpened (plan : Plan) (opening : BookView) (play : PlayState) (befor
 
 -- whatever this is the opening of, the course behind it is told so
 abbrev pub TellsCourse : Type 0 → ImageValue → Option ℕ → Course → PlayState → BookView → SinkState → SinkState
-    → Result (Unit {0}) Stop → Type 0
+    → Result (Unit {0}) StoryStop → Type 0
 TellsCourse N image each course old new now after result =
     (plan : Plan) (opening : BookView) (before : SinkState)
     → plan.image ≡ image → plan.each ≡ each → plan.course ≡ course

@@ -9,7 +9,7 @@ ghost use Rattle.watch_play.specs.Made.{play_of};
 ghost use Rattle.watch_play.specs.Telling.{TellsCourse};
 
 use crate::playing::tell_act;
-use crate::stop::Stop;
+use crate::stop::StoryStop;
 use crate::watch::Watch;
 use guest_image::Image;
 use place_policy::Placer;
@@ -24,7 +24,7 @@ pub fn play_script<N: Naming, P: Placer, T: Tap, K: Sink>(
     sink: &mut K,
     image: &Image,
     script: &[Act],
-) -> Result<(), Stop>
+) -> Result<(), StoryStop>
     requires image { image.now ≡ N.image }
     requires each { IfSome watch.old.each (λ number. 1 ≤ number) }
     requires table { watch.old.table.items ≡ table_of (machine_view watch.old.book) }
@@ -49,7 +49,7 @@ pub fn play_least<N: Naming, P: Placer, T: Tap, K: Sink>(
     watch: &mut Watch<N, P, T>,
     sink: &mut K,
     image: &Image,
-) -> Result<(), Stop>
+) -> Result<(), StoryStop>
     requires image { image.now ≡ N.image }
     requires each { IfSome watch.old.each (λ number. 1 ≤ number) }
     requires table { watch.old.table.items ≡ table_of (machine_view watch.old.book) }
@@ -65,5 +65,5 @@ pub fn play_least<N: Naming, P: Placer, T: Tap, K: Sink>(
         tell_act(watch, sink, image, made + 1, Act::Advance)?;
     }
     // No run is so long; want of memory is the one answer that says nothing of it.
-    Err(Stop::Memory)
+    Err(StoryStop::Memory)
 }

@@ -21,5 +21,5 @@ pub use courses::{play_least, play_script};
 pub use laws::{asked_is_made, back_is_cascade, moment_does, passed_is_refused, story_plays};
 pub use lockstep::play_rounds;
 pub use opening::tell_opening;
-pub use stop::Stop;
+pub use stop::StoryStop;
 pub use watch::Watch;

@@ -13,7 +13,7 @@ ghost use Rattle.watch_play.specs.Made.{play_of};
 ghost use Rattle.watch_play.specs.Telling.{ActGoesOn, RoundGoesOn, TellsCourse};
 
 use crate::playing::tell_act;
-use crate::stop::Stop;
+use crate::stop::StoryStop;
 use crate::watch::Watch;
 use conflict_book::Book;
 use event_room::{is_least, is_least_spilled};
@@ -194,7 +194,7 @@ fn play_asked<N: Naming, P: Placer, T: Tap, K: Sink>(
     image: &Image,
     number: u64,
     act: Act,
-) -> Result<(), Stop>
+) -> Result<(), StoryStop>
     requires image { image.now ≡ N.image }
     requires each { IfSome watch.old.each (λ number. 1 ≤ number) }
     requires table { watch.old.table.items ≡ table_of (machine_view watch.old.book) }
@@ -224,7 +224,7 @@ fn play_round<N: Naming, P: Placer, T: Tap, K: Sink>(
     image: &Image,
     acts: &[Act],
     before: u64,
-) -> Result<(), Stop>
+) -> Result<(), StoryStop>
     requires image { image.now ≡ N.image }
     requires each { IfSome watch.old.each (λ number. 1 ≤ number) }
     requires table { watch.old.table.items ≡ table_of (machine_view watch.old.book) }
@@ -254,7 +254,7 @@ fn play_in_order<N: Naming, P: Placer, T: Tap, K: Sink>(
     acts: &mut [Act],
     rounds: u32,
     seed: u32,
-) -> Result<(), Stop>
+) -> Result<(), StoryStop>
     requires image { image.now ≡ N.image }
     requires each { IfSome watch.old.each (λ number. 1 ≤ number) }
     requires table { watch.old.table.items ≡ table_of (machine_view watch.old.book) }
@@ -289,7 +289,7 @@ pub fn play_rounds<N: Naming, P: Placer, T: Tap, K: Sink>(
     image: &Image,
     rounds: u32,
     seed: u32,
-) -> Result<(), Stop>
+) -> Result<(), StoryStop>
     requires image { image.now ≡ N.image }
     requires each { IfSome watch.old.each (λ number. 1 ≤ number) }
     requires table { watch.old.table.items ≡ table_of (machine_view watch.old.book) }
@@ -302,6 +302,6 @@ pub fn play_rounds<N: Naming, P: Placer, T: Tap, K: Sink>(
 {
     match round_acts(watch.book.alloc(), watch.book.settings()) {
         Ok(mut acts) => play_in_order(watch, sink, image, acts.as_mut_slice(), rounds, seed),
-        Err(_) => Err(Stop::Memory),
+        Err(_) => Err(StoryStop::Memory),
     }
 }

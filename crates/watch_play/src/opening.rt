@@ -9,7 +9,7 @@ ghost use Rattle.watch_play.specs.Courses.{course_word};
 ghost use Rattle.watch_play.specs.Made.{play_of};
 ghost use Rattle.watch_play.specs.Telling.{Plan, TellsOpening};
 
-use crate::stop::Stop;
+use crate::stop::StoryStop;
 use crate::watch::Watch;
 use guest_image::Image;
 use place_policy::Placer;
@@ -45,7 +45,7 @@ pub fn tell_opening<N: Naming, P: Placer, T: Tap, K: Sink>(
     sink: &mut K,
     image: &Image,
     course: CourseWord,
-) -> Result<(), Stop>
+) -> Result<(), StoryStop>
     ensures tells { (plan : Plan) → plan.image ≡ image.now → course_word plan.course ≡ course
         → plan.settings ≡ (machine_view watch.old.book).settings
         → TellsOpening plan (view_of P.policy T.notes watch.old.book) (K.state sink.old) (K.state sink.new) result }
@@ -55,10 +55,10 @@ pub fn tell_opening<N: Naming, P: Placer, T: Tap, K: Sink>(
     ensures table { OnOk result (watch.new.table.items ≡ table_of (machine_view watch.new.book)) }
 {
     if put_opening(watch, image, course).is_err() {
-        return Err(Stop::Memory);
+        return Err(StoryStop::Memory);
     }
     match write_all(sink, watch.line.as_bytes()) {
         Ok(()) => Ok(()),
-        Err(_) => Err(Stop::Sink),
+        Err(_) => Err(StoryStop::Sink),
     }
 }

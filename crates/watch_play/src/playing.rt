@@ -9,7 +9,7 @@ ghost use Rattle.event_def.specs.declared.event.Reply.TheVariants as reply;
 ghost use Rattle.conflict_book.specs.BookViews.{events_made, machine_view, view_of};
 ghost use Rattle.step_script.specs.Ranges.{ActIsInRange};
 ghost use Rattle.watch_text.specs.Asking.{AskedIsInRange, asks_of};
-ghost use Rattle.watch_text.specs.Changes.{HasOrphans, HasOrphansIn, IsFound, IsOneIn, LeavesOthers};
+ghost use Rattle.watch_text.specs.Changes.{HasOrphans, HasOrphansIn, AreFound, IsOneIn, LeavesOthers};
 ghost use Rattle.watch_text.specs.Changes.{affected_in, arrived_in};
 ghost use Rattle.watch_text.specs.Lines.{rest_text};
 ghost use Rattle.watch_text.specs.Moments.{task_of};
@@ -21,7 +21,7 @@ ghost use Rattle.watch_play.specs.Texts.{is_due, view_text};
 
 use crate::asking::ask;
 use crate::room::has_its_room;
-use crate::stop::Stop;
+use crate::stop::StoryStop;
 use crate::watch::Watch;
 use conflict_book::{Applied, Book, Reply};
 use guest_image::Image;
@@ -32,8 +32,8 @@ use std::alloc::AllocError;
 use step_script::Act;
 use trace_tap::Tap;
 use watch_text::{
-    About, Asked, Effect, about_of, affected_by, arrived_in, orphans_of, put_front, put_rest,
-    put_view, remember_behind,
+    About, Asked, AttemptEffect, about_of, affected_by, arrived_in, orphans_of, put_front,
+    put_rest, put_view, remember_behind,
 };
 
 /// What came of an act.
@@ -170,7 +170,7 @@ fn effect_of<N: Naming, P: Placer, T: Tap>(
     about: &About,
     applied: Applied,
     ahead: Ahead,
-) -> Result<Effect, AllocError>
+) -> Result<AttemptEffect, AllocError>
     requires within { AskedIsInRange N (machine_view watch.now.book).settings asked.now }
     requires one { applied.reply ≡ reply.Ok
         → IsOneIn (machine_view watch.now.book) about.now.request (task_of about.now) }
@@ -182,14 +182,14 @@ fn effect_of<N: Naming, P: Placer, T: Tap>(
     ensures events { IfOk result (λ effect. effect.events ≡ events_made watch.now.book) }
     ensures orphans { IfOk result (λ effect. effect.orphans ≡ ahead.orphans) }
     ensures output { IfOk result (λ effect. effect.output ≡ ahead.output) }
-    ensures found { IfOk result (λ effect. applied.reply ≡ reply.Ok → (leg : LegValue) → IsFound {N = N}
+    ensures found { IfOk result (λ effect. applied.reply ≡ reply.Ok → (leg : LegValue) → AreFound {N = N}
         watch.now.table.items (machine_view watch.now.book) (asks_of asked.now leg) (task_of about.now)
         about.now.request effect.arrived effect.affected.items) }
 {
     let arrived = arrived_by(&watch.book, asked, about, applied.reply);
     let is_quiet = applied.reply != Reply::Ok || applied.aborted == 0 && ahead.has_room;
     let affected = affected_of(watch, asked, about, arrived, is_quiet)?;
-    Ok(Effect {
+    Ok(AttemptEffect {
         reply: applied.reply,
         aborted: applied.aborted,
         events: watch.book.steps(),
@@ -206,10 +206,10 @@ fn tell_rest<N: Naming, P: Placer, T: Tap>(
     watch: &mut Watch<N, P, T>,
     asked: &Asked,
     about: &About,
-    effect: &Effect,
+    effect: &AttemptEffect,
 ) -> Result<(), AllocError>
     requires events { effect.now.events ≡ events_made watch.old.book }
-    requires found { effect.now.reply ≡ reply.Ok → (leg : LegValue) → IsFound {N = N} watch.old.table.items
+    requires found { effect.now.reply ≡ reply.Ok → (leg : LegValue) → AreFound {N = N} watch.old.table.items
         (machine_view watch.old.book) (asks_of asked.now leg) (task_of about.now) about.now.request
         effect.now.arrived effect.now.affected.items }
     requires each { IfSome watch.old.each (λ number. 1 ≤ number) }
@@ -312,7 +312,7 @@ pub(crate) fn tell_act<N: Naming, P: Placer, T: Tap, K: Sink>(
     image: &Image,
     at: u64,
     act: Act,
-) -> Result<(), Stop>
+) -> Result<(), StoryStop>
     requires image { image.now ≡ N.image }
     requires within { let settings = (machine_view watch.old.book).settings in
         ActIsInRange settings.tiles settings.cores act }
@@ -329,9 +329,9 @@ pub(crate) fn tell_act<N: Naming, P: Placer, T: Tap, K: Sink>(
     match play_act(watch, image, at, act) {
         PlayedAct::Told => match write_all(sink, watch.line.as_bytes()) {
             Ok(()) => Ok(()),
-            Err(_) => Err(Stop::Sink),
+            Err(_) => Err(StoryStop::Sink),
         },
-        PlayedAct::Untold => Err(Stop::Memory),
-        PlayedAct::Unmade => Err(Stop::Memory),
+        PlayedAct::Untold => Err(StoryStop::Memory),
+        PlayedAct::Unmade => Err(StoryStop::Memory),
     }
 }

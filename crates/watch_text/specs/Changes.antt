@@ -101,7 +101,7 @@ affected_in table new asks task request =
     ids_affected table new (arrived_in new asks task request) (done_in asks task)
 
 -- the task that came, and the ids of those that were taken back or spilled, are these
-pub record IsFound {N : Type 0} (table : List (Option Before)) (new : View) (asks : Attempt N) (task : Option ℕ)
+pub record AreFound {N : Type 0} (table : List (Option Before)) (new : View) (asks : Attempt N) (task : Option ℕ)
     (request : Option Request) (arrived : Option ℕ) (ids : List ℕ) : Type 0 where
   pub came : arrived ≡ arrived_in new asks task request
   pub affected : ids ≡ affected_in table new asks task request

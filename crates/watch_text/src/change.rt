@@ -7,7 +7,7 @@ ghost use Rattle.rv_core.specs.LegValue.{LegValue};
 ghost use Rattle.spec_state.specs.Fronts.{name_given};
 ghost use Rattle.spec_state.specs.View.{queue_at};
 ghost use Rattle.watch_text.specs.Asking.{AskedIsInRange, asks_of};
-ghost use Rattle.watch_text.specs.Changes.{IsFound, IsOneChild, IsOneIn, IsOneLast, aborted_text};
+ghost use Rattle.watch_text.specs.Changes.{AreFound, IsOneChild, IsOneIn, IsOneLast, aborted_text};
 ghost use Rattle.watch_text.specs.Changes.{arrived_in, back_text, child_at, child_in};
 ghost use Rattle.watch_text.specs.Changes.{done_in, is_child_at, last_child, last_item, lists_text, named_text};
 ghost use Rattle.watch_text.specs.Changes.{spilled_text, taken_text, used_by, work_of};
@@ -18,7 +18,7 @@ ghost use Rattle.watch_text.specs.Taking.{ids_affected, ids_back, ids_gone, ids_
 use crate::about::{About, task_of};
 use crate::asking::Asked;
 use crate::before::{Before, id_count};
-use crate::effect::Effect;
+use crate::effect::AttemptEffect;
 use crate::fields::{put_list, put_number};
 use crate::taking::{ids_back, ids_gone, ids_spilled, was_at};
 use conflict_book::Legless;
@@ -205,7 +205,7 @@ fn put_taken<N: Naming>(
     state: &State<N>,
     table: &[Option<Before>],
     done: Option<usize>,
-    effect: &Effect,
+    effect: &AttemptEffect,
 ) -> Result<(), AllocError>
     requires { effect.now.affected.items ≡ ids_affected table.now state.now.view effect.now.arrived done }
     ensures { OnOk result (string_bytes line.new ≡ string_bytes line.old
@@ -355,9 +355,9 @@ pub(crate) fn put_taken_by<N: Naming>(
     table: &[Option<Before>],
     asked: &Asked,
     about: &About,
-    effect: &Effect,
+    effect: &AttemptEffect,
 ) -> Result<(), AllocError>
-    requires { (leg : LegValue) → IsFound {N = N} table.now state.now.view (asks_of asked.now leg) (task_of about.now)
+    requires { (leg : LegValue) → AreFound {N = N} table.now state.now.view (asks_of asked.now leg) (task_of about.now)
         about.now.request effect.now.arrived effect.now.affected.items }
     ensures { (leg : LegValue) → let asks = asks_of {N = N} asked.now leg in
         OnOk result (string_bytes line.new ≡ string_bytes line.old ++ taken_text table.now state.now.view

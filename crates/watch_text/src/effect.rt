@@ -4,7 +4,7 @@ use event_def::Reply;
 
 /// What came of an attempt.
 #[derive(Drop)]
-pub struct Effect {
+pub struct AttemptEffect {
     /// What was answered.
     pub reply: Reply,
     /// How many tasks were taken back.

@@ -31,7 +31,7 @@ pub use about::{About, about_of};
 pub use asking::Asked;
 pub use before::{Before, remember};
 pub use change::arrived_in;
-pub use effect::Effect;
+pub use effect::AttemptEffect;
 pub use end::put_end;
 pub use front::put_front;
 pub use head::{CourseWord, put_head};

@@ -14,7 +14,7 @@ ghost use Rattle.watch_text.specs.Moments.{task_of};
 use crate::about::{About, task_of};
 use crate::asking::Asked;
 use crate::change::{name_creator, name_index};
-use crate::effect::Effect;
+use crate::effect::AttemptEffect;
 use crate::fields::{put_core, put_field, put_hex, put_name, put_some, put_text};
 use conflict_book::Legless;
 use rv_core::Naming;
@@ -217,7 +217,7 @@ pub(crate) fn put_own<N: Naming>(
     state: &State<N>,
     asked: &Asked,
     about: &About,
-    effect: &Effect,
+    effect: &AttemptEffect,
 ) -> Result<(), AllocError>
     requires { (leg : LegValue) → effect.now.arrived
         ≡ arrived_in state.now.view (asks_of {N = N} asked.now leg) (task_of about.now) about.now.request }

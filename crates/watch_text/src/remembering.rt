@@ -3,7 +3,7 @@
 ghost use Rattle.std.specs.Prelude.{◌≡◌, length};
 ghost use Rattle.rv_core.specs.LegValue.{LegValue};
 ghost use Rattle.watch_text.specs.Asking.{asks_of};
-ghost use Rattle.watch_text.specs.Changes.{HasOrphansIn, IsFound, LeavesOthers};
+ghost use Rattle.watch_text.specs.Changes.{HasOrphansIn, AreFound, LeavesOthers};
 ghost use Rattle.watch_text.specs.Moments.{task_of};
 ghost use Rattle.watch_text.specs.Remembering.{Refreshes, is_among};
 ghost use Rattle.watch_text.specs.Taking.{OthersRemembered, id_count, ids_affected, is_id, table_of};
@@ -11,7 +11,7 @@ ghost use Rattle.watch_text.specs.Taking.{OthersRemembered, id_count, ids_affect
 use crate::about::{About, task_of};
 use crate::asking::Asked;
 use crate::before::{Before, remembered};
-use crate::effect::Effect;
+use crate::effect::AttemptEffect;
 use rv_core::Naming;
 use spec_state::State;
 
@@ -45,10 +45,10 @@ pub fn remember_behind<N: Naming>(
     table: &mut [Option<Before>],
     asked: &Asked,
     about: &About,
-    effect: &Effect,
+    effect: &AttemptEffect,
 )
     requires long { length table.old ≡ id_count state.now.view }
-    requires found { (leg : LegValue) → IsFound {N = N} table.old state.now.view (asks_of asked.now leg)
+    requires found { (leg : LegValue) → AreFound {N = N} table.old state.now.view (asks_of asked.now leg)
         (task_of about.now) about.now.request effect.now.arrived effect.now.affected.items }
     requires orphans { (leg : LegValue) → HasOrphansIn {N = N} table.old (asks_of asked.now leg) (task_of about.now)
         effect.now.orphans.items }

@@ -5,7 +5,7 @@ ghost use Rattle.std.specs.String.{string_bytes};
 ghost use Rattle.rv_core.specs.LegValue.{LegValue};
 ghost use Rattle.event_def.specs.declared.event.Reply.TheVariants as replies;
 ghost use Rattle.watch_text.specs.Asking.{asks_of};
-ghost use Rattle.watch_text.specs.Changes.{IsFound, arrived_in, change_by, change_text, done_in, own_text};
+ghost use Rattle.watch_text.specs.Changes.{AreFound, arrived_in, change_by, change_text, done_in, own_text};
 ghost use Rattle.watch_text.specs.Changes.{reply_part, taken_text};
 ghost use Rattle.watch_text.specs.Lines.{rest_text};
 ghost use Rattle.watch_text.specs.Moments.{task_of};
@@ -14,7 +14,7 @@ use crate::about::About;
 use crate::asking::Asked;
 use crate::before::Before;
 use crate::change::put_taken_by;
-use crate::effect::Effect;
+use crate::effect::AttemptEffect;
 use crate::fields::{put_field, put_text, put_word_field};
 use crate::own::put_own;
 use crate::words::reply_word;
@@ -39,9 +39,9 @@ fn put_made<N: Naming>(
     table: &[Option<Before>],
     asked: &Asked,
     about: &About,
-    effect: &Effect,
+    effect: &AttemptEffect,
 ) -> Result<(), AllocError>
-    requires { (leg : LegValue) → IsFound {N = N} table.now state.now.view (asks_of asked.now leg) (task_of about.now)
+    requires { (leg : LegValue) → AreFound {N = N} table.now state.now.view (asks_of asked.now leg) (task_of about.now)
         about.now.request effect.now.arrived effect.now.affected.items }
     ensures { (leg : LegValue) → let asks = asks_of {N = N} asked.now leg in
         let task = task_of about.now in
@@ -61,9 +61,9 @@ fn put_change<N: Naming>(
     table: &[Option<Before>],
     asked: &Asked,
     about: &About,
-    effect: &Effect,
+    effect: &AttemptEffect,
 ) -> Result<(), AllocError>
-    requires { (leg : LegValue) → IsFound {N = N} table.now state.now.view (asks_of asked.now leg) (task_of about.now)
+    requires { (leg : LegValue) → AreFound {N = N} table.now state.now.view (asks_of asked.now leg) (task_of about.now)
         about.now.request effect.now.arrived effect.now.affected.items }
     ensures { (leg : LegValue) → OnOk result (string_bytes line.new ≡ string_bytes line.old
         ++ change_text table.now effect.now.output state.now.view (asks_of {N = N} asked.now leg) (task_of about.now)
@@ -83,9 +83,9 @@ fn put_change_by<N: Naming>(
     table: &[Option<Before>],
     asked: &Asked,
     about: &About,
-    effect: &Effect,
+    effect: &AttemptEffect,
 ) -> Result<(), AllocError>
-    requires { effect.now.reply ≡ replies.Ok → (leg : LegValue) → IsFound {N = N} table.now state.now.view
+    requires { effect.now.reply ≡ replies.Ok → (leg : LegValue) → AreFound {N = N} table.now state.now.view
         (asks_of asked.now leg) (task_of about.now) about.now.request effect.now.arrived effect.now.affected.items }
     ensures { (leg : LegValue) → OnOk result (string_bytes line.new ≡ string_bytes line.old
         ++ change_by effect.now.reply (change_text table.now effect.now.output state.now.view
@@ -111,9 +111,9 @@ pub fn put_rest<N: Naming>(
     table: &[Option<Before>],
     asked: &Asked,
     about: &About,
-    effect: &Effect,
+    effect: &AttemptEffect,
 ) -> Result<(), AllocError>
-    requires { effect.now.reply ≡ replies.Ok → (leg : LegValue) → IsFound {N = N} table.now state.now.view
+    requires { effect.now.reply ≡ replies.Ok → (leg : LegValue) → AreFound {N = N} table.now state.now.view
         (asks_of asked.now leg) (task_of about.now) about.now.request effect.now.arrived effect.now.affected.items }
     ensures { (leg : LegValue) → OnOk result (string_bytes line.new ≡ string_bytes line.old
         ++ rest_text table.now effect.now.output state.now.view (asks_of {N = N} asked.now leg) (task_of about.now)

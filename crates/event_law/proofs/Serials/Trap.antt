@@ -13,7 +13,7 @@ use Rattle.pending_list.specs.declared.task.PendingTask.{PendingTask}
 use Rattle.serial_machine.specs.Turn.{TrapsSo, context_in_bag}
 use Rattle.task_desc.specs.declared.desc.Name.{Name}
 use Rattle.task_law.specs.Domains.{FitsBags}
-use Rattle.task_law.specs.Logged.{IsTrapped, LoggedRun}
+use Rattle.task_law.specs.Logged.{TrapsWithLog, LoggedRun}
 use Rattle.task_law.specs.Tasks.{pending}
 use Rattle.task_law.proofs.Proved.{contexts_fit, logged_trap_is_serial}
 use Rattle.task_request.specs.TaskState.{task_at_start}
@@ -97,10 +97,10 @@ module _ (image : ImageValue) (view : View) (within : IsImage image) (sound : So
   sized = run_sized image view.settings.budget view.history sound.serial within sound.is_run
 
   -- its run by its log comes to the trap in its serial turn
-  traps_so : IsTrapped image view.settings.budget (length sound.serial.memory) (context_in_bag image.version may.next.bag may.next.outer p) p is.task.log cause is.task.core.pc
+  traps_so : TrapsWithLog image view.settings.budget (length sound.serial.memory) (context_in_bag image.version may.next.bag may.next.outer p) p is.task.log cause is.task.core.pc
   traps_so =
-      subst (λ size. IsTrapped image view.settings.budget size (context_in_bag image.version may.next.bag may.next.outer p) p is.task.log cause is.task.core.pc) (sym sized)
-      (subst (λ ctx. IsTrapped image view.settings.budget image.data_size ctx p is.task.log cause is.task.core.pc) (sym same_context)
+      subst (λ size. TrapsWithLog image view.settings.budget size (context_in_bag image.version may.next.bag may.next.outer p) p is.task.log cause is.task.core.pc) (sym sized)
+      (subst (λ ctx. TrapsWithLog image view.settings.budget image.data_size ctx p is.task.log cause is.task.core.pc) (sym same_context)
       (record {
         before = done_so_far image view.version view.settings.budget is.task;
         run = subst (λ v. LoggedRun image view.settings.budget image.data_size (start_context view.version is.task)

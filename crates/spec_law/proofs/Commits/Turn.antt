@@ -15,7 +15,7 @@ use Rattle.serial_machine.specs.Turn.{turn, stack_after, context_in_bag, run_in_
 use Rattle.serial_machine.proofs.Proved.{IsStack-inner}
 use Rattle.task_law.specs.Commit.{Matches, HasTurn, HaveDomains, IsLeastInBags, IsNextTurn}
 use Rattle.task_law.specs.Domains.{FitsBags, KeepsDomains}
-use Rattle.task_law.specs.Logged.{LoggedRun, IsFinished}
+use Rattle.task_law.specs.Logged.{LoggedRun, FinishesWithLog}
 use Rattle.task_law.specs.Sound.{AreSound}
 use Rattle.task_law.specs.Tasks.{pending}
 use Rattle.task_law.proofs.Proved.{commit_is_turn, contexts_fit, end_on, finished, have_domains, least_has_turn, logged_on, logged_run_is_turn, turns_keep_domains}
@@ -134,11 +134,11 @@ module _ (image : ImageValue) (old new : View) (sound : Sound image old) (commit
   after = done_so_far image old.version old.settings.budget commit.task
 
   -- so its run by its log is a finished one on the serial machine's memory
-  ends_so : IsFinished image old.settings.budget (length sound.serial.memory) (context_in_bag image.version next.bag next.outer p) p commit.task.log after
+  ends_so : FinishesWithLog image old.settings.budget (length sound.serial.memory) (context_in_bag image.version next.bag next.outer p) p commit.task.log after
   ends_so =
       let end = ended.1 in
       let start = task_at_start old.version commit.task.entry commit.task.key.ts commit.task.args [] in
-      subst (λ ctx. IsFinished image old.settings.budget (length sound.serial.memory) ctx p commit.task.log after) (sym same_context)
+      subst (λ ctx. FinishesWithLog image old.settings.budget (length sound.serial.memory) ctx p commit.task.log after) (sym same_context)
       (record {
         before = end.before;
         run = subst (λ v. LoggedRun image old.settings.budget (length sound.serial.memory) (start_context old.version commit.task)

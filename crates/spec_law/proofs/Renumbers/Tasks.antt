@@ -16,7 +16,7 @@ use Rattle.task_desc.specs.declared.desc.Place.TheVariants.{Same, Sub, Super}
 use Rattle.task_desc.specs.declared.desc.Spawn.{Spawn}
 use Rattle.task_law.specs.Commit.{Matches}
 use Rattle.task_law.specs.Domains.{Domain, FitsBags}
-use Rattle.task_law.specs.Logged.{Asks, LoggedRun}
+use Rattle.task_law.specs.Logged.{CoreAsks, LoggedRun}
 use Rattle.task_law.specs.Sound.{AreSound}
 use Rattle.spec_state.specs.declared.task.Creator.TheVariants.{Committed, Live}
 use Rattle.spec_state.specs.declared.task.Status.{Status}
@@ -119,7 +119,7 @@ module _ (table : List ℕ) where
     ran t p done = subst (λ ctx. LoggedRun image budget image.data_size ctx (task_at_start version t.entry t.key.ts t.args []) t.log p) (sym (context_same version t)) done
 
     asks : (t : Task) (p : TaskState) (request : Request) → AsksNext image version budget t p request → AsksNext image version budget (renumbered_task table t) p request
-    asks t p request asked = subst (λ ctx. Asks image budget image.data_size ctx p request) (sym (context_same version t)) asked
+    asks t p request asked = subst (λ ctx. CoreAsks image budget image.data_size ctx p request) (sym (context_same version t)) asked
 
     is_still : (t : Task) → is_dispatched t ≡ true → is_dispatched (renumbered_task table t) ≡ true
     is_still t runs = is_some_mapped (place_in table) t.key.tb ∙ runs
