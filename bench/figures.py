@@ -2,6 +2,7 @@
 import csv
 import dataclasses
 import io
+import math
 import os
 import pathlib
 
@@ -64,10 +65,19 @@ def write(figures, path):
     write_whole({need_writable(path): sink.getvalue().encode()})
 
 
+def rows_in(path):
+    """The rows of a file."""
+    rows = csv.reader(io.StringIO(read_written(path)))
+    try:
+        yield from rows
+    except csv.Error as error:
+        raise Refused(f"{path}:{rows.line_num}: this is no row of CSV: {error}.") from None
+
+
 def read(path):
     """The values of a file by key."""
     values = {}
-    for number, row in enumerate(csv.reader(io.StringIO(read_written(path))), 1):
+    for number, row in enumerate(rows_in(path), 1):
         if number == 1 and row != HEAD:
             raise Refused(f"{path}: these are no figures: the first line isn't `{','.join(HEAD)}`.")
         if number == 1:
@@ -75,6 +85,8 @@ def read(path):
         try:
             name, case, figure, text = row
             value = float(text)
+            if not math.isfinite(value):
+                raise ValueError
         except ValueError:
             raise Refused(f"{path}:{number}: this is no figure: a table, a case, a figure and a number are "
                           "wanted.") from None

@@ -244,7 +244,7 @@ def saved(name, commits):
     """The image from which a stored run goes on behind so many commits."""
     image = read_image(stored(name), name)
     machine = Machine(image)
-    machine.follow(read_report(stored(name, "report").decode(), name).entries[:commits])
+    machine.follow(read_report(stored(name, "report").decode("utf-8", "replace"), name).entries[:commits])
     left = sorted((task for task in machine.tasks.values() if not task.turn),
                   key=lambda task: (task.name.creator, task.name.index))
     tasks = [InitialTask(task.entry, task.timestamp, task.arguments) for task in left]

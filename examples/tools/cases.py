@@ -13,7 +13,7 @@ import time
 
 from tools.answers import Case
 from tools.command import Refused, say
-from tools.examples import HERE, SCHEDULES
+from tools.examples import HERE, SCHEDULES, words_of
 from tools.launching import end_all, launched
 from tools.program import PROGRAM, STATUSES, end_of
 from tools.report import read_report
@@ -30,7 +30,7 @@ def cases_of(name):
     folder = HERE / name
     image = (folder / "image.bin").read_bytes()
     if name in SCHEDULES:
-        words, given = (folder / "words").read_text().split(), image + (folder / "script").read_bytes()
+        words, given = words_of(name), image + (folder / "script").read_bytes()
         stored = (folder / "said").read_bytes()
     else:
         words, given, stored = ["run"], image, (folder / "report").read_bytes()

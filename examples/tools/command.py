@@ -80,10 +80,14 @@ def say(name, sentence):
         return
     # A line of progress may stand on a terminal.
     clear = "\r\x1b[K" if sys.stderr.isatty() else ""
-    # A sentence may cite what stands in a file.
-    shown = "".join(it if it.isprintable() or it == "\n" else ascii(it)[1:-1] for it in str(sentence))
     with contextlib.suppress(OSError):
-        print(f"{clear}{name}: {shown}", file=sys.stderr, flush=True)
+        # A sentence may cite what stands in a file.
+        print(f"{clear}{name}: {without_controls(sentence)}", file=sys.stderr, flush=True)
+
+
+def without_controls(text):
+    """A text in which what isn't printable, such as a byte of a path that is no text, is written as in Python."""
+    return "".join(it if it.isprintable() or it == "\n" else ascii(it)[1:-1] for it in str(text))
 
 
 def note(sentence):
@@ -179,6 +183,26 @@ def need_writable(path):
     if path.exists() and not os.access(path, os.W_OK):
         raise Refused(f"{path}: it can't be written: permission denied.")
     return path
+
+
+def need_outputs(outputs, inputs):
+    """Holds files that can be written to be none of the files that are read, and none of each other; `-` is standard
+    input, and an output that is None isn't asked for."""
+    outputs = [path for path in outputs if path is not None]
+    for place, path in enumerate(outputs):
+        need_writable(path)
+        if any(is_same_file(path, other) for other in inputs):
+            raise Refused(f"{path}: this is read, so it isn't written too.")
+        if any(path == other != os.devnull or is_same_file(path, other) for other in outputs[:place]):
+            raise Refused(f"{path}: two outputs can't be one file.")
+
+
+def is_same_file(one, other):
+    """Whether two paths lead to one file, also one that isn't there yet; what is written to no file is never one."""
+    with contextlib.suppress(OSError):
+        found = os.stat(one)
+        return stat.S_ISREG(found.st_mode) and os.path.samestat(found, os.stat(0 if str(other) == "-" else other))
+    return not os.path.exists(one) and os.path.realpath(one) == os.path.realpath(other)
 
 
 def umask():

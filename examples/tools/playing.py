@@ -1,5 +1,5 @@
 """Scripts as people write them, with comments and blank lines, and how they are played by the launcher."""
-from tools.command import Refused, number_in, read_bytes, take_option
+from tools.command import Refused, number_in, read_bytes, read_text, take_option
 from tools.launching import launched
 from tools.refusals import script_fault, shown
 from tools.schedules import read_played, read_script
@@ -22,8 +22,11 @@ def options_in(words, table):
 def options_beside(place, table):
     """The options that the file `words` of a folder has, if there is one; it may begin with a command."""
     file = place / "words"
-    words = file.read_text().split() if file.is_file() else []
-    return options_in([word for word in words if word not in table.commands], table)[0]
+    words = read_text(file).split() if file.is_file() else []
+    options, rest = options_in([word for word in words if word not in table.commands], table)
+    if rest:
+        raise Refused(f"{file}: `{rest[0]}` is neither a command nor an option with its value.")
+    return options
 
 
 def read_lines(path):

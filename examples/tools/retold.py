@@ -4,7 +4,8 @@ import itertools
 import json
 import subprocess
 
-from tools.examples import HERE, SCHEDULES
+from tools.command import Refused, read_text
+from tools.examples import HERE, SCHEDULES, words_of
 from tools.program import SECOND_PROGRAM, STATUSES, end_of
 from tools.report import read_report
 
@@ -12,10 +13,22 @@ from tools.report import read_report
 MADE = ("moved", "committed")
 
 
-def replies_said(said):
+def replies_said(said, name):
     """The reply to each act, and how many tasks it took back, of what `steps` wrote before its report."""
     pairs = [line.split() for line in said.partition("fractal 1\n")[0].splitlines()]
-    return [("ok" if reply in MADE else reply, int(count)) for reply, count in pairs]
+    try:
+        return [("ok" if reply in MADE else reply, int(count)) for reply, count in pairs]
+    except ValueError:
+        raise Refused(f"{name}: what is stored isn't what `steps` says: a line is no reply with a number.") from None
+
+
+def lines_in(told):
+    """What each line of a text tells; None where there is none, or one that is no object in JSON."""
+    try:
+        lines = [json.loads(line) for line in told.splitlines()]
+    except (ValueError, RecursionError):
+        return None
+    return lines if lines and all(isinstance(line, dict) for line in lines) else None
 
 
 def replies_told(lines):
@@ -39,14 +52,15 @@ def retold_fault(name):
     """What is wrong with what the second program tells of a schedule; None where it agrees with the first one, and with
     what was worked out by hand."""
     folder = HERE / name
-    said = (folder / "said").read_text(encoding="ascii")
+    said = read_text(folder / "said")
     given = (folder / "image.bin").read_bytes() + (folder / "script").read_bytes()
-    words = (folder / "words").read_text(encoding="ascii").split()
-    made = subprocess.run([SECOND_PROGRAM, *words], input=given, stdout=subprocess.PIPE, check=False)
+    made = subprocess.run([SECOND_PROGRAM, *words_of(name)], input=given, stdout=subprocess.PIPE, check=False)
     if fault := worked_fault(folder, made.stdout):
         return fault
-    lines = [json.loads(line) for line in made.stdout.splitlines()]
-    if replies_told(lines) != replies_said(said):
+    lines = lines_in(made.stdout)
+    if lines is None:
+        return f"the second program, of status {made.returncode}, tells what is no line of JSON for each act"
+    if replies_told(lines) != replies_said(said, name):
         return "the second program tells other replies than steps says"
     report = "fractal 1\n" + said.partition("fractal 1\n")[2]
     end, entries = end_of(report.encode()), read_report(report, f"{name}: its report").entries

@@ -326,6 +326,28 @@ def wide_lines_only_fall(place):
     expect(answer.status == 0 and b"break" not in answer.output, "no failure where their number stays", answer)
 
 
+def odd_sources_are_told(place):
+    """the lint takes no words, and tells a source that is no text, and an edit or a version that isn't whole"""
+    expect(b"WIDE_LINES" in place.call(".ci/lint", "--help").output, "a help page")
+    place.call(".ci/lint", "crates").sentence("`crates`")
+    edit = next(iter(sorted((place.clone / "crates").glob("*/must-fail/*.edit"))))
+    edit.write_text("old: x\nnew: y\n")
+    (place.clone / "CHANGELOG.md").write_text("# Changes\n")
+    answer = place.call(".ci/lint")
+    expect((answer.status, answer.errors) == (1, ""), "a failure", answer)
+    for part in (f"{edit.name}: `old` stands before", f"{edit.name}: `new` stands before", "newest version is None"):
+        expect(part in answer.output.decode(), f"`{part}`", answer)
+    edit.write_bytes(b"\xff\n")
+    place.call(".ci/lint").sentence(edit.name, "no text in UTF-8")
+
+
+def clones_that_fail_are_told(place):
+    """where no clone can be made, the tries say so and leave nothing"""
+    shutil.rmtree(place.clone / ".git")
+    place.call("examples/tries", "help_is").sentence("can't be cloned")
+    expect(not any(place.temporary.iterdir()), "no temporary file")
+
+
 # ---- sweep
 
 
@@ -492,7 +514,8 @@ TRIES = (
     faults_are_explained, other_runs_are_refused, played_scripts_are_explained, explanations_are_for_programs,
     explain_refuses_bad_files, closed_pipes_are_borne, accepted_examples_are_named, one_unproved_run_plays_all,
     other_reports_fail, worked_lines_are_held,
-    lying_programs_fail, each_fails_the_gate, wide_lines_only_fall, grids_are_swept, broken_programs_are_rows,
+    lying_programs_fail, each_fails_the_gate, wide_lines_only_fall, odd_sources_are_told,
+    clones_that_fail_are_told, grids_are_swept, broken_programs_are_rows,
     files_are_written_through, shards_are_joined,
     loads_are_swept, progress_is_shown, sweep_refuses_bad_words, interrupted_sweeps_leave_nothing,
     programs_are_handed_on,

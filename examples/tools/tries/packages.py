@@ -66,6 +66,7 @@ def packages_are_installed(place):
     for file in ("bash-completion/completions/fractal", "zsh/site-functions/_fractal", "man/man1/fractal.1"):
         expect("fractal" in (prefix / "share" / file).read_text(), f"{file}")
     expect(sorted(path.name for path in (prefix / "lib").iterdir()) == ["fractal"], "nothing else")
+    others_files_stay(place, str(unpacked / "install"))
     (prefix / "lib" / "fractal" / "PACKAGE").unlink()
     one_sentence_each([
         (place.call(str(unpacked / "install"), str(prefix)), ["isn't of an earlier archive"]),
@@ -73,7 +74,24 @@ def packages_are_installed(place):
         (place.call(str(unpacked / "install"), "--fast"), ["`--fast`"]),
         (place.call(str(unpacked / "install"), "one", "two"), ["one PREFIX"]),
         (place.call(".ci/install"), ["no archive that was unpacked"]),
+        (place.call(str(unpacked / "install"), ""), ["PREFIX is empty"]),
+        (place.call(str(unpacked / "install"), str(unpacked)), ["within the archive"]),
     ])
+
+
+def others_files_stay(place, install):
+    """Holds a file of another origin, or a folder, in the place of a link to be left as it is."""
+    for number, file in enumerate(("bin/fractal", "share/man/man1/fractal.1", "share/zsh/site-functions/_fractal")):
+        path = place.root / f"prefix {number}" / file
+        path.parent.mkdir(parents=True)
+        path.write_text("mine")
+        place.call(install, str(place.root / f"prefix {number}")).sentence(path.name, "so it stays")
+        expect(path.read_text() == "mine" and not path.is_symlink(), "the file", path)
+        path.unlink()
+        path.mkdir()
+        place.call(install, str(place.root / f"prefix {number}")).sentence(path.name, "so it stays")
+        expect(not any(path.iterdir()), "an empty folder", path)
+        expect(not any((place.root / f"prefix {number}" / "lib").iterdir()), "nothing else")
 
 
 def packages_are_of_one_commit(place):

@@ -13,6 +13,7 @@ import tempfile
 import termios
 import time
 
+from tools.command import Refused
 from tools.examples import HERE
 from tools.program import PROGRAM, SECOND_PROGRAM
 
@@ -91,7 +92,18 @@ class Place:
         self.second_program = self.clone / SECOND_PROGRAM.relative_to(HERE.parent)
         self.environment = {**os.environ, "TMPDIR": str(self.temporary)}
         self.is_unwritable = False
-        subprocess.run(["git", "clone", "-q", HERE.parent, self.clone], check=True, stdin=subprocess.DEVNULL)
+        try:
+            self.make_clone()
+        except BaseException:
+            self.remove()
+            raise
+
+    def make_clone(self):
+        done = subprocess.run(["git", "clone", "-q", HERE.parent, self.clone], stdin=subprocess.DEVNULL,
+                              stderr=subprocess.PIPE, text=True, errors="replace")
+        if done.returncode != 0:
+            last = (done.stderr.strip().splitlines() or [f"git ended with status {done.returncode}"])[-1]
+            raise Refused(f"{HERE.parent}: it can't be cloned: {last}")
 
     def remove(self):
         if self.is_unwritable:

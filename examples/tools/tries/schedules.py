@@ -114,6 +114,59 @@ def other_outputs_are_refused(place):
     place.is_clean()
 
 
+def inputs_are_kept(place):
+    """an output that is a file that is read, or another output, is refused before anything is written"""
+    folder = place.clone / "examples" / "schedules" / "conflict"
+    script, said = schedule(place, "conflict")
+    (place.root / "link").symlink_to(script)
+    before = {path: path.read_bytes() for path in folder.iterdir()}
+    play, tally = ["examples/play", str(folder)], ["examples/tally", script, said]
+    one_sentence_each([
+        *((place.call(*play, "--plain", str(folder / name)), [name, "is read"])
+          for name in ("script", "image.bin", "words")),
+        (place.call(*play, "--picture", "link"), ["link", "is read"]),
+        (place.call(*play, "--picture", "new", "--plain", "./new"), ["new", "one file"]),
+        (place.call(*play, "--picture", "/dev/stdout", "--plain", "/dev/stdout"), ["one file"]),
+        (place.call(*tally, "--csv", said), ["said", "is read"]),
+        (place.call(*tally, "--plot", script), ["script", "is read"]),
+        (place.call(*tally, "--plot", "new", "--csv", "new"), ["new", "one file"]),
+        (place.call(*tally, "--plot", ""), ["folder"]),
+        (place.call("/bin/sh", "-c", '"$0" "$1" - --csv "$2" <"$2"', place.command(tally[0]), *tally[1:]), ["is read"]),
+    ])
+    expect(before == {path: path.read_bytes() for path in folder.iterdir()}, "the same files")
+    expect(not (place.root / "new").exists(), "no output")
+
+
+def odd_names_are_borne(place):
+    """a name with bytes that are no text, or with controls, stands escaped in tables, CSV and a well-formed plot"""
+    script, said = schedule(place, "conflict")
+    other = written(place, "said\udcff\x01", pathlib.Path(said).read_bytes())
+    answer = place.call("examples/tally", script, said, other, "--csv", "t.csv", "--plot", "p.svg")
+    expect((answer.status, answer.errors) == (0, ""), "a table", answer)
+    shown = "said\\udcff\\x01"
+    for text in (answer.output.decode(), (place.root / "t.csv").read_text(), " ".join(
+            picture_in((place.root / "p.svg").read_bytes()))):
+        expect(shown in text, f"`{shown}`", text)
+
+
+def odd_stored_words_are_told(place):
+    """stored words or outputs that are none are told in a sentence by all that play them"""
+    place.stub(place.program, "cat >/dev/null\n")
+    place.stub(place.second_program, "cat >/dev/null; echo '[1'\n")
+    answer = place.call("examples/check", "answers")
+    expect(answer.status == 1 and b"tells what is no line of JSON" in answer.output, "a failure", answer)
+    folder = place.clone / "examples" / "schedules" / "conflict"
+    (folder / "said").write_bytes(b"\xff\xfe\n")
+    place.stub(place.second_program, "cat >/dev/null; echo '{}'\n")
+    place.call("examples/check", "answers").tells("conflict", "isn't what `steps` says")
+    for words, part in ((b"\xff\0", "no words of a call"), (b"", "no words of a call")):
+        (folder / "words").write_bytes(words)
+        place.call("examples/check", "schedules/conflict").sentence("words", part)
+    for words, part in ((b"\xff --tiles 2", "neither a command"), (b"steps --towers 2", "`--towers`")):
+        (folder / "words").write_bytes(words)
+        place.call("examples/play", str(folder)).sentence("words", part)
+
+
 # ---- lockstep and generate
 
 
@@ -351,7 +404,7 @@ def benches_are_told(place):
     """the bench tells its words, refuses others, wants the built program, and tells what is worse in a second file"""
     expect(b"--lockstep" in place.call("bench/run", "--help").output, "a help page")
     before = place.clone / "bench" / "before"
-    old, new = str(before / "version_1.csv"), str(before / "version_2.csv")
+    old, new, head = str(before / "version_1.csv"), str(before / "version_2.csv"), b"table,case,figure,value\n"
     answer = place.call("bench/run", "--compare", old, new)
     expect((answer.status, answer.errors) == (1, "") and b"| load nest 0 1000 | host instructions |" in answer.output,
            "what is worse, and status 1", answer)
@@ -364,7 +417,12 @@ def benches_are_told(place):
         (place.call("bench/run", "--loads", "--csv"), ["--csv"]),
         (place.call("bench/run", "--compare", old), ["bench/run --help"]),
         (place.call("bench/run", "--compare", old, str(place.clone / "README.md")), ["README.md", "no figures"]),
+        *((place.call("bench/run", "--compare", old, written(place, "odd.csv", head + row)), ["odd.csv:2:", part])
+          for row, part in ((b"a,b,c,nan\n", "no figure"), (b"a,b,c,1e999\n", "no figure"),
+                            (b"a," + b"b" * 200_000 + b",c,1\n", "no row of CSV"))),
     ])
+    place.stub(place.program, "cat >/dev/null\n")
+    place.call("bench/run", "--workers", "--csv=").sentence("folder")
 
 
 def programs_are_held_against_each_other(place):
@@ -387,6 +445,9 @@ def programs_are_held_against_each_other(place):
         (place.call("bench/same", one, one, "--jobs", "0"), ["--jobs"]),
         (place.call("bench/same", one, one, "9", "--case", "3"), ["one case"]),
         (place.call("bench/same", one, one, "--to", "nowhere"), ["nowhere", "no such folder"]),
+        (place.call("bench/same", one, other, "40", "--to", str(kept)), ["`input`", "there already"]),
+        *((place.call("bench/same", one, one, f"{option}="), [option]) for option in ("--seed", "--jobs", "--to")),
+        (place.call("bench/same", one, one, "--case="), ["--case takes a number"]),
     ])
 
 
@@ -406,7 +467,8 @@ def interrupted_plays_leave_nothing(place):
 
 TRIES = (
     schedules_are_drawn, long_schedules_are_drawn, schedules_are_summed_up, other_outputs_are_refused,
-    lockstep_is_written, images_are_generated, studies_are_made, studies_have_the_acts_of_schedules,
+    inputs_are_kept, odd_names_are_borne, odd_stored_words_are_told, lockstep_is_written,
+    images_are_generated, studies_are_made, studies_have_the_acts_of_schedules,
     endless_choices_are_rows, pages_are_made_again, study_is_as_it_was, threads_are_checked,
     swept_threads_are_checked, scarce_memory_is_answered, refused_allocations_are_answered, benches_are_told,
     programs_are_held_against_each_other,

@@ -271,6 +271,7 @@ def play_refuses_bad_words(place):
         (place.call(play, str(folder), "--image", image), ["script:3:", "`step 4 0`", "no tile 4"]),
         (place.call(play, str(folder), "--image", image, "--tiles", "17"), ["1 to 16", "`17`"]),
         (place.call(play, str(folder), "--image", image, "--towers", "1"), ["`--towers`"]),
+        (place.call(play, str(folder), "--image", image, "--picture", ""), ["folder"]),
         (place.call(play, str(folder), "--image", image, "--picture", "nowhere/x"), ["nowhere/x", "no such folder"]),
         (place.call(play, str(folder), "--tiles"), ["value is missing"]),
     ])
