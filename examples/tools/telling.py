@@ -9,13 +9,23 @@ import re
 WORDS = ("dispatch", "step", "take", "give", "abort", "commit", "coalesce", "split", "advance")
 # Those that are events; the others are told under their own word where no event was handed in.
 EVENTS = ("dispatch", "step", "abort", "commit", "coalesce", "split")
-REPLIES = ("ok", "empty", "busy", "stall", "stale", "firm", "ended")
+# The replies that an act may have; each may also come after the run's end.
+REPLIES = {
+    "dispatch": ("ok", "empty", "busy"), "step": ("ok", "stale"), "take": ("ok", "stale"), "give": ("stale",),
+    "abort": ("ok", "empty", "firm"), "commit": ("ok", "empty"), "coalesce": ("ok", "empty"),
+    "split": ("ok", "empty", "stall"), "advance": (),
+}
+ENDED = "ended"
+# A step may stall where its task asks for these.
+STALLING = ("enqueue", "end")
 KINDS = ("ordered", "unordered")
 STATES = ("idle", "running", "trapped", "finished")
 COURSES = ("steps", "least", "lockstep")
 ENDS = ("normal", "limit", "open", "trap")
 SETTINGS = ("tiles", "cores", "task_queue", "commit_queue", "line", "quantum", "commits", "budget", "phase")
-DIGITS = re.compile("[0-9]+")
+# No number of the second program has more digits: a skeleton with a longer one is never known.
+MOST_DIGITS = 20
+DIGITS = re.compile(f"[0-9]{{1,{MOST_DIGITS}}}")
 MOST_SKELETONS = 4_096
 MOST_SHOWN = 40
 DECODER = json.JSONDecoder()
@@ -26,7 +36,7 @@ class Wrong(Exception):
 
 
 def is_number(value):
-    return type(value) is int and value >= 0
+    return type(value) is int and 0 <= value < 10 ** MOST_DIGITS
 
 
 def is_number_or_null(value):
@@ -126,6 +136,11 @@ def leg_fields(line):
     return (("leg", NUMBER), ("pc", NUMBER), ("asks", one_of(*ASKED)), *ASKED.get(asks, ()))
 
 
+def replies_of(line):
+    stall = ("stall",) if line["do"] == "step" and line.get("asks") in STALLING else ()
+    return (*REPLIES[line["do"]], *stall, ENDED)
+
+
 def change_fields(line):
     if line.get("reply") != "ok" or line["do"] not in EVENTS:
         return ()
@@ -138,8 +153,8 @@ def act_fields(line):
         return PLACED
     if word not in PLACES:
         raise Wrong("`do` names neither an event nor an act")
-    return (("at", NUMBER), ("do", one_of(word)), *PLACES[word], *leg_fields(line), ("reply", one_of(*REPLIES)),
-            ("n", NUMBER), *change_fields(line))
+    return (("at", NUMBER), ("do", one_of(word)), *PLACES[word], *leg_fields(line),
+            ("reply", one_of(*replies_of(line))), ("n", NUMBER), *change_fields(line))
 
 
 def fields_of(line):

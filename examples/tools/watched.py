@@ -73,7 +73,9 @@ class Task:
         """Its name as in a report; of a task that has none, its place among the children of its creator."""
         if self.name is not None:
             return f"{self.name[0]}.{self.name[1]}"
-        return f"child {self.index} of {self.creator.told_name()}"
+        if self.creator.name is not None:
+            return f"child {self.index} of {self.creator.told_name()}"
+        return f"child {self.index} of a task without a name"
 
 
 class Taken(NamedTuple):
@@ -198,6 +200,10 @@ class Machine:
             need_below(line["core"], self.head["cores"], "a core")
         if "task" in line:
             told.task = self.task_at(line["task"])
+        if "leg" in line and told.task is None:
+            raise Wrong("no task is told that takes this leg")
+        if line["do"] == "take" and line["reply"] == "ok" and self.cores[line["tile"]][line["core"]] is None:
+            raise Wrong(f"core {line['core']} of tile {line['tile']} holds no task")
         if told.is_made:
             self.events += 1
             self.force(told, line)
@@ -223,8 +229,8 @@ class Machine:
     def take_back(self, told, line):
         if line.get("asks", line["do"]) not in TAKING_BACK:
             raise Wrong("such an act takes no task back")
-        gone = set(line.get("gone", ()))
-        if line.get("aborted") != len(line["back"]) or not gone <= {row[0] for row in line["back"]}:
+        gone, back = set(line.get("gone", ())), {row[0] for row in line["back"]}
+        if line.get("aborted") != len(line["back"]) or len(back) < len(line["back"]) or not gone <= back:
             raise Wrong("how many tasks it takes back, and which, don't go together")
         told.taken = [self.taken_of(number, work, number in gone) for number, work in line["back"]]
         if self.memory is not None:
@@ -311,6 +317,8 @@ class Machine:
         task.subdomain = line["asks"]
 
     def emit(self, _told, task, line):
+        if line["byte"] > 0xFF:
+            raise Wrong(f"{line['byte']} is no byte")
         task.emitted.append(line["byte"])
 
     def finish(self, _told, task, _line):
@@ -344,6 +352,10 @@ class Machine:
         self.commits += 1
         for child in task.children:
             child.name, child.creator = (self.commits, child.index), None
+
+    def abort(self, told, _line):
+        if told.task is None:
+            raise Wrong("it takes no task back")
 
     def nothing_more(self, _told, _line):
         """An event that is whole with what it forces."""
@@ -381,7 +393,7 @@ class Machine:
         return [(address, self.word(address)) for address in sorted({address & ~3 for address in self.memory})]
 
 
-MADE = {"dispatch": Machine.dispatch, "step": Machine.step, "abort": Machine.nothing_more, "commit": Machine.commit,
+MADE = {"dispatch": Machine.dispatch, "step": Machine.step, "abort": Machine.abort, "commit": Machine.commit,
         "coalesce": Machine.nothing_more, "split": Machine.split}
 REQUESTS = {"load": Machine.load_or_store, "store": Machine.load_or_store, "enqueue": Machine.enqueue,
             "ordered": Machine.make_subdomain, "unordered": Machine.make_subdomain, "emit": Machine.emit,
@@ -461,7 +473,8 @@ def need_head(head):
         raise Wrong("the first line isn't the head of what the second program tells")
     if head["watch"] != 1:
         raise Wrong(f"these are lines of version {head['watch']}, and 1 is known")
-    if not (1 <= head["tiles"] <= MOST_TILES and 1 <= head["cores"] <= MOST_CORES and head["line"]):
+    if not (1 <= head["tiles"] <= MOST_TILES and 1 <= head["cores"] <= MOST_CORES and head["line"]
+            and head["tasks"]):
         raise Wrong("no machine has these settings")
 
 
