@@ -205,6 +205,16 @@ def is_same_file(one, other):
     return not os.path.exists(one) and os.path.realpath(one) == os.path.realpath(other)
 
 
+def encoded(text):
+    """A text as a file has it; bytes in names of files that are no text are told as on standard output."""
+    return text.encode("utf-8", "backslashreplace")
+
+
+def is_at_terminal():
+    """Whether a terminal shows standard error."""
+    return sys.stderr is not None and sys.stderr.isatty()
+
+
 def umask():
     """The bits that a new file hasn't. They can't be read without being set."""
     bits = os.umask(0o077)

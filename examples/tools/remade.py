@@ -8,7 +8,7 @@ import shlex
 import subprocess
 import tempfile
 
-from tools.command import Refused, need_words, read_text, say, write_whole
+from tools.command import Refused, need_words, need_writable, read_bytes, say, write_whole
 from tools.examples import HERE
 
 FENCE, SCRIPTS, INTO = "```", "examples/", ">"
@@ -18,7 +18,13 @@ class Page:
     """The lines of a page."""
 
     def __init__(self, path):
-        self.path, self.lines = path, read_text(path).split("\n")
+        self.path, self.data = path, read_bytes(path)
+        try:
+            text = self.data.decode()
+        except UnicodeDecodeError:
+            raise Refused(f"{path}: this is no text in UTF-8.") from None
+        self.newline = "\r\n" if 0 < text.count("\n") == text.count("\r\n") else "\n"
+        self.lines = text.split(self.newline)
 
     def blocks(self):
         """The places of the first and behind the last line of each block of commands."""
@@ -40,23 +46,49 @@ class Page:
         return None
 
 
+    def write(self):
+        """Writes the lines, unless someone else wrote the page meanwhile."""
+        if read_bytes(self.path) != self.data:
+            raise Refused(f"{self.path}: it was changed while its commands were called, so it stays as it is.")
+        write_whole({self.path: self.newline.join(self.lines).encode()})
+
+
+def words_of(line):
+    """The words of a line, as a shell takes them."""
+    if "\0" in line:
+        raise Refused(f"`{line}` has a byte 0, which no command takes.")
+    try:
+        return shlex.split(line)
+    except ValueError:
+        raise Refused(f"`{line}` breaks off within quotation marks or behind a backslash.") from None
+
+
 def called(line, folder):
     """What a line tells, unless it writes that to a file."""
-    words = shlex.split(line)
+    words = words_of(line)
     name = None
     if len(words) > 2 and words[-2] == INTO:
         *words, _, name = words
     command = HERE.parent / words[0]
     if command.parent != HERE or not command.is_file():
         raise Refused(f"`{line}` calls no script of {SCRIPTS}")
+    if name is not None and folder.resolve() not in (folder / name).resolve().parents:
+        raise Refused(f"`{line}` writes outside of the folder of its commands.")
     done = subprocess.run([command, *words[1:]], cwd=folder, capture_output=True, stdin=subprocess.DEVNULL)
     if done.returncode != 0:
         said = done.stderr.decode("utf-8", "replace").strip() or f"it ended with status {done.returncode}."
         raise Refused(f"`{line}`: {said}")
     if name is None:
-        return done.stdout.decode().splitlines()
+        return told_lines(line, done.stdout)
     write_whole({folder / name: done.stdout})
     return []
+
+
+def told_lines(line, data):
+    try:
+        return data.decode().splitlines()
+    except UnicodeDecodeError:
+        raise Refused(f"`{line}` tells no text; `{INTO} FILE` behind it writes that to a file.") from None
 
 
 def made(page, folder):
@@ -79,14 +111,20 @@ def main(path, words):
     """Makes the tables of a page again. The status is 1 where one differs and isn't replaced."""
     is_written = "--write" in words
     need_words([word for word in words if word != "--write"], 0, "study", "nothing more beside --page PAGE and --write")
+    if path == "-":
+        raise Refused("--page takes a file, and not standard input.")
     page = Page(path)
+    if not any(page.blocks()):
+        raise Refused(f"{path}: no block of this page has commands of {SCRIPTS} alone.")
+    if is_written:
+        need_writable(path)
     with tempfile.TemporaryDirectory() as folder:
         tables = made(page, pathlib.Path(folder))
     different = [(place, rows) for place, rows in tables if page.lines[slice(*place)] != rows]
     if is_written and different:
         for place, rows in different:
             page.lines[slice(*place)] = rows
-        write_whole({path: "\n".join(page.lines).encode()})
+        page.write()
     if different and not is_written:
         say("study", f"{len(different)} of {len(tables)} tables differ; --write replaces them.")
         return 1
