@@ -1,6 +1,7 @@
 """Tries of examples/figures, and of the reader of lines that it stands on."""
 import csv
 import json
+import os
 
 from tools.examples import SCHEDULES
 from tools.tries.others import picture_in
@@ -26,7 +27,7 @@ class Told:
     def act(self, word, change=None, reply="ok", **fields):
         """An act: what stands before its reply, and what its event changed."""
         self.acts += 1
-        self.events += reply == "ok"
+        self.events += reply == "ok" and word != "take"
         self.lines.append({"at": self.acts, "do": word, **fields, "reply": reply, "n": self.events, **(change or {})})
 
     def dispatch(self, task, tile, core, number):
@@ -218,6 +219,57 @@ def other_lines_are_refused(place):
     place.is_clean()
 
 
+def odd_acts_are_refused(place):
+    """acts that no machine tells, and numbers that are too long, are refused by figures and by the page"""
+    def odd(word, change=None, reply="ok", **fields):
+        told = Told([1], [0])
+        if word == "step":
+            told.dispatch(0, 0, 0, 0)
+        told.act(word, change, reply, **fields)
+        return told.end()
+
+    step = {"tile": 0, "core": 0, "leg": 0, "pc": 65_540}
+    child = {"to": "same", "entry": 65_536, "ts": 9, "args": [0, 0, 0], "hint": 0}
+    texts = {odd("abort", tile=0): "takes no task back", odd("take", tile=0, core=1): "holds no task",
+             odd("step", reply="stall", **step, asks="end"): "takes this leg",
+             odd("step", reply="stall", **step, asks="enqueue", **child): "takes this leg",
+             odd("step", tile=0, core=0, task=0, leg=0, pc=65_540, asks="emit", byte=256): "256 is no byte"}
+    whole = shared_words().end()
+    for old, new, part in ((b'"ts":1', b'"ts":' + b"9" * 4_000, "2: `ts`"), (b'"tasks":5', b'"tasks":0', "no machine"),
+                           (b"[1,5]", b"[2,1]", "how many tasks"), (b'"empty"', b'"busy"', "`reply` is `busy`"),
+                           (b'"commit","task":0,"reply":"empty"', b'"advance","reply":"ok"', "`reply` is `ok`")):
+        expect(old in whole, f"{old} in the text", whole)
+        texts[whole.replace(old, new, 1)] = part
+    for text, part in texts.items():
+        for script in ("figures", "show"):
+            place.call(f"examples/{script}", "-", stdin=text).sentence(f"{script}: -:", part)
+    place.is_clean()
+
+
+def no_text_is_lost(place):
+    """a text that is read isn't replaced, nor are two written to one file; a name that is no text is told in both"""
+    data = shared_words().end()
+    text = written(place, "lines", data)
+    (place.root / "link").symlink_to("lines")
+    figures = "examples/figures"
+    one_sentence_each([
+        (place.call(figures, text, "--csv", text), ["lines: this is read"]),
+        (place.call(figures, text, "--plot", "link"), ["link: this is read"]),
+        (place.call(figures, text, "--csv", "x", "--plot", "./x"), ["x: two outputs"]),
+        (place.call(figures, text, "--csv", ""), ["this is a folder"]),
+    ])
+    expect((place.root / "lines").read_bytes() == data and not (place.root / "x").exists(), "the text as it was")
+    named = place.root / os.fsdecode(b"odd \xff")
+    named.write_bytes(data)
+    answer = place.call(figures, named.name, text, "--csv", "x.csv", "--plot", "x.svg")
+    expect((answer.status, answer.errors) == (0, ""), "both texts in both files", answer)
+    for name in ("x.csv", "x.svg"):
+        expect("odd \\udcff" in (place.root / name).read_text(encoding="utf-8"), f"the name in {name}")
+    answer = place.call("/bin/sh", "-c", '"$0" lines 2>&-', str(place.command(figures)))
+    expect(answer.status == 0 and b"Commits" in answer.output, "a table without standard error", answer)
+    place.is_clean()
+
+
 def told_schedules_are_figured(place):
     """the lines of each schedule of the project are read whole, and those of the conflict have the figures counted"""
     place.needs_second_program()
@@ -235,4 +287,4 @@ def told_schedules_are_figured(place):
 
 
 TRIES = (figures_are_counted, work_is_summed_up, limits_are_counted, runs_stand_side_by_side, other_lines_are_refused,
-         told_schedules_are_figured)
+         odd_acts_are_refused, no_text_is_lost, told_schedules_are_figured)

@@ -1,5 +1,6 @@
 """Tries of schedules, pictures and sums of them, generated images, studies, and runs with threads or scarce memory."""
 import csv
+import os
 import pathlib
 import re
 import xml.etree.ElementTree
@@ -237,7 +238,12 @@ def studies_are_made(place):
         (place.call("examples/study", image, "--rounds", "0"), ["--rounds"]),
         (place.call("examples/study", image, "--columns", "end,time"), ["--columns", "`time`"]),
         (place.call("examples/study", image, "--csv", "nowhere/x"), ["nowhere/x", "no such folder"]),
+        (place.call("examples/study", image, "--csv", image), ["image: this is read"]),
+        (place.call("examples/study", image, image), ["stands twice"]),
     ])
+    odd = written(place, os.fsdecode(b"odd \xff"), (place.root / "image").read_bytes())
+    answer = place.call("examples/study", odd, "--csv", "x.csv")
+    expect(answer.status == 0 and "odd \\udcff" in (place.root / "x.csv").read_text(), "a name that is no text", answer)
 
 
 def studies_have_the_acts_of_schedules(place):
@@ -322,6 +328,37 @@ def pages_are_made_again(place):
         (place.call("examples/study", "--page", path, path), ["--page PAGE"]),
     ])
     place.is_clean()
+
+
+def odd_pages_are_refused(place):
+    """a page whose lines can't be called, that isn't text or that can't be written is told, and nothing is changed"""
+    study, block = "examples/study", "```\n{}\n```\n\n| A |\n"
+    other = place.root / "other"
+    for line, part in (("examples/lockstep '1 1 1", "quotation marks"), ("examples/lockstep 1\0", "byte 0"),
+                       ("examples/generate walk 7 10", "tells no text"),
+                       ("examples/lockstep 1 1 1 > ../other", "outside"),
+                       (f"examples/lockstep 1 1 1 > '{other}'", "outside"), ("./fractal help", "no block")):
+        data = block.format(line).encode()
+        place.call(study, "--page", written(place, "page.md", data), "--write").sentence("study: ", part)
+        expect((place.root / "page.md").read_bytes() == data, "the page as it was")
+    one_sentence_each([
+        (place.call(study, "--page", "-", "--write", stdin=block.encode()), ["not standard input"]),
+        (place.call(study, "--page", written(place, "page.md", b"```\nexamples/shell\n```\n\xff")), ["UTF-8"]),
+    ])
+    expect(not other.exists() and not (place.root / "-").exists(), "no other file")
+    place.is_clean()
+
+
+def lines_of_pages_end_as_they_did(place):
+    """a page whose lines end as on another system keeps that, and one that is changed meanwhile isn't replaced"""
+    table = place.stub(place.clone / "examples" / "table", "echo '| 1 |'\n")
+    page = b"```\r\nexamples/table\r\n```\r\n\r\n| 0 |\r\n"
+    path = written(place, "page.md", page)
+    answer = place.call("examples/study", "--page", path, "--write")
+    expect((answer.status, (place.root / "page.md").read_bytes()) == (0, page.replace(b"0", b"1")), "the ends", answer)
+    place.stub(table, f"echo '| 2 |'; echo more >> '{path}'\n")
+    place.call("examples/study", "--page", path, "--write").sentence("changed while its commands were called")
+    expect((place.root / "page.md").read_bytes() == page.replace(b"0", b"1") + b"more\n", "what was added")
 
 
 def study_is_as_it_was(place):
@@ -468,8 +505,8 @@ def interrupted_plays_leave_nothing(place):
 TRIES = (
     schedules_are_drawn, long_schedules_are_drawn, schedules_are_summed_up, other_outputs_are_refused,
     inputs_are_kept, odd_names_are_borne, odd_stored_words_are_told, lockstep_is_written,
-    images_are_generated, studies_are_made, studies_have_the_acts_of_schedules,
-    endless_choices_are_rows, pages_are_made_again, study_is_as_it_was, threads_are_checked,
+    images_are_generated, studies_are_made, studies_have_the_acts_of_schedules, endless_choices_are_rows,
+    pages_are_made_again, odd_pages_are_refused, lines_of_pages_end_as_they_did, study_is_as_it_was, threads_are_checked,
     swept_threads_are_checked, scarce_memory_is_answered, refused_allocations_are_answered, benches_are_told,
     programs_are_held_against_each_other,
     interrupted_plays_leave_nothing,

@@ -199,6 +199,27 @@ def pages_are_opened(place):
     place.is_clean()
 
 
+def no_file_is_lost(place):
+    """the console replaces no image that it plays, and no file by a page but a page; odd names and words are told"""
+    place.needs_second_program()
+    folder = place.root / "a folder"
+    folder.mkdir()
+    data = image_of(place, "hello")
+    (folder / "image.bin").write_bytes(data)
+    (folder / "words").write_bytes(b"steps \xff")
+    shutil.copy(place.clone / "examples" / "pipeline" / "listing", folder)
+    (place.root / "notes").write_text("notes\n")
+    (place.root / "link").symlink_to("a folder/image.bin")
+    typed = b"save! link\nsave a\0b\nopen a\0b\nopen notes\nopen a.html\nopen a.html\nsave mine\n"
+    answer = place.call("examples/console", str(folder), stdin=typed)
+    answer.tells("link: this is read", "byte 0", "notes: this is there already, and is no page")
+    expect((answer.status, answer.errors.count("\n")) == (1, 4), "four refusals", answer)
+    expect((folder / "image.bin").read_bytes() == data, "the image as it was")
+    expect((place.root / "notes").read_text() == "notes\n", "the notes as they were")
+    expect(f"--image '{folder}/image.bin'".encode() in answer.output, "a name with a blank", answer)
+    place.is_clean()
+
+
 def console_refuses_bad_words(place):
     """bad words, other files, a program that is missing and long lines are told in a sentence"""
     console, image = "examples/console", str(place.clone / "examples" / "hello" / "image.bin")
@@ -234,7 +255,8 @@ def consoles_are_interrupted(place):
     image = str(place.clone / "examples" / "hello" / "image.bin")
     saved = place.root / "saved"
     for keys, status in ((b"\x03", 130), (b"\x04", 0)):
-        typed = [(lambda _: saved.exists(), b"undo\nadvance\nnothing\n"), (lambda shown: b"`nothing`" in shown, keys)]
+        typed = [(lambda _: saved.exists(), b"\xff\nundo\nadvance\nnothing\n"),
+                 (lambda shown: b"`nothing`" in shown, keys)]
         answer = place.on_terminal("examples/console", image, keys=b"dispatch 0\nsave saved\n", then=typed)
         expect(answer.status == status, f"status {status}", answer)
         expect(answer.output.endswith(b"These acts weren't saved:\nadvance\n"), "the acts", answer)
@@ -244,5 +266,5 @@ def consoles_are_interrupted(place):
 
 TRIES = (
     watch_words_are_told, watch_hands_on, random_watch_words_agree, schedules_are_watched, acts_are_typed,
-    schedules_are_typed, pages_are_opened, console_refuses_bad_words, consoles_are_interrupted,
+    schedules_are_typed, pages_are_opened, no_file_is_lost, console_refuses_bad_words, consoles_are_interrupted,
 )
