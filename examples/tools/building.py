@@ -12,6 +12,6 @@ def build(folder, compiler):
     assembled = assemble(sources, compiler)
     image = described(sources, assembled)
     check_stack(assembled, image)
-    listing = listing_text(sources, assembled, image).encode()
+    listing = listing_text(sources, assembled, image).encode("utf-8", "surrogateescape")
     write_whole({folder / "listing": listing, folder / "image.bin": image_bytes(image)})
     return image, assembled

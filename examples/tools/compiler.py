@@ -33,10 +33,14 @@ ADVICE = (
 )
 
 
-def compiler_words(compiler, path, target, is_library=False):
-    """The words that compile a file of C."""
+def need_compiler(compiler):
     if not shutil.which(compiler):
         raise Refused(f"{compiler} isn't in the path; it compiles C (Debian's package {PACKAGES[compiler]} has it).")
+
+
+def compiler_words(compiler, path, target, is_library=False):
+    """The words that compile a file of C."""
+    need_compiler(compiler)
     own = OWN_OPTIONS[compiler] + (AS_WRITTEN[compiler] if is_library else ())
     return [compiler, *MACHINE, *OPTIONS, *own, "-I", str(LIBRARY), "-I", str(path.parent), "-c", "-o", target,
             str(path)]

@@ -16,9 +16,10 @@ def other_run(report, machine, lost):
         return lost
     image = machine.image
     start = DATA + image.window_offset
-    addresses = [start + 4 * place for place in range(image.window_words)]
-    if [address for address, _ in report.window] != addresses:
-        told = f"{len(addresses)} words from {start:08x} on" if addresses else "no words"
+    count = image.window_words
+    if len(report.window) != count or any(address != start + 4 * place
+                                          for place, (address, _) in enumerate(report.window)):
+        told = f"{count} words from {start:08x} on" if count else "no words"
         return f"the image's window has {told}"
     if lost:
         return None

@@ -145,7 +145,11 @@ def shifted(name, names, turns):
     """A task's name in the joined run: the first image's own stay, those of a saved image are the pending ones."""
     if name.creator:
         return Name(turns + name.creator, name.index)
-    return name if names is None else names[name.index]
+    if names is None:
+        return name
+    if name.index >= len(names):
+        raise Refused(f"after turn {turns} a piece has the task {name}, and its image has {len(names):,} tasks.")
+    return names[name.index]
 
 
 def end_line(report, names, turns):

@@ -69,6 +69,8 @@ def scale(axis):
 
 
 def text(x, y, words, anchor="start"):
+    # No picture may have other characters, though a name of a file may.
+    words = "".join(it if it.isprintable() else "?" for it in words)
     return f'<text x="{x:.1f}" y="{y:.1f}" text-anchor="{anchor}">{escape(words)}</text>'
 
 

@@ -2,6 +2,7 @@
 import concurrent.futures
 import hashlib
 import itertools
+import math
 import re
 import subprocess
 import sys
@@ -43,8 +44,11 @@ def values_in(option, piece):
     return values
 
 
-def cells_of(table, values):
+def cells_of(table, values, what="runs"):
     """The cells of the grid: each choice of one value an option, where an option without values has its default."""
+    count = math.prod(map(len, values.values()))
+    if count > MOST_RUNS:
+        raise Refused(f"the grid has {count:,} {what}, and {MOST_RUNS:,} are the most.")
     lists = [values.get(name, [option.default]) for name, option in table.options.items()]
     return [dict(zip(table.options, choice)) for choice in itertools.product(*lists)]
 

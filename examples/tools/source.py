@@ -201,9 +201,13 @@ def assemble(sources, by=compiler.GCC):
         # Without a register for small data relaxing only makes a call of C one instruction.
         run_tool([prefix + "ld", "-m", "elf32lriscv", *([] if has_c else ["--no-relax"]), "-e", "0", "-T", "places",
                   "-o", "task.elf", *(f"{place}.o" for place in range(len(sources))), *libraries], folder, sources)
-        listed = run_tool([prefix + "objdump", "-d", "-l", *(["--inlines"] if has_c else []), "-z", "-M", "no-aliases",
-                           "-j", ".text", "task.elf"], folder, sources)
         sections, labels = elf.read_elf(pathlib.Path(folder, "task.elf").read_bytes())
+        # Sources may have data alone.
+        if any(section.name == ".text" for section in sections):
+            listed = run_tool([prefix + "objdump", "-d", "-l", *(["--inlines"] if has_c else []), "-z", "-M",
+                               "no-aliases", "-j", ".text", "task.elf"], folder, sources)
+        else:
+            listed = ""
     assembled = joined({section.name: section for section in sections}, labels, instructions_in(listed))
     assembled.compiler = compiler.compiler_told(by) if has_c else None
     assembled.paths = {source.name: source.path for source in sources}

@@ -1,5 +1,6 @@
 """How much stack the tasks of C need, read from the linked instructions, whatever compiler or library they are of."""
 import bisect
+import dataclasses
 
 from tools.command import Refused, note
 from tools.image import TEXT
@@ -10,6 +11,8 @@ LUI, AUIPC, JAL, JALR, BRANCH, IMMEDIATE, REGISTER, SYSTEM = 0x37, 0x17, 0x6F, 0
 # Opcodes whose instructions write no register.
 WRITES_NOTHING = (BRANCH, 0x23, 0x0F, SYSTEM)
 EBREAK = 0x100073
+# Of a longer way the rest is counted.
+MOST_PARTS = 16
 # How far above its use the number of a large frame is looked for.
 MOST_ABOVE = 8
 
@@ -19,7 +22,7 @@ class Function:
     what can't be told."""
 
     def __init__(self, label, text):
-        self.name, self.start, self.end = label.name, label.address, label.address + label.size
+        self.name, self.start, self.end = label.name, label.address, min(label.address + label.size, TEXT + len(text))
         self.text, self.frame, self.calls = text, 0, []
         self.is_open = self.calls_pointers = self.has_table = False
         # The bytes that are taken at each instruction. They are the same on each way to it.
@@ -139,26 +142,65 @@ class Stacks:
             self.told.add(sentence)
             note(sentence)
 
-    def need(self, function, above=()):
-        """The bytes that a function needs with all that it calls, and the way there: functions with their parts."""
-        if function in [caller for caller, _ in above]:
-            ring = above[[caller for caller, _ in above].index(function):]
-            others = ", ".join(f"`{caller.name}`" for caller, _ in ring[1:])
-            self.tell(function, f"calls itself{others and ' by ' + others}, and takes "
-                                f"{sum(taken for _, taken in ring):,} bytes each time")
-            return 0, ()
-        if function not in self.needs:
-            if function.is_open:
-                self.tell(function, "takes a part of the stack whose size is known only when it runs")
-            if function.calls_pointers:
-                self.tell(function, "calls by a pointer, and what that takes of the stack isn't counted")
-            most = function.frame, ((function.name, function.frame),)
-            for taken, target in function.calls:
-                if callee := self.function_at(target):
-                    size, way = self.need(callee, (*above, (function, taken)))
-                    most = max(most, (taken + size, ((function.name, taken), *way)), key=lambda it: it[0])
-            self.needs[function] = most
+    def need(self, function):
+        """The bytes that a function needs with all that it calls, and the way there: its first function with its part,
+        and the way behind. Calls may be far too deep for the interpreter's own stack."""
+        calls = [] if function in self.needs else [self.begun(function)]
+        while calls:
+            top = calls[-1]
+            if top.place == len(top.function.calls):
+                self.needs[top.function] = calls.pop().most
+                continue
+            callee = self.function_at(top.function.calls[top.place][1])
+            if callee and callee not in self.needs and all(call.function is not callee for call in calls):
+                calls.append(self.begun(callee))
+                continue
+            if callee and callee not in self.needs:
+                self.tell_ring(calls[[call.function for call in calls].index(callee):])
+            if callee:
+                top.add(*self.needs.get(callee, (0, None)))
+            top.place += 1
         return self.needs[function]
+
+    def begun(self, function):
+        """A function whose calls are to be looked at, once what can't be told of it alone was noted."""
+        if function.is_open:
+            self.tell(function, "takes a part of the stack whose size is known only when it runs")
+        if function.calls_pointers:
+            self.tell(function, "calls by a pointer, and what that takes of the stack isn't counted")
+        return Call(function, (function.frame, ((function.name, function.frame), None)))
+
+    def tell_ring(self, ring):
+        others = ", ".join(f"`{call.function.name}`" for call in ring[1:])
+        self.tell(ring[0].function, f"calls itself{others and ' by ' + others}, and takes "
+                                    f"{sum(call.taken() for call in ring):,} bytes each time")
+
+
+@dataclasses.dataclass
+class Call:
+    """A function on the way to others: the most that it needs so far with the way there, and the call it is at."""
+    function: Function
+    most: tuple
+    place: int = 0
+
+    def taken(self):
+        return self.function.calls[self.place][0]
+
+    def add(self, size, way):
+        """What the call it is at needs."""
+        if self.taken() + size > self.most[0]:
+            self.most = self.taken() + size, ((self.function.name, self.taken()), way)
+
+
+def parts_told(way):
+    """The functions on a way that take a part of the stack."""
+    parts = []
+    while way:
+        (name, taken), way = way
+        if taken:
+            parts.append(f"{name} {taken:,}")
+    more = [f"and {len(parts) - MOST_PARTS:,} more"] if len(parts) > MOST_PARTS else []
+    return ", ".join(parts[:MOST_PARTS] + more)
 
 
 def check_stack(assembled, image):
@@ -170,6 +212,5 @@ def check_stack(assembled, image):
         if size > image.limits.stack:
             body = assembled.place(entry.calls[0][1])
             has = f"has {image.limits.stack:,}" if image.limits.stack else f"has none in version {image.version}"
-            parts = ", ".join(f"{name} {taken:,}" for name, taken in way if taken)
             raise Refused(f"{body + ': ' if body else ''}the task `{task.name}` needs {size:,} bytes of stack, "
-                          f"and {has}: {parts}.")
+                          f"and {has}: {parts_told(way)}.")

@@ -1,4 +1,5 @@
 """Tries of examples/build."""
+import os
 import signal
 import time
 
@@ -179,6 +180,8 @@ def odd_windows_are_refused(place):
 
 def missing_tasks_are_told(place):
     """where no line tells a task it says where"""
+    for name, text in (("no line", ""), ("no text", DATA)):
+        place.call("examples/build", str(folder_with(place, name, task=text))).sentence("no line tells an initial task")
     folder = folder_with(place, "none", task=END)
     place.call("examples/build", str(folder)).sentence("none/task.s", "no line tells an initial task")
     nothing_is_written(folder)
@@ -227,6 +230,25 @@ def huge_sections_are_refused(place):
         folder = folder_with(place, f"large {text[5:8]}", task=GOOD + text)
         place.call("examples/build", str(folder)).sentence("bytes of data are more than an image may have")
         nothing_is_written(folder)
+
+
+def odd_names_are_kept(place):
+    """a source whose name is no text, or none of the locale, is named in the listing as it is"""
+    for number, name in enumerate((b"\xff.s", "t\u00e4sk.s".encode())):
+        folder = folder_with(place, f"odd name {number}")
+        (folder / os.fsdecode(name)).write_text(GOOD)
+        for words in (), ("LC_ALL=C", "PYTHONUTF8=0", "PYTHONCOERCECLOCALE=0"):
+            answer = place.call("/usr/bin/env", *words, str(place.clone / "examples" / "build"), str(folder))
+            expect((answer.status, answer.errors) == (0, ""), "an image", answer)
+            expect(name in (folder / "listing").read_bytes(), "the source's name in the listing")
+
+
+def claimed_sizes_are_bounded(place):
+    """a function that claims to be longer than the text costs no time"""
+    folder = folder_with(place, "long", task=GOOD + "    .type main, @function\n    .size main, 0x7fffffff\n")
+    start = time.monotonic()
+    expect(place.call("examples/build", str(folder)).status == 0, "an image")
+    expect(time.monotonic() - start < 60, "an image at once")
 
 
 def bad_words_are_refused(place):
@@ -278,6 +300,7 @@ TRIES = (
     examples_are_rebuilt, folders_are_anywhere, sources_are_linked, sections_are_placed, other_sections_are_refused,
     sections_without_flags_are_refused,
     misshapen_lines_are_refused, second_lines_are_refused, odd_windows_are_refused, missing_tasks_are_told,
-    faults_of_the_source_are_told, other_machines_are_refused, huge_sections_are_refused, bad_words_are_refused,
+    faults_of_the_source_are_told, other_machines_are_refused, huge_sections_are_refused, odd_names_are_kept,
+    claimed_sizes_are_bounded, bad_words_are_refused,
     missing_assembler_is_told, unwritable_folders_are_told, interrupts_leave_nothing,
 )

@@ -398,6 +398,19 @@ def traps_are_explained_from_sources(place):
         expect(b"task.c:5: require(0);" in answer.output, "the line", answer)
 
 
+def long_ways_are_counted(place):
+    """the stack of thousands of functions that call one another is counted, and the sentence stays short"""
+    text = "static __attribute__((noinline)) uint32_t f0(uint32_t x) { volatile uint32_t y = x; return y + 1; }\n"
+    for number in range(1, 1_500):
+        text += (f"static __attribute__((noinline)) uint32_t f{number}(uint32_t x) "
+                 f"{{ volatile uint32_t y = x; return f{number - 1}(y) + y; }}\n")
+    folder = folder_in_c(place, "long way", FIRST_LINES + text + "uint32_t out;\nTASK(start) { out = f1499(1); }\n")
+    answer = place.call("examples/build", str(folder))
+    answer.sentence("the task `start` needs", "f1499", "more.")
+    expect(len(answer.errors) < 1_000, "a short sentence", answer)
+    nothing_is_written(folder)
+
+
 def missing_compilers_are_told(place):
     """without gcc, clang, or the library for products it says which package has it"""
     text = FIRST_LINES + "uint32_t x;\nTASK(start, uint32_t a, uint32_t b) { x = a / b; }\n"
@@ -449,6 +462,25 @@ def other_results_of_large_programs_are_told(place):
         answer.tells(part)
 
 
+def other_programs_of_large_are_told(place):
+    """a program that writes no report, or not the words that were asked for, is told in a sentence"""
+    bytes_alone = place.stub(place.root / "bytes", "cat >/dev/null; printf '\\377\\n'\n")
+    no_words = place.stub(place.root / "words", "cat >/dev/null; printf 'fractal 1\\noutput -\\nend normal\\n'\n")
+    for program, part in ((bytes_alone, "no report"), (no_words, "tells 0 words, and not 3")):
+        folder = place.root / f"large {program.name}"
+        place.call("examples/large", "roads", str(folder), "--size", "3", "--program", str(program)).sentence(part)
+
+
+def missing_compilers_leave_no_folder(place):
+    """without the compiler the folder isn't begun, so that the same words may come again"""
+    program, folder = place.stub(place.root / "program", "exit 0\n"), place.root / "large"
+    words = ("examples/large", "roads", str(folder), "--program", str(program))
+    place.call("examples/large", "roads", "", "--program", str(program)).sentence("FOLDER is empty")
+    place.without(GCC)
+    place.call(*words).sentence(GCC, "gcc-riscv64-unknown-elf")
+    expect(not folder.exists(), "no folder")
+
+
 def large_refuses_bad_words(place):
     """bad words, a folder that isn't empty, and a missing program or compiler are told in a sentence"""
     large, empty = "examples/large", str(place.root / "large")
@@ -478,7 +510,7 @@ TRIES = (
     examples_in_c_are_one_for_both_compilers, c_and_assembly_are_one, what_needs_no_stack_runs_in_version_1,
     sources_are_mixed, calls_keep_arguments_apart, mistakes_in_c_are_refused, doubts_in_c_are_noted,
     traps_in_c_are_explained, silent_mistakes_are_silent, ties_come_in_any_order, scratch_of_all_conflicts,
-    packed_structs_are_read, traps_are_explained_from_sources, missing_compilers_are_told,
+    packed_structs_are_read, traps_are_explained_from_sources, long_ways_are_counted, missing_compilers_are_told,
     missing_libgcc_is_told, large_programs_are_held_against_plain_ones, other_results_of_large_programs_are_told,
-    large_refuses_bad_words,
+    other_programs_of_large_are_told, missing_compilers_leave_no_folder, large_refuses_bad_words,
 )

@@ -2,6 +2,7 @@
 import csv
 import io
 import json
+import os
 import pathlib
 import re
 import shutil
@@ -191,6 +192,15 @@ def explain_refuses_bad_files(place):
         (place.call("examples/sweep", "--rows", "/dev/zero"), ["/dev/zero", "more than"]),
         (place.call("/bin/sh", "-c", '"$0" "$1" - <&-', str(place.clone / explain), image), ["standard input is closed"]),
     ])
+
+
+def endless_windows_are_refused(place):
+    """a window that no image may have costs no memory"""
+    image, report = files_of(place, "hello")
+    data = bytearray(pathlib.Path(image).read_bytes())
+    data[24:28] = b"\xff" * 4
+    (place.root / "endless.bin").write_bytes(data)
+    place.call("examples/explain", "endless.bin", report).sentence("the image's window has 4294967295 words")
 
 
 def closed_pipes_are_borne(place):
@@ -450,6 +460,40 @@ def progress_is_shown(place):
     expect(answer.errors.count("\n") == 1, "one line", answer)
 
 
+def sweeps_keep_their_own_files(place):
+    """what a sweep reads isn't written over, nor one file written twice, and names are kept that are no text"""
+    report = "cat >/dev/null; printf '\\n1 0.0 1 0\\noutput -\\nend normal\\n'\n"
+    program = place.stub(place.root / "program", report)
+    image = place.root / os.fsdecode(b"\xff.bin")
+    image.write_bytes(pathlib.Path(files_of(place, "hello")[0]).read_bytes())
+    (place.root / "link").symlink_to(image)
+    words = ("examples/sweep", str(image), "--program", str(program))
+    expect(place.call(*words, "--csv", "rows.csv") == Answer(0, b"", ""), "rows")
+    rows, before = place.root / "rows.csv", image.read_bytes()
+    expect(os.fsencode(image) in rows.read_bytes(), "the image's name", rows.read_bytes())
+    kept = rows.read_bytes()
+    for more in (("--csv", str(image)), ("--csv", "link"), ("--plot", f"commits,tiles,{image}"),
+                 ("--csv", str(program)), ("--csv", "new", "--plot", "commits,tiles,./new")):
+        place.call(*words, *more).sentence("has another use of that file")
+    place.call("examples/sweep", "--rows", "rows.csv", "--plot", "commits,tiles,rows.csv").sentence("has another use")
+    place.call(*words, "--csv", "").sentence("this is a folder")
+    expect((image.read_bytes(), rows.read_bytes()) == (before, kept), "the files as they were")
+    expect(not (place.root / "new").exists(), "no file")
+
+
+def odd_rows_are_plotted_or_refused(place):
+    """rows with numbers that no picture has ticks for are refused, and a name is shown whatever characters it has"""
+    head, picture = "input,--tiles,commits\n", place.root / "x.svg"
+    words = ("examples/sweep", "--rows", "rows.csv", "--plot", f"commits,tiles,{picture}")
+    for rows in ("a,1,1e308\na,2,-1e308\n", "a,1,0\na,2,5e-324\n", "a,1,nan\n"):
+        (place.root / "rows.csv").write_text(head + rows)
+        place.call(*words).sentence("no number that can be plotted")
+        expect(not picture.exists(), "no picture")
+    (place.root / "rows.csv").write_text(head + "a\x01,1,2\nb<,2,3\n")
+    expect(place.call(*words).status == 0, "a picture")
+    picture_in(picture.read_bytes())
+
+
 def sweep_refuses_bad_words(place):
     """bad words, values outside an option's range and missing files are told in a sentence"""
     image, report = files_of(place, "hello")
@@ -477,6 +521,7 @@ def sweep_refuses_bad_words(place):
     one_sentence_each([
         (place.call(sweep, "nowhere"), ["nowhere", "no such file"]),
         (place.call(sweep, image, "--commits", "1..1000", "--budget", "1..1000"), ["1,000,000 runs"]),
+        (place.call(sweep, image, "--commits", "1..100000", "--budget", "1..65536"), ["6,553,600,000 runs"]),
         (place.call(sweep, image, "--csv", "nowhere/x.csv"), ["nowhere/x.csv", "no such folder"]),
         (place.call(sweep, image, "--plot", f"seconds,budget,{place.clone}"), ["this is a folder"]),
     ])
@@ -512,11 +557,13 @@ def programs_are_handed_on(place):
 TRIES = (
     reports_are_explained, traps_are_explained, each_instruction_has_its_line, pictures_are_drawn,
     faults_are_explained, other_runs_are_refused, played_scripts_are_explained, explanations_are_for_programs,
-    explain_refuses_bad_files, closed_pipes_are_borne, accepted_examples_are_named, one_unproved_run_plays_all,
+    explain_refuses_bad_files, endless_windows_are_refused, closed_pipes_are_borne,
+    accepted_examples_are_named, one_unproved_run_plays_all,
     other_reports_fail, worked_lines_are_held,
     lying_programs_fail, each_fails_the_gate, wide_lines_only_fall, odd_sources_are_told,
     clones_that_fail_are_told, grids_are_swept, broken_programs_are_rows,
     files_are_written_through, shards_are_joined,
-    loads_are_swept, progress_is_shown, sweep_refuses_bad_words, interrupted_sweeps_leave_nothing,
+    loads_are_swept, progress_is_shown, sweeps_keep_their_own_files, odd_rows_are_plotted_or_refused,
+    sweep_refuses_bad_words, interrupted_sweeps_leave_nothing,
     programs_are_handed_on,
 )

@@ -181,6 +181,7 @@ def exercises_are_judged(place):
     for name in ("false_conflict", "order"):
         answer = place.call(exercise, name, str(folder / name))
         expect(answer.status == 1 and answer.output.startswith(b"wrong: "), f"a wrong answer to {name}", answer)
+    place.call(exercise, "order", "").sentence("no such folder")
     wrong_files(place, exercise)
     one_sentence_each([
         (place.call(exercise), ["an exercise and the FILE"]),

@@ -1,4 +1,6 @@
 """Tries of examples/resume."""
+import re
+
 from tools.image import image_bytes
 from tools.loads import generated
 from tools.tries.place import expect, one_sentence_each
@@ -61,8 +63,28 @@ def changed_pieces_are_told(place):
     expect(place.call(*words).status == 0, "a joined report")
     saved = bytearray((folder / "0002.image").read_bytes())
     saved[-12] ^= 1
+    whole = (folder / "0002.image").read_bytes()
     (folder / "0002.image").write_bytes(saved)
     place.call(*words).sentence("its task", "which pends after the piece before")
+    (folder / "0002.image").write_bytes(whole)
+    last = max(folder.glob("*.report"))
+    last.write_bytes(re.sub(rb"(?m)^1 0\.[0-9]+", b"1 0.99", last.read_bytes()))
+    place.call(*words).sentence("has the task 0.99")
+
+
+def what_is_no_report_is_not_kept(place):
+    """without a program no folder is made, and what another program wrote isn't in the way of the next call"""
+    image, folder = example(place, "hello"), place.root / "pieces"
+    words = ("examples/resume", image, folder, "--every", "2")
+    place.call(*words).sentence("isn't built")
+    place.call("examples/resume", image, "", "--every", "2").sentence("is empty")
+    expect(not folder.exists(), "no folder")
+    program, report = place.root / "program", example(place, "hello", "report")
+    place.stub(program, "cat >/dev/null\n")
+    place.call(*words, "--program", str(program)).sentence("`save` ended with status 0, and with no such report")
+    place.stub(program, f"cat >/dev/null; case $1 in check) echo check ok 1 ;; *) cat '{report}' ;; esac\n")
+    answer = place.call(*words, "--program", str(program))
+    expect((answer.status, (folder / "report").read_bytes()) == (0, report.read_bytes()), "the run", answer)
 
 
 def resume_refuses_bad_words(place):
@@ -90,5 +112,5 @@ def resume_refuses_bad_words(place):
 
 TRIES = (
     pieces_join_to_one_run, uncut_runs_are_told, interrupted_pieces_go_on, changed_pieces_are_told,
-    resume_refuses_bad_words,
+    what_is_no_report_is_not_kept, resume_refuses_bad_words,
 )
