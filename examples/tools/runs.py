@@ -106,7 +106,11 @@ class Calls:
         process = self.start(words, subprocess.PIPE)
         if process is None:
             return NOT_STARTED, b""
-        written, _ = process.communicate(data)
+        try:
+            written, _ = process.communicate(data)
+        except BaseException:
+            process.kill()
+            raise
         return self.status_of(process), written
 
     def read(self, words, data, reader):

@@ -1,9 +1,12 @@
 """Tries of examples/resume."""
+import pathlib
 import re
+import signal
+import subprocess
 
 from tools.image import image_bytes
 from tools.loads import generated
-from tools.tries.place import expect, one_sentence_each
+from tools.tries.place import MOST_SECONDS_OF_ENDING, expect, one_sentence_each, wait_for
 
 WALK = ("walk", 7, 2000)
 
@@ -87,6 +90,18 @@ def what_is_no_report_is_not_kept(place):
     expect((answer.status, (folder / "report").read_bytes()) == (0, report.read_bytes()), "the run", answer)
 
 
+def ended_calls_leave_no_program(place):
+    """a signal to the script alone ends the program that it called too"""
+    mark, words = place.root / "started", (example(place, "hello"), place.root / "pieces", "--every", "2")
+    program = place.stub(place.root / "program", f"echo $$ >'{mark}.part'; mv '{mark}.part' '{mark}'; exec sleep 100\n")
+    process = subprocess.Popen([place.command("examples/resume"), *words, "--program", program],
+                               env=place.environment, stdin=subprocess.DEVNULL, stderr=subprocess.DEVNULL)
+    wait_for(mark.exists)
+    process.terminate()
+    expect(process.wait(MOST_SECONDS_OF_ENDING) == 128 + signal.SIGTERM, "status 143")
+    wait_for(lambda: not pathlib.Path("/proc", mark.read_text().strip(), "exe").exists())
+
+
 def resume_refuses_bad_words(place):
     """bad words, images and folders get one sentence, and no folder comes of them"""
     place.needs_program()
@@ -112,5 +127,5 @@ def resume_refuses_bad_words(place):
 
 TRIES = (
     pieces_join_to_one_run, uncut_runs_are_told, interrupted_pieces_go_on, changed_pieces_are_told,
-    what_is_no_report_is_not_kept, resume_refuses_bad_words,
+    what_is_no_report_is_not_kept, ended_calls_leave_no_program, resume_refuses_bad_words,
 )
