@@ -12,7 +12,7 @@ import threading
 import time
 
 from tools.answers import Case
-from tools.command import Refused, say
+from tools.command import Refused, is_at_terminal, say
 from tools.examples import HERE, SCHEDULES, words_of
 from tools.launching import end_all, launched
 from tools.program import PROGRAM, STATUSES, end_of
@@ -132,7 +132,7 @@ def tried(folder):
 
 def show_seconds(seconds, log):
     """On a terminal one line, which is written again and again, and is cleared in the end."""
-    if not sys.stderr.isatty():
+    if not is_at_terminal():
         return
     done = os.pread(log.fileno(), 1 << 24, 0).count(b"case=")
     what = f"{done} answers" if done else "compiling the program, unproved"

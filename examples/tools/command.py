@@ -79,7 +79,7 @@ def say(name, sentence):
     if sys.stderr is None:
         return
     # A line of progress may stand on a terminal.
-    clear = "\r\x1b[K" if sys.stderr.isatty() else ""
+    clear = "\r\x1b[K" if is_at_terminal() else ""
     with contextlib.suppress(OSError):
         # A sentence may cite what stands in a file.
         print(f"{clear}{name}: {without_controls(sentence)}", file=sys.stderr, flush=True)
@@ -187,8 +187,8 @@ def need_writable(path):
 
 def need_outputs(outputs, inputs):
     """Holds files that can be written to be none of the files that are read, and none of each other; `-` is standard
-    input, and an output that is None isn't asked for."""
-    outputs = [path for path in outputs if path is not None]
+    input, and a path that is None isn't asked for."""
+    outputs, inputs = ([path for path in paths if path is not None] for paths in (outputs, inputs))
     for place, path in enumerate(outputs):
         need_writable(path)
         if any(is_same_file(path, other) for other in inputs):

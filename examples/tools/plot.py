@@ -2,6 +2,7 @@
 import math
 from xml.sax.saxutils import escape
 
+from tools.command import without_controls
 from tools.picture import COLOURS
 
 WIDTH, HEIGHT = 860, 460
@@ -70,8 +71,7 @@ def scale(axis):
 
 def text(x, y, words, anchor="start"):
     # No picture may have other characters, though a name of a file may.
-    words = "".join(it if it.isprintable() else "?" for it in words)
-    return f'<text x="{x:.1f}" y="{y:.1f}" text-anchor="{anchor}">{escape(words)}</text>'
+    return f'<text x="{x:.1f}" y="{y:.1f}" text-anchor="{anchor}">{escape(without_controls(words))}</text>'
 
 
 def number(value):

@@ -461,7 +461,7 @@ def progress_is_shown(place):
 
 
 def sweeps_keep_their_own_files(place):
-    """what a sweep reads isn't written over, nor one file written twice, and names are kept that are no text"""
+    """what a sweep reads isn't written over, nor one file written twice, and names that are no text are escaped"""
     report = "cat >/dev/null; printf '\\n1 0.0 1 0\\noutput -\\nend normal\\n'\n"
     program = place.stub(place.root / "program", report)
     image = place.root / os.fsdecode(b"\xff.bin")
@@ -470,12 +470,12 @@ def sweeps_keep_their_own_files(place):
     words = ("examples/sweep", str(image), "--program", str(program))
     expect(place.call(*words, "--csv", "rows.csv") == Answer(0, b"", ""), "rows")
     rows, before = place.root / "rows.csv", image.read_bytes()
-    expect(os.fsencode(image) in rows.read_bytes(), "the image's name", rows.read_bytes())
+    expect(b"\\udcff.bin" in rows.read_bytes(), "the image's name", rows.read_bytes())
     kept = rows.read_bytes()
     for more in (("--csv", str(image)), ("--csv", "link"), ("--plot", f"commits,tiles,{image}"),
                  ("--csv", str(program)), ("--csv", "new", "--plot", "commits,tiles,./new")):
-        place.call(*words, *more).sentence("has another use of that file")
-    place.call("examples/sweep", "--rows", "rows.csv", "--plot", "commits,tiles,rows.csv").sentence("has another use")
+        place.call(*words, *more).sentence("two outputs" if "new" in more else "isn't written too")
+    place.call("examples/sweep", "--rows", "rows.csv", "--plot", "commits,tiles,rows.csv").sentence("isn't written too")
     place.call(*words, "--csv", "").sentence("this is a folder")
     expect((image.read_bytes(), rows.read_bytes()) == (before, kept), "the files as they were")
     expect(not (place.root / "new").exists(), "no file")
