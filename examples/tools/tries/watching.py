@@ -144,7 +144,7 @@ def schedules_are_watched(place):
         given = image.read_bytes() + (folder / "script").read_bytes()
         answer = place.call("fractal", "watch", *words, stdin=given)
         lines = [json.loads(line) for line in answer.output.splitlines()]
-        told, wanted = replies_told(lines), replies_said((folder / "said").read_text())
+        told, wanted = replies_told(lines), replies_said((folder / "said").read_text(), folder.name)
         expect(answer.errors == "" and told == wanted, f"the replies of {name}", (told, wanted))
     (place.root / "both").write_bytes(image_of(place, "hello") + b"commit\nhalt\n")
     answer = place.call("/bin/sh", "-c", '"$0" watch steps < both', str(place.clone / "fractal"))
