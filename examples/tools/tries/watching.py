@@ -207,6 +207,8 @@ def no_file_is_lost(place):
     data = image_of(place, "hello")
     (folder / "image.bin").write_bytes(data)
     (folder / "words").write_bytes(b"steps \xff")
+    place.call("examples/console", str(folder), stdin=b"").sentence("words: ", "is neither a command nor an option")
+    (folder / "words").write_bytes(b"steps\n")
     shutil.copy(place.clone / "examples" / "pipeline" / "listing", folder)
     (place.root / "notes").write_text("notes\n")
     (place.root / "link").symlink_to("a folder/image.bin")
