@@ -1,7 +1,8 @@
 //! From the stop of a leg to what its task asks for.
 
-ghost use Rattle.std.specs.Prelude.{◌≡◌, ◌<◌, ◌%◌, ℕ, slice_index, IfSome};
+ghost use Rattle.std.specs.Prelude.{◌≡◌, ◌<◌, ◌%◌, ◌↔◌, ℕ, slice_index, IfSome, IsNone};
 ghost use Rattle.rv_core.specs.declared.state.Core.{Core};
+ghost use Rattle.rv_core.specs.declared.state.Stop.TheVariants.{Call};
 ghost use Rattle.rv_core.specs.Legs.{StopIsInData};
 ghost use Rattle.task_desc.specs.declared.desc.Ctx.{Ctx};
 ghost use Rattle.task_request.specs.Requests.{register_at, spawn_at, enqueue_at, sub_at, byte_at, call_at, request_at};
@@ -159,7 +160,8 @@ pub fn request_of(ctx: &Ctx, core: &Core, stop: &Stop) -> Request
 /// What the stop of a leg asks for whatever its task has done, which is to say each stop but a call; None for a call.
 #[inline(always)]
 pub fn request_of_stop(stop: &Stop) -> Option<Request>
-    ensures { IfSome result (λ request. (ctx : Ctx) (core : Core) → request_at ctx core stop.now ≡ request) }
+    ensures some { IfSome result (λ request. (ctx : Ctx) (core : Core) → request_at ctx core stop.now ≡ request) }
+    ensures none { IsNone result ↔ (stop.now ≡ Call) }
 {
     match *stop {
         Stop::Load { width, rd, addr } => {
