@@ -1,7 +1,7 @@
 """Instructions of RV32I as words (RISC-V Unprivileged ISA 20191213, chapter 2), and texts that are laid out."""
 import dataclasses
 
-from tools.image import TEXT
+from yotarimu.images.image import TEXT
 
 ZERO, RA, SP, GP, TP, T0, T1, T2, S0, S1 = range(10)
 A0, A1, A2, A3, A4, A5, A6, A7, S2, S3, S4, S5, S6, S7, S8, S9, S10, S11, T3, T4, T5, T6 = range(10, 32)

@@ -6,8 +6,9 @@ import math
 import os
 import pathlib
 
-from tools.command import Refused, need_writable, read_written, write_whole
-from tools.tallies import table
+from yotarimu.common.files import need_writable, read_written, write_whole
+from yotarimu.common.outcome import Refused
+from yotarimu.common.tables import table
 
 HEAD = ["table", "case", "figure", "value"]
 # A file each: the figures of one state of the program, of which the documents tell.

@@ -3,7 +3,7 @@
 A task keeps its first argument in s0: how often it and its children may still enqueue. In s1 stands the least
 timestamp for a child of the superdomain, in s3 the own timestamp, in s4 where the data begins.
 """
-from tools.image import DATA, STACK, TEXT
+from yotarimu.images.image import DATA, STACK, TEXT
 
 from assembly import (
     A0, A1, A2, A3, A4, A5, A7, ADD, AND, BEQ, BGE, BNE, EBREAK, ECALL, GP, LBU, LW, OR, OTHER, RA, S0, S1, S2, S3, S4,

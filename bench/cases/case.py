@@ -1,8 +1,8 @@
 """A case: some calls of the program, which follow from a seed and the case's number alone."""
 import dataclasses
 
-from tools.image import image_bytes
-from tools.schedules import Act, script_text
+from yotarimu.images.image import image_bytes
+from yotarimu.courses.schedules import Act, script_text
 
 from cases import images, reports, scripts
 from cases.chance import Chance

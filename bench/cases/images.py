@@ -2,7 +2,8 @@
 import dataclasses
 import struct
 
-from tools.image import DATA_BYTES, INITIAL_TASKS, TEXT, TEXT_WORDS, WINDOW_WORDS, Image, InitialTask, image_bytes
+from yotarimu.images.image import (
+    DATA_BYTES, INITIAL_TASKS, TEXT, TEXT_WORDS, WINDOW_WORDS, Image, InitialTask, image_bytes)
 
 from assembly import A0, A7, ECALL, LW, S4, SW, ZERO, Address, addi, laid_out, load, store
 from cases import bodies, trapping

@@ -3,11 +3,11 @@ instructions the tasks executed. Each kind is there from the start, so that one 
 import collections
 import re
 
-from tools.command import Refused
-from tools.image import image_bytes, read_image
-from tools.machine import CALL, Machine, Run, Trapped
-from tools.report import read_report
-from tools.schedules import read_replies
+from yotarimu.common.outcome import Refused
+from yotarimu.images.image import image_bytes, read_image
+from yotarimu.images.serial_machine import CALL, Machine, Run, Trapped
+from yotarimu.reports.report import read_report
+from yotarimu.courses.schedules import read_replies
 
 from cases.images import FAULTS
 from cases.shape import TRAPS
@@ -117,7 +117,7 @@ def count_run(counts, call, said):
 
 
 def count_executed(counts, data, text):
-    """Runs the tasks of a report again, as examples/explain does, and counts what they execute."""
+    """Runs the tasks of a report again, as ./fractal explain does, and counts what they execute."""
     try:
         image, report = read_image(data, "image"), read_report(text, "report")
     except Refused:

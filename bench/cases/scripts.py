@@ -1,5 +1,5 @@
 """Generated scripts: random acts for all tiles and cores, also those that will be refused, and lockstep rounds."""
-from tools.schedules import Act, round_of, script_text
+from yotarimu.courses.schedules import Act, round_of, script_text
 
 # How often each act comes, by what a script is about.
 MOODS = {

@@ -1,7 +1,7 @@
 """What a generated image is to have: its theme, and the numbers that its parts are made by."""
 import dataclasses
 
-from tools.image import VERSIONS
+from yotarimu.images.image import VERSIONS
 
 TRAPS = range(1, 18)
 

@@ -1,5 +1,5 @@
 """Pieces of a task that trap, by cause: docs/guest/TASKS.md has the causes."""
-from tools.image import DATA, TEXT
+from yotarimu.images.image import DATA, TEXT
 
 from assembly import (
     A0, A1, A7, BNE, EBREAK, ECALL, LH, LHU, LW, S3, S4, S6, SB, SH, SP, SW, T0, T1, ZERO, addi, branch, jal, jalr,

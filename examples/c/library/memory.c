@@ -1,4 +1,4 @@
-/* What a compiler may call although no source does. examples/build links of it what a program needs. */
+/* What a compiler may call although no source does. ./fractal build links of it what a program needs. */
 #include <stddef.h>
 #include <stdint.h>
 

@@ -1,1 +1,0 @@
-"""What examples/tries tries, by script."""

@@ -1,0 +1,1 @@
+"""Tries of whole tools, each in a fresh clone."""

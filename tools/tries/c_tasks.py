@@ -1,0 +1,519 @@
+"""Tries of tasks in C: what is built by either compiler, and how each mistake of docs/guest/C.md shows."""
+from __future__ import annotations
+
+import pathlib
+import re
+import shutil
+
+from yotarimu.images.compiler import CLANG, GCC
+from yotarimu.programs.examples import EXAMPLES
+
+from tries.build import folder_with, nothing_is_written
+from tries.place import expect, one_sentence_each
+
+COMPILERS = ([], ["--clang"])
+IN_C = [name for name in EXAMPLES if name.startswith("c/")]
+# Programs whose tasks need no stack.
+WITHOUT_STACK = ("c/shortest_paths", "c/bank")
+FIRST_LINES = '#include "task.h"\n// image: task start\n'
+# Sources after these two lines that are refused, and parts of the sentence, the same of both compilers.
+REFUSED = {
+    "a task that is called": (
+        "TASK(helper, uint32_t n) { emit(n); }\nTASK(start) { helper(65); }\n", "task.c:4:", "a task is enqueued"),
+    "a function that is enqueued": (
+        "static void helper(uint32_t n) { emit(n); }\nTASK(start) { enqueue(helper, 0, 65); }\n",
+        "task.c:4: only a task can be enqueued"),
+    "a pointer that is no number": (
+        "uint32_t x;\nTASK(start) { enqueue(start, 0, &x); }\n", "task.c:4:", "a pointer is given as at(pointer)"),
+    "a fifth parameter": (
+        "TASK(start, uint32_t a, uint32_t b, uint32_t c, uint32_t ts, uint32_t d) { emit(d); }\n",
+        "task.c:3: a task has three arguments"),
+    "a parameter of 8 bits": (
+        "TASK(start, uint32_t a, uint8_t b) { emit(b); }\n", "task.c:3: a parameter of a task has 32 bits"),
+    "a parameter of 64 bits": (
+        "TASK(start, uint64_t a) { emit(a); }\n", "task.c:3: a parameter of a task has 32 bits"),
+    "a parameter with a point": (
+        "TASK(start, float a) { emit(a); }\n", "task.c:3: a parameter of a task has 32 bits"),
+    "a call of printf": (
+        'TASK(start) { printf("%d", 3); }\n', "task.c:3:", "emit_text and emit_number write"),
+    "a header of the C library": (
+        "#include <stdio.h>\nTASK(start) { }\n", "task.c:3:", "there is no C library"),
+    "a name of no task": (
+        "TASK(start) { enqueue(elsewhere, 0); }\n", "task.c:3:", "elsewhere"),
+    "a task that is nowhere": (
+        "extern task_entry elsewhere;\nTASK(start) { enqueue(elsewhere, 0); }\n",
+        "task.c:4: `elsewhere` is defined nowhere"),
+    "a function in place of a task": (
+        "void start(void) { emit(1); }\n", "task.c:2: `start` is a function and no task; TASK(start, ..) makes one"),
+    "a task of another name": (
+        "TASK(begin) { }\n", "task.c:2: there is no label `start`"),
+    "a thread-local variable": (
+        "__thread uint32_t x;\nTASK(start) { emit(x++); }\n", "task.c:3: a thread-local variable"),
+    "a constructor": (
+        "volatile uint32_t x;\n__attribute__((constructor)) static void early(void) { x += 1; }\n"
+        "TASK(start) { emit(x); }\n", "task.c:4: nothing runs before or after the tasks"),
+    "a section of its own": (
+        '__attribute__((section(".mine"))) uint32_t x;\nTASK(start) { emit(x++); }\n', "task.c:3: the section .mine"),
+    "a local that is too large": (
+        "TASK(start, uint32_t n) { volatile uint32_t own[300]; own[n] = 1; emit(own[7]); }\n",
+        "task.c:3: the task `start` needs 1,2", "bytes of stack, and has 1,024: start_body 1,2"),
+    "locals that are too large together": (
+        "#define OWN __attribute__((noinline)) static uint32_t\n"
+        "OWN inner(uint32_t n) { volatile uint32_t own[130]; own[n] = n; return own[n]; }\n"
+        "OWN outer(uint32_t n) { volatile uint32_t own[130]; own[n] = n; return inner(n) + own[n]; }\n"
+        "TASK(start, uint32_t n) { emit(outer(n)); }\n",
+        "task.c:6: the task `start` needs 1,", "and has 1,024:", "outer 5", "inner 5"),
+    "a large frame": (
+        "TASK(start, uint32_t n) { volatile uint32_t own[3000]; own[n] = n; emit(own[n]); }\n",
+        "task.c:3: the task `start` needs 12,0"),
+    "a stack in version 1": (
+        "// image: version 1\nTASK(start, uint32_t n) { volatile uint32_t own[4]; own[n] = n; emit(own[n]); }\n",
+        "task.c:4: the task `start` needs", "has none in version 1"),
+    "a window of a local": (
+        "// image: window x\nTASK(start) { static uint32_t x; emit(x++); }\n",
+        "task.c:3: there is no label `x`; a variable stands outside of functions, and is used"),
+    "a window of what nobody uses": (
+        "// image: window x\nstatic uint32_t x;\nTASK(start) { }\n", "task.c:3: there is no label `x`"),
+    "a window at an odd address": (
+        "// image: window b\nuint8_t a = 1, b = 2;\nTASK(start) { emit(a + b); }\n",
+        "task.c:3: the label `b` doesn't stand at a multiple of 4: __attribute__((aligned(4))) helps"),
+    "a window that is too large": (
+        "// image: window x\nuint32_t x[5000];\nTASK(start) { emit(x[3]++); }\n",
+        "task.c:3: `x` has 20,000 bytes, so a number of words is wanted"),
+    "a version that isn't there": (
+        "// image: version 3\nTASK(start) { }\n", "task.c:3: this isn't `// image: version 1` or"),
+    "a line without a colon": (
+        "// image version 2\nTASK(start) { }\n", "task.c:3: a colon is missing"),
+    "an argument that is no label": (
+        "// image: task start args N\nTASK(start) { }\n",
+        "task.c:3: an argument is a number or a label, and there is no label `N`"),
+}
+# Whole sources that are refused.
+REFUSED_WHOLE = {
+    "no header": ("// image: task start\nTASK(start) { }\n", "task.c:2:", 'TASK needs the line #include "task.h"'),
+    "no line on a task": ('#include "task.h"\nTASK(start) { }\n', "no line tells an initial task: `// image: task"),
+    "a text that is too large": (
+        FIRST_LINES + "const uint8_t table[270000] = {1};\nTASK(start, uint32_t n) { emit(table[n]); }\n",
+        "words of text are more than an image may have, which is 65536"),
+}
+# Sources that are built, with a note.
+NOTED = {
+    "a recursion": (
+        "static uint32_t depth(uint32_t n) { return n < 2 ? n : depth(n - 1) ^ depth(n - 2); }\n"
+        "TASK(start, uint32_t n) { emit(depth(n)); }\n",
+        "task.c:3: `depth` calls itself, and takes", "bytes each time; a task's stack has 1,024 bytes"),
+    "a recursion of two functions": (
+        "#define OWN __attribute__((noinline)) static uint32_t\nOWN odd(uint32_t n);\n"
+        "OWN even(uint32_t n) { return n ? odd(n - 1) * n : 1; }\n"
+        "OWN odd(uint32_t n) { return n ? even(n - 1) + n : 0; }\n"
+        "TASK(start, uint32_t n) { emit(even(n)); }\n", "calls itself by `", "bytes each time"),
+    "an array of variable length": (
+        "TASK(start, uint32_t n) { volatile uint32_t own[n + 1]; own[n] = n; emit(own[n]); }\n",
+        "task.c:3: `start_body` takes a part of the stack whose size is known only when it runs"),
+    "a call by a pointer": (
+        "static void one(void) { emit('a'); }\nstatic void two(void) { emit('b'); }\n"
+        "static void (*const calls[2])(void) = {one, two};\nTASK(start, uint32_t n) { calls[n & 1](); emit('.'); }\n",
+        "task.c:6: `start_body` calls by a pointer"),
+    "an unused variable": ("TASK(start) { uint32_t x; }\n", "task.c:3: unused variable 'x' (a warning)."),
+}
+# Sources whose run ends in a trap, and what ./fractal explain tells of it beside the line.
+TRAPS = {
+    "a recursion that is too deep": (
+        "static uint32_t depth(uint32_t n) { return n < 2 ? n : depth(n - 1) ^ depth(n - 2); }\n"
+        "TASK(start, uint32_t n) { emit(depth(n + 200)); }\n", "cause 7:", "below the stack", "depth+"),
+    "a store to a constant": (
+        "const uint32_t table[2] = {1, 2};\nTASK(start) { *(volatile uint32_t *)table = 3; }\n",
+        "cause 7:", "table, in the text", "task.c:4: TASK(start)"),
+    "a store through a null pointer": (
+        "TASK(start, uint32_t *p) { *p = 3; }\n", "cause 7:", "address 00000000, where nothing is", "task.c:3: TASK("),
+    "a load through a null pointer": (
+        "uint32_t r;\nTASK(start, uint32_t *p) { r = *p; }\n", "cause 5:", "address 00000000", "task.c:4: TASK("),
+    "an index past the end": (
+        "uint32_t x[4];\nTASK(start, uint32_t n) { ((volatile uint32_t *)x)[n + 6] = 3; }\n",
+        "cause 7:", "8 bytes after the end of the data"),
+    "a word at an odd address": (
+        "// image: task other args b\nchar b[8];\nTASK(start) { }\n"
+        "TASK(other, char *p) { *(volatile uint32_t *)(p + 1) = 3; }\n", "cause 6:", "(other b", "b+1, in the data"),
+    "a load from an odd address": (
+        "// image: task other args b\nchar b[8];\nuint32_t r;\nTASK(start) { }\n"
+        "TASK(other, char *p) { r = *(volatile uint32_t *)(p + 1); }\n", "cause 4:", "b+1, in the data"),
+    "a pointer to a local": (
+        "TASK(child, uint32_t *p) { emit(*p); }\nTASK(start) { uint32_t x = 65; enqueue(child, 0, at(&x)); }\n",
+        "cause 8:", "task.c:4: TASK(start)"),
+    "a condition that doesn't hold": (
+        "TASK(start, uint32_t n)\n{\n    require(n == 1);\n}\n", "cause 8:", "task.c:5: require(n == 1);"),
+    "a child in the past": (
+        "// image: task later ts 5\nTASK(start) { }\n"
+        "TASK(later, uint32_t, uint32_t, uint32_t, uint32_t ts)\n{\n    enqueue(later, ts - 1);\n}\n",
+        "cause 10:", "task.c:7: enqueue(later, ts - 1);", "a1 00000004"),
+    "a child below the floor": (
+        "// image: task outer ts 5\nTASK(start) { }\nTASK(after) { }\nTASK(inner) { enqueue_super(after, 4); }\n"
+        "TASK(outer) { make_subdomain(ORDERED); enqueue_sub(inner, 0); }\n",
+        "cause 10:", "(inner; timestamp 0, depth 2)"),
+    "a child of no subdomain": (
+        "TASK(start) { enqueue_sub(start, 0); }\n", "cause 11:", "task.c:3: TASK(start)"),
+    "a second subdomain": (
+        "TASK(start) { make_subdomain(ORDERED); make_subdomain(ORDERED); }\n", "cause 12:", "task.c:3:"),
+    "a child above the root": (
+        "TASK(start) { enqueue_super(start, 0); }\n", "cause 13:", "task.c:3: TASK(start)"),
+    "domains that are too deep": (
+        "TASK(start) { make_subdomain(ORDERED); enqueue_sub(start, 0); }\n", "cause 14:", "depth 16)"),
+    "too many children": (
+        "TASK(leaf) { }\nTASK(start) { for (int k = 0; k < 300; k++) enqueue(leaf, 0); }\n",
+        "cause 15: a 257th child", "task.c:4: TASK(start)"),
+    "too many bytes": (
+        'TASK(start) { for (int k = 0; k < 30; k++) emit_text("0123456789"); }\n',
+        "cause 16:", "task.c:3: TASK(start)"),
+    "a wait for another task": (
+        "volatile uint32_t is_ready;\nTASK(child) { is_ready = 1; }\n"
+        "TASK(start) { enqueue(child, 0); while (!is_ready) {} }\n", "cause 17:", "task.c:5: TASK(start)"),
+}
+# Sources whose run ends normally and isn't what was meant, with the output and the window that come.
+SILENT = {
+    "a result that is taken too early": (
+        "uint32_t sum = 7;\nTASK(child) { sum = 42; }\n"
+        "TASK(start) { enqueue(child, 0); emit_number(sum); }\n", "7", None),
+    "a pointer to a local, by a cast": (
+        "// image: window seen\nuint32_t seen = 9;\nTASK(child, uint32_t *p) { seen = *p; }\n"
+        "TASK(start) { volatile uint32_t x = 65; enqueue(child, 0, (uint32_t)&x); }\n", "", 0),
+    "a timestamp below 0": (
+        "TASK(late, uint32_t letter) { emit(letter); }\n"
+        "TASK(start, uint32_t, uint32_t, uint32_t, uint32_t ts)\n"
+        "{\n    enqueue(late, ts - 1, 'b');\n    enqueue(late, 5, 'a');\n}\n", "ab", None),
+    "timestamps of an unordered domain": (
+        "// image: root unordered\nTASK(late, uint32_t letter) { emit(letter); }\n"
+        "TASK(start) { enqueue(late, 2, 'b', .hint = 0); enqueue(late, 1, 'a', .hint = 1); }\n", "ba", None),
+    "a local that is to be kept": (
+        "// image: window kept\nuint32_t kept = 9;\nTASK(again, uint32_t is_first)\n{\n    volatile uint32_t own[2];\n"
+        "    if (is_first)\n        own[0] = 5;\n    else\n        kept = own[0];\n}\n"
+        "TASK(start) { enqueue(again, 1, 1); enqueue(again, 2, 0); }\n", "", 0),
+}
+
+
+def same_but_for_addresses(report):
+    """A report without the addresses of its window: each compiler places variables as it likes."""
+    return re.sub(rb"(?m)^window [0-9a-f]{8} ", b"window ", report)
+
+
+def built(place, name, text, words=()):
+    """A folder with an image of this source, and the answer of the call that made it."""
+    folder = folder_in_c(place, name, text)
+    answer = place.call("fractal build", *words, str(folder))
+    expect(answer.status == 0, f"an image of {name}", answer)
+    return folder, answer
+
+
+def folder_in_c(place, name, text):
+    folder = folder_with(place, name)
+    (folder / "task.c").write_text(text)
+    return folder
+
+
+def run_of(place, folder, *words):
+    image = (folder / "image.bin").read_bytes()
+    answer = place.call("fractal", "run", *words, stdin=image)
+    checked = place.call("fractal", "check", stdin=image + answer.output)
+    expect(checked.status == 0, "a report that is accepted", checked)
+    return answer.output
+
+
+def examples_in_c_are_one_for_both_compilers(place):
+    """by gcc and by clang the examples in C have their reports but for addresses; with workers, reports are accepted"""
+    place.needs_program()
+    for name in IN_C:
+        wanted = same_but_for_addresses((place.clone / "examples" / name / "report").read_bytes())
+        for words in COMPILERS:
+            folder = place.root / "-".join(["built", *words, *name.split("/")])
+            shutil.copytree(place.clone / "examples" / name, folder)
+            answer = place.call("fractal build", *words, str(folder))
+            expect(answer.status == 0, f"{name} by {words or GCC}", answer)
+            report = same_but_for_addresses(run_of(place, folder))
+            expect(report == wanted, f"the report of {name} by {words or GCC}", report)
+            run_of(place, folder, "--workers", "4")
+
+
+def c_and_assembly_are_one(place):
+    """shortest paths by hand and in C have one report, byte by byte"""
+    by_hand, in_c = [(place.clone / "examples" / name / "report").read_bytes()
+                     for name in ("shortest_paths", "c/shortest_paths")]
+    expect(by_hand == in_c, "one report", (by_hand, in_c))
+
+
+def what_needs_no_stack_runs_in_version_1(place):
+    """programs whose tasks need no stack have the same report in version 1, by both compilers"""
+    place.needs_program()
+    for name in WITHOUT_STACK:
+        text = (place.clone / "examples" / name / "task.c").read_text()
+        text = text.replace("// image: root", "// image: version 1\n// image: root")
+        wanted = same_but_for_addresses((place.clone / "examples" / name / "report").read_bytes())
+        for words in COMPILERS:
+            folder, _ = built(place, "-".join([*words, name.replace("/", "-")]), text, words)
+            expect((folder / "image.bin").read_bytes()[4] == 1, "an image of version 1")
+            report = same_but_for_addresses(run_of(place, folder))
+            expect(report == wanted, f"the report of {name}", report)
+
+
+def sources_are_mixed(place):
+    """two files of C and one of assembly are one program, and a label may be an argument"""
+    place.needs_program()
+    folder = folder_in_c(place, "mixed", """#include "task.h"
+// image: task start args 65 numbers
+// image: window numbers
+extern task_entry other, by_hand;
+uint32_t numbers[2];
+TASK(start, uint32_t n, uint32_t *to)
+{
+    to[0] = n;
+    enqueue(other, 1, n + 1, at(&to[1]));
+    enqueue(by_hand, 2, n + 2);
+}
+""")
+    (folder / "other.c").write_text('#include "task.h"\nTASK(other, uint32_t n, uint32_t *to) { *to = n; emit(n); }\n')
+    (folder / "third.s").write_text("    .globl by_hand\nby_hand:\n    li a7, 5\n    ecall\n    li a7, 0\n    ecall\n")
+    for words in COMPILERS:
+        answer = place.call("fractal build", *words, str(folder))
+        expect(answer.status == 0, "an image", answer)
+        report = same_but_for_addresses(run_of(place, folder))
+        expect(report.endswith(b"output 4243\nwindow 00000041\nwindow 00000042\nend normal\n"), "the numbers", report)
+
+
+def calls_keep_arguments_apart(place):
+    """products, quotients and calls as arguments of a child come out as they are, by both compilers"""
+    place.needs_program()
+    for words in COMPILERS:
+        folder, _ = built(place, "-".join(["arguments", *words]), """#include "task.h"
+// image: task start ts 3 args 12 7 100
+// image: window seen
+uint32_t seen[8], place;
+__attribute__((noinline)) static uint32_t shared(uint32_t x, uint32_t y) { return place * 3 + x / y; }
+TASK(child, uint32_t a, uint32_t b, uint32_t c, uint32_t ts)
+{
+    seen[place++] = a, seen[place++] = b, seen[place++] = c, seen[place++] = ts;
+}
+TASK(start, uint32_t x, uint32_t y, uint32_t z, uint32_t ts)
+{
+    enqueue(child, ts + x * y, y * z, z / y, shared(x, y), x % 5);
+    enqueue(child, ts + shared(x * y, 3) * 9, (uint32_t)((uint64_t)x * 0x80000001u * z >> 32), x - shared(y, 1), z % y);
+}
+""", words)
+        wanted = [7 * 100, 100 // 7, 12 // 7, 3 + 12 * 7]
+        wanted += [12 * 0x80000001 * 100 % 2 ** 64 >> 32, 12 - 7, 100 % 7, 3 + 12 * 7 // 3 * 9]
+        seen = [int(it, 16) for it in re.findall(rb"window \w+ (\w+)", run_of(place, folder))]
+        expect(seen == wanted, f"the numbers {wanted}", seen)
+
+
+def mistakes_in_c_are_refused(place):
+    """what sources or the linked program show is refused in a sentence with file and line, and nothing is written"""
+    whole = {name: (FIRST_LINES + text, *parts) for name, (text, *parts) in REFUSED.items()} | REFUSED_WHOLE
+    for words in COMPILERS:
+        for name, (text, *parts) in whole.items():
+            folder = folder_in_c(place, "-".join([name, *words]), text)
+            answer = place.call("fractal build", *words, str(folder))
+            expect(answer.status == 1, f"a refusal of {name} by {words or GCC}", answer)
+            answer.tells(*parts)
+            nothing_is_written(folder)
+    expect(not any(place.temporary.iterdir()), "no temporary file")
+
+
+def doubts_in_c_are_noted(place):
+    """what may be wrong is told in a note, and built all the same"""
+    for words in COMPILERS:
+        for name, (text, *parts) in NOTED.items():
+            _, answer = built(place, "-".join([name, *words]), FIRST_LINES + text, words)
+            answer.tells("note: ", *parts)
+
+
+def traps_in_c_are_explained(place):
+    """a trap in C is told with its task, arguments, file, line, address and registers"""
+    place.needs_program()
+    for words in COMPILERS:
+        for name, (text, *parts) in TRAPS.items():
+            folder, _ = built(place, "-".join([name, *words]), FIRST_LINES + text, words)
+            report = run_of(place, folder)
+            answer = place.call("fractal explain", str(folder / "image.bin"), "-", stdin=report)
+            for part in ("The run ended in a trap of the task", "task.c:", "  registers ", *parts):
+                expect(part in answer.output.decode(), f"`{part}` of {name} by {words or GCC}", answer.output.decode())
+
+
+def silent_mistakes_are_silent(place):
+    """mistakes that nothing tells come out as the guide says"""
+    place.needs_program()
+    for words in COMPILERS:
+        for name, (text, output, word) in SILENT.items():
+            folder, answer = built(place, "-".join([name, *words]), FIRST_LINES + text, words)
+            report = run_of(place, folder)
+            expect(report.endswith(b"end normal\n"), f"a normal end of {name}", report)
+            wanted = f"output {output.encode().hex() or '-'}\n".encode()
+            expect(wanted in report, f"the output {output} of {name}", report)
+            if word is not None:
+                expect(re.search(rb"window \w+ %08x\n" % word, report), f"the word {word} of {name}", report)
+
+
+def ties_come_in_any_order(place):
+    """a join at the timestamp of what it joins is accepted in each order, and leaves other sums by other settings"""
+    place.needs_program()
+    text = (place.clone / "examples" / "c" / "tree_of_sums" / "task.c").read_text()
+    folder, _ = built(place, "ties", text.replace("enqueue_sub(join, 1,", "enqueue_sub(join, 0,"))
+    sums = {re.search(rb"window \w+ (\w+)", run_of(place, folder, "--tiles", str(tiles)))[1] for tiles in range(1, 8)}
+    expect(len(sums) > 1, "more than one sum", sums)
+
+
+def scratch_of_all_conflicts(place):
+    """tasks that fill one array of all are taken back, those that fill locals are not; their results are the same"""
+    place.needs_program()
+    place.needs_second_program()
+    study = (place.clone / "docs" / "machine" / "STUDY.md").read_text()
+    text = study[study.index('#include "task.h"'):].partition("```")[0]
+    shared = text.replace("    volatile uint32_t scratch", "    static volatile uint32_t scratch")
+    results = []
+    for name, source, is_taken_back in (("own", text, False), ("shared", shared, True)):
+        folder, _ = built(place, name, source)
+        results.append(re.findall(rb"window \w+ (\w+)", run_of(place, folder)))
+        answer = place.call("fractal study", str(folder / "image.bin"), "--tiles", "4", "--cores", "2")
+        head, _, row = (line.strip("| ").split(" | ") for line in answer.output.decode().splitlines())
+        taken_back = dict(zip(head, row))["Taken back"]
+        expect((taken_back != "0") == is_taken_back, f"what is taken back with {name} scratch", answer)
+    expect(results[0] == results[1] and len(results[0]) == 16, "the same results", results)
+
+
+def packed_structs_are_read(place):
+    """a packed struct is read at any address, by both compilers"""
+    place.needs_program()
+    source = """#include "task.h"
+// image: task start
+// image: window seen
+struct __attribute__((packed)) odd { uint8_t first; uint32_t word; } odd = {1, 0x12345678};
+uint32_t seen;
+TASK(start) { seen = ((volatile struct odd *)&odd)->word; }
+"""
+    for words in COMPILERS:
+        folder, _ = built(place, "-".join(["packed", *words]), source, words)
+        expect(b" 12345678\n" in run_of(place, folder), "the word")
+
+
+def traps_are_explained_from_sources(place):
+    """a trap in C is explained from the listing, the folder and the source alike"""
+    place.needs_program()
+    folder, _ = built(place, "a trap", FIRST_LINES + "TASK(start)\n{\n    require(0);\n}\n")
+    report = run_of(place, folder)
+    for source in ([], [str(folder)], [str(folder / "task.c")], [str(folder / "listing")]):
+        answer = place.call("fractal explain", str(folder / "image.bin"), "-", *source, stdin=report)
+        expect(b"task.c:5: require(0);" in answer.output, "the line", answer)
+
+
+def long_ways_are_counted(place):
+    """the stack of thousands of functions that call one another is counted, and the sentence stays short"""
+    text = "static __attribute__((noinline)) uint32_t f0(uint32_t x) { volatile uint32_t y = x; return y + 1; }\n"
+    for number in range(1, 1_500):
+        text += (f"static __attribute__((noinline)) uint32_t f{number}(uint32_t x) "
+                 f"{{ volatile uint32_t y = x; return f{number - 1}(y) + y; }}\n")
+    folder = folder_in_c(place, "long way", FIRST_LINES + text + "uint32_t out;\nTASK(start) { out = f1499(1); }\n")
+    answer = place.call("fractal build", str(folder))
+    answer.sentence("the task `start` needs", "f1499", "more.")
+    expect(len(answer.errors) < 1_000, "a short sentence", answer)
+    nothing_is_written(folder)
+
+
+def missing_compilers_are_told(place):
+    """without gcc, clang, or the library for products it says which package has it"""
+    text = FIRST_LINES + "uint32_t x;\nTASK(start, uint32_t a, uint32_t b) { x = a / b; }\n"
+    folder = folder_in_c(place, "alone", text)
+    place.without(GCC, CLANG)
+    place.call("fractal build", str(folder)).sentence(GCC, "gcc-riscv64-unknown-elf")
+    place.call("fractal build", "--clang", str(folder)).sentence("clang isn't in the path")
+    nothing_is_written(folder)
+
+
+def missing_libgcc_is_told(place):
+    """clang without gcc's library refuses a quotient, and builds what needs none"""
+    text = FIRST_LINES + "uint32_t x;\nTASK(start, uint32_t a, uint32_t b) { x = a / b; }\n"
+    folder = folder_in_c(place, "alone", text)
+    place.without(GCC)
+    place.call("fractal build", "--clang", str(folder)).sentence("task.c:4:", "`__udivsi3`", "gcc-riscv64-unknown-elf")
+    (folder / "task.c").write_text(FIRST_LINES + "TASK(start) { }\n")
+    expect(place.call("fractal build", "--clang", str(folder)).status == 0, "an image without a quotient")
+
+
+def large_programs_are_held_against_plain_ones(place):
+    """a network of roads and a circuit, made small, leave what plain programs do, and nothing is left but the folder"""
+    place.needs_program()
+    for name, size, words in (("roads", "90", 90), ("circuit", "3", 2 * (6 + 30))):
+        for compiler in COMPILERS:
+            folder = place.root / "-".join([name, *compiler])
+            answer = place.call("fractal large", name, str(folder), "--size", size, "--seed", "4", *compiler)
+            expect(answer.status == 0, f"{name} by {compiler or GCC}", answer)
+            expect(f"{words} words of `".encode() in answer.output, f"{words} words", answer)
+            left = sorted(path.name for path in folder.iterdir() if path.suffix != ".h")
+            expect(left == ["image.bin", "listing", "plain", "task.c"], "the sources, the image and the listing", left)
+    place.is_clean()
+
+
+def other_results_of_large_programs_are_told(place):
+    """a result that isn't the plain program's, and a report that is refused, are told in a sentence"""
+    place.needs_program()
+    real = place.root / "real"
+    place.program.rename(real)
+    # The program that is asked tells another word, and then accepts whatever it is given.
+    change = "sed 's/^window 10000004 .*/window 10000004 00000063/'"
+    for checked, part in (("printf 'check ok 177\\n'", "is 00000063, and"),
+                          (f"'{real}' \"$@\"", "`check` ended with status 8")):
+        place.stub(place.program, f"case $1 in\n    run) '{real}' \"$@\" | {change} ;;\n    check) {checked} ;;\n"
+                                  f"    *) '{real}' \"$@\" ;;\nesac\n")
+        folder = place.root / part.replace("`", "")
+        answer = place.call("fractal large", "roads", str(folder), "--size", "60")
+        expect(answer.status == 1, "status 1", answer)
+        answer.tells(part)
+
+
+def other_programs_of_large_are_told(place):
+    """a program that writes no report, or not the words that were asked for, is told in a sentence"""
+    bytes_alone = place.stub(place.root / "bytes", "cat >/dev/null; printf '\\377\\n'\n")
+    no_words = place.stub(place.root / "words", "cat >/dev/null; printf 'fractal 1\\noutput -\\nend normal\\n'\n")
+    for program, part in ((bytes_alone, "no report"), (no_words, "tells 0 words, and not 3")):
+        folder = place.root / f"large {program.name}"
+        place.call("fractal large", "roads", str(folder), "--size", "3", "--program", str(program)).sentence(part)
+
+
+def missing_compilers_leave_no_folder(place):
+    """without the compiler the folder isn't begun, so that the same words may come again"""
+    program, folder = place.stub(place.root / "program", "exit 0\n"), place.root / "large"
+    words = ("fractal large", "roads", str(folder), "--program", str(program))
+    place.call("fractal large", "roads", "", "--program", str(program)).sentence("FOLDER is empty")
+    place.without(GCC)
+    place.call(*words).sentence(GCC, "gcc-riscv64-unknown-elf")
+    expect(not folder.exists(), "no folder")
+
+
+def large_refuses_bad_words(place):
+    """bad words, a folder that isn't empty, and a missing program or compiler are told in a sentence"""
+    large, empty = "fractal large", str(place.root / "large")
+    one_sentence_each([
+        (place.call(large), ["roads or circuit, and FOLDER"]),
+        (place.call(large, "roads"), ["roads or circuit, and FOLDER"]),
+        (place.call(large, "rivers", empty), ["not `rivers`"]),
+        (place.call(large, "roads", empty, "--fast"), ["--fast"]),
+        (place.call(large, "roads", empty, "--size", "1"), ["2 to 12000"]),
+        (place.call(large, "circuit", empty, "--size", "17"), ["2 to 16"]),
+        (place.call(large, "circuit", empty, "--seed", "-1"), ["0 to 4294967295"]),
+        (place.call(large, "circuit", empty), ["isn't built"]),
+    ])
+    place.needs_program()
+    one_sentence_each([
+        (place.call(large, "roads", str(place.clone / "examples")), ["not empty"]),
+        (place.call(large, "roads", str(place.clone / "README.md")), ["not empty"]),
+    ])
+    expect(not pathlib.Path(empty).exists(), "no folder")
+    place.is_clean()
+    place.without("cc")
+    place.call(large, "circuit", empty, "--size", "2").sentence("cc isn't in the path")
+    expect(not pathlib.Path(empty).exists(), "no folder")
+
+
+TRIES = (
+    examples_in_c_are_one_for_both_compilers, c_and_assembly_are_one, what_needs_no_stack_runs_in_version_1,
+    sources_are_mixed, calls_keep_arguments_apart, mistakes_in_c_are_refused, doubts_in_c_are_noted,
+    traps_in_c_are_explained, silent_mistakes_are_silent, ties_come_in_any_order, scratch_of_all_conflicts,
+    packed_structs_are_read, traps_are_explained_from_sources, long_ways_are_counted, missing_compilers_are_told,
+    missing_libgcc_is_told, large_programs_are_held_against_plain_ones, other_results_of_large_programs_are_told,
+    other_programs_of_large_are_told, missing_compilers_leave_no_folder, large_refuses_bad_words,
+)

@@ -1,0 +1,293 @@
+"""Tries of ./fractal figures, and of the reader of lines that it stands on."""
+from __future__ import annotations
+
+import csv
+import json
+import os
+
+from yotarimu.programs.examples import SCHEDULES
+
+from tries.others import picture_in
+from tries.place import expect, one_sentence_each
+from tries.schedules import written
+
+DATA = 0x10000000
+HEAD = {"watch": 1, "course": "steps", "tiles": 2, "cores": 2, "task_queue": 256, "commit_queue": 64, "line": 16,
+        "quantum": 64, "commits": 1_000_000, "budget": 65_536, "phase": 1_000_000, "root": "ordered", "text": 20,
+        "data": 32_768, "window": [0, 0], "tasks": 1}
+
+
+class Told:
+    """Lines as the second program tells them, put together one after another."""
+
+    def __init__(self, timestamps, tiles, **settings):
+        self.lines = [{**HEAD, **settings, "tasks": len(tiles)}]
+        self.acts = self.events = self.commits = 0
+        for place in sorted(range(len(tiles)), key=lambda place: tiles[place]):
+            self.lines.append({"at": 0, "do": "place", "tile": tiles[place], "new": place, "name": [0, place],
+                               "entry": 65_536, "ts": timestamps[place], "args": [0, 0, 0], "hint": place})
+
+    def act(self, word, change=None, reply="ok", **fields):
+        """An act: what stands before its reply, and what its event changed."""
+        self.acts += 1
+        self.events += reply == "ok" and word != "take"
+        self.lines.append({"at": self.acts, "do": word, **fields, "reply": reply, "n": self.events, **(change or {})})
+
+    def dispatch(self, task, tile, core, number):
+        self.act("dispatch", {"core": core, "number": number}, tile=tile, task=task)
+
+    def step(self, task, tile, core, leg, asks, change=None, reply="ok", **more):
+        self.act("step", change, reply, tile=tile, core=core, task=task, leg=leg, pc=65_540, asks=asks, **more)
+
+    def load(self, task, tile, core, leg, offset, old=0):
+        self.step(task, tile, core, leg, "load", {"old": old}, addr=DATA + offset, bytes=4)
+
+    def store(self, task, tile, core, leg, offset, back=(), gone=()):
+        change = {"aborted": len(back), "back": back, "gone": gone, "old": 0}
+        change = {name: value for name, value in change.items() if value or name == "old"}
+        self.step(task, tile, core, leg, "store", change, addr=DATA + offset, bytes=4, value=9)
+
+    def enqueue(self, task, tile, core, leg, new, reply="ok"):
+        self.step(task, tile, core, leg, "enqueue", {"new": new, "in": tile} if reply == "ok" else None, reply,
+                  to="same", entry=65_536, ts=9, args=[0, 0, 0], hint=0)
+
+    def finish(self, task, tile, core, leg):
+        self.step(task, tile, core, leg, "end")
+
+    def commit(self, task, name, timestamp):
+        self.commits += 1
+        self.act("commit", {"name": name, "depth": 1, "ts": timestamp}, task=task)
+
+    def end(self, end="open"):
+        self.lines.append({"end": end, "n": self.events, "journal": self.commits, "output": "", "window": []})
+        return self.text()
+
+    def text(self):
+        return b"".join(json.dumps(line, separators=(",", ":")).encode() + b"\n" for line in self.lines)
+
+
+def shared_words():
+    """A task that comes first and stores twice, and three later ones that have run ahead: the first store takes all
+    three and a child back, each for another reason, and the second one two, one of them in a cascade."""
+    told = Told([1, 5, 6, 7, 8], [0, 0, 1, 1, 0])
+    for number, (task, tile, core) in enumerate(((0, 0, 0), (1, 0, 1), (2, 1, 0), (3, 1, 1))):
+        told.dispatch(task, tile, core, number)
+    told.load(1, 0, 1, 2, 0)                    # 3 of task 1: the very word
+    told.enqueue(1, 0, 1, 1, 5)                 # 5: a child, which has done nothing
+    told.load(2, 1, 0, 0, 4)                    # 1 of task 2: the same line
+    told.load(3, 1, 1, 3, 16_384)               # 4 of task 3: line 1,024
+    told.act("commit", reply="empty", task=0)
+    told.store(0, 0, 0, 4, 0, [[1, 5], [2, 1], [3, 4], [5, 0]], [5])    # 5 of task 0
+    told.step(0, 0, 0, 2, "go")                 # 7
+    told.dispatch(1, 0, 1, 4)
+    told.store(1, 0, 1, 2, 32)                  # 3 of task 1
+    told.load(1, 0, 1, 0, 48)                   # 4
+    told.dispatch(2, 1, 0, 5)
+    told.load(2, 1, 0, 0, 32, 9)                # 1 of task 2: what task 1 wrote
+    told.dispatch(3, 1, 1, 6)
+    told.load(3, 1, 1, 1, 4)                    # 2 of task 3, which is left
+    told.store(0, 0, 0, 1, 48, [[1, 4], [2, 1]])    # 9 of task 0
+    told.enqueue(3, 1, 1, 6, None, "stall")     # refused
+    told.finish(0, 0, 0, 0)                     # 10
+    told.commit(0, [0, 0], 1)
+    return told
+
+
+def rows_of(place, text, *words):
+    """The rows of CSV, by figure and what it is of."""
+    path = written(place, "lines", text)
+    answer = place.call("fractal figures", path, "--csv", "rows.csv", *words)
+    expect((answer.status, answer.errors) == (0, ""), "figures", answer)
+    rows = csv.DictReader((place.root / "rows.csv").read_text().splitlines())
+    return {(row["figure"], row["of"]): row["value"] for row in rows}, answer.output.decode()
+
+
+def figures_are_counted(place):
+    """a schedule counted by hand: work, tasks taken back by cause, line, address and sharing, and occupancy"""
+    rows, text = rows_of(place, shared_words().end(), "--plot", "a plot.svg")
+    wanted = {("instructions", "executed"): 27, ("instructions", "useful"): 10, ("instructions", "wasted"): 15,
+              ("instructions", "left"): 2, ("instructions", "refused"): 6, ("commits", ""): 1, ("events", ""): 20,
+              ("acts", ""): 22, ("rounds", ""): "", ("dispatches a commit", ""): 7, ("taken back", ""): 6,
+              ("taken back by cause", "store"): 6, ("taken back by cause", "load"): 0,
+              ("discarded by cause", "store"): 1, ("wasted by cause", "store"): 15,
+              ("taken back by line", "0"): 4, ("taken back by line", "3"): 2,
+              ("taken back by address", "10000000"): 4, ("taken back by address", "10000030"): 2,
+              ("stores of a task", "mean"): 2, ("loads of a task", "90 %"): 0, ("replies to step", "stall"): 1,
+              ("occupancy greatest", "task queues"): 6, ("occupancy greatest", "cores"): 4,
+              ("occupancy greatest", "commit queues"): 1, ("occupancy of cores", "4"): 4}
+    wanted.update({("taken back by sharing", kind): count for kind, count in
+                   (("true", 2), ("line", 1), ("alias", 1), ("child", 1), ("cascade", 1))})
+    for key, value in wanted.items():
+        expect(rows.get(key) == str(value), f"{value} as {key}", rows.get(key))
+    for line in ("| of these useful | 10 (37.0 %) |", "| shared: alias | 1 |", "| 0 | 4 | 10000000 | 4 |"):
+        expect(line in text, f"`{line}`", text)
+    for part in ("cores", "commit queues", "events"):
+        expect(part in picture_in((place.root / "a plot.svg").read_bytes()), f"`{part}` in the plot")
+
+
+def work_is_summed_up(place):
+    """work that is executed is useful, wasted or left, at each place where a text may be cut and closed"""
+    told = shared_words()
+    whole = list(told.lines)
+    for count in range(6, len(whole) + 1):
+        acts = [line for line in whole[6:count]]
+        told.lines = whole[:count]
+        told.events = acts[-1]["n"] if acts else 0
+        told.commits = sum(line["do"] == "commit" and line["reply"] == "ok" for line in acts)
+        rows, _ = rows_of(place, told.end())
+        executed, *parts = (int(rows["instructions", of]) for of in ("executed", "useful", "wasted", "left"))
+        expect(executed == sum(parts), "a sum", (count, executed, parts))
+
+
+def limits_are_counted(place):
+    """limits of parallelism counted by hand: by creators and stores, by whole tasks and finely, and by windows"""
+    told = Told([1], [0])
+    told.dispatch(0, 0, 0, 0)
+    told.enqueue(0, 0, 0, 0, 1)                 # task 0 has 10 instructions, and makes its children behind 1 and 2
+    told.enqueue(0, 0, 0, 0, 2)
+    told.finish(0, 0, 0, 7)
+    told.commit(0, [0, 0], 1)
+    told.dispatch(1, 0, 0, 1)
+    told.store(1, 0, 0, 3, 0)                   # task 1 has 5, and stores behind 3
+    told.finish(1, 0, 0, 0)
+    told.commit(1, [1, 0], 9)
+    told.dispatch(2, 0, 0, 2)
+    told.load(2, 0, 0, 1, 0, 9)                 # task 2 has 5, and loads that behind 1
+    told.finish(2, 0, 0, 2)
+    told.commit(2, [1, 1], 9)
+    rows, _ = rows_of(place, told.end("normal"), "--fine")
+    for manner, value in (("by whole tasks", "1"), ("finely", "2")):
+        for window in ("64", "1024", "without bound"):
+            expect(rows[f"parallelism {manner}", window] == value, f"{value} {manner}", rows)
+    told = Told([1] * 100, [0] * 100)
+    for task in range(100):
+        told.dispatch(task, 0, 0, task)
+        told.finish(task, 0, 0, 0)
+        told.commit(task, [0, task], 1)
+    rows, _ = rows_of(place, told.end("normal"))
+    limits = [rows["parallelism by whole tasks", window] for window in ("64", "1024", "without bound")]
+    expect(limits == ["50", "100", "100"], "a window of 64 that is met once", limits)
+
+
+def runs_stand_side_by_side(place):
+    """several texts are columns of one table; standard input is one of them"""
+    one = written(place, "one", shared_words().end())
+    answer = place.call("fractal figures", one, "-", stdin=Told([1], [0]).end())
+    text = answer.output.decode()
+    for line in ("| Commits | 1 | 0 |", "| Dispatches a commit | 7.00 | - |", "| End | open | open |"):
+        expect((answer.status, line in text) == (0, True), f"`{line}`", answer)
+
+
+def other_lines_are_refused(place):
+    """a text that is cut, has no end, or tells what can't follow is refused with the number of the line"""
+    whole = shared_words().end()
+    lines = whole.splitlines(keepends=True)
+
+    def refused(text, *parts):
+        return place.call("fractal figures", "-", stdin=text), ["figures: ", *parts]
+
+    def changed(old, new):
+        expect(whole.count(old) > 0, f"{old} in the text", whole)
+        return whole.replace(old, new, 1)
+
+    one_sentence_each([
+        (place.call("fractal figures"), ["LINES"]),
+        (place.call("fractal figures", "nowhere"), ["nowhere", "no such file"]),
+        (place.call("fractal figures", "one", "one"), ["twice"]),
+        (place.call("fractal figures", "one", "--fast"), ["--fast"]),
+        (place.call("fractal figures", "-", "--csv", "nowhere/x", stdin=whole), ["nowhere/x", "no such folder"]),
+        refused(b"", "no whole line"),
+        refused(b"fractal 1\noutput -\nend open\n", "-:1:", "`fractal 1` is no JSON"),
+        refused(b'{"fault":"image","number":1,"offset":51}\n', "-:1:", "fault: image 1 51"),
+        refused(b"".join(lines[:-1]), "no end", "behind line 28"),
+        refused(whole[:-1], "-:29:", "no newline"),
+        refused(whole[:-9], "-:29:", "no newline"),
+        refused(b"".join(lines[1:]), "-:1:", "isn't the head"),
+        refused(b"".join(lines[:2] + lines[3:]), "-:6:", "4 of 5 tasks"),
+        refused(b"".join(lines[:9] + lines[10:]), "-:10:", "act 5 can't follow on act 3"),
+        refused(whole + lines[-1], "-:30:", "nothing may follow"),
+        refused(changed(b'"watch":1', b'"watch":2'), "-:1:", "version 2"),
+        refused(changed(b'"back":[[1,5]', b'"back":[[1,6]'), "task 1 executed 5", "not 6"),
+        refused(changed(b'"aborted":4', b'"aborted":3'), "how many tasks"),
+        refused(changed(b'"leg":2', b'"leg":-2'), "-:11:", "`leg` is `-2`"),
+        refused(changed(b'"leg":2', b'"leg": 2'), "-:11:", "written otherwise"),
+        refused(changed(b'"do":"step"', b'"do":"st3p"'), "-:11:", "`do`"),
+        refused(changed(b'"pc":65540,', b""), "-:11:", "`pc`"),
+        refused(changed(b'"task":1', b'"task":7'), "no task has the id 7"),
+        refused(changed(b'"name":[0,0],"depth"', b'"name":[0,1],"depth"'), "0.0", "another name"),
+        refused(changed(b'"journal":1', b'"journal":2'), "2 commits"),
+        refused(b"[" * 100_000 + b"\n", "-:1:", "nested"),
+        refused(b"\x1b[2J\n", "-:1:"),
+    ])
+    place.is_clean()
+
+
+def odd_acts_are_refused(place):
+    """acts that no machine tells, and numbers that are too long, are refused by figures and by the page"""
+    def odd(word, change=None, reply="ok", **fields):
+        told = Told([1], [0])
+        if word == "step":
+            told.dispatch(0, 0, 0, 0)
+        told.act(word, change, reply, **fields)
+        return told.end()
+
+    step = {"tile": 0, "core": 0, "leg": 0, "pc": 65_540}
+    child = {"to": "same", "entry": 65_536, "ts": 9, "args": [0, 0, 0], "hint": 0}
+    texts = {odd("abort", tile=0): "takes no task back", odd("take", tile=0, core=1): "holds no task",
+             odd("step", reply="stall", **step, asks="end"): "takes this leg",
+             odd("step", reply="stall", **step, asks="enqueue", **child): "takes this leg",
+             odd("step", tile=0, core=0, task=0, leg=0, pc=65_540, asks="emit", byte=256): "256 is no byte"}
+    whole = shared_words().end()
+    for old, new, part in ((b'"ts":1', b'"ts":' + b"9" * 4_000, "2: `ts`"), (b'"tasks":5', b'"tasks":0', "no machine"),
+                           (b"[1,5]", b"[2,1]", "how many tasks"), (b'"empty"', b'"busy"', "`reply` is `busy`"),
+                           (b'"commit","task":0,"reply":"empty"', b'"advance","reply":"ok"', "`reply` is `ok`")):
+        expect(old in whole, f"{old} in the text", whole)
+        texts[whole.replace(old, new, 1)] = part
+    for text, part in texts.items():
+        for script in ("figures", "show"):
+            place.call(f"fractal {script}", "-", stdin=text).sentence(f"{script}: -:", part)
+    place.is_clean()
+
+
+def no_text_is_lost(place):
+    """a text that is read isn't replaced, nor are two written to one file; a name that is no text is told in both"""
+    data = shared_words().end()
+    text = written(place, "lines", data)
+    (place.root / "link").symlink_to("lines")
+    figures = "fractal figures"
+    one_sentence_each([
+        (place.call(figures, text, "--csv", text), ["lines: this is read"]),
+        (place.call(figures, text, "--plot", "link"), ["link: this is read"]),
+        (place.call(figures, text, "--csv", "x", "--plot", "./x"), ["x: two outputs"]),
+        (place.call(figures, text, "--csv", ""), ["this is a folder"]),
+    ])
+    expect((place.root / "lines").read_bytes() == data and not (place.root / "x").exists(), "the text as it was")
+    named = place.root / os.fsdecode(b"odd \xff")
+    named.write_bytes(data)
+    answer = place.call(figures, named.name, text, "--csv", "x.csv", "--plot", "x.svg")
+    expect((answer.status, answer.errors) == (0, ""), "both texts in both files", answer)
+    for name in ("x.csv", "x.svg"):
+        expect("odd \\udcff" in (place.root / name).read_text(encoding="utf-8"), f"the name in {name}")
+    answer = place.by_shell('"$0" figures lines 2>&-')
+    expect(answer.status == 0 and b"Commits" in answer.output, "a table without standard error", answer)
+    place.is_clean()
+
+
+def told_schedules_are_figured(place):
+    """the lines of each schedule of the project are read whole, and those of the conflict have the figures counted"""
+    place.needs_second_program()
+    for name in SCHEDULES:
+        folder = place.clone / "examples" / "schedules" / name.partition("/")[2]
+        words = (folder / "words").read_text().split()
+        data = (folder / "image.bin").read_bytes() + (folder / "script").read_bytes()
+        answer = place.call("fractal", "watch", *words, stdin=data)
+        expect(answer.output.endswith(b"}\n"), f"lines of {name}", answer)
+        rows, _ = rows_of(place, answer.output)
+        if name.endswith("/conflict"):
+            told = [rows[key] for key in (("commits", ""), ("taken back", ""), ("discarded by cause", "store"),
+                                          ("taken back by sharing", "true"), ("taken back by sharing", "child"))]
+            expect(told == ["3", "2", "1", "1", "1"], "the reader, its child and the writer", rows)
+
+
+TRIES = (figures_are_counted, work_is_summed_up, limits_are_counted, runs_stand_side_by_side, other_lines_are_refused,
+         odd_acts_are_refused, no_text_is_lost, told_schedules_are_figured)

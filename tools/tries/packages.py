@@ -1,0 +1,225 @@
+"""Tries of ./fractal package, what its archive installs, completions, the manual page, and the exercises."""
+from __future__ import annotations
+
+import shutil
+import subprocess
+
+from yotarimu.programs.program import PROGRAM, SECOND_PROGRAM
+from yotarimu.programs.table import Table
+
+from tries.launcher import HELLO, image_of
+from tries.place import Answer, expect, need_built, one_sentence_each
+
+EXERCISES = ("journal", "abort", "stall", "false_conflict", "order")
+# An rt that builds a program, by the folder that it is called in, by copying.
+STUB_BUILD = """cat >/dev/null; mkdir -p out; cp '{}'/"${{PWD##*/}}"/out/"${{PWD##*/}}" out/\n"""
+
+
+def build(place):
+    need_built(PROGRAM, SECOND_PROGRAM)
+    place.stub_tool("rt", STUB_BUILD.format(PROGRAM.parents[2]))
+    expect(place.call("fractal", "build").status == 0, "a build")
+
+
+def archive_of(place):
+    folder = place.root / "given out"
+    folder.mkdir(exist_ok=True)
+    answer = place.call("fractal", "package", str(folder))
+    expect((answer.status, answer.errors) == (0, ""), "an archive", answer)
+    return next(folder.glob("*.tar.gz"))
+
+
+def packages_run_elsewhere(place):
+    """the archive has a version, a commit and checksums, is the same again, and runs without clone and toolchain"""
+    build(place)
+    archive = archive_of(place)
+    data = archive.read_bytes()
+    expect(archive_of(place).read_bytes() == data, "the same bytes")
+    done = subprocess.run(["sha256sum", "-c", f"{archive.name}.sha256"], cwd=archive.parent, capture_output=True)
+    expect(done.returncode == 0, "the checksum", done)
+    version = place.call("fractal", "--version").output
+    place.is_clean()
+    shutil.rmtree(place.clone)
+    subprocess.run(["tar", "-xzf", archive, "-C", place.root], check=True)
+    place.clone, = place.root.glob("fractal-*")
+    place.without("rt", "git")
+    expect(place.call("fractal", "--version").output == version, "the version and the commit")
+    expect(place.call("fractal", "run", stdin=image_of(place, "hello")) == Answer(0, HELLO, ""), "a report")
+    expect(place.call("fractal", "test").status == 0, "all examples")
+    sums = (place.clone / "PACKAGE").read_text().partition("\n")[2]
+    done = subprocess.run(["sha256sum", "-c"], input=sums, text=True, cwd=place.clone, capture_output=True)
+    expect(done.returncode == 0 and done.stdout.count(": OK") == 2, "the checksums of both programs", done)
+    answer = place.call("fractal", "watch", "least", stdin=image_of(place, "hello"))
+    expect(answer.output.startswith(b'{"watch":1,') and answer.errors == "", "the second program's lines", answer)
+    for word in ("build", "package"):
+        expect(place.call("fractal", word).status == 69, f"that {word} wants a clone")
+
+
+def packages_are_installed(place):
+    """`./install PREFIX` makes a command, completions and a manual page; it replaces its own, and nothing else"""
+    build(place)
+    archive = archive_of(place)
+    subprocess.run(["tar", "-xzf", archive, "-C", place.root], check=True)
+    unpacked, = place.root.glob("fractal-*")
+    prefix = place.root / "a prefix"
+    for _ in range(2):
+        answer = place.call(str(unpacked / "install"), str(prefix))
+        expect((answer.status, answer.errors) == (0, ""), "an installation", answer)
+    command = str(prefix / "bin" / "fractal")
+    expect(place.call(command, "run", stdin=image_of(place, "hello")) == Answer(0, HELLO, ""), "a report")
+    for file in ("bash-completion/completions/fractal", "zsh/site-functions/_fractal", "man/man1/fractal.1"):
+        expect("fractal" in (prefix / "share" / file).read_text(), f"{file}")
+    expect(sorted(path.name for path in (prefix / "lib").iterdir()) == ["fractal"], "nothing else")
+    others_files_stay(place, str(unpacked / "install"))
+    (prefix / "lib" / "fractal" / "PACKAGE").unlink()
+    one_sentence_each([
+        (place.call(str(unpacked / "install"), str(prefix)), ["isn't of an earlier archive"]),
+        (place.call(str(unpacked / "install"), "/dev/null/x"), ["/dev/null/x", "can't be written"]),
+        (place.call(str(unpacked / "install"), "--fast"), ["`--fast`"]),
+        (place.call(str(unpacked / "install"), "one", "two"), ["one PREFIX"]),
+        (place.call(".ci/install"), ["no archive that was unpacked"]),
+        (place.call(str(unpacked / "install"), ""), ["PREFIX is empty"]),
+        (place.call(str(unpacked / "install"), str(unpacked)), ["within the archive"]),
+    ])
+
+
+def others_files_stay(place, install):
+    """Holds a file of another origin, or a folder, in the place of a link to be left as it is."""
+    for number, file in enumerate(("bin/fractal", "share/man/man1/fractal.1", "share/zsh/site-functions/_fractal")):
+        path = place.root / f"prefix {number}" / file
+        path.parent.mkdir(parents=True)
+        path.write_text("mine")
+        place.call(install, str(place.root / f"prefix {number}")).sentence(path.name, "so it stays")
+        expect(path.read_text() == "mine" and not path.is_symlink(), "the file", path)
+        path.unlink()
+        path.mkdir()
+        place.call(install, str(place.root / f"prefix {number}")).sentence(path.name, "so it stays")
+        expect(not any(path.iterdir()), "an empty folder", path)
+        expect(not any((place.root / f"prefix {number}" / "lib").iterdir()), "nothing else")
+
+
+def packages_are_of_one_commit(place):
+    """only programs that were built from exactly this commit are taken; else it says so, and leaves nothing"""
+    place.call("fractal", "package").sentence("fractal_sim isn't built", status=70)
+    place.needs_program()
+    place.call("fractal", "package").sentence("fractal_watch isn't built", status=70)
+    place.needs_second_program()
+    place.call("fractal", "package").sentence("nothing tells which commit", status=70)
+    build(place)
+    (place.clone / "README.md").write_text("")
+    place.call("fractal", "package").sentence("differs from its commit", "README.md", status=70)
+    place.call("fractal", "build")
+    git = ["git", "-C", str(place.clone), "-c", "user.name=a", "-c", "user.email=a@b.c"]
+    subprocess.run([*git, "checkout", "-q", "README.md"], check=True)
+    place.call("fractal", "package").sentence("nothing tells which commit", status=70)
+    place.call("fractal", "build")
+    subprocess.run([*git, "commit", "-q", "--allow-empty", "-m", "more"], check=True)
+    place.call("fractal", "package").sentence("was built from the commit", status=70)
+    place.call("fractal", "build")
+    for program in (place.program, place.second_program):
+        with open(program, "ab") as file:
+            file.write(b"more")
+        place.call("fractal", "package").sentence(f"{program.name} isn't the one that was built", status=70)
+        place.call("fractal", "build")
+    one_sentence_each([
+        (place.call("fractal", "package", "--fast"), ["`--fast`"]),
+        (place.call("fractal", "package", "one", "two"), ["one FOLDER"]),
+    ])
+    place.call("fractal", "package", "nowhere").sentence("nowhere", "no such folder", status=69)
+    place.stub_tool("gzip", "exit 1\n")
+    place.call("fractal", "package").sentence("can't be written", status=69)
+    mark = place.root / "started"
+    place.stub_tool("gzip", f"touch '{mark}'; exec sleep 100\n")
+    place.interrupted("fractal", "package", ready=mark.exists).sentence("interrupted", status=130)
+    expect(not list(place.root.glob("*fractal-*")) and not list(place.root.glob(".fractal*")), "no archive")
+    place.is_clean()
+
+
+def shells_are_helped(place):
+    """completions and the manual page have each command, option and status, and their shells and groff read them"""
+    table = Table()
+    texts = {}
+    for kind in ("bash", "zsh", "man"):
+        answer = place.call("fractal shell", kind)
+        expect((answer.status, answer.errors) == (0, ""), f"a text for {kind}", answer)
+        texts[kind] = answer.output.decode().replace("\\-", "-")
+        for name in (*table.commands, *table.own, *table.course_rows, *(f"--{option}" for option in table.options)):
+            expect(name in texts[kind], f"`{name}` for {kind}")
+        (place.root / kind).write_bytes(answer.output)
+    expect("package [FOLDER]" in texts["man"] and "load KIND SEED SIZE" in texts["man"], "the words behind a command")
+    for status, meaning in table.statuses.items():
+        expect(f".B {status}\n{meaning}" in texts["man"].replace("\\(aq", "'"), f"the status {status}")
+    for shell in ("bash", "zsh"):
+        if shutil.which(shell):
+            expect(place.call("/usr/bin/env", shell, "-n", shell).status == 0, f"that {shell} reads it")
+    script = '. ./bash; COMP_WORDS=({}); COMP_CWORD={}; _fractal; echo "${{COMPREPLY[*]}}"'
+    for words, place_of, wanted in (("fractal lo", 1, "load"), ("fractal run --li", 2, "--line"),
+                                    ("fractal run --line ''", 3, "4 8 16 32 64"), ("fractal run --line = 6", 4, "64"),
+                                    ("fractal load ''", 2, "walk nest"), ("fractal load walk 7 --ti", 4, "--tiles"),
+                                    ("fractal watch l", 2, "least lockstep"), ("fractal watch views 3 s", 4, "steps"),
+                                    ("fractal watch least --ti", 3, "--tiles")):
+        answer = place.call("/usr/bin/env", "bash", "-c", script.format(words, place_of))
+        expect(answer.output.decode().split() == wanted.split(), f"completions of {words}", answer)
+    if shutil.which("groff"):
+        answer = place.call("/usr/bin/env", "groff", "-man", "-ww", "-Tascii", "man")
+        expect(answer.status == 0 and answer.errors == "", "a page without a warning", answer)
+    one_sentence_each([
+        (place.call("fractal shell"), ["bash, zsh or man"]),
+        (place.call("fractal shell", "fish"), ["`fish`"]),
+        (place.by_shell('"$0" shell man >/dev/full'), ["no space"]),
+    ])
+
+
+def exercises_are_judged(place):
+    """the answer to each exercise is right, what it begins with is wrong, and other files are told in a sentence"""
+    place.needs_program()
+    exercise, folder = "fractal exercise", place.clone / "examples" / "exercises"
+    for number, name in enumerate(EXERCISES, 1):
+        for word in (name, str(number)):
+            answer = place.call(exercise, word, str(folder / "answers" / name))
+            expect(answer.status == 0 and answer.output.startswith(b"right: "), f"a right answer to {name}", answer)
+    for path in folder.glob("answers/*/*"):
+        if path.name in ("image.bin", "listing"):
+            path.unlink()
+    place.is_clean()
+    for name in ("false_conflict", "order"):
+        answer = place.call(exercise, name, str(folder / name))
+        expect(answer.status == 1 and answer.output.startswith(b"wrong: "), f"a wrong answer to {name}", answer)
+    place.call(exercise, "order", "").sentence("no such folder")
+    wrong_files(place, exercise)
+    one_sentence_each([
+        (place.call(exercise), ["an exercise and the FILE"]),
+        (place.call(exercise, "six", "x"), ["`six`", "journal, abort"]),
+        (place.call(exercise, "journal", "nowhere"), ["nowhere", "no such file"]),
+        (place.call(exercise, "order", "nowhere"), ["nowhere", "no such folder"]),
+        (place.call(exercise, "journal", str(place.clone / "README.md")), ["README.md:3:", "no line of a journal"]),
+        (place.call(exercise, "abort", str(folder / "answers" / "stall")), ["stall:4:", "no core 1"]),
+    ])
+
+
+def wrong_files(place, exercise):
+    """Holds wrong journals and scripts to be told so, with why."""
+    stepped = "dispatch 0\ndispatch 1\nstep 1 0\nstep 0 0\nstep 0 0\n"
+    for name, text, part in (
+            ("journal", "1 0.0 1 0\n2 1.2 2 0\n", "line 2: the timestamp"), ("journal", "", "one more comes"),
+            ("journal", "1 0.0 1 0\n2 1.2 1 9\n", "line 2: the depth"),
+            ("journal", "1 0.0 1 0\n2 1.2 2 9\n3 1.1 1 1\n4 0.1 1 2\n5 1.0 1 3\n6 0.2 1 4\n", "only 5 tasks"),
+            ("abort", "commit\n", "no act takes"), ("abort", stepped, "hasn't come to its end"), ("abort", "# no\n", "no act"),
+            ("abort", "dispatch 0\nabort 0\n", "no act takes"), ("stall", "commit\n", "answered `stall`"),
+            ("stall", "dispatch 0\ndispatch 0\nstep 0 0\nstep 0 1\n", "hasn't come to its end")):
+        (place.root / "answer").write_text(text)
+        answer = place.call(exercise, name, "answer")
+        expect(answer.status == 1 and answer.output.startswith(b"wrong: ") and part in answer.output.decode(), part, answer)
+
+
+def exercises_are_rebuilt(place):
+    """the images and listings of the exercises are those of their sources"""
+    for name in EXERCISES:
+        place.call("fractal build", str(place.clone / "examples" / "exercises" / name))
+    place.is_clean()
+
+
+TRIES = (
+    packages_run_elsewhere, packages_are_installed, packages_are_of_one_commit, shells_are_helped, exercises_are_judged,
+    exercises_are_rebuilt,
+)

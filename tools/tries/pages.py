@@ -1,0 +1,261 @@
+"""Tries of ./fractal show: what a browser shows of a run is held against the reader of lines, which knows no page."""
+from __future__ import annotations
+
+import html.parser
+import json
+import os
+import pathlib
+import shutil
+
+from yotarimu.lines.reader import open_watched
+from yotarimu.lines.sentences import label_of
+from yotarimu.pictures.page import Passed
+from yotarimu.programs.examples import SCHEDULES
+
+from tries.place import LeftOut, expect, one_sentence_each
+
+BROWSERS = ("chromium", "chromium-browser", "google-chrome")
+# The browser ends once the page has been at work for so long, by the page's own clock.
+MOST_MILLISECONDS = "60000"
+# Goes to each act, forwards and then back, and notes what stands in the lanes and which words are shown.
+WALK = """<script>
+const beside = (item) => item.querySelector("small").textContent.split(" ")[0];
+const task = (item) => item.dataset.id
+  ? [Number(item.dataset.id), item.dataset.label, item.classList[1], beside(item)] : null;
+const isThere = (item) => !item.dataset.discarded;
+const row = (tile) => Object.fromEntries([...tile.querySelectorAll("[data-lane]")].map((lane) => [lane.dataset.lane,
+  lane.dataset.count ? Number(lane.dataset.count) : [...lane.children].filter(isThere).map(task)]));
+const word = (row) => [Number(row.dataset.address), row.children[2].textContent];
+const seen = (place) => {
+  go(place);
+  return [Number(document.body.dataset.at), Number(document.body.dataset.n), rows.map(row),
+    at("counts").textContent.replaceAll(",", "").match(/[0-9]+/g).map(Number),
+    [...at("memory").tBodies[0].rows].map(word), at("journal").tBodies[0].rows.length];
+};
+const forwards = [...Array(acts.length + 1).keys()].map(seen);
+const back = [...Array(acts.length + 1).keys()].reverse().map(seen).reverse();
+document.body.dataset.seen = JSON.stringify([forwards, back]);
+</script></body>"""
+# Presses keys, and notes the acts that they lead to.
+PRESS = """<script>
+document.body.dataset.seen = JSON.stringify(%s.map((key) => {
+  document.body.dispatchEvent(new KeyboardEvent("keydown", {key, bubbles: true, cancelable: true}));
+  return Number(document.body.dataset.at);
+}));
+</script></body>"""
+KEYS = ("a", "c", "ArrowRight", "ArrowLeft", "c", "PageDown", "a", "PageUp", "End", "Home", "ArrowLeft", "x")
+PRESSED = [6, 8, 9, 8, 14, 17, 17, 0, 17, 0, 0, 0]
+
+
+class Body(html.parser.HTMLParser):
+    """The attributes of a page's body."""
+
+    def __init__(self, text):
+        super().__init__()
+        self.attributes = None
+        self.feed(text)
+
+    def handle_starttag(self, tag, attrs):
+        if tag == "body":
+            self.attributes = dict(attrs)
+
+
+def browser():
+    found = next(filter(None, map(shutil.which, BROWSERS)), None)
+    if found is None:
+        raise LeftOut(f"it wants a browser: {', '.join(BROWSERS)}")
+    return found
+
+
+def opened(place, page, act=None):
+    """The attributes of a page's body, once a browser has opened it, at an act if one is told."""
+    url = pathlib.Path(page).as_uri() + ("" if act is None else f"#{act}")
+    # The browser's sandbox isn't for root.
+    words = ["--no-sandbox"] if os.getuid() == 0 else []
+    words += ["--headless", "--disable-gpu", f"--user-data-dir={place.root / 'browser'}",
+              f"--virtual-time-budget={MOST_MILLISECONDS}", "--dump-dom", url]
+    answer = place.call(browser(), *words)
+    attributes = Body(answer.output.decode()).attributes
+    expect(answer.status == 0 and attributes and "data-at" in attributes, "a page that plays", answer)
+    return attributes
+
+
+def page_at(place, name, page, script=""):
+    path = place.root / name
+    text = page.decode()
+    expect(text.count("</body>") == 1, "one body", text[-200:])
+    path.write_text(text.replace("</body>", script) if script else text)
+    return path
+
+
+def seen_on(place, page, script):
+    """What a script notes on a page."""
+    attributes = opened(place, page_at(place, "scripted.html", page, script), 0)
+    expect("data-seen" in attributes, "a page that plays each act", attributes)
+    return json.loads(attributes["data-seen"])
+
+
+def walked(place, page, lines, first):
+    """Holds each act of a page against the reader, on the way forwards and on the way back."""
+    forwards, back = seen_on(place, page, WALK)
+    compare(lines, first, forwards)
+    expect(forwards == back, f"the same of {lines} on the way back")
+
+
+def shown(place, lines, *words):
+    answer = place.call("fractal show", lines, *words)
+    expect((answer.status, answer.errors) == (0, ""), f"a page of {lines}", answer)
+    return answer.output
+
+
+def stored(place, name="conflict"):
+    folder = place.clone / "examples" / "schedules" / name
+    return str(folder / "lines"), str(folder / "listing")
+
+
+# ---- what the reader of lines knows
+
+
+def standing(machine, passed):
+    """What a page has to show of the machine behind an act: the act, events, the lanes, what is counted, the commits;
+    and the bytes that it may show."""
+    def named(number, beside):
+        if number is None:
+            return None
+        task = machine.tasks[number]
+        return [number, label_of(task), task.state, beside(task)]
+
+    def lane(ids, beside):
+        return [named(number, beside) for number in ids]
+
+    tiles = [{"queue": lane(machine.queues[tile], lambda task: f"@{task.timestamp}"),
+              "cores": lane(machine.cores[tile], lambda task: str(task.work)),
+              "finished": lane(machine.finished[tile], lambda task: "f"), "block": len(machine.blocks[tile])}
+             for tile in range(machine.head["tiles"])]
+    counts = [machine.queued - machine.running - machine.waiting, machine.running, machine.waiting, machine.spilled,
+              passed.useful, passed.wasted]
+    return [machine.acts, machine.events, tiles, counts, machine.commits], dict(machine.memory)
+
+
+def standings(lines):
+    """The same behind the opening and behind each act of a text."""
+    found, passed = [], Passed()
+    with open_watched(lines, keeps_memory=True) as watched:
+        for told in watched:
+            passed.follow(told)
+            if not told.is_act():
+                found.clear()
+            found.append(standing(watched.machine, passed))
+    return found
+
+
+def compare(lines, first, seen):
+    """Holds what a browser showed behind each act from the first on against the reader."""
+    wanted = standings(lines)[first:]
+    expect(len(seen) == len(wanted), f"{len(wanted)} acts of {lines}", len(seen))
+    for (*shown_there, words, entries), ((*told, commits), memory) in zip(seen, wanted):
+        act = f"act {told[0]} of {lines}"
+        expect(shown_there == told, f"behind {act} {told}", shown_there)
+        expect(entries == min(12, commits), f"the journal behind {act}", entries)
+        expect(words or not memory, f"words of memory behind {act}")
+        for address, digits in words:
+            bytes_of = [memory.get(address + byte) for byte in (3, 2, 1, 0)]
+            digits_of = "".join(".." if it is None else f"{it:02x}" for it in bytes_of)
+            expect(digits == digits_of, f"{digits_of} at {address:08x} behind {act}", digits)
+
+
+def watched_lines(place, words, given, name):
+    path = place.root / name
+    answer = place.call("fractal", "watch", *words, stdin=given)
+    path.write_bytes(answer.output)
+    return str(path)
+
+
+# ---- tries
+
+
+def stored_lines_are_shown(place):
+    """a browser shows the stored lines as the reader of lines has them, alone, at the act that is asked for, by keys"""
+    lines, listing = stored(place)
+    page = shown(place, lines, listing)
+    expect(b"://" not in page, "a page that asks for nothing else")
+    plain = page_at(place, "a page.html", page)
+    for act, at in ((6, 6), (0, 0), (None, 0), (17, 17), (99, 17), ("x", 0)):
+        attributes = opened(place, plain, act)
+        expect((attributes["data-at"], attributes["data-n"]) == (str(at), str(at)), f"act {at}", attributes)
+    pressed = seen_on(place, page, PRESS % json.dumps(KEYS))
+    expect(pressed == PRESSED, f"the acts {PRESSED}", pressed)
+    for first, words in ((0, ()), (5, ("--from", "5")), (8, ("--from=8", "--to=17"))):
+        walked(place, shown(place, lines, *words), lines, first)
+
+
+def runs_are_shown(place):
+    """so it does each act of the schedules, and of a long one with small queues, from the start and from within"""
+    place.needs_second_program()
+    browser()
+    for name in SCHEDULES:
+        folder = place.clone / "examples" / name
+        given = (folder / "image.bin").read_bytes() + (folder / "script").read_bytes()
+        lines = watched_lines(place, (folder / "words").read_text().split(), given, "lines")
+        walked(place, shown(place, lines, *map(str, folder.glob("listing"))), lines, 0)
+        if name == "schedules/conflict":
+            expect(pathlib.Path(lines).read_bytes() == pathlib.Path(stored(place)[0]).read_bytes(), "the stored lines")
+    image = place.call("fractal generate", "nest", "7", "40").output
+    words = ("lockstep", "40", "7", "--tiles", "8", "--task-queue", "8", "--commit-queue", "4", "--phase", "1")
+    lines = watched_lines(place, words, image, "lines")
+    text = pathlib.Path(lines).read_text()
+    for part in ('"gone"', '"spilled"', '"split"', '"stall"'):
+        expect(part in text, f"{part} in a run with small queues")
+    ats = [at for (at, *_), _ in standings(lines)]
+    for first in (0, len(ats) // 2):
+        walked(place, shown(place, lines, "--from", str(ats[first])), lines, first)
+
+
+def long_runs_want_a_range(place):
+    """above 50,000 acts a page wants a range, and a text that was cut is shown where that is asked for"""
+    lines, _ = stored(place)
+    opening = pathlib.Path(lines).read_bytes().splitlines(keepends=True)[:3]
+    refused = b'{"at":%d,"do":"abort","tile":0,"reply":"empty","n":0}\n'
+    path = place.root / "long"
+    path.write_bytes(b"".join([*opening, *(refused % act for act in range(1, 50_002))]))
+    place.call("fractal show", "--cut", str(path)).sentence("more than 50,000 acts", "--from ACT")
+    place.call("fractal show", str(path), "--to", "50000").sentence("no end", "line 50004")
+    page = shown(place, str(path), "--cut", "--from", "1")
+    expect(page.count(b'"reply":"empty"') == 50_000, "50,000 acts")
+
+
+def other_texts_are_refused(place):
+    """a text that isn't whole lines of the second program, other listings and bad words are told in a sentence"""
+    show = "fractal show"
+    lines, listing = stored(place)
+    text = pathlib.Path(lines).read_bytes()
+    whole = text.splitlines(keepends=True)
+    pipeline = str(place.clone / "examples" / "pipeline" / "listing")
+    one_sentence_each([
+        (place.call(show), ["LINES"]),
+        (place.call(show, lines, listing, lines), ["LINES"]),
+        (place.call(show, lines, "--fast"), ["--fast"]),
+        (place.call(show, lines, "--from"), ["a value is missing"]),
+        (place.call(show, lines, "--from", "x"), ["--from", "`x`"]),
+        (place.call(show, lines, "--from", "4", "--to", "3"), ["from 4 to 3"]),
+        (place.call(show, lines, "--from", "18"), ["its last act is 17"]),
+        (place.call(show, "nowhere"), ["nowhere", "no such file"]),
+        (place.call(show, lines, "nowhere"), ["nowhere", "no such file"]),
+        (place.call(show, lines, lines), ["lines", "no listing"]),
+        (place.call(show, lines, pipeline), ["listing of another image"]),
+        (place.call(show, str(place.clone / "examples" / "hello" / "image.bin")), ["image.bin:1:"]),
+        (place.call(show, "-"), ["-: it has no whole line"]),
+        (place.call(show, "-", stdin=text[:-1]), ["-:21:", "no newline"]),
+        (place.call(show, "-", stdin=b"".join(whole[:-1])), ["no end", "line 20"]),
+        (place.call(show, "-", stdin=b"".join(whole[:4] + whole[5:])), ["-:5:", "act 3"]),
+        (place.call(show, "-", stdin=text.replace(b'"leg":4', b'"leg":5')), ["-:9:", "instructions"]),
+        (place.call(show, "-", "--cut", stdin=b"".join(whole[:2])), ["nothing to show"]),
+        (place.call(show, "-", stdin=b'{"fault":"script","line":3}\n'), ["script 3"]),
+        (place.by_shell('"$0" show "$1" >/dev/full', lines), ["no space"]),
+    ])
+    page = place.call(show, "-", "--cut", stdin=text[:1500])
+    expect(page.status == 0 and b"the text breaks off" in page.output, "what there is of a cut text", page.errors)
+    place.is_clean()
+
+
+TRIES = (stored_lines_are_shown, runs_are_shown, long_runs_want_a_range, other_texts_are_refused)

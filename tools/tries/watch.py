@@ -1,0 +1,276 @@
+"""Tries of ./fractal watch, and of ./fractal console, which plays what is typed by it."""
+from __future__ import annotations
+
+import concurrent.futures
+import json
+import os
+import random
+import shutil
+import subprocess
+
+from yotarimu.courses.agreement import replies_said, replies_told
+from yotarimu.programs.examples import SCHEDULES
+from yotarimu.programs.program import SECOND_PROGRAM
+from yotarimu.programs.table import Table
+
+from tries.launcher import image_of
+from tries.place import Answer, expect, need_built, one_sentence_each
+from tries.words import change, number
+
+USAGE = b'{"fault":"usage"}\n'
+# Words that are refused, and what standard error tells of each.
+REFUSED = (
+    ("watch", "behind `watch` stands steps, least or lockstep"),
+    ("watch hop", "`hop`", "steps, least or lockstep"),
+    ("watch run", "`run`"),
+    ("watch views", "behind `views` stands a number from 1 to 4294967295."),
+    ("watch views 0 least", "`0`"),
+    ("watch views 3", "behind `watch views 3` stands steps"),
+    ("watch lockstep", "a number from 1 to 1000000"),
+    ("watch lockstep 1000001 1", "`1000001`"),
+    ("watch lockstep 5", "behind `watch lockstep 5` stands a number from 0"),
+    ("watch lockstep 5 x", "`x`"),
+    ("watch lockstep 5 7 image.bin --tiles 2", "fractal' watch lockstep 5 7 --tiles 2 < image.bin"),
+    ("watch steps both", "cat IMAGE SCRIPT | ", "fractal' watch steps"),
+    ("watch least --tiles 17", "`17`", "1 to 16"),
+    ("watch least --towers 1", "`--towers`"),
+)
+RANDOM_CALLS = 4_000
+# A script at the console, what stands in its answer, and the sentences on standard error.
+TYPED = b"""dispatch 0  # begins
+# Nothing but a comment.
+step 0 0
+
+ step   0  0
+halt
+step 9 0
+dispatch 1
+step 1 0
+undo
+run 2
+save mine
+save mine
+save! mine
+script
+help
+undo 100
+quit now
+"""
+SAID = ("1: dispatch 0\nTile 0 dispatches task 0.0 to its core 0", "4: dispatch 1", "5: step 1 0",
+        "1 task is taken back, since the filter of a later task says that it touched this line: 0.0 after 5 instr",
+        "0.0  reader  timestamp 2  idle, taken back", "6: advance", "mine has 6 acts",
+        "  5  advance         ok, 1 task taken back", ">  10000000           7  00000007  line 0  first", "undo [N]")
+REFUSED_LINES = ("`halt` is no act", "there is no tile 9", "mine: this is there already", "from 1 to 6", "`quit`")
+
+# What stands in a sentence when the script of a schedule is typed.
+SENTENCES = {
+    "conflict": ("enqueues child 0 to its own domain: 0.0+0, `child 0 2` with the timestamp 2 and the hint 0, which",
+                 "0.0 after 10 instructions, 0.0+0 with nothing done (discarded).", "its child is 2.0 from now on."),
+    "stale_leg": ("is run and held, and nothing changes.", "stale: the task doesn't run from where that leg begins."),
+    "kept_trap": ("cause 5: a load from outside text and data; it keeps its core.", "stale: 0.0 is trapped there.",
+                  "empty: the least task isn't finished."),
+    "commit_queue": ("1 task is taken back, since the commit queue is full and holds a later task: 0.1 after",),
+    "commit_wait": ("asks to end, and the reply is stall: the commit queue is full, and holds no later task.",),
+    "stall": ("stall: the task queue for it is full", "firm: that one is the least task, which is never taken back.",
+              "busy: each of its cores holds a task", "3 tasks are spilled to the block of tile 0: 2.0, 2.1, 2.2."),
+    "four_cores": ("since the least task needs room in a full task queue: 0.3 with nothing done.",
+                   "stall: its task queue is full, and the first task of its block isn't the least task."),
+}
+
+
+# ---- the launcher
+
+
+def watch_words_are_told(place):
+    """wrong words behind `watch` are refused at once, built or not, with the second program's line of a fault"""
+    place.without("rt")
+    for is_built in (False, True):
+        if is_built:
+            place.stub(place.second_program, "printf '{\"fault\":\"usage\"}\\n'; exit 1\n")
+        for line, *parts in REFUSED:
+            answer = place.call("fractal", *line.split())
+            answer.sentence(*parts)
+            expect(answer.output == USAGE, "the second program's own words", answer)
+    place.second_program.unlink()
+    place.call("fractal", "watch", "least").sentence("isn't built", status=69)
+
+
+def watch_hands_on(place):
+    """words behind `watch` go to the second program as they are, and output and status are its own"""
+    place.stub(place.second_program, 'for word in "$@"; do echo "[$word]"; done\nexit 4\n')
+    answer = place.call("fractal", "watch", "views", "2", "lockstep", "5", "7", "--tiles=3")
+    expect(answer == Answer(4, b"[views]\n[2]\n[lockstep]\n[5]\n[7]\n[--tiles=3]\n", ""), "the words", answer)
+
+
+def random_watch_words_agree(place):
+    """of 4,000 random calls of `watch` the launcher refuses those that the second program refuses, and no other"""
+    need_built(SECOND_PROGRAM)
+    place.without("rt")
+    table = Table()
+    calls = [random_call(random.Random(seed), table) for seed in range(RANDOM_CALLS)]
+    with concurrent.futures.ThreadPoolExecutor(2 * os.cpu_count()) as pool:
+        judged = list(pool.map(lambda words: judgements(place, words), calls))
+    for words, (by_launcher, by_program) in zip(calls, judged):
+        expect(by_launcher == by_program, f"the second program's judgement {by_program} of", words)
+    refused = sum(by_program for _, by_program in judged)
+    expect(RANDOM_CALLS / 5 < refused < RANDOM_CALLS * 4 / 5, "calls of both kinds", refused)
+
+
+def judgements(place, words):
+    """Whether the launcher and the second program refuse the words; without an image it does no more than that."""
+    launched = place.call("fractal", "watch", *words)
+    expect((launched.status, launched.output) in ((1, USAGE), (69, b"")), "a refusal, or that rt is missing", launched)
+    done = subprocess.run([SECOND_PROGRAM, *words], stdin=subprocess.DEVNULL, stdout=subprocess.PIPE, check=False)
+    return launched.status == 1, done.returncode == 1
+
+
+def random_call(chance, table):
+    """The words of a call, of which about half are wrong."""
+    words = ["views", number(chance, 1, 2 ** 32 - 1)] if chance.random() < 0.3 else []
+    course = chance.choice(list(table.course_rows))
+    words.append(course)
+    if course == "lockstep":
+        words += [number(chance, 1, 1_000_000), number(chance, 0, 2 ** 32 - 1)]
+    for option in chance.sample(list(table.options.values()), chance.choice((0, 0, 1, 2))):
+        words += [f"--{option.name}", number(chance, option.values[0], option.values[-1])]
+    for _ in range(chance.choice((0, 0, 1, 2))):
+        change(chance, words, table)
+    return [word for word in words if word != "--help"]
+
+
+def schedules_are_watched(place):
+    """each schedule is told with the replies of `steps`, and a refused script's line is told with what is wrong"""
+    place.needs_second_program()
+    for name in SCHEDULES:
+        folder = place.clone / "examples" / name
+        image = folder / "image.bin"
+        words = (folder / "words").read_text().split()
+        given = image.read_bytes() + (folder / "script").read_bytes()
+        answer = place.call("fractal", "watch", *words, stdin=given)
+        lines = [json.loads(line) for line in answer.output.splitlines()]
+        told, wanted = replies_told(lines), replies_said((folder / "said").read_text(), folder.name)
+        expect(answer.errors == "" and told == wanted, f"the replies of {name}", (told, wanted))
+    (place.root / "both").write_bytes(image_of(place, "hello") + b"commit\nhalt\n")
+    answer = place.call("/bin/sh", "-c", '"$0" watch steps < both', str(place.clone / "fractal"))
+    answer.sentence("line 2 of the script", "`halt` is no act", status=9)
+    expect(answer.output == b'{"fault":"script","line":2}\n', "the second program's own words", answer)
+
+
+# ---- the console
+
+
+def acts_are_typed(place):
+    """at the console each act is said and shown, undone and saved; a line that can't be done changes nothing"""
+    place.needs_second_program()
+    folder = str(place.clone / "examples" / "schedules" / "conflict")
+    answer = place.call("fractal console", folder, stdin=TYPED)
+    text = answer.output.decode()
+    for part in SAID:
+        expect(part in text, f"`{part}`", text)
+    refused = answer.errors.splitlines()
+    expect(answer.status == 1 and len(refused) == len(REFUSED_LINES), "a sentence for each refused line", answer)
+    for line, part in zip(refused, REFUSED_LINES):
+        expect(line.startswith("console: ") and part in line, f"`{part}`", line)
+    script = b"dispatch 0\nstep 0 0\nstep 0 0\ndispatch 1\nadvance\nadvance\n"
+    expect((place.root / "mine").read_bytes() == script, "the script")
+    answer = place.call("fractal console", folder, "--script", "mine", stdin=b"run 1000\nrun 1\nundo\n")
+    text = answer.output.decode()
+    expect("The run ended normally: no task is left." in text, "the end", answer)
+    expect(answer.errors.count("\n") == 1 and "the run is over" in answer.errors, "no event behind the end", answer)
+    place.is_clean()
+
+
+def schedules_are_typed(place):
+    """where the script of a schedule is typed, each act has a sentence, which says who was taken back and why"""
+    place.needs_second_program()
+    for name in SCHEDULES:
+        folder = place.clone / "examples" / name
+        script = (folder / "script").read_bytes()
+        answer = place.call("fractal console", str(folder), stdin=script)
+        text = answer.output.decode()
+        acts = [f"\n{number}: {act}\n" for number, act in enumerate(script.decode().splitlines(), 1)]
+        missing = [part for part in (*acts, *SENTENCES.get(folder.name, ())) if part not in text]
+        expect((answer.status, answer.errors, missing) == (0, "", []), f"each act of {name}", missing or answer)
+
+
+def pages_are_opened(place):
+    """`open` writes the page of the acts so far, and tells where a browser shows this act"""
+    place.needs_second_program()
+    image = str(place.clone / "examples" / "hello" / "image.bin")
+    answer = place.call("fractal console", image, stdin=b"run 2\nopen a.html\nopen nowhere/a.html\n")
+    answer.tells("nowhere/a.html", "no such folder")
+    expect(b"a.html#2\n" in answer.output and "<html" in (place.root / "a.html").read_text(), "a page", answer)
+    place.is_clean()
+
+
+def no_file_is_lost(place):
+    """the console replaces no image that it plays, and no file by a page but a page; odd names and words are told"""
+    place.needs_second_program()
+    folder = place.root / "a folder"
+    folder.mkdir()
+    data = image_of(place, "hello")
+    (folder / "image.bin").write_bytes(data)
+    (folder / "words").write_bytes(b"steps \xff")
+    place.call("fractal console", str(folder), stdin=b"").sentence("words: ", "is neither a command nor an option")
+    (folder / "words").write_bytes(b"steps\n")
+    shutil.copy(place.clone / "examples" / "pipeline" / "listing", folder)
+    (place.root / "notes").write_text("notes\n")
+    (place.root / "link").symlink_to("a folder/image.bin")
+    typed = b"save! link\nsave a\0b\nopen a\0b\nopen notes\nopen a.html\nopen a.html\nsave mine\n"
+    answer = place.call("fractal console", str(folder), stdin=typed)
+    answer.tells("link: this is read", "byte 0", "notes: this is there already, and is no page")
+    expect((answer.status, answer.errors.count("\n")) == (1, 4), "four refusals", answer)
+    expect((folder / "image.bin").read_bytes() == data, "the image as it was")
+    expect((place.root / "notes").read_text() == "notes\n", "the notes as they were")
+    expect(f"--image '{folder}/image.bin'".encode() in answer.output, "a name with a blank", answer)
+    place.is_clean()
+
+
+def console_refuses_bad_words(place):
+    """bad words, other files, a program that is missing and long lines are told in a sentence"""
+    console, image = "fractal console", str(place.clone / "examples" / "hello" / "image.bin")
+    place.stub(place.second_program, "cat >/dev/null; echo nothing\n")
+    one_sentence_each([
+        (place.call(console), ["one IMAGE"]),
+        (place.call(console, image, image), ["one IMAGE"]),
+        (place.call(console, image, "--towers", "1"), ["`--towers`"]),
+        (place.call(console, image, "--tiles", "17"), ["1 to 16", "`17`"]),
+        (place.call(console, "nowhere"), ["nowhere", "no such file"]),
+        (place.call(console, str(place.clone)), ["image.bin", "no such file"]),
+        (place.call(console, str(place.clone / "README.md")), ["this is no image"]),
+        (place.call(console, image, "--script", str(place.clone / "README.md")), ["README.md:3:", "no act"]),
+        (place.call(console, image), ["the second program:1:", "no JSON"]),
+    ])
+    shutil.rmtree(place.second_program.parent)
+    place.without("rt")
+    answer = place.call(console, image)
+    answer.tells("each act takes an unproved run", "console: the program isn't built")
+    expect(answer.status == 1 and answer.output == b"", "a refusal", answer)
+    place.needs_second_program()
+    place.call(console, image, stdin=b"x" * 2_000).sentence("more than 1,000 bytes")
+    answer = place.by_shell('"$0" console "$1" <&-', image)
+    answer.sentence("standard input is closed")
+    answer = place.by_shell('"$0" console "$1" </dev/null >/dev/full', image)
+    answer.sentence("no space")
+    place.is_clean()
+
+
+def consoles_are_interrupted(place):
+    """at a terminal an interrupt and the end of the input lose no act, and the first is told in a sentence"""
+    place.needs_second_program()
+    image = str(place.clone / "examples" / "hello" / "image.bin")
+    saved = place.root / "saved"
+    for keys, status in ((b"\x03", 130), (b"\x04", 0)):
+        typed = [(lambda _: saved.exists(), b"\xff\nundo\nadvance\nnothing\n"),
+                 (lambda shown: b"`nothing`" in shown, keys)]
+        answer = place.on_terminal("fractal console", image, keys=b"dispatch 0\nsave saved\n", then=typed)
+        expect(answer.status == status, f"status {status}", answer)
+        expect(answer.output.endswith(b"These acts weren't saved:\nadvance\n"), "the acts", answer)
+        expect(("interrupted." in answer.errors) == (status == 130), "a sentence", answer)
+        saved.unlink()
+
+
+TRIES = (
+    watch_words_are_told, watch_hands_on, random_watch_words_agree, schedules_are_watched, acts_are_typed,
+    schedules_are_typed, pages_are_opened, no_file_is_lost, console_refuses_bad_words, consoles_are_interrupted,
+)

@@ -1,0 +1,293 @@
+"""Tries of what ./fractal says of words, scripts and reports that the program refuses, and of ./fractal play."""
+from __future__ import annotations
+
+import concurrent.futures
+import os
+import random
+import subprocess
+
+from yotarimu.programs.examples import SCHEDULES
+from yotarimu.programs.table import Table
+
+from tries.others import picture_in
+from tries.place import Answer, expect, one_sentence_each
+
+USAGE = b"fault usage\n"
+# Words that are refused, and what standard error tells of each.
+REFUSED = (
+    ("rum", "`rum` is no command", "run, check"),
+    ("--tiles 2 run", "`--tiles` is no command"),
+    ("run --tiles 99", "`99`", "`--tiles`", "1 to 16"),
+    ("run --tiles=0", "`0`", "1 to 16"),
+    ("run --tiles=00000000002", "`00000000002`", "1 to 16"),
+    ("run --line 12", "`12`", "4, 8, 16, 32, 64"),
+    ("run --commits", "missing", "`--commits`", "1 to 1000000"),
+    ("run --tiles --cores 2", "missing", "`--tiles`", "`--cores`"),
+    ("run --tiles -2", "missing", "`-2` begins with a dash"),
+    ("run --tiles 2 --tiles=2", "`--tiles` stands twice"),
+    ("run --tile 2", "`--tile` is no option", "--tiles"),
+    ("run --", "`--`"),
+    ("run -t 2", "`-t`", "two dashes"),
+    ("run image.bin", "standard input", "fractal' run < image.bin"),
+    ("run --tiles 2 image.bin --line=4", "fractal' run --tiles 2 --line=4 < image.bin"),
+    ("save image.bin", "fractal' save < image.bin"),
+    ("check image.bin report", "cat image.bin report | ", "fractal' check"),
+    ("steps both", "cat IMAGE SCRIPT | ", "fractal' steps"),
+    ("run --version", "`--version` stands alone"),
+    ("load", "KIND SEED SIZE", "load walk 7 100"),
+    ("load hop 7 20", "`hop`", "walk or nest"),
+    ("load walk x 20", "`x`", "0 to 4294967295"),
+    ("load walk 7 100001", "`100001`", "1 to 100000"),
+    ("load nest 7 10001", "`10001`", "1 to 10000"),
+    ("load nest 7 1 1", "one word too many"),
+    ("build now", "`build` stands alone", "`now`"),
+    ("README.md", "no command"),
+)
+# A line of a script that is refused, and why.
+LINES = (
+    (b"step 4 0", "`step 4 0`", "no tile 4", "0 to 3"), (b"step 0 2", "no core 2", "0 to 1"),
+    (b"commit ", "`commit `", "blank stands behind"), (b"commit\r", "CRLF"), (b"", "is empty"),
+    (b"step 01 0", "leading zero"), (b"step 0", "a tile and a core"), (b"commit 1", "nothing"),
+    (b"halt", "`halt` is no act"), (b"# now", "fractal play"), (b"step  0 0", "two blanks"),
+    (b"dispatch\t0", "tab"), (b"dispatch x", "no number"), (b"dispatch \xff", "byte ff"),
+)
+# What a report's line is changed to, and why that is refused.
+ENTRIES = (
+    (b"3 1.1 2 3", "no run has this task there"), (b"3 1.1 2 02", "leading zero"), (b"4 1.1 2 2", "3 is wanted"),
+    (b"3 1-1 2 2", "no name"), (b"3 1.1 2 2 ", "blank stands behind"), (b"3 1.1 2 2\r", "CRLF"), (b"", "is empty"),
+    (b"window 1", "an entry", "or the output"), (b"3 1.1 17 2", "1 to 16"),
+)
+RANDOM_CALLS = 10_000
+# A call that goes on for so long was taken.
+LONG_ENOUGH = 2
+
+
+def refused_words_are_told(place):
+    """wrong words are refused at once in a clone that isn't built, and told in a sentence, built or not"""
+    place.without("rt")
+    for is_built in (False, True):
+        if is_built:
+            place.stub(place.program, "printf 'fault usage\\n'; exit 1\n")
+        for line, *parts in REFUSED:
+            answer = place.call("fractal", *line.split())
+            answer.sentence(*parts)
+            expect(answer.output == USAGE, "the program's own words", answer)
+    for words in (["run", "x\ny\x1b[2J" + "z" * 100], ["\n"], ["run", "--tiles", "\udcff"]):
+        answer = place.call("fractal", *words)
+        answer.sentence("fractal: ")
+        expect("\x1b" not in answer.errors and len(answer.errors) < 400, "a line that may be shown", answer)
+    place.program.unlink()
+    answer = place.call("/bin/sh", "-c", '"$0" rum >/dev/full', str(place.clone / "fractal"))
+    expect(answer.status == 7, "status 7 where the refusal can't be written", answer)
+    answer.tells("standard output takes no more")
+
+
+def own_words_are_told(place):
+    """`--version` tells version and commit, `--help` behind a command the page, and a full device is told"""
+    head = subprocess.run(["git", "-C", place.clone, "rev-parse", "HEAD"], capture_output=True, text=True, check=True)
+    answer = place.call("fractal", "--version")
+    version = answer.output.decode()
+    expect(version.startswith("fractal ") and f"commit {head.stdout.strip()}\n" in version, "the commit", answer)
+    page = place.call("fractal", "help").output
+    for words in (["run", "--help"], ["run", "--tiles", "2", "--help"], ["help", "run"]):
+        expect(place.call("fractal", *words) == Answer(0, page, ""), "the page", words)
+    (place.clone / "README.md").write_text("")
+    expect(b", with changes\n" in place.call("fractal", "--version").output, "a clone that was changed")
+    for word in ("help", "table", "--version"):
+        answer = place.call("/bin/sh", "-c", f'"$0" {word} >/dev/full', str(place.clone / "fractal"))
+        answer.sentence("standard output takes no more", status=7)
+
+
+def random_words_are_judged_alike(place):
+    """of 10,000 random calls the launcher refuses those that the program refuses, and no other"""
+    place.needs_program()
+    program = place.root / "program"
+    place.program.rename(program)
+    place.without("rt")
+    table = Table()
+    calls = [random_call(random.Random(seed), table) for seed in range(RANDOM_CALLS)]
+    with concurrent.futures.ThreadPoolExecutor(2 * os.cpu_count()) as pool:
+        judged = pool.map(lambda words: judgements(place, program, words), calls)
+        refused = 0
+        for words, (by_launcher, by_program) in zip(calls, judged):
+            expect(by_launcher == by_program, f"the program's judgement {by_program} of", words)
+            refused += by_program
+    expect(RANDOM_CALLS / 5 < refused < RANDOM_CALLS * 4 / 5, "calls of both kinds", refused)
+
+
+def judgements(place, program, words):
+    """Whether the launcher and the program refuse the words."""
+    launched = place.call("fractal", *words)
+    expect((launched.status, launched.output) in ((1, USAGE), (69, b"")), "a refusal, or that rt is missing", launched)
+    try:
+        done = subprocess.run([program, *words], stdin=subprocess.DEVNULL, stdout=subprocess.PIPE, timeout=LONG_ENOUGH)
+    except subprocess.TimeoutExpired:
+        return launched.status == 1, False
+    return launched.status == 1, done.returncode == 1
+
+
+def random_call(chance, table):
+    """The words of a call, of which about half are wrong."""
+    command = chance.choice([*table.commands, "load", "load"])
+    words = [command]
+    if command == "load":
+        kind = chance.choice(("walk", "nest"))
+        words += [kind, number(chance, 0, 2 ** 32 - 1), number(chance, 1, {"walk": 100_000, "nest": 10_000}[kind])]
+    for option in chance.sample(list(table.options.values()), chance.choice((0, 0, 1, 1, 2, 3, 10))):
+        some = option.values if len(option.values) < 20 else ()
+        value = number(chance, option.values[0], option.values[-1], some)
+        pair = chance.choice(([f"--{option.name}", value], [f"--{option.name}={value}"]))
+        place = 1 + chance.randrange(len(words)) if command == "load" and len(words) == 4 else len(words)
+        words[place:place] = pair
+    for _ in range(chance.choice((0, 0, 1, 2))):
+        change(chance, words, table)
+    # What is the launcher's own isn't the program's.
+    words = [word for word in words if word != "--help"]
+    return words if words and words[0] not in table.own else ["run", *words[1:]]
+
+
+def number(chance, least, most, values=()):
+    """A number in a range, at its edges or beyond them, with leading zeros now and then."""
+    value = chance.choice([least, most, most + 1, least - 1, chance.randint(least, most), *values])
+    digits = chance.choice((0, 0, 0, 4, 10, 11))
+    return f"{value:0{digits}}" if value >= 0 else str(value)
+
+
+def change(chance, words, table):
+    """One change of a call, which may leave it right."""
+    other = chance.choice(("", "-", "--", "---", "--=", "--tiles", "--tiles=2", "--line=16=", "-1", "+1", " 2", "2 ", "١",
+                           "é", "1\n2", "0x2", "1e3", "walk", "run", "--Tiles", "--tiles ", "--help", "--version", "|",
+                           "--tiles|1..16", "*", "\\n", *table.options, *table.commands))
+    place = chance.randrange(len(words) + 1)
+    kind = chance.choice("insert remove replace repeat swap spell".split())
+    if kind == "insert" or not words:
+        words.insert(place, other)
+        return
+    place %= len(words)
+    if kind == "remove":
+        del words[place]
+    elif kind == "replace":
+        words[place] = other
+    elif kind == "repeat":
+        words.insert(place, words[place])
+    elif kind == "swap":
+        words[place], words[-1] = words[-1], words[place]
+    else:
+        letter = chance.randrange(len(words[place]) + 1)
+        words[place] = words[place][:letter] + chance.choice("x-=0 ") + words[place][letter + chance.randrange(2):]
+
+
+# ---- scripts and reports that are refused
+
+
+def refused_scripts_are_told(place):
+    """a script's refusal tells the line and what is wrong with it, where it comes from a file; from a pipe it tells that"""
+    place.needs_program()
+    image = (place.clone / "examples" / "pipeline" / "image.bin").read_bytes()
+    for line, *parts in LINES:
+        (place.root / "both").write_bytes(image + b"commit\n" + line + b"\ncommit\n")
+        answer = from_file(place, "steps")
+        answer.sentence("line 2 of the script", *parts, status=9)
+        expect(answer.output == b"fault script 2\n", "the program's own words", answer)
+    (place.root / "both").write_bytes(b"before" + image + b"step 2 0\n")
+    start = "dd bs=6 count=1 of=/dev/null 2>/dev/null; "
+    from_file(place, "trace --tiles 2", start).sentence("line 1 of the script", "0 to 1", status=9)
+    for place_of in ("fractal", "fractal refusal"):
+        (place.root / "none").write_bytes(b"FRAC")
+    answer = place.call("fractal", "steps", stdin=image + b"halt\n")
+    answer.sentence("the script is refused", "< FILE", status=9)
+
+
+def refused_reports_are_told(place):
+    """a report's refusal tells the line, and what the grammar or the run wants there"""
+    place.needs_program()
+    folder = place.clone / "examples" / "nested"
+    image, report = (folder / "image.bin").read_bytes(), (folder / "report").read_bytes()
+    for line, *parts in ENTRIES:
+        (place.root / "both").write_bytes(image + report.replace(b"3 1.1 2 2", line, 1))
+        answer = from_file(place, "check")
+        answer.sentence("line 4 of the report", *parts, status=8)
+        expect(answer.output == b"fault journal 4\n", "the program's own words", answer)
+    for changed, number, part in (
+            (report[:20], 3, "is missing"), (b"", 1, "is missing"), (report + b"more", 15, "nothing may stand"),
+            (report.replace(b"output -", b"output 0A"), 10, "lower case"), (b"fractal 2\n", 1, "`fractal 1` is wanted"),
+            (report.replace(b"output -", b"output 0a"), 10, "aren't the bytes"),
+            (report.replace(b"end normal", b"end trap 18 00010000 0.0"), 14, "1 to 17"),
+            (report.replace(b"end normal", b"end limit"), 14, "doesn't end so")):
+        (place.root / "both").write_bytes(image + changed)
+        from_file(place, "check").sentence(f"line {number} of the report", part, status=8)
+    place.call("fractal", "check", stdin=image + report[:20]).sentence("the report is refused", "< FILE", status=8)
+
+
+def from_file(place, words, start=""):
+    """The answer to a call whose input is the file `both`, read on from where `start` leaves it."""
+    script = f'{{ {start}"$0" {words}; }} < both'
+    return place.call("/bin/sh", "-c", script, str(place.clone / "fractal"))
+
+
+def refusals_want_both(place):
+    """./fractal refusal refuses other words and inputs in a sentence"""
+    refusal = "fractal refusal"
+    one_sentence_each([
+        (place.call(refusal, "fault usage", "run"), ["`fault usage`"]),
+        (place.call(refusal, "fault script 0", "steps"), ["`fault script 0`"]),
+        (place.call(refusal, "fault script 1", "steps"), ["no whole image"]),
+        (place.call(refusal, "fault script 1", "steps", stdin=b"FRAC" + b"\xff" * 40), ["no whole image"]),
+        (place.call(refusal, "fault script 1"), ["COMMAND"]),
+    ])
+
+
+# ---- play
+
+
+def scripts_are_played_beside_their_lines(place):
+    """a script with comments, blank lines and CRLF is played, each reply beside its line, and drawn"""
+    place.needs_program()
+    for name in SCHEDULES:
+        folder = place.clone / "examples" / name
+        answer = place.call("fractal play", str(folder))
+        said = (folder / "said").read_text()
+        report = said[said.index("fractal 1\n"):]
+        expect(answer.status in (0, 3, 4) and answer.output.decode().endswith("\n\n" + report), f"{name}", answer)
+    script = place.root / "script"
+    script.write_bytes(b"# First.\n\ndispatch 0   # starts\r\n\tstep  0 0\r\n\nstep 1 0\n")
+    words = ["--image", str(place.clone / "examples" / "pipeline" / "image.bin"), "--tiles", "2", "--picture", "p.svg"]
+    answer = place.call("fractal play", str(script), *words, "--plain", "plain")
+    wanted = ["    1  # First.", "    2", "    3  dispatch 0   # starts  ok", "    5", ""]
+    lines = answer.output.decode().splitlines()
+    expect((answer.status, answer.errors) == (0, "") and [lines[at] for at in (0, 1, 2, 4, 6)] == wanted, "lines", answer)
+    expect(lines[3].split() == ["4", "step", "0", "0", "ok"] and lines[5].endswith("  stale"), "replies", answer)
+    expect((place.root / "plain").read_bytes() == b"dispatch 0\nstep 0 0\nstep 1 0\n", "the plain script")
+    expect("3 acts; 0 commits" in " ".join(picture_in((place.root / "p.svg").read_bytes())), "a picture")
+
+
+def play_refuses_bad_words(place):
+    """a line that is none is told by its number in the file, and so are bad words and missing files"""
+    folder = place.root / "mine"
+    folder.mkdir()
+    play, image = "fractal play", str(place.clone / "examples" / "pipeline" / "image.bin")
+    (folder / "script").write_text("# one\n\nstep 4 0  # two\n")
+    one_sentence_each([
+        (place.call(play), ["one FOLDER or SCRIPT"]),
+        (place.call(play, "one", "two"), ["one FOLDER or SCRIPT"]),
+        (place.call(play, "nowhere"), ["nowhere", "no such file"]),
+        (place.call(play, str(folder), "--image", image), ["script:3:", "`step 4 0`", "no tile 4"]),
+        (place.call(play, str(folder), "--image", image, "--tiles", "17"), ["1 to 16", "`17`"]),
+        (place.call(play, str(folder), "--image", image, "--towers", "1"), ["`--towers`"]),
+        (place.call(play, str(folder), "--image", image, "--picture", ""), ["folder"]),
+        (place.call(play, str(folder), "--image", image, "--picture", "nowhere/x"), ["nowhere/x", "no such folder"]),
+        (place.call(play, str(folder), "--tiles"), ["value is missing"]),
+    ])
+    place.needs_program()
+    (folder / "script").write_text("commit\n")
+    one_sentence_each([
+        (place.call(play, str(folder)), ["image.bin", "no such file"]),
+        (place.call(play, str(folder), "--image", str(folder / "script")), ["fault image 1 14"]),
+    ])
+    place.is_clean()
+
+
+TRIES = (
+    refused_words_are_told, own_words_are_told, random_words_are_judged_alike, refused_scripts_are_told,
+    refused_reports_are_told, refusals_want_both, scripts_are_played_beside_their_lines, play_refuses_bad_words,
+)

@@ -1,0 +1,1 @@
+"""Tools around the proved simulator: images and reports, lines of the second program, figures, pictures and courses."""

@@ -1,0 +1,41 @@
+"""Refuses each allocation of a schedule in turn. Each run has to end with status 5 and write nothing, or to give its
+whole answer.
+
+usage: ./fractal allocations [NAME]... [--program FILE]
+
+NAME is a schedule; all where none is told:
+  conflict    a reader, its child and a writer that comes later and is to come first
+  children    64 children that are to stand in a task queue of 4, up to the end of the run
+  four_cores  a full task queue without an idle task, in a tile of four cores
+--program names a built program in place of the one of this clone.
+
+A line for each name tells how many allocations the schedule makes, and how many runs with one of them refused came to
+what. The status is 1 where a run answered anything else, a signal ended it, or status 5 never came. It wants the built
+program, cc and the GNU C library, and stands beside the gate; it takes some seconds.
+"""
+from __future__ import annotations
+
+import pathlib
+
+from yotarimu.common.outcome import Refused
+from yotarimu.common.words import take_option
+from yotarimu.programs.allocations import NAMES, Refusing, refused
+from yotarimu.programs.calls import built
+from yotarimu.programs.limits import KILLED, OUT_OF_MEMORY, WHOLE
+from yotarimu.programs.program import PROGRAM
+
+
+def main(words):
+    program, words = take_option(words, "--program")
+    program = built(PROGRAM if program is None else pathlib.Path(program))
+    for word in words:
+        if word not in NAMES:
+            raise Refused(f"`{word}` isn't known; it takes {', '.join(NAMES)}.")
+    failed = 0
+    with Refusing() as library:
+        for name in words or NAMES:
+            count, counts, faults = refused(name, program, library)
+            told = ", ".join(f"{counts[outcome]:,} {outcome}" for outcome in (OUT_OF_MEMORY, WHOLE, KILLED))
+            print(f"{name}: {count:,} allocations, each refused once: {told}", *faults[:20], sep="\n  ", flush=True)
+            failed += bool(faults)
+    return 1 if failed else 0

@@ -1,0 +1,53 @@
+"""Assembles and compiles the sources of a folder, and writes its image and a listing with addresses beside it.
+
+usage: ./fractal build [--clang] FOLDER...
+       ./fractal build [--clang] --all     all of the project's examples and schedules
+
+A FOLDER is a path, or the name of one of the project's examples or schedules. Its sources are linked in the order of
+their names: *.s, RV32I in the syntax of GNU as, and *.c, tasks in C that include task.h (docs/guest/C.md). C is
+compiled by gcc, or by clang after --clang. The folder gets image.bin and listing. Comments of the sources describe the
+image; in C they begin with //:
+
+    # image: root ordered           or unordered; ordered unless told
+    # image: data BYTES             the data size; else that of the sections of data
+    # image: window LABEL [WORDS]   the words that the report tells, else none; a variable of C knows its size
+    # image: task LABEL [ts N] [args A [B [C]]]
+    # image: version 1              or 2; 2 where a source is C, else 1
+
+Numbers are decimal, or hexadecimal after 0x. An argument may be a label, for its address. There is at least one line on
+a task. The text has the sections .text and .rodata, the data .data and .sdata, and after them .bss and .sbss, which
+begin as zeros.
+"""
+from __future__ import annotations
+
+import pathlib
+
+from yotarimu.common.outcome import Refused
+from yotarimu.common.places import EXAMPLES_FOLDER
+from yotarimu.images.compiler import CLANG, GCC
+from yotarimu.images.folder import build
+from yotarimu.programs.examples import EXAMPLES, SCHEDULES, with_sources
+
+
+def folder_at(word):
+    """The folder that a word means."""
+    path = pathlib.Path(word)
+    if word and path.is_dir():
+        return path
+    if word in EXAMPLES + SCHEDULES:
+        return EXAMPLES_FOLDER / word
+    raise Refused(f"`{word}`: there is no such folder.")
+
+
+def main(words):
+    names = [word for word in words if word not in ("--clang", "--all")]
+    for word in names:
+        if word.startswith("-"):
+            raise Refused(f"`{word}` isn't known; ./fractal build --help tells the words.")
+    if not names and "--all" not in words:
+        raise Refused("it wants a FOLDER of sources, or --all; the programs are proved and built by ./fractal prove.")
+    if names and "--all" in words:
+        raise Refused("--all stands for all of the project's examples and schedules, so no FOLDER stands beside it.")
+    for folder in [folder_at(word) for word in names or with_sources(EXAMPLES + SCHEDULES)]:
+        build(folder, CLANG if "--clang" in words else GCC)
+        print(folder / "image.bin")

@@ -1,0 +1,28 @@
+"""Says whether an answer to one of the five exercises of docs/guide/EXERCISES.md is right, or what is wrong with it.
+
+usage: ./fractal exercise journal FILE             FILE has the lines of the journal that you expect
+       ./fractal exercise abort|stall FILE         FILE is a script; it may have comments and blank lines
+       ./fractal exercise false_conflict|order FOLDER
+                                                  FOLDER has the task.s that you changed; it is built there
+
+The numbers 1 to 5 stand for the names in this order. The status is 0 for a right answer, and 1 for a wrong one.
+"""
+from __future__ import annotations
+
+from yotarimu.common.outcome import Refused
+from yotarimu.common.words import need_words
+from yotarimu.courses.exercises import JUDGES, Wrong
+
+
+def main(words):
+    name, answer = need_words(words, 2, "exercise", "an exercise and the FILE or FOLDER of your answer")
+    names = dict(zip("12345", JUDGES))
+    name = names.get(name, name)
+    if name not in JUDGES:
+        raise Refused(f"`{name}` is no exercise; they are {', '.join(JUDGES)}.")
+    try:
+        print(f"right: {JUDGES[name](answer)}.")
+        return 0
+    except Wrong as wrong:
+        print(f"wrong: {wrong}.")
+        return 1

@@ -1,0 +1,73 @@
+"""Turns a report into text for people: tasks with labels, the output as text, the window in decimal, the end in words.
+
+usage: ./fractal explain IMAGE REPORT [SOURCE] [--picture | --json | --csv]
+
+REPORT may be - for standard input; it may be what `steps` wrote, replies and all. SOURCE is a listing of
+./fractal build, a source, or the folder of the sources; where none is named the listing beside the image serves, if
+there is one. With --picture the tree of tasks is written as SVG. --json writes what it tells for other programs, and
+--csv the tasks alone. What the report doesn't tell is found by running its tasks again, with the registers of one that
+traps. A report of another image is refused; ./fractal check judges whether one is a run's.
+"""
+from __future__ import annotations
+
+import json
+import sys
+
+from yotarimu.common.files import read_bytes
+from yotarimu.common.outcome import Refused
+from yotarimu.courses.schedules import read_replies
+from yotarimu.images.image import read_image
+from yotarimu.images.labels import listing_for
+from yotarimu.images.serial_machine import Machine
+from yotarimu.pictures import tree
+from yotarimu.pictures.tree import nodes_of
+from yotarimu.reports import plain_data
+from yotarimu.reports.explanation import text_of
+from yotarimu.reports.meanings import told_without_report
+from yotarimu.reports.plain_data import other_run
+from yotarimu.reports.report import read_report
+
+FORMS = ("--picture", "--json", "--csv")
+
+
+def read_words(words):
+    """The files that are named, and the form that is asked for, if one is."""
+    forms = [word for word in words if word.startswith("--")]
+    files = [word for word in words if not word.startswith("--")]
+    if set(forms) - set(FORMS) or len(forms) > 1 or not 2 <= len(files) <= 3:
+        raise Refused("it wants IMAGE REPORT [SOURCE] and one of --picture, --json and --csv, or none; "
+                      "./fractal explain --help tells more.")
+    return files[0], files[1], files[2] if len(files) == 3 else None, forms[0] if forms else None
+
+
+def explain_no_report(text, sentence, form):
+    """What the program said in a report's place."""
+    if form in ("--picture", "--csv"):
+        raise Refused(f"`{text.strip()}` has no tasks. {sentence}")
+    print(json.dumps({"said": text.strip(), "meaning": sentence}, indent=2) if form else sentence)
+
+
+def main(words):
+    image_path, report_path, source, form = read_words(words)
+    image = read_image(read_bytes(image_path), image_path)
+    text = read_bytes(report_path).decode("ascii", "replace")
+    if sentence := told_without_report(text):
+        explain_no_report(text, sentence, form)
+        return
+    replies = read_replies(text)
+    report = read_report(text, report_path, len(replies))
+    listing, remark = listing_for(image_path, image, source)
+    machine = Machine(image)
+    lost = machine.follow(report.entries)
+    if why := other_run(report, machine, lost):
+        raise Refused(f"{report_path}: this is no report of a run of {image_path}: {why}.")
+    remarks = [it for it in (remark, lost and f"Labels of later tasks aren't known: {lost}.") if it]
+    if form == "--picture":
+        print(tree.drawn(nodes_of(report, machine, listing), len(report.entries)), end="")
+    elif form == "--json":
+        print(json.dumps(plain_data.all_of(image_path, replies, report, machine, listing, remarks), indent=2))
+    elif form == "--csv":
+        plain_data.write_tasks(report, machine, listing, sys.stdout)
+    else:
+        print(*text_of(image_path, image, replies, report, machine, listing), sep="\n")
+        print(*(f"\n{sentence}" for sentence in remarks), sep="\n", end="\n" if remarks else "")

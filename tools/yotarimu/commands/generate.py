@@ -1,0 +1,26 @@
+"""Writes a generated image, the one that `./fractal load` runs, to standard output.
+
+usage: ./fractal generate walk SEED SIZE > IMAGE     a breadth-first walk of 1 to 100,000 nodes
+       ./fractal generate nest SEED SIZE > IMAGE     1 to 10,000 nested additions
+
+SEED is a number from 0 to 4,294,967,295.
+"""
+from __future__ import annotations
+
+import sys
+
+from yotarimu.common.outcome import Refused
+from yotarimu.common.words import need_number, need_words
+from yotarimu.images.image import image_bytes
+from yotarimu.images.loads import MOST_SEED, SIZES, generated
+
+
+def main(words):
+    kind, seed, size = need_words(words, 3, "generate", "walk or nest, a SEED and a SIZE")
+    if kind not in SIZES:
+        raise Refused(f"it generates {' and '.join(SIZES)}, and not `{kind}`.")
+    seed = need_number("SEED", seed, 0, MOST_SEED)
+    size = need_number("SIZE", size, 1, SIZES[kind])
+    if sys.stdout.isatty():
+        raise Refused("an image is no text for a terminal: > FILE writes it to a file.")
+    sys.stdout.buffer.write(image_bytes(generated(kind, seed, size)))

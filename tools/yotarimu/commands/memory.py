@@ -1,0 +1,40 @@
+"""Runs the program with less and less address space, from ample to none. Each run has to give its whole answer, or to
+end with status 5 and write nothing.
+
+usage: ./fractal memory [NAME]... [--program FILE]
+
+NAME is run, workers, save, load, check, steps or trace; all where none is told. `steps` and `trace` play each of the
+project's schedules, the others take an example's image and a generated walk; `workers` is `run` with 4 host threads,
+and `save` meets its commit limit: where it can save the run, and where it can't.
+--program names a built program in place of the one of this clone.
+
+A line for each name tells how many runs gave the whole answer, how many ended with status 5, and how many never came
+to answer: they weren't started, by the system or by its loader, or a signal ended them. A thread that can't be started
+shows nowhere, since the caller does its work. The status is 1 where a run answered anything else, or where status 5
+never came. It wants Linux, and stands beside the gate: all of it takes a minute or more.
+"""
+from __future__ import annotations
+
+import pathlib
+
+from yotarimu.common.outcome import Refused
+from yotarimu.common.words import take_option
+from yotarimu.programs.calls import built
+from yotarimu.programs.limits import OUTCOMES
+from yotarimu.programs.memory import NAMES, fallen
+from yotarimu.programs.program import PROGRAM
+
+
+def main(words):
+    program, words = take_option(words, "--program")
+    program = built(PROGRAM if program is None else pathlib.Path(program))
+    for word in words:
+        if word not in NAMES:
+            raise Refused(f"`{word}` isn't known; it takes {', '.join(NAMES)}.")
+    failed = 0
+    for name in words or NAMES:
+        counts, faults = fallen(name, program)
+        runs = ", ".join(f"{counts[outcome]:,} {outcome}" for outcome in OUTCOMES)
+        print(f"{name}: {sum(counts.values()):,} runs: {runs}", *faults, sep="\n  ", flush=True)
+        failed += bool(faults)
+    return 1 if failed else 0

@@ -1,0 +1,21 @@
+"""Tells why the program refused a line of a script or of a report, in a sentence.
+
+usage: ./fractal refusal 'fault script LINE' steps|trace [--OPTION VALUE]... < INPUT
+       ./fractal refusal 'fault journal LINE' check [--OPTION VALUE]... < INPUT
+
+The first word is what the program said, the others are those of its call, and INPUT is the one that it was given: an
+image followed by the script or the report. The launcher asks it where standard input is a file, which can be read
+again.
+"""
+from __future__ import annotations
+
+from yotarimu.common.files import read_bytes
+from yotarimu.common.outcome import Refused
+from yotarimu.reports.refusals import why
+
+
+def main(words):
+    if len(words) < 2:
+        raise Refused("it wants what the program said, and its COMMAND; ./fractal refusal --help tells more.")
+    print(why(words[0].strip(), words[1:], read_bytes("-")))
+    return 0

@@ -1,0 +1,71 @@
+"""Runs an image in pieces of so many commits, each from the image that `save` made of the one before, and joins their
+reports to one.
+
+usage: ./fractal resume IMAGE FOLDER --every N [--OPTION VALUE]... [--program FILE]
+
+FOLDER is all that it keeps: `0001.image` and `0001.report`, and so on, and at the end `report`, the run as one. Where it
+was interrupted, the same words go on with the piece that was under way. A run can't be cut where a task of a subdomain
+pends, or more tasks than an image has room for: then it is told, and cut at the next count of commits at which it can be.
+The joined report is checked, up to 1,000,000 commits; of a longer run each piece is. OPTION is one of the program but
+--commits, and --workers 0 alone, since a run with workers isn't made twice alike. --program names a built program in
+place of the one of this clone.
+"""
+from __future__ import annotations
+
+import pathlib
+
+from yotarimu.common.files import read_bytes
+from yotarimu.common.outcome import Refused
+from yotarimu.common.text import counted
+from yotarimu.common.words import need_number, number_in, take_option
+from yotarimu.courses.grid import MOST_VALUE
+from yotarimu.images.image import read_image
+from yotarimu.programs import pieces
+from yotarimu.programs.calls import Calls
+from yotarimu.programs.program import PROGRAM
+from yotarimu.programs.resumption import Resumed
+from yotarimu.programs.table import Table
+
+
+def options_of(words):
+    """The options for the program and the other words."""
+    table, options = Table(), []
+    for name, option in table.options.items():
+        value, words = take_option(words, f"--{name}")
+        if value is None:
+            continue
+        if name == "commits":
+            raise Refused("--every tells how many commits a piece has, so --commits has no place here.")
+        if name == "workers" and value.strip("0"):
+            raise Refused("--workers takes 0 alone here: a run with workers isn't made twice alike.")
+        if number_in(value, 0, MOST_VALUE) not in option.values:
+            raise Refused(f"--{name} takes {option.told()}, and not `{value}`.")
+        options.append(f"--{name}={value}")
+    return options, words
+
+
+def main(words):
+    every, words = take_option(words, "--every")
+    program, words = take_option(words, "--program")
+    if every is None:
+        raise Refused("it wants --every N, how many commits a piece has; ./fractal resume --help tells more.")
+    every = need_number("--every", every, 1, pieces.MOST_COMMITS)
+    options, words = options_of(words)
+    unknown = next((word for word in words if word.startswith("--")), None)
+    if unknown is not None:
+        raise Refused(f"`{unknown}` isn't known; ./fractal resume --help tells the words.")
+    if len(words) != 2:
+        raise Refused("it wants an image and a folder for its pieces; ./fractal resume --help tells more.")
+    if not words[1]:
+        raise Refused("the name of the folder for the pieces is empty.")
+    image = read_bytes(words[0])
+    read_image(image, words[0])
+    program = PROGRAM if program is None else pathlib.Path(program)
+    calls = Calls(program)
+    folder = pieces.Folder(words[1], image, [f"--every={every}", *options])
+    resumed = Resumed(calls, options, every, folder)
+    resumed.run_all()
+    count, turns = resumed.join()
+    told = f"{counted(turns, 'commit')} in {counted(count, 'piece')}"
+    print(f"{folder.name(pieces.REPORT)}: {told}; accepted by check.")
+    return 0

@@ -1,0 +1,19 @@
+"""Writes the launcher's completion for a shell, or its manual page, to standard output; all by `./fractal table`.
+
+usage: ./fractal shell bash > FILE     completion for bash: `. FILE` in ~/.bashrc
+       ./fractal shell zsh > FILE      completion for zsh: FILE is `_fractal` in a folder of $fpath
+       ./fractal shell man > FILE      the manual page: `man ./FILE`, where FILE is `fractal.1`
+"""
+from __future__ import annotations
+
+from yotarimu.common.outcome import Refused
+from yotarimu.common.words import need_words
+from yotarimu.programs.completion import KINDS
+from yotarimu.programs.table import Table
+
+
+def main(words):
+    kind, = need_words(words, 1, "shell", "bash, zsh or man")
+    if kind not in KINDS:
+        raise Refused(f"it writes for bash, zsh and man, and not for `{kind}`.")
+    print(KINDS[kind](Table()), end="")

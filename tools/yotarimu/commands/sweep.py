@@ -1,0 +1,125 @@
+"""Runs an image, or a generated load, over a grid of options, and writes one row of CSV a run.
+
+usage: ./fractal sweep IMAGE [--OPTION VALUES]... [WORDS]
+       ./fractal sweep --load KIND,SEED,SIZE [--OPTION VALUES]... [WORDS]
+       ./fractal sweep --rows CSV [--plot COLUMN,OPTION,FILE]
+
+OPTION is one of the program's, as `./fractal help` lists them. VALUES are numbers with commas between, or FROM..TO, or
+FROM..TO..STEP; the grid has a run for each choice of one value an option. Further words:
+
+  --jobs N                   so many runs at once; 1 unless told
+  --csv FILE                 the rows go to this file, which is there whole or not at all; else to standard output
+  --plot COLUMN,OPTION,FILE  a plot (SVG) of a column of numbers against an option, a line for each choice of the rest
+  --check                    hands each report back to `check`, with the image, and tells its status in the column
+                             check; where host threads ran the reports of one image may differ, and each is checked
+  --shard K/N                only each N-th run, from the K-th on; the files of shards 1 to N are joined by `cat`
+  --program FILE             a built program to run, in place of the one of this clone
+  --rows CSV                 runs nothing, and plots the rows of such a file
+
+Columns: input, each option as --OPTION, status, commits, seconds (on the clock), output and window (the first 16 digits
+of a SHA-256 of the bytes that were emitted and of the lines of the window), check. A run that fails is a row; the status is
+1 where each one failed, which is to give no report, or one that `check` refuses. A sweep that is ended early, or whose
+FILE can't be written, has the rows that are there on standard output.
+"""
+from __future__ import annotations
+
+import pathlib
+
+from yotarimu.common.files import encoded, need_outputs, write_whole
+from yotarimu.common.outcome import Refused
+from yotarimu.common.words import need_number, number_in
+from yotarimu.courses.grid import MOST_RUNS, values_of
+from yotarimu.courses.sweep import NUMBERS, Request, failed, read_rows, series_of, written_rows
+from yotarimu.pictures import plot
+from yotarimu.programs.calls import built
+from yotarimu.programs.table import Table
+
+
+def read_words(words, table):
+    """The request that the words are."""
+    request, rest, seen = Request(), list(words), set()
+    while rest:
+        word, equals, value = rest.pop(0).partition("=")
+        if not word.startswith("--"):
+            if request.image is not None:
+                raise Refused(f"one image is swept at a time: `{request.image}` or `{word}`.")
+            request.image = word + equals + value
+            continue
+        if word in seen:
+            raise Refused(f"`{word}` stands twice.")
+        seen.add(word)
+        if word == "--check":
+            request.wants_check = True
+            continue
+        if not equals:
+            if not rest:
+                raise Refused(f"a value is missing after `{word}`.")
+            value = rest.pop(0)
+        read_option(request, table, word[2:], value)
+    if (request.image, request.load, request.rows).count(None) != 2:
+        raise Refused("it wants an IMAGE, or --load KIND,SEED,SIZE, or --rows CSV; ./fractal sweep --help tells more.")
+    if request.load and request.wants_check:
+        raise Refused("a load's text has no journal to check: sweep the image that ./fractal generate writes.")
+    return request
+
+
+def read_option(request, table, name, value):
+    if name in table.options:
+        request.values[name] = values_of(table.options[name], value)
+    elif name in ("csv", "rows"):
+        setattr(request, name, value)
+    elif name == "program":
+        request.program = pathlib.Path(value)
+    elif name == "jobs":
+        request.jobs = need_number("--jobs", value, 1, 1024)
+    elif name == "shard":
+        request.shard = shard_of(value)
+    elif name == "plot":
+        request.plot = plot_of(table, value)
+    elif name == "load":
+        request.load = load_of(table, value)
+    else:
+        raise Refused(f"`--{name}` isn't known; ./fractal sweep --help tells the words, ./fractal help the options.")
+
+
+def shard_of(text):
+    part, slash, count = text.partition("/")
+    total = number_in(count, 1, MOST_RUNS)
+    place = number_in(part, 1, total) if total else None
+    if not slash or place is None:
+        raise Refused(f"--shard takes K/N with K from 1 to N, and not `{text}`.")
+    return place, total
+
+
+def plot_of(table, text):
+    column, option, path = (text.split(",", 2) + [None, None])[:3]
+    if column not in NUMBERS or option not in table.options or not path:
+        raise Refused(f"--plot takes COLUMN,OPTION,FILE with a column of {', '.join(NUMBERS)} and an option of "
+                      f"{', '.join(table.options)}, and not `{text}`.")
+    return column, option, path
+
+
+def load_of(table, text):
+    if "load" not in table.commands:
+        raise Refused("the program generates no loads: it has no command `load` in ./fractal help.")
+    words, names = text.split(","), table.commands["load"].split()
+    if len(words) != len(names) or "" in words:
+        raise Refused(f"--load takes {','.join(names)}, and not `{text}`.")
+    return words
+
+
+def main(words):
+    table = Table()
+    request = read_words(words, table)
+    need_outputs((request.csv, request.plot and request.plot[2]), (request.image, request.rows, request.program))
+    if request.rows is None:
+        built(request.program)
+    rows = written_rows(request, table) if request.rows is None else read_rows(request.rows)
+    if request.plot:
+        column, option, path = request.plot
+        series = series_of(rows, table, column, option, request.rows or "this sweep")
+        picture = plot.drawn(series, f"--{option}", column)
+        write_whole({path: encoded(picture)})
+    if request.rows is None and rows and all(map(failed, rows)):
+        first = f"with status {rows[0]['status']}" if rows[0]["commits"] == "" else "whose report was refused"
+        raise Refused(f"each of {len(rows)} runs failed, the first {first}.")

@@ -1,0 +1,53 @@
+"""Tries what ./fractal and the scripts of examples/ and bench/ promise, each in a fresh clone of what is committed.
+
+usage: ./fractal tries [WORD]...     the tries whose names hold one of the words; all where none is told
+
+A try fails loudly, and the status is then 1. This stands beside the gate: it takes some minutes, and wants the
+toolchain, git, the built programs, GNU binutils, gcc and clang for RISC-V, and Chromium. Where a program isn't built or
+there is no browser, the tries that want it are left out, and counted.
+"""
+from __future__ import annotations
+
+import collections
+import time
+
+from yotarimu.common.outcome import Refused
+
+from tries import (
+    build, c_tasks, figures, interrupts, launcher, others, packages, pages, resume, schedules, watch, words)
+from tries.place import Failed, LeftOut, Place
+
+TRIES = (*launcher.TRIES, *words.TRIES, *packages.TRIES, *build.TRIES, *c_tasks.TRIES, *others.TRIES,
+         *resume.TRIES, *schedules.TRIES, *watch.TRIES, *figures.TRIES, *pages.TRIES, *interrupts.TRIES)
+OK, FAILED, LEFT_OUT = "ok", "FAILED", "left"
+
+
+def verdict_of(attempt):
+    """How a try went, and why if it failed."""
+    place = Place()
+    try:
+        attempt(place)
+    except Failed as failed:
+        return FAILED, str(failed)
+    except LeftOut as left_out:
+        return LEFT_OUT, str(left_out)
+    finally:
+        place.remove()
+    return OK, None
+
+
+def main(told):
+    chosen = [attempt for attempt in TRIES if not told or any(word in attempt.__name__ for word in told)]
+    if not chosen:
+        raise Refused("no try has such a name.")
+    counts = collections.Counter()
+    for attempt in chosen:
+        start = time.monotonic()
+        verdict, why = verdict_of(attempt)
+        counts[verdict] += 1
+        print(f"{verdict:<7}{time.monotonic() - start:5.1f} s  {attempt.__name__}: {attempt.__doc__}", flush=True)
+        if why:
+            print(f"        {why}", flush=True)
+    left_out = f", {counts[LEFT_OUT]} want what isn't there and were left out" if counts[LEFT_OUT] else ""
+    print(f"{counts[OK]} tries went as they should, {counts[FAILED]} failed{left_out}.")
+    return 1 if counts[FAILED] else 0

@@ -1,0 +1,1 @@
+"""What all tools share: one sentence for whatever goes wrong, whole files or none, answers to an interrupt."""

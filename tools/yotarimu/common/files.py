@@ -1,0 +1,127 @@
+"""Files as the tools read and write them: whole or as they were, and never an input in place of an output."""
+from __future__ import annotations
+
+import contextlib
+import os
+import pathlib
+import re
+import stat
+import sys
+import tempfile
+
+from yotarimu.common.outcome import Refused
+
+# Nothing that the program takes or writes is longer.
+MOST_READ = 1 << 28
+
+
+def read_bytes(path):
+    """The whole of a file; `-` is standard input."""
+    if str(path) == "-" and sys.stdin is None:
+        raise Refused("standard input is closed.")
+    with contextlib.nullcontext(sys.stdin.buffer) if str(path) == "-" else open(path, "rb") as file:
+        data = file.read(MOST_READ + 1)
+    if len(data) > MOST_READ:
+        raise Refused(f"{path}: it has more than {MOST_READ:,} bytes.")
+    return data
+
+
+def read_text(path):
+    """The whole of a file as text; bytes that are no text are told apart by nothing."""
+    return read_bytes(path).decode("utf-8", "replace")
+
+
+def read_written(path):
+    """The whole of a text that people write: its lines may end as on any system."""
+    return re.sub("\r\n?", "\n", read_text(path))
+
+
+def write_whole(files):
+    """Writes bytes to paths, given as a dictionary. A plain file is there whole, or as it was before, and a symbolic
+    link to it stays one. What is no plain file, such as a device, is written to and never replaced."""
+    with contextlib.ExitStack() as cleanup:
+        renames, streams = [], []
+        for path, data in files.items():
+            path = need_writable(path)
+            if is_stream(path):
+                streams.append((path, data))
+                continue
+            handle, unfinished = tempfile.mkstemp(prefix=f".{path.name}.", dir=path.parent)
+            cleanup.callback(pathlib.Path(unfinished).unlink, missing_ok=True)
+            with os.fdopen(handle, "wb") as file:
+                file.write(data)
+            os.chmod(unfinished, stat.S_IMODE(path.stat().st_mode) if path.exists() else 0o666 & ~umask())
+            renames.append((unfinished, path))
+        for path, data in streams:
+            write_stream(path, data)
+        for unfinished, path in renames:
+            os.replace(unfinished, path)
+
+
+def write_stream(path, data):
+    """Writes to a device or a pipe; to what is standard output already, behind what was written there."""
+    for own in filter(None, (sys.stdout, sys.stderr)):
+        if os.path.samestat(path.stat(), os.fstat(own.fileno())):
+            own.flush()
+            own.buffer.write(data)
+            own.flush()
+            return
+    with open(path, "wb") as file:
+        file.write(data)
+
+
+def is_stream(path):
+    """Whether writing to a path is no matter of a plain file's bytes alone."""
+    if not path.exists():
+        return False
+    found = path.stat()
+    return not stat.S_ISREG(found.st_mode) or any(
+        os.path.samestat(found, os.fstat(own.fileno())) for own in filter(None, (sys.stdout, sys.stderr)))
+
+
+def need_writable(path):
+    """The path of a file that can be written, behind all links; else a refusal, before any work is done for it."""
+    path = pathlib.Path(path)
+    if path.is_dir():
+        raise Refused(f"{path}: this is a folder, so no file can be written there.")
+    if not path.exists() or stat.S_ISREG(path.stat().st_mode):
+        named, path = path, pathlib.Path(os.path.realpath(path))
+        if not path.parent.is_dir():
+            raise Refused(f"{named}: it can't be written, since there is no such folder.")
+        if not os.access(path.parent, os.W_OK | os.X_OK):
+            raise Refused(f"{named}: it can't be written: permission denied.")
+    if path.exists() and not os.access(path, os.W_OK):
+        raise Refused(f"{path}: it can't be written: permission denied.")
+    return path
+
+
+def need_outputs(outputs, inputs):
+    """Holds files that can be written to be none of the files that are read, and none of each other; `-` is standard
+    input, and a path that is None isn't asked for."""
+    outputs, inputs = ([path for path in paths if path is not None] for paths in (outputs, inputs))
+    for place, path in enumerate(outputs):
+        need_writable(path)
+        if any(is_same_file(path, other) for other in inputs):
+            raise Refused(f"{path}: this is read, so it isn't written too.")
+        if any(path == other != os.devnull or is_same_file(path, other) for other in outputs[:place]):
+            raise Refused(f"{path}: two outputs can't be one file.")
+
+
+def is_same_file(one, other):
+    """Whether two paths lead to one file, also one that isn't there yet; what is written to no file is never one."""
+    with contextlib.suppress(OSError):
+        found = os.stat(one)
+        return stat.S_ISREG(found.st_mode) and os.path.samestat(found, os.stat(0 if str(other) == "-" else other))
+    return not os.path.exists(one) and os.path.realpath(one) == os.path.realpath(other)
+
+
+def encoded(text):
+    """A text as a file has it; bytes in names of files that are no text are told as on standard output."""
+    return text.encode("utf-8", "backslashreplace")
+
+
+def umask():
+    """The bits that a new file hasn't. They can't be read without being set."""
+    bits = os.umask(0o077)
+    os.umask(bits)
+    return bits

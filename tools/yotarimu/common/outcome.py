@@ -1,0 +1,104 @@
+"""How a command ends: with a status, with one sentence for whatever goes wrong, and at once where it is interrupted."""
+from __future__ import annotations
+
+import contextlib
+import os
+import signal
+import sys
+
+from yotarimu.common.text import without_controls
+
+REFUSED = 1
+SIGNALS = (signal.SIGINT, signal.SIGTERM, signal.SIGHUP)
+
+
+class Refused(Exception):
+    """What was asked for can't be done. Its text is the sentence, or the few lines, for the person who asked."""
+
+
+class Stopped(BaseException):
+    """A signal asked for the end."""
+
+    def __init__(self, number):
+        super().__init__(number)
+        self.number = number
+
+
+def run_script(name, main, words=None):
+    """Runs `main` on the words, those of the call where none are given, and ends with its status, or with one sentence
+    and a status other than 0."""
+    try:
+        for number in SIGNALS:
+            signal.signal(number, stop)
+        # tools/start holds an interrupt back until Python can answer it.
+        signal.pthread_sigmask(signal.SIG_UNBLOCK, SIGNALS)
+        status = answered(name, main, sys.argv[1:] if words is None else words)
+        ignore_signals()
+    except Stopped as stopped:
+        say(name, "interrupted.")
+        status = 128 + stopped.number
+    end(status)
+
+
+def answered(name, main, words):
+    try:
+        if sys.stdout is None:
+            raise Refused("standard output is closed.")
+        sys.stdout.reconfigure(errors="backslashreplace")
+        status = main(words) or 0
+        sys.stdout.flush()
+        return status
+    except Refused as refused:
+        say(name, refused)
+    except (OSError, MemoryError) as error:
+        say(name, told(error))
+    return REFUSED
+
+
+def end(status):
+    """Ends the script. What can't be written is dropped, since the interpreter would try, and tell, once more."""
+    try:
+        sys.stdout.flush()
+    except (AttributeError, OSError):
+        os.dup2(os.open(os.devnull, os.O_WRONLY), 1)
+    sys.exit(status)
+
+
+def stop(number, _frame):
+    ignore_signals()
+    raise Stopped(number)
+
+
+def ignore_signals():
+    for number in SIGNALS:
+        signal.signal(number, signal.SIG_IGN)
+
+
+def say(name, sentence):
+    if sys.stderr is None:
+        return
+    # A line of progress may stand on a terminal.
+    clear = "\r\x1b[K" if is_at_terminal() else ""
+    with contextlib.suppress(OSError):
+        # A sentence may cite what stands in a file.
+        print(f"{clear}{name}: {without_controls(sentence)}", file=sys.stderr, flush=True)
+
+
+def note(sentence):
+    """Tells what may be wrong, and stops nothing."""
+    say("note", sentence)
+
+
+def told(error):
+    """An error of the system as a sentence."""
+    if isinstance(error, MemoryError):
+        return "out of memory."
+    if isinstance(error, BrokenPipeError):
+        return "nobody reads what it writes."
+    place = f"{error.filename}: " if error.filename else ""
+    return f"{place}{(error.strerror or str(error)).lower()}."
+
+
+def is_at_terminal():
+    """Whether a terminal shows standard error."""
+    return sys.stderr is not None and sys.stderr.isatty()

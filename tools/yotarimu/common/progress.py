@@ -1,0 +1,10 @@
+"""How far a long call has come, on a terminal."""
+from __future__ import annotations
+
+import sys
+
+
+def show_progress(name, done, total, more=""):
+    """One line on the terminal, which is written again and again."""
+    end = "\n" if done == total else ""
+    print(f"\r\x1b[K{name}: {done} of {total} runs{more}", end=end, file=sys.stderr, flush=True)

@@ -1,0 +1,92 @@
+"""A script that grows act by act: it is played anew by the second program each time, which tells what it did."""
+from __future__ import annotations
+
+import io
+import subprocess
+
+from yotarimu.common.files import read_bytes
+from yotarimu.common.outcome import Refused
+from yotarimu.common.text import counted
+from yotarimu.images.image import read_image
+from yotarimu.images.labels import listing_for
+from yotarimu.lines.display import Standing
+from yotarimu.lines.reader import Watched
+from yotarimu.lines.sentences import end_told, name_told, opening_told, sentence_of
+from yotarimu.programs.launcher import launched
+from yotarimu.programs.table import Table
+
+# The statuses of a script that was played.
+PLAYED = (0, 3, 4)
+# Of more acts that were made at once, the sentences of the last are written.
+MOST_SENTENCES = 12
+
+
+class Schedule:
+    """An image, the program's options, and the acts so far."""
+
+    def __init__(self, path, options, table):
+        self.path, self.options = path, options
+        self.data = read_bytes(path)
+        self.image = read_image(self.data, path)
+        self.listing, self.remark = listing_for(path, self.image, None)
+        self.tiles, self.cores = (options.get(name, table.options[name].default) for name in ("tiles", "cores"))
+
+    def lines_of(self, acts):
+        """What the second program tells of these acts."""
+        words = ["watch", "steps", *(f"--{name}={value}" for name, value in self.options.items())]
+        script = "".join(f"{act}\n" for act in acts).encode()
+        status, written, said = launched(words, self.data + script, subprocess.PIPE)
+        if status not in PLAYED:
+            raise Refused(why_not_played(status, written, said.decode("utf-8", "replace")))
+        return written
+
+    def play(self, acts, first=None):
+        """Plays acts; the sentences of those from a place on are kept, or that of the last."""
+        return Playing(self, acts, len(acts) - 1 if first is None else first)
+
+
+class Playing:
+    """Acts that were played: the sentences of those from one on, and what stands behind the last."""
+
+    def __init__(self, schedule, acts, first):
+        self.acts, self.lines, self.replies, self.sentences = acts, schedule.lines_of(acts), [], []
+        self.schedule, self.entries, self.output, self.last = schedule, [], b"", None
+        watched = Watched(io.BytesIO(self.lines), "the second program", keeps_memory=True)
+        for told in watched:
+            if told.is_act():
+                self.note(told, watched.machine, len(self.replies) >= first)
+        self.machine, self.end = watched.machine, watched.end
+
+    def note(self, told, machine, is_new):
+        line, limits = told.line, self.schedule.image.limits
+        self.replies.append(line["reply"] + (f", {counted(len(told.taken), 'task')} taken back" if told.taken else ""))
+        self.last = told
+        if told.committed:
+            self.entries.append(f"{machine.commits} {name_told(line['name'])} {line['depth']} {line['ts']}")
+            self.output += bytes.fromhex(line.get("output", ""))
+        if is_new:
+            act = f"{line['at']}: {self.acts[line['at'] - 1]}"
+            self.sentences.append(f"{act}\n{sentence_of(told, machine, self.schedule.listing, limits)}")
+
+    def told(self):
+        """What is written behind acts: their sentences, and the machine."""
+        some = self.sentences[-MOST_SENTENCES:]
+        if len(some) < len(self.sentences):
+            yield f"({counted(len(self.sentences) - len(some), 'act')} before these)"
+        yield from some or [opening_told(self.machine.head)]
+        if self.end["end"] != "open":
+            yield end_told(self.end, self.schedule.listing, self.schedule.image.limits)
+        yield ""
+        yield from self.standing()
+
+    def standing(self):
+        return Standing(self.machine, self.last, self.entries, self.output, self.schedule.listing).lines()
+
+
+def why_not_played(status, written, said):
+    """Why the launcher or the program played nothing."""
+    for line in reversed(said.strip().split("\n")):
+        if line.strip():
+            return line.strip().removeprefix("fractal: ")
+    fault = written.decode("utf-8", "replace").strip()
+    return fault or f"the second program ended with status {status}: {Table().statuses.get(status, 'an unknown one')}."

@@ -1,0 +1,138 @@
+"""A page whose tables are made again by the commands that stand before them.
+
+A block of code whose lines all call tools by `./fractal` is called, line by line, in a folder of its own; `> FILE` at
+the end of a line writes a file there. What the lines tell otherwise is the table, which stands in the page behind them.
+"""
+from __future__ import annotations
+
+import pathlib
+import shlex
+import subprocess
+import tempfile
+
+from yotarimu import commands
+from yotarimu.common.files import need_writable, read_bytes, write_whole
+from yotarimu.common.outcome import Refused, say
+from yotarimu.common.words import need_words
+from yotarimu.programs.program import LAUNCHER
+
+FENCE, DOOR, INTO = "```", "./fractal", ">"
+
+
+class Page:
+    """The lines of a page."""
+
+    def __init__(self, path):
+        self.path, self.data = path, read_bytes(path)
+        try:
+            text = self.data.decode()
+        except UnicodeDecodeError:
+            raise Refused(f"{path}: this is no text in UTF-8.") from None
+        self.newline = "\r\n" if 0 < text.count("\n") == text.count("\r\n") else "\n"
+        self.lines = text.split(self.newline)
+
+    def blocks(self):
+        """The places of the first and behind the last line of each block of commands."""
+        fences = [place for place, line in enumerate(self.lines) if line.startswith(FENCE)]
+        for first, end in zip(fences[::2], fences[1::2]):
+            inside = self.lines[first + 1:end]
+            if inside and all(map(is_call, inside)):
+                yield first + 1, end
+
+    def table_behind(self, place):
+        """The places of the first and behind the last line of the next table, up to a headline or a block."""
+        for first in range(place + 1, len(self.lines)):
+            if self.lines[first].startswith(("#", FENCE)):
+                break
+            if self.lines[first].startswith("|"):
+                end = next((place for place in range(first, len(self.lines)) if not self.lines[place].startswith("|")),
+                           len(self.lines))
+                return first, end
+        return None
+
+    def write(self):
+        """Writes the lines, unless someone else wrote the page meanwhile."""
+        if read_bytes(self.path) != self.data:
+            raise Refused(f"{self.path}: it was changed while its commands were called, so it stays as it is.")
+        write_whole({self.path: self.newline.join(self.lines).encode()})
+
+
+def is_call(line):
+    """Whether a line calls a tool."""
+    door, _, further = line.partition(" ")
+    return door == DOOR and further.partition(" ")[0] in commands.names()
+
+
+def words_of(line):
+    """The words of a line, as a shell takes them."""
+    if "\0" in line:
+        raise Refused(f"`{line}` has a byte 0, which no command takes.")
+    try:
+        return shlex.split(line)
+    except ValueError:
+        raise Refused(f"`{line}` breaks off within quotation marks or behind a backslash.") from None
+
+
+def called(line, folder):
+    """What a line tells, unless it writes that to a file."""
+    words = words_of(line)
+    name = None
+    if len(words) > 2 and words[-2] == INTO:
+        *words, _, name = words
+    if name is not None and folder.resolve() not in (folder / name).resolve().parents:
+        raise Refused(f"`{line}` writes outside of the folder of its commands.")
+    done = subprocess.run([LAUNCHER, *words[1:]], cwd=folder, capture_output=True, stdin=subprocess.DEVNULL)
+    if done.returncode != 0:
+        said = done.stderr.decode("utf-8", "replace").strip() or f"it ended with status {done.returncode}."
+        raise Refused(f"`{line}`: {said}")
+    if name is None:
+        return told_lines(line, done.stdout)
+    write_whole({folder / name: done.stdout})
+    return []
+
+
+def told_lines(line, data):
+    try:
+        return data.decode().splitlines()
+    except UnicodeDecodeError:
+        raise Refused(f"`{line}` tells no text; `{INTO} FILE` behind it writes that to a file.") from None
+
+
+def made(page, folder):
+    """Each table of a page with what its commands tell, from the last one to the first."""
+    tables = []
+    for first, end in page.blocks():
+        told = [text for line in page.lines[first:end] for text in called(line, folder)]
+        rows = [line for line in told if line.startswith("|")]
+        place = page.table_behind(end) if rows else None
+        if rows and place is None:
+            raise Refused(f"{page.path}:{end + 1}: no table stands behind these commands.")
+        if rows:
+            print(f"{page.path}:{place[0] + 1}: {'as it was' if page.lines[slice(*place)] == rows else 'differs'}",
+                  flush=True)
+            tables.append((place, rows))
+    return tables[::-1]
+
+
+def main(path, words):
+    """Makes the tables of a page again. The status is 1 where one differs and isn't replaced."""
+    is_written = "--write" in words
+    need_words([word for word in words if word != "--write"], 0, "study", "nothing more beside --page PAGE and --write")
+    if path == "-":
+        raise Refused("--page takes a file, and not standard input.")
+    page = Page(path)
+    if not any(page.blocks()):
+        raise Refused(f"{path}: no block of this page has calls of tools alone, as `{DOOR} study` is one.")
+    if is_written:
+        need_writable(path)
+    with tempfile.TemporaryDirectory() as folder:
+        tables = made(page, pathlib.Path(folder))
+    different = [(place, rows) for place, rows in tables if page.lines[slice(*place)] != rows]
+    if is_written and different:
+        for place, rows in different:
+            page.lines[slice(*place)] = rows
+        page.write()
+    if different and not is_written:
+        say("study", f"{len(different)} of {len(tables)} tables differ; --write replaces them.")
+        return 1
+    return 0

@@ -1,0 +1,170 @@
+"""Scripts, what the program says when it plays them, and scripts that are made: docs/guest/FORMATS.md has their lines."""
+from __future__ import annotations
+
+import collections
+import dataclasses
+import itertools
+import random
+import re
+
+from yotarimu.common.outcome import Refused
+from yotarimu.reports.report import Report, read_report
+
+MOST_TILES, MOST_CORES = 16, 4
+# How many numbers come after each act's word: a tile, and a core of it.
+NUMBERS = {"dispatch": 1, "step": 2, "take": 2, "give": 2, "abort": 1, "commit": 0, "coalesce": 1, "split": 1,
+           "advance": 0}
+# What an act is answered where it was done, and where it wasn't.
+DONE = ("ok", "moved", "committed")
+REFUSALS = ("empty", "busy", "stall", "stale", "firm", "ended")
+NUMBER = "(0|[1-9][0-9]?)"
+
+
+@dataclasses.dataclass(frozen=True)
+class Act:
+    """A line of a script: its word, and the tile and the core where it names them."""
+    word: str
+    tile: int = None
+    core: int = None
+
+    def __str__(self):
+        return " ".join(str(part) for part in (self.word, self.tile, self.core) if part is not None)
+
+
+@dataclasses.dataclass(frozen=True)
+class Said:
+    """What an act was answered, and how many tasks it took back."""
+    reply: str
+    taken_back: int
+
+
+@dataclasses.dataclass
+class Played:
+    """A script that was played: its acts, what each was answered, and the report."""
+    acts: list
+    said: list
+    report: Report
+
+    def pairs(self):
+        return zip(self.acts, self.said)
+
+    def commits(self):
+        """The entry of each act that committed a task, by the act's place."""
+        places = (place for place, (act, said) in enumerate(self.pairs()) if is_commit(act, said))
+        return dict(zip(places, self.report.entries))
+
+
+def is_commit(act, said):
+    return (act.word, said.reply) in (("commit", "ok"), ("advance", "committed"))
+
+
+def read_script(text, name):
+    """The acts of a script, for a machine of any size."""
+    lines = text.split("\n")
+    if lines[-1] == "":
+        lines.pop()
+    return [read_act(line, f"{name}:{number}") for number, line in enumerate(lines, 1)]
+
+
+def read_act(line, place):
+    word, *numbers = line.split(" ")
+    if word not in NUMBERS or len(numbers) != NUMBERS[word] or not all(re.fullmatch(NUMBER, it) for it in numbers):
+        raise Refused(f"{place}: `{line[:40]}` is no line of a script; docs/guest/FORMATS.md tells which are.")
+    tile, core = ([int(it) for it in numbers] + [None, None])[:2]
+    if (tile or 0) >= MOST_TILES or (core or 0) >= MOST_CORES:
+        raise Refused(f"{place}: `{line}` is for none of {MOST_TILES} tiles with {MOST_CORES} cores each.")
+    return Act(word, tile, core)
+
+
+def read_played(acts, text, name):
+    """What the program said to a script, and the report after it."""
+    lines = text.split("\n")
+    if lines[0].startswith("fault "):
+        raise Refused(f"{name}: the program played nothing, and said `{lines[0]}`.")
+    said = [read_said(line, f"{name}:{number}") for number, line in enumerate(lines[:len(acts)], 1)]
+    played = Played(acts, said, read_report(text, name, len(acts)))
+    commits, entries = sum(is_commit(*pair) for pair in played.pairs()), len(played.report.entries)
+    if commits != entries:
+        raise Refused(f"{name}: this isn't what was said to that script: it has {commits} commits, "
+                      f"and {entries} tasks in its report.")
+    return played
+
+
+def read_replies(text):
+    """The replies before a report, as `steps` writes them; none where the text begins otherwise."""
+    replies = []
+    for line in text.split("\n"):
+        found = re.fullmatch(r"([a-z]+) ([0-9]{1,10})", line)
+        if not found or found[1] not in DONE + REFUSALS:
+            break
+        replies.append(Said(found[1], int(found[2])))
+    return replies
+
+
+def read_said(line, place):
+    found = re.fullmatch(r"([a-z]+) ([0-9]{1,10})", line)
+    if not found or found[1] not in DONE + REFUSALS:
+        raise Refused(f"{place}: this is no answer to an act; `{line[:40]}` stands where one is wanted.")
+    return Said(found[1], int(found[2]))
+
+
+def read_trace(text, name):
+    """The numbers of each tap, from what the program says to `trace`."""
+    lines = iter(text.removesuffix("\n").split("\n"))
+    if next(lines) != "trace 1":
+        raise Refused(f"{name}: this is no trace, which begins with `trace 1`.")
+    taps = []
+    for line in lines:
+        if line == "end trace" and next(lines, None) is None:
+            return taps
+        found = re.fullmatch(rf"tap {len(taps)} ([0-9]{{1,10}})", line)
+        numbers = list(itertools.islice(lines, int(found[1]))) if found else []
+        if not found or len(numbers) < int(found[1]) or not all(re.fullmatch("[0-9]{1,20}", it) for it in numbers):
+            break
+        taps.append([int(it) for it in numbers])
+    raise Refused(f"{name}: this is no trace: after {len(taps)} taps it has something else.")
+
+
+def lockstep(tiles, cores, rounds, seed=None):
+    """The acts of so many rounds; with a seed, those of a round are in random order."""
+    acts = round_of(tiles, cores)
+    chance = None if seed is None else random.Random(seed)
+    for _ in range(rounds):
+        yield from acts if chance is None else shuffled(acts, chance)
+
+
+def round_of(tiles, cores):
+    """The acts of a round: tile after tile dispatches and each of its cores steps; then there is a commit for each
+    tile, and each tile splits."""
+    acts = []
+    for tile in range(tiles):
+        acts += [Act("dispatch", tile), *(Act("step", tile, core) for core in range(cores))]
+    return acts + [Act("commit")] * tiles + [Act("split", tile) for tile in range(tiles)]
+
+
+def acts_a_round(acts):
+    """How many acts a round of a lockstep schedule has, in whatever order within a round; None of other scripts."""
+    tiles = 1 + max((act.tile for act in acts if act.tile is not None), default=-1)
+    cores = 1 + max((act.core for act in acts if act.core is not None), default=-1)
+    whole = round_of(tiles, cores)
+    if not tiles or not cores or len(acts) < len(whole):
+        return None
+    counts = collections.Counter(whole)
+    for first in range(0, len(acts), len(whole)):
+        some = acts[first:first + len(whole)]
+        if some != whole and (len(some) < len(whole) or collections.Counter(some) != counts):
+            return None
+    return len(whole)
+
+
+def shuffled(acts, chance):
+    """The acts in random order. A generator's `random` alone gives the same numbers in all versions of Python."""
+    acts = list(acts)
+    for last in range(len(acts) - 1, 0, -1):
+        place = int(chance.random() * (last + 1))
+        acts[last], acts[place] = acts[place], acts[last]
+    return acts
+
+
+def script_text(acts):
+    return "".join(f"{act}\n" for act in acts)

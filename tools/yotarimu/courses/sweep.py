@@ -1,0 +1,170 @@
+"""A command of the program over a grid of options, several runs at once, a row of CSV each."""
+from __future__ import annotations
+
+import csv
+import dataclasses
+import hashlib
+import io
+import pathlib
+import re
+import sys
+import time
+
+from yotarimu.common.files import encoded, read_bytes, read_written, write_whole
+from yotarimu.common.outcome import Refused, is_at_terminal
+from yotarimu.common.progress import show_progress
+from yotarimu.courses.grid import cells_of
+from yotarimu.programs.calls import Calls
+from yotarimu.programs.program import PROGRAM
+
+# The end of a report: the output, the words of the window, and the last line.
+REPORT = re.compile(rb"\noutput (-|(?:[0-9a-f]{2})+)\n((?:window [0-9a-f]{8} [0-9a-f]{8}\n)*)end [^\n]+\n\Z")
+
+
+class Runner(Calls):
+    """Runs one command on one input with different options."""
+
+    def __init__(self, program, command, data, wants_check, shows_progress):
+        super().__init__(program)
+        self.command, self.data = command, data
+        self.wants_check, self.shows_progress = wants_check, shows_progress
+
+    def run_all(self, cells, jobs):
+        """Each cell with its result, in order."""
+        failed = 0
+        for done, (cell, result) in enumerate(self.each(self.result, cells, jobs), 1):
+            failed += result["status"] != 0
+            if self.shows_progress:
+                told_failed = f", {failed} with a status other than 0" if failed else ""
+                show_progress("sweep", done, len(cells), told_failed)
+            yield cell, result
+
+    def result(self, cell):
+        """The columns of one run."""
+        options = [f"--{name}={value}" for name, value in cell.items()]
+        start = time.monotonic()
+        status, written = self.call([*self.command, *options], self.data)
+        seconds = f"{time.monotonic() - start:.3f}"
+        columns = {"status": status, "seconds": seconds, **told(written), "check": ""}
+        if self.wants_check and columns["commits"] != "":
+            columns["check"], _ = self.call(["check", *options], self.data + written)
+        return columns
+
+
+def told(written):
+    """What a report tells: how many commits, and digests of the output and of the window; nothing of other texts."""
+    found = REPORT.search(written)
+    if not found:
+        return {"commits": "", "output": "", "window": ""}
+    before = written[:found.start()].rpartition(b"\n")[2].split(b" ")
+    # Behind an entry's number stand its name, depth and timestamp; a generated load tells `commits` and the number.
+    number = before[1] if before[0] == b"commits" else before[0]
+    commits = int(number) if number.isdigit() else 0
+    emitted = b"" if found[1] == b"-" else bytes.fromhex(found[1].decode("ascii"))
+    return {"commits": commits, "output": digest(emitted), "window": digest(found[2])}
+
+
+def digest(data):
+    return hashlib.sha256(data).hexdigest()[:16]
+
+
+RESULTS = ("status", "commits", "seconds", "output", "window", "check")
+NUMBERS = ("status", "commits", "seconds", "check")
+LEAST_PLOTTED, MOST_PLOTTED = 1e-9, 1e15
+
+
+@dataclasses.dataclass
+class Request:
+    """What the words ask for."""
+    image: str = None
+    load: list = None
+    rows: str = None
+    csv: str = None
+    plot: list = None
+    program: pathlib.Path = PROGRAM
+    jobs: int = 1
+    shard: tuple = (1, 1)
+    wants_check: bool = False
+    values: dict = dataclasses.field(default_factory=dict)
+
+
+def header(table):
+    return ["input", *(f"--{name}" for name in table.options), *RESULTS]
+
+
+def swept(request, table):
+    """The rows of the runs that are asked for, each as it comes, in the order of the grid."""
+    cells = cells_of(table, request.values)
+    place, total = request.shard
+    command = ["load", *request.load] if request.load else ["run"]
+    data = read_bytes(request.image) if request.image is not None else b""
+    is_apart = request.csv or not sys.stdout.isatty()
+    runner = Runner(request.program, command, data, request.wants_check, is_at_terminal() and is_apart)
+    name = request.image if request.image is not None else " ".join(command)
+    for cell, result in runner.run_all(cells[place - 1::total], request.jobs):
+        yield [name, *cell.values(), *(result[column] for column in RESULTS)]
+
+
+def written_rows(request, table):
+    """Runs all, writes each row as it comes, or all to a file in the end, and gives them back. Where the file can't be
+    written, or the sweep is ended early, the rows that are there go to standard output."""
+    rows, text = [], io.StringIO()
+    file = text if request.csv else sys.stdout
+    sink = csv.writer(file, lineterminator="\n")
+    try:
+        for row in swept(request, table):
+            if not rows and request.shard[0] == 1:
+                sink.writerow(header(table))
+            sink.writerow(row)
+            file.flush()
+            rows.append(dict(zip(header(table), map(str, row))))
+        if request.csv:
+            write_whole({request.csv: encoded(text.getvalue())})
+    except BaseException:
+        if request.csv:
+            sys.stdout.write(text.getvalue())
+        raise
+    return rows
+
+
+def failed(row):
+    """Whether a run gave no report, or one that was refused."""
+    return row["commits"] == "" or row["check"] not in ("", "0")
+
+
+def read_rows(path):
+    text = read_written(path)
+    try:
+        rows = list(csv.DictReader(io.StringIO(text)))
+    except csv.Error as error:
+        raise Refused(f"{path}: this is no CSV: {error}.") from None
+    if any(None in row or None in row.values() for row in rows):
+        raise Refused(f"{path}: its rows haven't as many columns as its first line.")
+    return rows
+
+
+def series_of(rows, table, column, option, origin):
+    """The points of the rows that have the column, by the choice of all that varies beside the option."""
+    if any(column not in row or f"--{option}" not in row for row in rows):
+        raise Refused(f"the rows of {origin} have no columns {column} and --{option}.")
+    names = [name for name in header(table) if name == "input" or name.startswith("--") and name != f"--{option}"]
+    varying = [name for name in names if len({row.get(name) for row in rows}) > 1]
+    series = {}
+    try:
+        for row in rows:
+            if row[column] != "":
+                choice = ", ".join(f"{name} {row.get(name)}" for name in varying)
+                series.setdefault(choice, []).append((plotted(row[f"--{option}"]), plotted(row[column])))
+    except ValueError:
+        raise Refused(f"a row of {origin} has no number that can be plotted under {column} or --{option}.") from None
+    if not series:
+        raise Refused(f"no row of {origin} has a number under {column}, so there is nothing to plot.")
+    return series
+
+
+def plotted(text):
+    """The number that a text is, of a size for which a picture has ticks."""
+    number = float(text)
+    if number and not LEAST_PLOTTED <= abs(number) <= MOST_PLOTTED:
+        raise ValueError
+    return number

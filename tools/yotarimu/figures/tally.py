@@ -1,0 +1,117 @@
+"""A played schedule in numbers."""
+from __future__ import annotations
+
+import collections
+
+from yotarimu.common.tables import plain_ratio, ratio, table
+from yotarimu.courses.schedules import DONE, NUMBERS, REFUSALS, is_commit
+
+# The curve of commits has so many points at most.
+MOST_POINTS = 60
+
+
+class Tally:
+    """The acts of a played schedule by answer, the tasks that they took back, and the commits over acts. What was asked
+    after the end of the run, and answered `ended`, is counted apart."""
+
+    def __init__(self, played, acts_a_round=None):
+        self.replies = {}
+        self.taken_back = collections.Counter()
+        self.end = played.report.end
+        self.acts = self.commits = 0
+        step, self.curve = -(-len(played.acts) // MOST_POINTS), [(0, 0)]
+        for act, said in played.pairs():
+            self.replies.setdefault(act.word, collections.Counter())[said.reply] += 1
+            self.taken_back[act.word] += said.taken_back
+            if said.reply == "ended":
+                continue
+            self.acts += 1
+            self.commits += is_commit(act, said)
+            if self.acts % step == 0:
+                self.curve.append((self.acts, self.commits))
+        if self.curve[-1] != (self.acts, self.commits):
+            self.curve.append((self.acts, self.commits))
+        # None where the script has no rounds.
+        self.rounds = acts_a_round and -(-self.acts // acts_a_round)
+
+    def count(self, word, reply):
+        return self.replies[word][reply] if word in self.replies else 0
+
+    def dispatches(self):
+        return self.count("dispatch", "ok")
+
+    def all_taken_back(self):
+        return sum(self.taken_back.values())
+
+    def stalls(self):
+        return {word: self.count(word, "stall") for word in NUMBERS if self.count(word, "stall")}
+
+    def words(self):
+        """The acts that stand in the script, in the order in which documents list them."""
+        return [word for word in NUMBERS if word in self.replies]
+
+    def answers(self):
+        """The answers that were given."""
+        return [reply for reply in DONE + REFUSALS if any(counts[reply] for counts in self.replies.values())]
+
+
+def by_act(counts):
+    """Counts by act, as `step 12, split 3`; a dash where all are 0."""
+    return ", ".join(f"{word} {count:,}" for word, count in counts.items() if count) or "-"
+
+
+ROWS = (
+    ("Acts before the end", lambda it: f"{it.acts:,}"),
+    ("Rounds", lambda it: f"{it.rounds:,}" if it.rounds else "-"),
+    ("Commits", lambda it: f"{it.commits:,}"),
+    ("Commits a round", lambda it: ratio(it.commits, it.rounds)),
+    ("Commits in 1,000 acts", lambda it: ratio(1_000 * it.commits, it.acts)),
+    ("Dispatches", lambda it: f"{it.dispatches():,}"),
+    ("Dispatches a commit", lambda it: ratio(it.dispatches(), it.commits)),
+    ("Tasks taken back", lambda it: f"{it.all_taken_back():,}"),
+    ("by which act", lambda it: by_act(it.taken_back)),
+    ("Tasks taken back a commit", lambda it: ratio(it.all_taken_back(), it.commits)),
+    ("Stalls", lambda it: by_act(it.stalls())),
+    ("End", lambda it: it.end),
+)
+
+
+# The same for CSV, in plain numbers.
+PLAIN = (
+    ("acts", lambda it: it.acts),
+    ("rounds", lambda it: it.rounds or ""),
+    ("commits", lambda it: it.commits),
+    ("commits a round", lambda it: plain_ratio(it.commits, it.rounds)),
+    ("commits in 1000 acts", lambda it: plain_ratio(1_000 * it.commits, it.acts)),
+    ("dispatches", lambda it: it.dispatches()),
+    ("dispatches a commit", lambda it: plain_ratio(it.dispatches(), it.commits)),
+    ("taken back", lambda it: it.all_taken_back()),
+    ("taken back a commit", lambda it: plain_ratio(it.all_taken_back(), it.commits)),
+    ("end", lambda it: it.end),
+)
+
+
+def plain_rows(tallies):
+    """The tallies of a dictionary by name as rows of CSV, a row each, under their head; with how often each act had
+    each answer, and how many tasks each took back."""
+    pairs = [(word, reply) for word in NUMBERS for reply in DONE + REFUSALS
+             if any(it.count(word, reply) for it in tallies.values())]
+    words = list(dict.fromkeys(word for word, _ in pairs))
+    yield ["output", *(name for name, _ in PLAIN), *(f"{word} {reply}" for word, reply in pairs),
+           *(f"taken back by {word}" for word in words)]
+    for name, it in tallies.items():
+        yield [name, *(cell(it) for _, cell in PLAIN), *(it.count(*pair) for pair in pairs),
+               *(it.taken_back[word] for word in words)]
+
+
+def summary(tallies):
+    """The tallies of a dictionary by name, a column each."""
+    return table(["", *tallies], ([name, *(cell(it) for it in tallies.values())] for name, cell in ROWS))
+
+
+def acts_by_reply(tally):
+    """How often each act had each answer."""
+    answers = tally.answers()
+    rows = [[word, *(f"{tally.count(word, reply):,}" for reply in answers),
+             f"{sum(tally.replies[word].values()):,}", f"{tally.taken_back[word]:,}"] for word in tally.words()]
+    return table(["Act", *answers, "all", "tasks taken back"], rows)

@@ -1,0 +1,88 @@
+"""Sources in C: which compiler makes objects of them, by which options, and what it complains of."""
+from __future__ import annotations
+
+import pathlib
+import re
+import shutil
+import subprocess
+
+from yotarimu.common.outcome import Refused
+from yotarimu.common.places import EXAMPLES_FOLDER
+
+# What a source includes, and what compilers call although no source does.
+LIBRARY = EXAMPLES_FOLDER / "c" / "library"
+MEMORY = LIBRARY / "memory.c"
+PACKAGES = {"riscv64-unknown-elf-gcc": "gcc-riscv64-unknown-elf", "clang": "clang"}
+GCC, CLANG = PACKAGES
+MACHINE = ("-march=rv32i", "-mabi=ilp32")
+# Nothing is started before a task, and no register points to small data, as each task would have to set it. What is
+# surely a mistake is refused: it would be a mere warning else.
+OPTIONS = ("-std=gnu17", "-O2", "-gdwarf-4", "-ffreestanding", "-fno-pic", "-fno-common", "-msmall-data-limit=0",
+           "-fno-asynchronous-unwind-tables", "-Wall", "-Werror=implicit-function-declaration", "-Werror=implicit-int",
+           "-Werror=int-conversion", "-Werror=incompatible-pointer-types")
+# A macro's fault is told where it is used. A task's parameter may have no name.
+OWN_OPTIONS = {GCC: ("-mstrict-align", "-ftrack-macro-expansion=0"),
+               CLANG: ("--target=riscv32", "-Wno-unknown-warning-option", "-Wno-c2x-extensions")}
+# A loop that copies stays a loop, since memcpy would call itself.
+AS_WRITTEN = {GCC: ("-fno-builtin", "-fno-tree-loop-distribute-patterns"), CLANG: ("-fno-builtin",)}
+# What a complaint usually comes from.
+ADVICE = (
+    (r"makes integer from pointer|incompatible pointer to integer", "a pointer is given as at(pointer)"),
+    (r"implicit(ly)? declar.*printf", "emit_text and emit_number write"),
+    (r"no such file.*|'std\w+\.h' file not found", "there is no C library"),
+    (r"return type defaults|type specifier missing", "TASK needs the line #include \"task.h\""),
+    (r"called object .* is not a function", "a task is enqueued"),
+)
+
+
+def need_compiler(compiler):
+    if not shutil.which(compiler):
+        raise Refused(f"{compiler} isn't in the path; it compiles C (Debian's package {PACKAGES[compiler]} has it).")
+
+
+def compiler_words(compiler, path, target, is_library=False):
+    """The words that compile a file of C."""
+    need_compiler(compiler)
+    own = OWN_OPTIONS[compiler] + (AS_WRITTEN[compiler] if is_library else ())
+    return [compiler, *MACHINE, *OPTIONS, *own, "-I", str(LIBRARY), "-I", str(path.parent), "-c", "-o", target,
+            str(path)]
+
+
+def compiler_told(compiler):
+    """The compiler with its version, as in `gcc 12.2.0`."""
+    said = subprocess.run([compiler, "--version"], capture_output=True, text=True, stdin=subprocess.DEVNULL).stdout
+    found = re.search(r"\d+\.\d+[.\d]*(?=\s*$)", said.partition("\n")[0])
+    return f"{compiler.rpartition('-')[2]} {found[0] if found else ''}".strip()
+
+
+def arithmetic():
+    """The library of what RV32I has no instruction for: products, quotients, numbers of 64 bits and with a point."""
+    if not shutil.which(GCC):
+        return []
+    done = subprocess.run([GCC, *MACHINE, "-print-libgcc-file-name"], capture_output=True, text=True,
+                          stdin=subprocess.DEVNULL)
+    path = pathlib.Path(done.stdout.strip())
+    return [str(path)] if "rv32i" in path.parts and path.is_file() else []
+
+
+def complaints(said):
+    """What a compiler complains of, a sentence for each line of a source; None where it complains otherwise."""
+    sentences = {}
+    for place, kind, text in re.findall(r"(?m)^(.+?:\d+):\d+: (fatal error|error|warning): (.*)$", said):
+        sentences.setdefault(place, complaint(text, kind))
+    if not sentences:
+        return None
+    return "\n".join(f"{place}: {sentence}" for place, sentence in sentences.items())
+
+
+def complaint(text, kind):
+    text = re.sub(r" \[-W[^]]*\]$", "", text)
+    if found := re.match(r"(?:static assertion failed|static_assert failed)[^\"]*\"(.*)\"", text):
+        return f"{found[1]}."
+    advice = next((sentence for pattern, sentence in ADVICE if re.search(pattern, text, re.IGNORECASE)), None)
+    return text + (f" ({advice})" if advice else " (a warning)" if kind == "warning" else "") + "."
+
+
+def where_from(name):
+    """Where a name comes from that compilers use for arithmetic, for a sentence on its lack."""
+    return f" (it is libgcc's, of Debian's package {PACKAGES[GCC]})" if name.startswith("__") else ""

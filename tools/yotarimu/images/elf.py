@@ -1,0 +1,72 @@
+"""Sections and labels of the 32-bit little-endian ELF files that the assembler and the linker write."""
+from __future__ import annotations
+
+import dataclasses
+import struct
+
+BITS = 1
+NO_BITS = 8
+SYMBOLS = 2
+IS_ALLOCATED = 2
+SECTION = struct.Struct("<10I")
+SYMBOL = struct.Struct("<3I2BH")
+# Kinds of symbols: the last two name no place of the program.
+FUNCTION, SECTION_NAME, FILE_NAME = 2, 3, 4
+
+
+@dataclasses.dataclass
+class Section:
+    name: str
+    kind: int
+    is_allocated: bool
+    address: int
+    size: int
+    data: bytes
+
+
+@dataclasses.dataclass
+class Label:
+    name: str
+    address: int
+    section: str
+    size: int = 0
+    is_function: bool = False
+
+
+def read_elf(data):
+    """The sections and the labels of an ELF file's bytes."""
+    table, = struct.unpack_from("<I", data, 32)
+    step, count, names_at = struct.unpack_from("<3H", data, 46)
+    rows = [SECTION.unpack_from(data, table + step * place) for place in range(count)]
+    names = content(data, rows[names_at])
+    sections = [Section(text_at(names, row[0]), row[1], bool(row[2] & IS_ALLOCATED), row[3], row[5], content(data, row))
+                for row in rows]
+    return sections, [label for row in rows if row[1] == SYMBOLS for label in labels(data, rows, row, sections)]
+
+
+def flags(data):
+    """What the file asks of the machine."""
+    return struct.unpack_from("<I", data, 36)[0]
+
+
+def attributes(data):
+    """The attributes of the file, which tell its architecture; empty where it has none."""
+    return next((it.data for it in read_elf(data)[0] if it.name == ".riscv.attributes"), b"")
+
+
+def content(data, row):
+    return b"" if row[1] == NO_BITS else data[row[4]:row[4] + row[5]]
+
+
+def text_at(names, place):
+    return names[place:names.index(b"\0", place)].decode("utf-8", "replace")
+
+
+def labels(data, rows, row, sections):
+    names = content(data, rows[row[6]])
+    for name_at, value, size, info, _other, section in SYMBOL.iter_unpack(content(data, row)):
+        name = text_at(names, name_at)
+        is_place = info & 15 not in (SECTION_NAME, FILE_NAME) and 0 < section < len(sections)
+        # The assembler's own local labels, and its marks of what is code, begin so.
+        if is_place and name and not name.startswith((".L", "$")):
+            yield Label(name, value, sections[section].name, size, info & 15 == FUNCTION)

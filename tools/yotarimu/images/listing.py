@@ -1,0 +1,156 @@
+"""Listings: what stands at which address of an image, written beside it and read back by ./fractal explain."""
+from __future__ import annotations
+
+import bisect
+import dataclasses
+import functools
+import re
+
+from yotarimu.common.outcome import Refused
+from yotarimu.common.text import printable
+from yotarimu.images.image import DATA, STACK, TEXT
+from yotarimu.images.source import Instruction
+
+# How many bytes of data are shown at most.
+MOST_BYTES = 65_536
+
+
+@dataclasses.dataclass
+class Listing:
+    """The labels of an image by address, the words of its text, and the instructions with their source lines."""
+    labels: dict
+    words: dict
+    instructions: dict
+    source_lines: dict
+
+    def label(self, address):
+        """An address by its label, with the distance after it; None before all labels of its range."""
+        place = bisect.bisect_right(self.places, address) - 1
+        start = TEXT if address < DATA else DATA
+        if place < 0 or self.places[place] < start:
+            return None
+        distance = address - self.places[place]
+        return self.labels[self.places[place]] + (f"+{distance}" if distance else "")
+
+    def labelled(self, address):
+        """An address by its label, or in hexadecimal where it has none."""
+        return self.label(address) or f"{address:08x}"
+
+    def task_words(self, entry, arguments):
+        """A task's label and its arguments, without the zeros after the last that isn't."""
+        arguments = list(arguments)
+        while arguments and arguments[-1] == 0:
+            arguments.pop()
+        return " ".join([self.labelled(entry), *map(self.argument_word, arguments)])
+
+    def argument_word(self, argument):
+        """An argument as a number, or as a label where it is the address of data that has one."""
+        return DATA <= argument < STACK and self.label(argument) or str(argument)
+
+    @functools.cached_property
+    def places(self):
+        return sorted(self.labels)
+
+    def place(self, address):
+        """The source's name, line and text of an instruction; None where they aren't known."""
+        found = self.instructions.get(address)
+        if not found or not found.line:
+            return None
+        text = self.source_lines.get((found.source, found.line), "")
+        return f"{found.source}:{found.line}" + (f": {text}" if text else "")
+
+
+NO_LISTING = Listing({}, {}, {}, {})
+
+
+def listing_of(sources, assembled):
+    """The listing of assembled sources."""
+    labels = {}
+    for label in assembled.labels:
+        labels.setdefault(label.address, label.name)
+    words = {TEXT + place: int.from_bytes(assembled.text[place:place + 4], "little")
+             for place in range(0, len(assembled.text), 4)}
+    lines = {(source.name, number): text.strip() for source in sources for number, text in enumerate(source.lines, 1)}
+    return Listing(labels, words, assembled.instructions, lines)
+
+
+def listing_text(sources, assembled, image):
+    """The listing as text, a line each for labels, instructions and up to 16 bytes of data."""
+    listing = listing_of(sources, assembled)
+    names = ", ".join(source.name for source in sources) + (f" by {assembled.compiler}" if assembled.compiler else "")
+    lines = [f"What stands where in image.bin, made of {names}: address, word, instruction, source line.", ""]
+    code = {at: word for at, word in listing.words.items() if at < TEXT + assembled.code_size}
+    for address, word in code.items():
+        lines += label_lines(assembled, address)
+        lines.append(instruction_line(listing, address, word))
+    fixed = image.text[len(code) * 4:]
+    lines += data_lines(assembled, TEXT + len(code) * 4, fixed, "constants, in the text")
+    lines += data_lines(assembled, DATA, image.initial, "data")
+    lines += zero_lines(assembled, DATA + len(image.initial), DATA + image.size)
+    return "\n".join(lines) + "\n"
+
+
+def label_lines(assembled, address):
+    return [f"{address:08x} <{label.name}>:" for label in assembled.labels if label.address == address]
+
+
+def instruction_line(listing, address, word):
+    found = listing.instructions.get(address, Instruction("", "", 0))
+    before = listing.instructions.get(address - 4, Instruction("", "", 0))
+    line = f"{address:08x}  {word:08x}  {found.words:<28}"
+    if found.line:
+        is_new = (found.source, found.line) != (before.source, before.line)
+        text = listing.source_lines.get((found.source, found.line), "") if is_new else ""
+        line += f" | {found.source}:{found.line} | {text}"
+    return line.rstrip()
+
+
+def data_lines(assembled, start, data, title):
+    """Bytes in rows of at most 16 that begin at each label."""
+    if not data:
+        return []
+    lines = ["", f"{title}: {len(data)} bytes"]
+    data = data[:MOST_BYTES]
+    stops = sorted({label.address - start for label in assembled.labels} | {len(data)})
+    place = 0
+    while place < len(data):
+        end = min([place + 16] + [stop for stop in stops if stop > place])
+        row = data[place:end]
+        lines += label_lines(assembled, start + place)
+        lines.append(f"{start + place:08x}  {row.hex(' '):<47}  {printable(row)}".rstrip())
+        place = end
+    return lines
+
+
+def zero_lines(assembled, start, end):
+    """The labels of what begins as zeros."""
+    if start == end:
+        return []
+    lines = ["", f"zeros: {end - start} bytes from {start:08x} on"]
+    for address in sorted({label.address for label in assembled.labels if start <= label.address < end}):
+        lines += label_lines(assembled, address)
+    return lines
+
+
+def read_listing(text, name):
+    """A listing from its text."""
+    listing = Listing({}, {}, {}, {})
+    for line in text.splitlines():
+        if label := re.fullmatch(r"([0-9a-f]{8}) <(.+)>:", line):
+            listing.labels.setdefault(int(label[1], 16), label[2])
+        elif found := re.match(r"([0-9a-f]{8})  ([0-9a-f]{8})  (.*)", line):
+            read_instruction(listing, int(found[1], 16), int(found[2], 16), found[3])
+    if not listing.words:
+        raise Refused(f"{name}: this is no listing that ./fractal build wrote.")
+    return listing
+
+
+def read_instruction(listing, address, word, rest):
+    words, *place = rest.split(" | ", 2)
+    # A line of C has many instructions; its text stands beside the first of them.
+    found = re.fullmatch("(.+):([0-9]{1,9})", place[0].removesuffix(" |")) if place else None
+    source, line = (found[1], int(found[2])) if found else ("", 0)
+    listing.words[address] = word
+    listing.instructions[address] = Instruction(words.strip(), source, line)
+    if len(place) == 2 and place[1].strip():
+        listing.source_lines[source, line] = place[1].strip()

@@ -1,0 +1,288 @@
+"""Runs the tasks of a report again, in its order, to know what the report doesn't tell: where each task enters.
+
+This is no second judge: `./fractal check` says whether a report is that of a run. Here is the plain reading of RV32I
+(RISC-V Unprivileged ISA 20191213, chapter 2), and of the six calls and the traps of docs/guest/TASKS.md.
+"""
+from __future__ import annotations
+
+import dataclasses
+import heapq
+
+from yotarimu.images.image import DATA, STACK, TEXT
+from yotarimu.reports.report import Name
+
+MASK = 0xFFFFFFFF
+# How many instructions are run at most, which takes some seconds.
+MOST_STEPS = 3_000_000
+# The greatest budget of a task, and how many bytes it may emit.
+MOST_BUDGET, MOST_BYTES = 65_536, 256
+STACK_POINTER, ENTRY, TIMESTAMP, FIRST_ARGUMENT, CALL = 2, 10, 11, 12, 17
+REGISTERS = ("zero", "ra", "sp", "gp", "tp", "t0", "t1", "t2", "s0", "s1", *(f"a{place}" for place in range(8)),
+             *(f"s{place}" for place in range(2, 12)), "t3", "t4", "t5", "t6")
+# Causes of traps.
+FETCH, ILLEGAL, TARGET, LOAD_MULTIPLE, LOAD_RANGE, STORE_MULTIPLE, STORE_RANGE, BREAK = range(1, 9)
+BAD_CALL, EARLY, NO_SUBDOMAIN, SECOND_SUBDOMAIN, NO_SUPERDOMAIN, TOO_DEEP, CHILD, BYTE, BUDGET = range(9, 18)
+
+
+class Lost(Exception):
+    """The tasks can't be followed further; the text says why."""
+
+
+class Trapped(Exception):
+    """A task traps: its cause, and the address of the load or store that does."""
+
+    def __init__(self, cause, address=None):
+        super().__init__(cause)
+        self.cause, self.address = cause, address
+
+
+@dataclasses.dataclass
+class Domain:
+    depth: int
+    is_ordered: bool
+    outer: "Domain" = None
+    # The timestamp of the task that made it.
+    floor: int = 0
+    # The timestamps of its pending tasks, as a heap.
+    pending: list = dataclasses.field(default_factory=list)
+
+
+@dataclasses.dataclass
+class Task:
+    """A task: where it enters, its timestamp and arguments, its domain, and its turn once it has one."""
+    name: Name
+    entry: int
+    timestamp: int
+    arguments: tuple
+    domain: Domain
+    turn: int = 0
+
+    def is_told_by(self, entry):
+        return (self.domain.depth, self.timestamp) == (entry.depth, entry.timestamp)
+
+
+class Machine:
+    """The data memory, and all tasks that the image and the turns so far have made."""
+
+    def __init__(self, image):
+        self.image = image
+        self.memory = bytearray(image.initial) + bytes(image.size - len(image.initial))
+        self.steps = 0
+        self.tasks = {}
+        # What the tasks emitted, and whether a turn was none of this image.
+        self.output, self.is_other = bytearray(), False
+        root = Domain(1, image.is_ordered)
+        # The domains from the root to the innermost one.
+        self.domains = [root]
+        for index, initial in enumerate(image.tasks):
+            self.add(Name(0, index), initial.entry, initial.timestamp, initial.arguments, root)
+
+    def add(self, name, entry, timestamp, arguments, domain):
+        timestamp = timestamp if domain.is_ordered else 0
+        self.tasks[name] = Task(name, entry, timestamp, tuple(arguments), domain)
+        heapq.heappush(domain.pending, timestamp)
+
+    def is_next(self, task):
+        """Whether a task is of the innermost domain that has one pending, and has the least timestamp there."""
+        while len(self.domains) > 1 and not self.domains[-1].pending:
+            self.domains.pop()
+        domain = self.domains[-1]
+        return task.domain is domain and task.timestamp == domain.pending[0]
+
+    def follow(self, entries):
+        """Takes the turns of these entries. It ends with None, or with a sentence on why it can't go on."""
+        for entry in entries:
+            task = self.tasks.get(entry.name)
+            is_known = task and not task.turn
+            if not is_known or not self.is_next(task) or not task.is_told_by(entry):
+                self.is_other = True
+                return f"turn {entry.turn} isn't one that the image allows; ./fractal check says more"
+            task.turn = entry.turn
+            heapq.heappop(task.domain.pending)
+            run = Run(self, task)
+            try:
+                run.go()
+            except Lost as lost:
+                return f"turn {entry.turn} {lost}"
+            except Trapped as trapped:
+                self.is_other = True
+                return f"turn {entry.turn} traps with cause {trapped.cause}; ./fractal check says more"
+            if run.inner:
+                self.domains.append(run.inner)
+        return None
+
+    def trapped(self, trap):
+        """The run of a pending task at its trap, and the trap as it is found here; None where another one is."""
+        task = self.tasks.get(trap.name)
+        if not task or task.turn:
+            return None
+        run = Run(self, task)
+        try:
+            run.go()
+        except Trapped as found:
+            return (run, found) if (found.cause, run.pc) == (trap.cause, trap.pc) else None
+        except Lost:
+            return None
+        return None
+
+
+class Run:
+    """One task's run, up to its end call."""
+
+    def __init__(self, machine, task):
+        self.machine, self.task, self.limits = machine, task, machine.image.limits
+        self.stack = bytearray(self.limits.stack)
+        self.registers = [0] * 32
+        self.registers[STACK_POINTER] = STACK + len(self.stack) if self.stack else 0
+        self.registers[10:13] = task.arguments
+        self.registers[13] = task.timestamp
+        self.pc, self.inner, self.children, self.emitted, self.is_over = task.entry, None, 0, 0, False
+
+    def go(self):
+        machine, last = self.machine, self.machine.steps + MOST_BUDGET
+        while not self.is_over:
+            if machine.steps == last:
+                raise Trapped(BUDGET)
+            word = machine.image.word(self.pc)
+            if word is None or self.pc % 4:
+                raise Trapped(FETCH)
+            if machine.steps == MOST_STEPS:
+                raise Lost(f"comes after {MOST_STEPS:,} instructions, and no more are run again for labels")
+            self.step(word)
+            machine.steps += 1
+
+    def step(self, word):
+        opcode, registers = word & 0x7F, self.registers
+        one, two = registers[word >> 15 & 31], registers[word >> 20 & 31]
+        immediate, result, following = signed(word >> 20, 12), None, self.pc + 4
+        if opcode == 0x13:
+            result = computed(word, one, immediate & MASK, word >> 30 & 1 if word >> 12 & 7 == 5 else 0)
+        elif opcode == 0x33:
+            result = computed(word, one, two, word >> 30 & 1)
+        elif opcode == 0x37:
+            result = word & 0xFFFFF000
+        elif opcode == 0x17:
+            result = self.pc + (word & 0xFFFFF000)
+        elif opcode == 0x6F:
+            result, following = following, self.pc + jump_offset(word)
+        elif opcode == 0x67:
+            result, following = following, one + immediate & ~1
+        elif opcode == 0x63:
+            following = self.pc + branch_offset(word) if is_met(word >> 12 & 7, one, two) else following
+        elif opcode == 0x03:
+            result = self.load(word >> 12 & 7, one + immediate & MASK)
+        elif opcode == 0x23:
+            offset = signed(word >> 25 << 5 | word >> 7 & 31, 12)
+            self.store(1 << (word >> 12 & 3), one + offset & MASK, two)
+        elif word == 0x73:
+            self.call()
+        elif opcode != 0x0F:
+            raise Trapped(BREAK if word == 0x100073 else ILLEGAL)
+        if following % 4:
+            raise Trapped(TARGET)
+        if result is not None and word >> 7 & 31:
+            registers[word >> 7 & 31] = result & MASK
+        self.pc = following & MASK
+
+    def load(self, kind, address):
+        width = 1 << (kind & 3)
+        if address % width:
+            raise Trapped(LOAD_MULTIPLE, address)
+        start, data = (TEXT, self.machine.image.text) if address < DATA else self.changing(address)
+        place = address - start
+        if not 0 <= place <= len(data) - width:
+            raise Trapped(LOAD_RANGE, address)
+        value = int.from_bytes(data[place:place + width], "little")
+        return value if kind & 4 else signed(value, 8 * width)
+
+    def store(self, width, address, value):
+        if address % width:
+            raise Trapped(STORE_MULTIPLE, address)
+        start, data = self.changing(address)
+        place = address - start
+        if not 0 <= place <= len(data) - width:
+            raise Trapped(STORE_RANGE, address)
+        data[place:place + width] = (value & (1 << 8 * width) - 1).to_bytes(width, "little")
+
+    def changing(self, address):
+        """The bytes that an address may belong to, and where they begin: the task's stack, or the data."""
+        return (STACK, self.stack) if address >= STACK else (DATA, self.machine.memory)
+
+    def call(self):
+        number, registers = self.registers[CALL], self.registers
+        if number == 0:
+            self.is_over = True
+        elif number == 4 and registers[ENTRY] <= 1:
+            self.make_subdomain(registers[ENTRY] == 1)
+        elif number == 5:
+            if self.emitted == MOST_BYTES:
+                raise Trapped(BYTE)
+            self.emitted += 1
+            self.machine.output.append(registers[ENTRY] & 0xFF)
+        elif number in (1, 2, 3):
+            self.enqueue(number, registers[ENTRY], registers[TIMESTAMP], registers[FIRST_ARGUMENT:FIRST_ARGUMENT + 3])
+        else:
+            raise Trapped(BAD_CALL)
+
+    def make_subdomain(self, is_ordered):
+        own = self.task.domain
+        if self.inner:
+            raise Trapped(SECOND_SUBDOMAIN)
+        if own.depth == self.limits.depth:
+            raise Trapped(TOO_DEEP)
+        self.inner = Domain(own.depth + 1, is_ordered, own, self.task.timestamp)
+
+    def enqueue(self, number, entry, timestamp, arguments):
+        own = self.task.domain
+        domain = {1: own, 2: self.inner, 3: own.outer}[number]
+        if domain is None:
+            raise Trapped(NO_SUBDOMAIN if number == 2 else NO_SUPERDOMAIN)
+        # A subdomain's timestamps start afresh.
+        least = {1: self.task.timestamp, 2: 0, 3: own.floor}[number]
+        if domain.is_ordered and timestamp < least:
+            raise Trapped(EARLY)
+        if self.children == self.limits.children:
+            raise Trapped(CHILD)
+        self.machine.add(Name(self.task.turn, self.children), entry, timestamp, arguments, domain)
+        self.children += 1
+
+
+def signed(value, bits):
+    """The low bits of a value as a two's complement number."""
+    value &= (1 << bits) - 1
+    return value - (1 << bits) if value >> bits - 1 else value
+
+
+def computed(word, one, two, is_other):
+    """The result of a register instruction, or of one with an immediate; `is_other` tells SUB and SRA."""
+    kind = word >> 12 & 7
+    if kind == 0:
+        return one - two if is_other else one + two
+    if kind == 1:
+        return one << (two & 31)
+    if kind == 2:
+        return signed(one, 32) < signed(two, 32)
+    if kind == 3:
+        return one < two
+    if kind == 4:
+        return one ^ two
+    if kind == 5:
+        return (signed(one, 32) if is_other else one) >> (two & 31)
+    return one | two if kind == 6 else one & two
+
+
+def is_met(kind, one, two):
+    """Whether a branch is taken."""
+    if kind & 4:
+        is_less = one < two if kind & 2 else signed(one, 32) < signed(two, 32)
+        return is_less != bool(kind & 1)
+    return (one == two) != bool(kind & 1)
+
+
+def branch_offset(word):
+    return signed((word >> 31) << 12 | (word >> 7 & 1) << 11 | (word >> 25 & 0x3F) << 5 | (word >> 8 & 0xF) << 1, 13)
+
+
+def jump_offset(word):
+    bits = (word >> 31) << 20 | (word >> 12 & 0xFF) << 12 | (word >> 20 & 1) << 11 | (word >> 21 & 0x3FF) << 1
+    return signed(bits, 21)

@@ -1,0 +1,218 @@
+"""How much stack the tasks of C need, read from the linked instructions, whatever compiler or library they are of."""
+from __future__ import annotations
+
+import bisect
+import dataclasses
+
+from yotarimu.common.outcome import Refused, note
+from yotarimu.images.image import TEXT
+from yotarimu.images.serial_machine import branch_offset, jump_offset, signed
+
+RA, SP, FRAME = 1, 2, 8
+LUI, AUIPC, JAL, JALR, BRANCH, IMMEDIATE, REGISTER, SYSTEM = 0x37, 0x17, 0x6F, 0x67, 0x63, 0x13, 0x33, 0x73
+# Opcodes whose instructions write no register.
+WRITES_NOTHING = (BRANCH, 0x23, 0x0F, SYSTEM)
+EBREAK = 0x100073
+# Of a longer way the rest is counted.
+MOST_PARTS = 16
+# How far above its use the number of a large frame is looked for.
+MOST_ABOVE = 8
+
+
+class Function:
+    """A function of the text: how far below its caller's its stack goes, whom it calls with how much of it taken, and
+    what can't be told."""
+
+    def __init__(self, label, text):
+        self.name, self.start, self.end = label.name, label.address, min(label.address + label.size, TEXT + len(text))
+        self.text, self.frame, self.calls = text, 0, []
+        self.is_open = self.calls_pointers = self.has_table = False
+        # The bytes that are taken at each instruction. They are the same on each way to it.
+        self.taken = {}
+        self.walk(self.start, 0)
+        unreached = [at for at in range(self.start, self.end, 4) if at not in self.taken]
+        if self.has_table and unreached:
+            for at in unreached:
+                self.walk(at, self.frame)
+        else:
+            self.calls_pointers |= self.has_table
+
+    def word(self, at):
+        return int.from_bytes(self.text[at - TEXT:at - TEXT + 4], "little")
+
+    def walk(self, at, taken):
+        """Follows all ways from an instruction on, with so many bytes taken there."""
+        todo = [(at, taken)]
+        while todo:
+            at, taken = todo.pop()
+            if at not in self.taken and self.start <= at < self.end:
+                self.taken[at] = taken
+                self.frame = max(self.frame, taken)
+                todo += self.after(at, self.word(at), taken)
+
+    def after(self, at, word, taken):
+        """The instructions that may come after one, each with the bytes that are taken then."""
+        opcode, rd = word & 0x7F, word >> 7 & 31
+        if opcode == BRANCH:
+            return [(at + 4, taken), (at + branch_offset(word), taken)]
+        if opcode == JAL:
+            return self.jump(at, at + jump_offset(word), rd, taken)
+        if opcode == JALR:
+            return self.jump(at, self.target(at, word), rd, taken)
+        if word == EBREAK:
+            return []
+        if rd == SP and opcode not in WRITES_NOTHING:
+            taken = self.moved(at, word, taken)
+        return [(at + 4, taken)]
+
+    def jump(self, at, target, rd, taken):
+        if rd == 0 and target is not None and self.start <= target < self.end:
+            return [(target, taken)]
+        if target is not None:
+            self.calls.append((taken, target))
+        elif rd:
+            self.calls_pointers = True
+        elif self.word(at) >> 15 & 31 not in (RA, 5):
+            self.has_table = True
+        return [(at + 4, taken)] if rd else []
+
+    def target(self, at, word):
+        """Where `jalr` leads after `auipc`; None where that isn't known."""
+        above, register = self.word(at - 4), word >> 15 & 31
+        if at == self.start or above & 0x7F != AUIPC or above >> 7 & 31 != register:
+            return None
+        return at - 4 + signed(above >> 12 << 12, 32) + signed(word >> 20, 12) & 0xFFFFFFFF
+
+    def moved(self, at, word, taken):
+        """The bytes that are taken once an instruction has changed the stack pointer."""
+        opcode, rs1, rs2, immediate = word & 0x7F, word >> 15 & 31, word >> 20 & 31, signed(word >> 20, 12)
+        if opcode == IMMEDIATE and word >> 12 & 7 == 0 and rs1 == SP:
+            return taken - immediate
+        # The frame pointer of both compilers is the stack pointer of the caller.
+        if opcode == IMMEDIATE and word >> 12 & 7 == 0 and rs1 == FRAME:
+            return -immediate
+        if opcode == REGISTER and word >> 12 & 7 == 0 and rs1 == SP:
+            number = self.number(at, rs2)
+            if number is not None:
+                return taken + (number if word >> 30 & 1 else -number)
+        self.is_open = True
+        return taken
+
+    def number(self, at, register):
+        """What `lui` and `addi` right above make of a register; None where it is something else."""
+        number = 0
+        for above in range(at - 4, max(self.start, at - 4 * MOST_ABOVE) - 4, -4):
+            word = self.word(above)
+            opcode, rd, rs1 = word & 0x7F, word >> 7 & 31, word >> 15 & 31
+            if opcode in (JAL, JALR, BRANCH):
+                return None
+            if rd != register or opcode in WRITES_NOTHING:
+                continue
+            if opcode == LUI:
+                return signed(number + (word & 0xFFFFF000), 32)
+            if opcode != IMMEDIATE or word >> 12 & 7 != 0 or rs1 not in (0, register):
+                return None
+            number += signed(word >> 20, 12)
+            if rs1 == 0:
+                return number
+        return None
+
+
+class Stacks:
+    """The stacks of all functions of a linked program, in an image whose tasks have so many bytes each."""
+
+    def __init__(self, assembled, most):
+        self.assembled, self.most = assembled, most
+        labels = sorted((label for label in assembled.labels
+                         if label.is_function and label.size and label.section == ".text"),
+                        key=lambda label: label.address)
+        self.functions = [Function(label, assembled.text) for label in labels]
+        self.starts = [function.start for function in self.functions]
+        self.needs, self.told = {}, set()
+
+    def function_at(self, address):
+        place = bisect.bisect_right(self.starts, address) - 1
+        found = self.functions[place] if place >= 0 else None
+        return found if found and address < found.end else None
+
+    def tell(self, function, sentence):
+        place = self.assembled.place(function.start)
+        has = f"a task's stack has {self.most:,} bytes" if self.most else "a task has no stack"
+        sentence = f"`{function.name}` {sentence}; {has}."
+        sentence = f"{place}: {sentence}" if place else sentence
+        if sentence not in self.told:
+            self.told.add(sentence)
+            note(sentence)
+
+    def need(self, function):
+        """The bytes that a function needs with all that it calls, and the way there: its first function with its part,
+        and the way behind. Calls may be far too deep for the interpreter's own stack."""
+        calls = [] if function in self.needs else [self.begun(function)]
+        while calls:
+            top = calls[-1]
+            if top.place == len(top.function.calls):
+                self.needs[top.function] = calls.pop().most
+                continue
+            callee = self.function_at(top.function.calls[top.place][1])
+            if callee and callee not in self.needs and all(call.function is not callee for call in calls):
+                calls.append(self.begun(callee))
+                continue
+            if callee and callee not in self.needs:
+                self.tell_ring(calls[[call.function for call in calls].index(callee):])
+            if callee:
+                top.add(*self.needs.get(callee, (0, None)))
+            top.place += 1
+        return self.needs[function]
+
+    def begun(self, function):
+        """A function whose calls are to be looked at, once what can't be told of it alone was noted."""
+        if function.is_open:
+            self.tell(function, "takes a part of the stack whose size is known only when it runs")
+        if function.calls_pointers:
+            self.tell(function, "calls by a pointer, and what that takes of the stack isn't counted")
+        return Call(function, (function.frame, ((function.name, function.frame), None)))
+
+    def tell_ring(self, ring):
+        others = ", ".join(f"`{call.function.name}`" for call in ring[1:])
+        self.tell(ring[0].function, f"calls itself{others and ' by ' + others}, and takes "
+                                    f"{sum(call.taken() for call in ring):,} bytes each time")
+
+
+@dataclasses.dataclass
+class Call:
+    """A function on the way to others: the most that it needs so far with the way there, and the call it is at."""
+    function: Function
+    most: tuple
+    place: int = 0
+
+    def taken(self):
+        return self.function.calls[self.place][0]
+
+    def add(self, size, way):
+        """What the call it is at needs."""
+        if self.taken() + size > self.most[0]:
+            self.most = self.taken() + size, ((self.function.name, self.taken()), way)
+
+
+def parts_told(way):
+    """The functions on a way that take a part of the stack."""
+    parts = []
+    while way:
+        (name, taken), way = way
+        if taken:
+            parts.append(f"{name} {taken:,}")
+    more = [f"and {len(parts) - MOST_PARTS:,} more"] if len(parts) > MOST_PARTS else []
+    return ", ".join(parts[:MOST_PARTS] + more)
+
+
+def check_stack(assembled, image):
+    """Refuses a task of C that surely needs more stack than it has, and tells of what can't be counted."""
+    stacks = Stacks(assembled, image.limits.stack)
+    for task in assembled.tasks_of_c():
+        entry = stacks.function_at(task.address)
+        size, way = stacks.need(entry)
+        if size > image.limits.stack:
+            body = assembled.place(entry.calls[0][1])
+            has = f"has {image.limits.stack:,}" if image.limits.stack else f"has none in version {image.version}"
+            raise Refused(f"{body + ': ' if body else ''}the task `{task.name}` needs {size:,} bytes of stack, "
+                          f"and {has}: {parts_told(way)}.")

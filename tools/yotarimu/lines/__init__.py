@@ -1,0 +1,1 @@
+"""The lines of the second program: read, replayed, and told in sentences."""

@@ -1,0 +1,112 @@
+"""The machine as text, for people: tiles with queues, cores and blocks, the words that were touched, the journal."""
+from __future__ import annotations
+
+from yotarimu.common.text import counted, printable
+from yotarimu.images.image import DATA
+from yotarimu.lines.replay import TRAPPED
+from yotarimu.lines.sentences import label_of, listed
+
+# Of longer lists the rest is counted.
+MOST_TASKS, MOST_WORDS, MOST_ENTRIES = 16, 16, 8
+WIDTH = 14
+
+
+class Standing:
+    """What stands behind an act: the machine, the act's line with what it did, the journal and the output so far."""
+
+    def __init__(self, machine, told, entries, output, listing):
+        self.machine, self.told, self.entries, self.output, self.listing = machine, told, entries, output, listing
+        self.back = {id(taken.task) for taken in told.taken} if told else set()
+
+    def lines(self):
+        head = self.machine.head
+        for tile in range(head["tiles"]):
+            yield from self.tile_lines(tile, head)
+        yield from self.word_lines(head["line"])
+        yield from self.journal_lines()
+
+    # ---- a tile
+
+    def tile_lines(self, tile, head):
+        queue = [self.machine.tasks[number] for number in self.machine.queues[tile]]
+        block = list(self.machine.blocks[tile].values())
+        if not queue and not block:
+            yield f"tile {tile}: no task"
+            return
+        yield f"tile {tile}"
+        yield titled("task queue", f"{len(queue)} of {head['task_queue']}")
+        yield from self.task_lines(queue)
+        for core in range(head["cores"]):
+            yield titled(f"core {core}", self.core_told(tile, core))
+        finished = [self.machine.tasks[number] for number in self.machine.finished[tile]]
+        labels = behind(label_of(task) for task in finished)
+        yield titled("commit queue", f"{len(finished)} of {head['commit_queue']}{labels}")
+        yield titled("block", f"{counted(len(block), 'task')}{behind(label_of(task) for task in block)}")
+
+    def task_lines(self, queue):
+        rows = [self.task_row(task) for task in queue[:MOST_TASKS]]
+        widths = [max(map(len, column)) for column in zip(*rows)]
+        for row in rows:
+            yield "    " + "  ".join(text.ljust(width) for text, width in zip(row, widths)).rstrip()
+        if len(queue) > MOST_TASKS:
+            yield f"      and {len(queue) - MOST_TASKS:,} more"
+
+    def task_row(self, task):
+        """A task's mark, label, label in the text with arguments, timestamp and state."""
+        mark = ">" if self.told and task in (self.told.task, self.told.arrived) else " "
+        back = ", taken back" if id(task) in self.back else ""
+        words = self.listing.task_words(task.entry, task.arguments)
+        return mark, label_of(task), words, f"timestamp {task.timestamp}", f"{task.state}{back}"
+
+    def core_told(self, tile, core):
+        number = self.machine.cores[tile][core]
+        if number is None:
+            return "free"
+        task = self.machine.tasks[number]
+        last = f", stopped at {self.listing.labelled(task.pc)}" if task.work or task.state is TRAPPED else ""
+        return f"{label_of(task)} ({counted(task.work, 'instruction')}{last})"
+
+    # ---- what all tiles share
+
+    def word_lines(self, size):
+        words = self.machine.words()
+        if not words:
+            yield "memory: no word was touched"
+            return
+        touched = self.told.access.address & ~3 if self.told and self.told.access else None
+        yield "memory, the words that were touched"
+        for address, word in nearest(words, touched):
+            label = self.listing.label(address)
+            mark = ">" if address == touched else " "
+            line = (address - DATA) // size
+            yield f"    {mark}  {address:08x}  {word:>10}  {word:08x}  line {line}{f'  {label}' if label else ''}"
+        if len(words) > MOST_WORDS:
+            yield f"       and {len(words) - MOST_WORDS:,} more"
+
+    def journal_lines(self):
+        if self.entries:
+            yield f"journal, {counted(len(self.entries), 'commit')}"
+            for entry in self.entries[-MOST_ENTRIES:]:
+                yield f"       {entry}"
+        else:
+            yield "journal: no commit"
+        if self.output:
+            yield f"output: {printable(self.output)}"
+
+
+def titled(title, text):
+    return f"  {title:<{WIDTH}}{text}"
+
+
+def behind(labels):
+    told = listed(list(labels))
+    return f": {told}" if told else ""
+
+
+def nearest(words, address):
+    """So many words as are shown, with the one at an address among them."""
+    if len(words) <= MOST_WORDS or address is None:
+        return words[:MOST_WORDS]
+    place = next((at for at, (found, _) in enumerate(words) if found == address), 0)
+    first = min(max(0, place - MOST_WORDS // 2), len(words) - MOST_WORDS)
+    return words[first:first + MOST_WORDS]

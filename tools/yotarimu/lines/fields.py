@@ -1,0 +1,230 @@
+"""The lines in which the second program tells a run: which fields each has, in which order, and of which kind.
+
+docs/guest/FORMATS.md has the table. A line whose numbers are all made 0 says which fields it has, and of which kinds
+they are. Such skeletons are remembered, and a line with one that is known isn't looked at field by field.
+"""
+from __future__ import annotations
+
+import json
+import re
+
+WORDS = ("dispatch", "step", "take", "give", "abort", "commit", "coalesce", "split", "advance")
+# Those that are events; the others are told under their own word where no event was handed in.
+EVENTS = ("dispatch", "step", "abort", "commit", "coalesce", "split")
+# The replies that an act may have; each may also come after the run's end.
+REPLIES = {
+    "dispatch": ("ok", "empty", "busy"), "step": ("ok", "stale"), "take": ("ok", "stale"), "give": ("stale",),
+    "abort": ("ok", "empty", "firm"), "commit": ("ok", "empty"), "coalesce": ("ok", "empty"),
+    "split": ("ok", "empty", "stall"), "advance": (),
+}
+ENDED = "ended"
+# A step may stall where its task asks for these.
+STALLING = ("enqueue", "end")
+KINDS = ("ordered", "unordered")
+STATES = ("idle", "running", "trapped", "finished")
+COURSES = ("steps", "least", "lockstep")
+ENDS = ("normal", "limit", "open", "trap")
+SETTINGS = ("tiles", "cores", "task_queue", "commit_queue", "line", "quantum", "commits", "budget", "phase")
+# No number of the second program has more digits: a skeleton with a longer one is never known.
+MOST_DIGITS = 20
+DIGITS = re.compile(f"[0-9]{{1,{MOST_DIGITS}}}")
+MOST_SKELETONS = 4_096
+MOST_SHOWN = 40
+DECODER = json.JSONDecoder()
+
+
+class Wrong(Exception):
+    """A line isn't what it has to be. Its text says why, without the place."""
+
+
+def is_number(value):
+    return type(value) is int and 0 <= value < 10 ** MOST_DIGITS
+
+
+def is_number_or_null(value):
+    return value is None or is_number(value)
+
+
+def is_hex(value):
+    return type(value) is str and len(value) % 2 == 0 and not value.strip("0123456789abcdef")
+
+
+def is_list(value):
+    return type(value) is list
+
+
+def one_of(*words):
+    return lambda value: type(value) is str and value in words
+
+
+def numbers(count=None):
+    """Lists of numbers, of so many where a count is given."""
+    return lambda value: is_list(value) and count in (None, len(value)) and all(map(is_number, value))
+
+
+def rows(count):
+    """Lists of at least one list of so many numbers."""
+    is_row = numbers(count)
+    return lambda value: is_list(value) and value != [] and all(map(is_row, value))
+
+
+def is_queued(value):
+    """A task in a queue of a view: its id, state, timestamp, and dispatch number or null."""
+    return (is_list(value) and len(value) == 4 and is_number(value[0]) and value[1] in STATES
+            and is_number(value[2]) and is_number_or_null(value[3]))
+
+
+def is_tile(value):
+    """A tile of a view."""
+    return (type(value) is dict and list(value) == ["queue", "cores", "finished", "block"]
+            and is_list(value["queue"]) and all(map(is_queued, value["queue"]))
+            and is_list(value["cores"]) and all(map(is_number_or_null, value["cores"]))
+            and numbers()(value["finished"]) and is_number(value["block"]))
+
+
+def is_tiles(value):
+    return is_list(value) and all(map(is_tile, value))
+
+
+PAIR, TRIPLE = numbers(2), numbers(3)
+# Fields that may be missing have a mark behind their name.
+MAYBE = "?"
+NUMBER = is_number
+CHILD = (("to", one_of("same", "sub", "super")), ("entry", NUMBER), ("ts", NUMBER), ("args", TRIPLE), ("hint", NUMBER))
+ACCESS = (("addr", NUMBER), ("bytes", NUMBER))
+# What comes behind `asks`.
+ASKED = {
+    "go": (), "load": ACCESS, "store": (*ACCESS, ("value", NUMBER)), "enqueue": CHILD, "ordered": (), "unordered": (),
+    "emit": (("byte", NUMBER),), "end": (), "trap": (("cause", NUMBER),),
+}
+# What an act has before its reply, without its leg.
+PLACES = {
+    "dispatch": (("tile", NUMBER), ("task?", NUMBER)), "step": (("tile", NUMBER), ("core", NUMBER), ("task?", NUMBER)),
+    "take": (("tile", NUMBER), ("core", NUMBER)), "give": (("tile", NUMBER), ("core", NUMBER)),
+    "abort": (("tile", NUMBER), ("task?", NUMBER)), "commit": (("task?", NUMBER),), "coalesce": (("tile", NUMBER),),
+    "split": (("tile", NUMBER),), "advance": (),
+}
+MOVED = (("aborted?", NUMBER), ("back?", rows(2)), ("gone?", numbers()), ("spilled?", rows(3)))
+ARRIVED = (("new", NUMBER), ("in", NUMBER))
+# What an event changed beside the tasks that it took back or spilled; of a step by what its task asks for.
+OWN = {
+    "dispatch": (("core", NUMBER), ("number", NUMBER)), "split": (*ARRIVED, ("name", PAIR)),
+    "commit": (("name", PAIR), ("depth", NUMBER), ("ts", NUMBER), ("output?", is_hex)),
+    "load": (("old", NUMBER),), "store": (("old", NUMBER),), "enqueue": ARRIVED,
+}
+PLACED = (("at", NUMBER), ("do", one_of("place")), ("tile", NUMBER), ("new?", NUMBER), ("name", PAIR),
+          ("entry", NUMBER), ("ts", NUMBER), ("args", TRIPLE), ("hint", NUMBER))
+VIEW = (("view", NUMBER), ("next", NUMBER), ("tiles", is_tiles))
+FAULT = (("fault", one_of("usage", "image", "script", "long")), ("number?", NUMBER), ("offset?", NUMBER),
+         ("line?", NUMBER))
+
+
+def head_fields(line):
+    rounds = (("rounds", NUMBER), ("seed", NUMBER)) if line.get("course") == "lockstep" else ()
+    return (("watch", NUMBER), ("course", one_of(*COURSES)), *rounds, *((name, NUMBER) for name in SETTINGS),
+            ("root", one_of(*KINDS)), ("text", NUMBER), ("data", NUMBER), ("window", PAIR), ("tasks", NUMBER))
+
+
+def end_fields(line):
+    trap = (("cause", NUMBER), ("pc", NUMBER), ("name", PAIR)) if line["end"] == "trap" else ()
+    return (("end", one_of(*ENDS)), *trap, ("n", NUMBER), ("journal", NUMBER), ("output", is_hex),
+            ("window", numbers()))
+
+
+def leg_fields(line):
+    if line["do"] != "step" or "leg" not in line:
+        return ()
+    asks = line.get("asks")
+    return (("leg", NUMBER), ("pc", NUMBER), ("asks", one_of(*ASKED)), *ASKED.get(asks, ()))
+
+
+def replies_of(line):
+    stall = ("stall",) if line["do"] == "step" and line.get("asks") in STALLING else ()
+    return (*REPLIES[line["do"]], *stall, ENDED)
+
+
+def change_fields(line):
+    if line.get("reply") != "ok" or line["do"] not in EVENTS:
+        return ()
+    return (*MOVED, *OWN.get(line.get("asks") if line["do"] == "step" else line["do"], ()))
+
+
+def act_fields(line):
+    word = line.get("do")
+    if word == "place":
+        return PLACED
+    if word not in PLACES:
+        raise Wrong("`do` names neither an event nor an act")
+    return (("at", NUMBER), ("do", one_of(word)), *PLACES[word], *leg_fields(line),
+            ("reply", one_of(*replies_of(line))), ("n", NUMBER), *change_fields(line))
+
+
+def fields_of(line):
+    """The fields that a line has to have, by what kind of line it is."""
+    first = next(iter(line), None)
+    if first == "at":
+        return act_fields(line)
+    if first == "watch":
+        return head_fields(line)
+    if first == "end":
+        return end_fields(line)
+    if first == "view":
+        return VIEW
+    if first == "fault":
+        return FAULT
+    raise Wrong("it is no line that the second program tells")
+
+
+def need_fields(line):
+    """Refuses a line whose fields aren't these, in this order."""
+    names = list(line)
+    place = 0
+    for field, is_right in fields_of(line):
+        name = field.removesuffix(MAYBE)
+        if place < len(names) and names[place] == name:
+            if not is_right(line[name]):
+                raise Wrong(f"`{name}` is `{shown(line[name])}`")
+            place += 1
+        elif name == field:
+            raise Wrong(f"`{name}` isn't where it has to stand")
+    if place < len(names):
+        raise Wrong(f"`{names[place]}` stands where it mustn't")
+
+
+def shown(value):
+    """The beginning of a value, for a sentence."""
+    text = value if isinstance(value, str) else json.dumps(value)
+    return text if len(text) <= MOST_SHOWN else f"{text[:MOST_SHOWN]}.."
+
+
+class Shapes:
+    """The skeletons of lines that were found right."""
+
+    __slots__ = ("known",)
+
+    def __init__(self):
+        self.known = set()
+
+    def line_of(self, text):
+        """The fields of a line, without its newline; Wrong where it is none."""
+        try:
+            line, end = DECODER.raw_decode(text)
+        except ValueError:
+            raise Wrong(f"`{shown(text)}` is no JSON") from None
+        except RecursionError:
+            raise Wrong("it is nested too deep") from None
+        skeleton = DIGITS.sub("0", text)
+        if skeleton not in self.known or end != len(text):
+            need_shape(text, line)
+            # The digits of bytes in hexadecimal are no numbers.
+            if len(self.known) < MOST_SKELETONS and "output" not in line:
+                self.known.add(skeleton)
+        return line
+
+
+def need_shape(text, line):
+    if type(line) is not dict:
+        raise Wrong("it is no object of JSON")
+    need_fields(line)
+    if json.dumps(line, separators=(",", ":")) != text:
+        raise Wrong("it is written otherwise than the second program writes it")

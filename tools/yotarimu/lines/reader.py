@@ -1,0 +1,89 @@
+"""Reads what the second program tells, line by line, while the machine of the lines follows."""
+from __future__ import annotations
+
+import contextlib
+import sys
+
+from yotarimu.common.files import MOST_READ
+from yotarimu.common.outcome import Refused
+from yotarimu.courses.schedules import MOST_CORES, MOST_TILES
+from yotarimu.lines.fields import Shapes, Wrong
+from yotarimu.lines.replay import Machine, Told
+
+
+class Watched:
+    """A text that is read, line by line. `is_cut_allowed` says whether it may break off before its end."""
+
+    def __init__(self, file, name, is_cut_allowed=False, keeps_memory=False):
+        self.file, self.name, self.is_cut_allowed = file, name, is_cut_allowed
+        self.number, self.shapes, self.end = 0, Shapes(), None
+        self.head = self.read_head()
+        self.machine = Machine(self.head, keeps_memory)
+
+    def read_head(self):
+        text = self.next_text()
+        if text is None:
+            raise Refused(f"{self.name}: it has no whole line, so it isn't what the second program tells.")
+        with self.place_told():
+            head = self.shapes.line_of(text)
+            need_head(head)
+        return head
+
+    def __iter__(self):
+        follow, line_of = self.machine.follow, self.shapes.line_of
+        with self.place_told():
+            while (text := self.next_text()) is not None:
+                told = Told(self.number, line_of(text))
+                if self.end is not None:
+                    raise Wrong("nothing may follow on the end")
+                if "end" in told.line:
+                    self.machine.close(told.line)
+                    self.end = told.line
+                    continue
+                if "at" not in told.line and "view" not in told.line:
+                    raise Wrong("this line may only stand alone or first")
+                follow(told)
+                yield told
+        if self.end is None and not self.is_cut_allowed:
+            raise Refused(f"{self.name}: it has no end: it was cut behind line {self.number}.")
+
+    def next_text(self):
+        """The next line without its newline; None where there is no whole line any more."""
+        data = self.file.readline(MOST_READ)
+        if not data.endswith(b"\n"):
+            if data and not self.is_cut_allowed:
+                raise Refused(f"{self.name}:{self.number + 1}: this line isn't whole: no newline ends it.")
+            return None
+        self.number += 1
+        return data[:-1].decode("ascii", "replace")
+
+    @contextlib.contextmanager
+    def place_told(self):
+        """Tells what is wrong with the line that was read last, with its number."""
+        try:
+            yield
+        except Wrong as wrong:
+            raise Refused(f"{self.name}:{self.number}: {wrong}.") from None
+
+
+def need_head(head):
+    """Refuses a first line that is no head, or is that of no machine."""
+    if "fault" in head:
+        told = " ".join(str(value) for value in head.values())
+        raise Wrong(f"the program told no run, but a fault: {told}")
+    if "watch" not in head:
+        raise Wrong("the first line isn't the head of what the second program tells")
+    if head["watch"] != 1:
+        raise Wrong(f"these are lines of version {head['watch']}, and 1 is known")
+    if not (1 <= head["tiles"] <= MOST_TILES and 1 <= head["cores"] <= MOST_CORES and head["line"]
+            and head["tasks"]):
+        raise Wrong("no machine has these settings")
+
+
+@contextlib.contextmanager
+def open_watched(path, is_cut_allowed=False, keeps_memory=False):
+    """Opens a text that the second program told; `-` is standard input."""
+    if str(path) == "-" and sys.stdin is None:
+        raise Refused("standard input is closed.")
+    with contextlib.nullcontext(sys.stdin.buffer) if str(path) == "-" else open(path, "rb") as file:
+        yield Watched(file, path, is_cut_allowed, keeps_memory)

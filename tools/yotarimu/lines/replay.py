@@ -1,0 +1,407 @@
+"""A run that the second program told, read line by line and replayed: the machine's inside, from the lines alone.
+
+`open_watched` opens a text, and `Watched` reads it. Each turn of its loop is a line behind the head, after the machine
+has done what it tells:
+
+    with open_watched("lines") as watched:
+        for told in watched:
+            told.number, told.line           # the line's number in the text, and its fields by name
+            told.task, told.taken, ...       # what it did, as objects
+            watched.machine                  # as it stands behind it
+    watched.head, watched.end                # the first and the last line's fields; the end is None in a cut text
+
+What is kept doesn't grow with the text: the uncommitted tasks, the words of memory that were touched where the caller
+asks for them, and nothing of a task once it has left. Each line is held against the machine. One that can't follow is
+refused by its number: a task that isn't there, work or a name that isn't what counting gives.
+"""
+from __future__ import annotations
+
+import hashlib
+from typing import NamedTuple
+
+from yotarimu.lines.fields import EVENTS, Wrong
+
+DATA_START = 0x10000000
+IDLE, RUNNING, TRAPPED, FINISHED = "idle", "running", "trapped", "finished"
+SPILLED, COMMITTED, GONE = "spilled", "committed", "gone"
+DEEPER = {"same": 0, "sub": 1, "super": -1}
+# What takes tasks back: what a task asks for, or an event that isn't a step.
+TAKING_BACK = ("load", "store", "enqueue", "end", "dispatch", "split", "abort")
+# Requests that are no instruction of their own.
+NOT_EXECUTED = ("go", "trap")
+
+
+class Access(NamedTuple):
+    """A load or a store of the data: where, the number that stood there before and the one that was stored, how many
+    instructions its task had executed before it, and the event that it was."""
+    is_store: bool
+    address: int
+    bytes: int
+    old: int
+    value: int
+    place: int
+    event: int
+
+
+class Task:
+    """An uncommitted task. `name` is a pair, or None as long as its creator may be taken back; `creator` is the task
+    that made it as long as that is uncommitted. `number` is the dispatch number that it was told with. `work` counts
+    instructions since its dispatch, and `made_at` is the work of its creator at the call. `note` is for the caller."""
+
+    __slots__ = ("id", "tile", "core", "state", "creator", "index", "name", "depth", "entry", "timestamp", "arguments",
+                 "hint", "made_at", "number", "work", "pc", "accesses", "children", "subdomain", "emitted", "note")
+
+    def __init__(self, line, creator, index, depth):
+        self.id = line.get("new")
+        self.tile = line["tile"] if creator is None else line["in"]
+        self.creator, self.index, self.depth = creator, index, depth
+        self.name = (0, index) if creator is None else None
+        self.entry, self.timestamp = line["entry"], line["ts"]
+        self.arguments, self.hint = line["args"], line["hint"]
+        self.made_at = 0 if creator is None else creator.work
+        self.note = None
+        self.wait()
+
+    def wait(self):
+        """It is idle, with nothing done."""
+        self.state, self.core, self.number, self.pc = IDLE, None, None, self.entry
+        self.work, self.accesses, self.children, self.subdomain, self.emitted = 0, [], [], None, []
+
+    def told_name(self):
+        """Its name as in a report; of a task that has none, its place among the children of its creator."""
+        if self.name is not None:
+            return f"{self.name[0]}.{self.name[1]}"
+        if self.creator.name is not None:
+            return f"child {self.index} of {self.creator.told_name()}"
+        return f"child {self.index} of a task without a name"
+
+
+class Taken(NamedTuple):
+    """A task that was taken back, and what it had done and been before that."""
+    task: Task
+    work: int
+    accesses: list
+    children: list
+    state: str
+    core: int
+    is_gone: bool
+
+
+class Told:
+    """A line behind the head, and what it did: the task that it is about, those that were taken back, those of them
+    that are gone, those that were spilled, the one that came, and the one that committed."""
+
+    __slots__ = ("number", "line", "is_made", "task", "taken", "gone", "spilled", "arrived", "committed", "access")
+
+    def __init__(self, number, line):
+        self.number, self.line, self.is_made = number, line, False
+        self.task = self.arrived = self.committed = self.access = None
+        self.taken = self.gone = self.spilled = ()
+
+    def is_act(self):
+        """Whether it tells an act, and neither where a task was placed nor a view."""
+        return "reply" in self.line
+
+
+class Machine:
+    """The machine as the lines leave it: `tasks` by id; by tile `queues` and `finished` (ids in order of arrival),
+    `cores` (an id or None each) and `blocks` (spilled tasks by name); how many `events` were made and how many tasks
+    committed; how many `queued`, `running`, `waiting` (finished) and `spilled` tasks there are. `memory` has the bytes
+    of the data that were touched, by address, where they are kept, and is None else."""
+
+    def __init__(self, head, keeps_memory=False):
+        self.head, tiles = head, range(head["tiles"])
+        self.tasks = {}
+        self.queues, self.finished = [[] for _ in tiles], [[] for _ in tiles]
+        self.cores = [[None] * head["cores"] for _ in tiles]
+        self.blocks = [{} for _ in tiles]
+        self.events = self.commits = self.acts = 0
+        self.queued = self.running = self.waiting = self.spilled = 0
+        self.memory = {} if keeps_memory else None
+        self.output = hashlib.sha256()
+        self.placed = 0
+
+    # Lists of ids, and where tasks stand in them.
+
+    def arrive(self, task):
+        """A task comes last into the task queue of its tile."""
+        if task.id in self.tasks:
+            raise Wrong(f"id {task.id} is that of a task which is still there")
+        need_below(task.tile, self.head["tiles"], "a tile")
+        queue = self.queues[task.tile]
+        if len(queue) >= self.head["task_queue"]:
+            raise Wrong(f"the task queue of tile {task.tile} is full")
+        self.tasks[task.id] = task
+        queue.append(task.id)
+        self.queued += 1
+
+    def leave(self, task, state):
+        """A task leaves the task queue of its tile."""
+        self.put_off(task)
+        self.queues[task.tile].remove(task.id)
+        del self.tasks[task.id]
+        self.queued -= 1
+        task.state = state
+
+    def put_off(self, task):
+        """A task leaves its core, or the commit queue."""
+        if task.core is not None:
+            self.cores[task.tile][task.core] = None
+            self.running -= 1
+            task.core = None
+        elif task.state is FINISHED:
+            self.finished[task.tile].remove(task.id)
+            self.waiting -= 1
+
+    def task_at(self, number):
+        task = self.tasks.get(number)
+        if task is None:
+            raise Wrong(f"no task has the id {number}")
+        return task
+
+    def need_tile(self, line):
+        need_below(line["tile"], self.head["tiles"], "a tile")
+        return line["tile"]
+
+    # Lines.
+
+    def follow(self, told):
+        """Does what a line tells."""
+        line = told.line
+        if "view" in line:
+            self.compare(line)
+        elif line["do"] == "place":
+            self.place(told, line)
+        else:
+            self.act(told, line)
+
+    def place(self, told, line):
+        """A task of the image stands in a queue, or in a block."""
+        if self.acts or line["at"] or line["name"][0] or self.placed == self.head["tasks"]:
+            raise Wrong("no task of the image is placed here")
+        tile = self.need_tile(line)
+        task = told.arrived = Task(line, None, line["name"][1], 1)
+        self.placed += 1
+        if task.id is None:
+            self.spill(task, tile)
+        else:
+            self.arrive(task)
+
+    def act(self, told, line):
+        self.count_act(line)
+        told.is_made = line["reply"] == "ok" and line["do"] in EVENTS
+        if line["n"] != self.events + told.is_made:
+            raise Wrong(f"it tells {line['n']} events, and {self.events + told.is_made} were made")
+        if "tile" in line:
+            self.need_tile(line)
+        if "core" in line:
+            need_below(line["core"], self.head["cores"], "a core")
+        if "task" in line:
+            told.task = self.task_at(line["task"])
+        if "leg" in line and told.task is None:
+            raise Wrong("no task is told that takes this leg")
+        if line["do"] == "take" and line["reply"] == "ok" and self.cores[line["tile"]][line["core"]] is None:
+            raise Wrong(f"core {line['core']} of tile {line['tile']} holds no task")
+        if told.is_made:
+            self.events += 1
+            self.force(told, line)
+            MADE[line["do"]](self, told, line)
+
+    def count_act(self, line):
+        if self.placed < self.head["tasks"]:
+            raise Wrong(f"{self.placed} of {self.head['tasks']} tasks of the image are placed before the first act")
+        is_next = line["at"] > self.acts if self.head["course"] == "lockstep" else line["at"] == self.acts + 1
+        if not is_next:
+            raise Wrong(f"act {line['at']} can't follow on act {self.acts}")
+        self.acts = line["at"]
+
+    def force(self, told, line):
+        """What an event forces: tasks are taken back, some of them leave, and tasks are spilled."""
+        if "back" in line:
+            self.take_back(told, line)
+        elif "gone" in line or "aborted" in line:
+            raise Wrong("it takes tasks back and doesn't say which")
+        if "spilled" in line:
+            told.spilled = [self.spill_by_name(*row) for row in line["spilled"]]
+
+    def take_back(self, told, line):
+        if line.get("asks", line["do"]) not in TAKING_BACK:
+            raise Wrong("such an act takes no task back")
+        gone, back = set(line.get("gone", ())), {row[0] for row in line["back"]}
+        if line.get("aborted") != len(line["back"]) or len(back) < len(line["back"]) or not gone <= back:
+            raise Wrong("how many tasks it takes back, and which, don't go together")
+        told.taken = [self.taken_of(number, work, number in gone) for number, work in line["back"]]
+        if self.memory is not None:
+            stores = [access for taken in told.taken for access in taken.accesses if access.is_store]
+            for access in sorted(stores, key=event_of, reverse=True):
+                self.write(access.address, access.bytes, access.old)
+        for taken in told.taken:
+            if taken.is_gone:
+                self.leave(taken.task, GONE)
+            else:
+                self.put_off(taken.task)
+                taken.task.wait()
+        told.gone = [taken.task for taken in told.taken if taken.is_gone]
+
+    def taken_of(self, number, work, is_gone):
+        task = self.task_at(number)
+        if task.work != work:
+            raise Wrong(f"task {number} executed {task.work} instructions, and not {work}")
+        return Taken(task, task.work, task.accesses, task.children, task.state, task.core, is_gone)
+
+    def spill_by_name(self, number, creator, index):
+        task = self.task_at(number)
+        is_heirs = task.name is None and creator == self.commits + 1
+        if task.state is not IDLE or not (task.name == (creator, index) or is_heirs and task.index == index):
+            raise Wrong(f"task {number} can't be spilled as {creator}.{index}")
+        self.leave(task, SPILLED)
+        task.name, task.id = (creator, index), None
+        self.spill(task, task.tile)
+        return task
+
+    def spill(self, task, tile):
+        if task.name in self.blocks[tile]:
+            raise Wrong(f"task {task.told_name()} is in that block already")
+        task.state = SPILLED
+        self.blocks[tile][task.name] = task
+        self.spilled += 1
+
+    # Events, behind what they force.
+
+    def dispatch(self, told, line):
+        task, core = told.task, line["core"]
+        if task is None or task.state is not IDLE or task.tile != line["tile"]:
+            raise Wrong("it dispatches no idle task of its tile")
+        need_below(core, self.head["cores"], "a core")
+        if self.cores[task.tile][core] is not None:
+            raise Wrong(f"core {core} of tile {task.tile} holds a task")
+        task.state, task.core, task.number = RUNNING, core, line["number"]
+        self.cores[task.tile][core] = task.id
+        self.running += 1
+
+    def step(self, told, line):
+        task, asks = told.task, line.get("asks")
+        if asks is None or task is None or task.state is not RUNNING:
+            raise Wrong("no task runs that takes this leg")
+        if (task.tile, task.core) != (line["tile"], line["core"]):
+            raise Wrong(f"task {task.id} runs on another core")
+        task.pc = line["pc"]
+        task.work += line["leg"] + (asks not in NOT_EXECUTED)
+        if asks in REQUESTS:
+            REQUESTS[asks](self, told, task, line)
+
+    def load_or_store(self, told, task, line):
+        """An access. A load makes the bytes known that stand there, a store those that it leaves."""
+        is_store = line["asks"] == "store"
+        address, count, old = line["addr"], line["bytes"], line["old"]
+        if count not in (1, 2, 4) or not 0 <= address - DATA_START <= self.head["data"] - count:
+            raise Wrong(f"the data has no {count} bytes at {address}")
+        value = line["value"] & (1 << 8 * count) - 1 if is_store else old
+        told.access = Access(is_store, address, count, old, value, task.work - 1, self.events)
+        task.accesses.append(told.access)
+        if self.memory is not None:
+            self.write(address, count, value)
+
+    def write(self, address, count, value):
+        for place in range(count):
+            self.memory[address + place] = value >> 8 * place & 0xFF
+
+    def enqueue(self, told, task, line):
+        child = told.arrived = Task(line, task, len(task.children), task.depth + DEEPER[line["to"]])
+        self.arrive(child)
+        task.children.append(child)
+
+    def make_subdomain(self, _told, task, line):
+        task.subdomain = line["asks"]
+
+    def emit(self, _told, task, line):
+        if line["byte"] > 0xFF:
+            raise Wrong(f"{line['byte']} is no byte")
+        task.emitted.append(line["byte"])
+
+    def finish(self, _told, task, _line):
+        self.put_off(task)
+        task.state = FINISHED
+        self.finished[task.tile].append(task.id)
+        self.waiting += 1
+
+    def trap(self, _told, task, _line):
+        task.state = TRAPPED
+
+    def split(self, told, line):
+        task = told.arrived = self.blocks[line["tile"]].pop(tuple(line["name"]), None)
+        if task is None or line["in"] != line["tile"]:
+            raise Wrong(f"no such task is in the block of tile {line['tile']}")
+        self.spilled -= 1
+        task.id, task.state = line["new"], IDLE
+        self.arrive(task)
+
+    def commit(self, told, line):
+        task = told.committed = told.task
+        if task is None or task.state is not FINISHED:
+            raise Wrong("it commits no finished task")
+        if (task.name, task.depth, task.timestamp) != (tuple(line["name"]), line["depth"], line["ts"]):
+            raise Wrong(f"the task that commits is {task.told_name()}, and another name, depth or timestamp is told")
+        output = line.get("output", "")
+        if output != bytes(task.emitted).hex():
+            raise Wrong("the task that commits has emitted other bytes")
+        self.output.update(output.encode())
+        self.leave(task, COMMITTED)
+        self.commits += 1
+        for child in task.children:
+            child.name, child.creator = (self.commits, child.index), None
+
+    def abort(self, told, _line):
+        if told.task is None:
+            raise Wrong("it takes no task back")
+
+    def nothing_more(self, _told, _line):
+        """An event that is whole with what it forces."""
+
+    # The whole.
+
+    def compare(self, line):
+        """Holds a view against the machine. Dispatch numbers are taken from it, since they may have been given anew."""
+        if line["view"] != self.events or len(line["tiles"]) != self.head["tiles"]:
+            raise Wrong("the view isn't that of the machine which the lines before it leave")
+        for tile, told in enumerate(line["tiles"]):
+            tasks = [self.tasks[number] for number in self.queues[tile]]
+            rows = [[task.id, task.state, task.timestamp] for task in tasks]
+            whole = [row[:3] for row in told["queue"]], told["cores"], told["finished"], told["block"]
+            if whole != (rows, self.cores[tile], self.finished[tile], len(self.blocks[tile])):
+                raise Wrong(f"in tile {tile} the view isn't what the lines before it leave")
+            for task, row in zip(tasks, told["queue"]):
+                task.number = row[3]
+
+    def close(self, line):
+        """Holds the last line against the machine."""
+        if (line["n"], line["journal"]) != (self.events, self.commits):
+            raise Wrong(f"it tells {line['n']} events and {line['journal']} commits, and {self.events} and "
+                        f"{self.commits} were told before it")
+        if hashlib.sha256(line["output"].encode()).digest() != self.output.digest():
+            raise Wrong("the output isn't that of the tasks which committed")
+
+    def word(self, address):
+        """The word at an address, where a byte of it was touched; those that weren't are told as 0."""
+        found = [self.memory.get(address + place) for place in range(4)]
+        return None if found == [None] * 4 else sum((byte or 0) << 8 * place for place, byte in enumerate(found))
+
+    def words(self):
+        """The words that were touched, by rising address."""
+        return [(address, self.word(address)) for address in sorted({address & ~3 for address in self.memory})]
+
+
+MADE = {"dispatch": Machine.dispatch, "step": Machine.step, "abort": Machine.abort, "commit": Machine.commit,
+        "coalesce": Machine.nothing_more, "split": Machine.split}
+REQUESTS = {"load": Machine.load_or_store, "store": Machine.load_or_store, "enqueue": Machine.enqueue,
+            "ordered": Machine.make_subdomain, "unordered": Machine.make_subdomain, "emit": Machine.emit,
+            "end": Machine.finish, "trap": Machine.trap}
+
+
+def event_of(access):
+    return access.event
+
+
+def need_below(number, count, what):
+    if number >= count:
+        raise Wrong(f"{number} is {what} that the machine hasn't")

@@ -1,0 +1,167 @@
+"""A page that shows a run act by act: lines of the second program, a sentence for each, and the machine before them.
+
+The page replays the lines in the browser, from the machine as it stands where the page begins. `page.html` is its
+template; what stands there between percent signs is filled in.
+"""
+from __future__ import annotations
+
+import collections
+import html
+import json
+import pathlib
+import re
+
+from yotarimu.common.files import read_written
+from yotarimu.common.outcome import Refused
+from yotarimu.images.image import DATA, TEXT
+from yotarimu.images.listing import NO_LISTING, read_listing
+from yotarimu.lines.reader import open_watched
+from yotarimu.lines.sentences import end_told, name_told, opening_told, sentence_of
+
+MOST_ACTS = 50_000
+# So many entries of the journal before the page's first act stand on it.
+MOST_ENTRIES = 12
+TEMPLATE = pathlib.Path(__file__).with_name("page.html")
+CUT = "Here the text breaks off."
+
+
+class Passed:
+    """What was counted so far: the work of committed tasks and of those taken back, the journal, and the output."""
+
+    def __init__(self):
+        self.useful = self.wasted = self.emitted = 0
+        self.entries = collections.deque(maxlen=MOST_ENTRIES)
+
+    def follow(self, told):
+        self.wasted += sum(taken.work for taken in told.taken)
+        if told.committed is not None:
+            line = told.line
+            self.useful += told.committed.work
+            self.emitted += len(line.get("output", "")) // 2
+            self.entries.append([name_told(line["name"]), line["depth"], line["ts"]])
+
+
+class Excerpt:
+    """The acts that a page shows, each with its sentence, from the opening or from behind an act."""
+
+    def __init__(self, name, head, first, last):
+        self.name, self.head, self.first, self.last = name, head, first, last
+        self.passed, self.opening = Passed(), None
+        self.lines, self.sentences = [], []
+
+    def follow(self, told, machine, listing):
+        """Takes a line that was read: it is passed, or the page begins behind it, or it is one of the page's acts."""
+        if not told.is_act():
+            if self.first == 0 and machine.placed == self.head["tasks"] and self.opening is None:
+                self.begin(machine, opening_told(self.head))
+        elif self.opening is None:
+            self.passed.follow(told)
+            if machine.acts >= self.first:
+                self.begin(machine, sentence_of(told, machine, listing))
+        elif machine.acts <= self.last:
+            self.take(told, machine, listing)
+
+    def begin(self, machine, sentence):
+        # The machine's own lists go on changing, so it is written down at once.
+        self.opening = within(opening_of(machine, self.passed))
+        self.sentences.append(sentence)
+
+    def take(self, told, machine, listing):
+        if len(self.lines) == MOST_ACTS:
+            raise Refused(f"{self.name}: these are more than {MOST_ACTS:,} acts, which no page shows; --from ACT and "
+                          "--to ACT choose some of them.")
+        self.lines.append(json.dumps(told.line, separators=(",", ":")))
+        self.sentences.append(sentence_of(told, machine, listing))
+
+    def close(self, machine, end, listing):
+        """What is said behind the page's last act, where the text ends there too."""
+        if self.opening is None and self.first:
+            raise Refused(f"{self.name}: its last act is {machine.acts:,}, so no page begins behind {self.first:,}.")
+        if self.opening is None:
+            raise Refused(f"{self.name}: it is cut before the image's tasks are placed, so there is nothing to show.")
+        if machine.acts <= self.last:
+            self.sentences.append(CUT if end is None else end_told(end, listing))
+
+
+# ---- the machine before the page's first act
+
+
+def opening_of(machine, passed):
+    """The machine as the page takes it."""
+    tasks = list(machine.tasks.values())
+    stores = ((task.id, [store_of(access) for access in task.accesses if access.is_store]) for task in tasks)
+    return {"at": machine.acts, "events": machine.events, "commits": machine.commits, "useful": passed.useful,
+            "wasted": passed.wasted, "emitted": passed.emitted, "journal": list(passed.entries),
+            "tasks": [task_of(task) for task in tasks], "queues": machine.queues, "cores": machine.cores,
+            "finished": machine.finished, "blocks": [list(map(task_of, block.values())) for block in machine.blocks],
+            "memory": words_of(machine), "stores": [pair for pair in stores if pair[1]]}
+
+
+def task_of(task):
+    return {"id": task.id, "tile": task.tile, "state": task.state, "core": task.core, "name": task.name,
+            "creator": task.creator.id if task.name is None else None, "index": task.index, "ts": task.timestamp,
+            "entry": task.entry, "pc": task.pc, "number": task.number, "work": task.work,
+            "children": [child.id for child in task.children if child.creator is task and child.id is not None]}
+
+
+def store_of(access):
+    return [access.address, access.bytes, access.old, access.event]
+
+
+def words_of(machine):
+    """The words that were touched, by rising address, each with its bytes; those that nobody touched are None."""
+    return [[address, [machine.memory.get(address + place) for place in range(4)]] for address, _ in machine.words()]
+
+
+# ---- the listing
+
+
+def read_rows(path, head):
+    """A listing, and its lines as the page shows them: the address of an instruction, or None, and the text."""
+    if path is None:
+        return NO_LISTING, []
+    text = read_written(path)
+    listing = read_listing(text, path)
+    end = TEXT + 4 * head["text"]
+    beyond = next((address for address in sorted(listing.words) if end <= address < DATA), None)
+    if beyond is not None:
+        raise Refused(f"{path}: this is the listing of another image: it has an instruction at {beyond:08x}, and the "
+                      f"text of this one ends at {end:08x}.")
+    return listing, [[row_address(line), line] for line in text.splitlines()]
+
+
+def row_address(line):
+    found = re.match("([0-9a-f]{8})  [0-9a-f]{8}  ", line)
+    return int(found[1], 16) if found else None
+
+
+# ---- the page
+
+
+def page_of(path, listing_path, first=0, last=float("inf"), is_cut_allowed=False):
+    """The page of a text's acts: those behind the act `first`, up to the act `last`."""
+    with open_watched(path, is_cut_allowed, keeps_memory=True) as watched:
+        listing, rows = read_rows(listing_path, watched.head)
+        excerpt = Excerpt(path, watched.head, first, last)
+        for told in watched:
+            excerpt.follow(told, watched.machine, listing)
+        excerpt.close(watched.machine, watched.end, listing)
+    head = json.dumps(watched.head, separators=(",", ":"))
+    title = "A run, act by act" if str(path) == "-" else f"{pathlib.Path(path).name}, act by act"
+    return filled({"title": in_page(title), "lines": f"[{','.join([head, *excerpt.lines])}]",
+                   "opening": excerpt.opening, "sentences": within(excerpt.sentences), "listing": within(rows)})
+
+
+def in_page(text):
+    """A text as it stands in a page, in whatever encoding that is written."""
+    return html.escape(text).encode("ascii", "xmlcharrefreplace").decode()
+
+
+def within(value):
+    """A value as JSON that may stand within a page: nothing in it ends the element around it."""
+    return json.dumps(value, separators=(",", ":")).replace("<", "\\u003c")
+
+
+def filled(values):
+    return re.sub("%(title|lines|opening|sentences|listing)%", lambda found: values[found[1]],
+                  TEMPLATE.read_text(encoding="utf-8"))

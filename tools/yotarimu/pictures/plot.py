@@ -1,0 +1,109 @@
+"""A plot of points in series, as SVG."""
+from __future__ import annotations
+
+import math
+from xml.sax.saxutils import escape
+
+from yotarimu.common.text import without_controls
+from yotarimu.pictures.tree import COLOURS
+
+WIDTH, HEIGHT = 860, 460
+LEFT, RIGHT, TOP, BOTTOM = 80, 230, 20, 60
+# From this ratio of the greatest to the least value on, an axis is logarithmic.
+LOGARITHMIC = 50
+MOST_NAMES = 18
+
+
+class Axis:
+    """Values from the least to the greatest on a stretch of the picture."""
+
+    def __init__(self, values, start, end):
+        least, most = min(values), max(values)
+        self.is_logarithmic = least > 0 and most / least >= LOGARITHMIC
+        self.start, self.end = start, end
+        self.ticks = decades(least, most) if self.is_logarithmic else steps(least, most)
+        self.least, self.most = self.scaled(min(least, self.ticks[0])), self.scaled(max(most, self.ticks[-1]))
+
+    def scaled(self, value):
+        return math.log10(value) if self.is_logarithmic else value
+
+    def place(self, value):
+        return self.start + (self.scaled(value) - self.least) / (self.most - self.least) * (self.end - self.start)
+
+
+def decades(least, most):
+    return [10 ** power for power in range(math.floor(math.log10(least)), math.ceil(math.log10(most)) + 1)]
+
+
+def steps(least, most):
+    """Some five round numbers that hold the values between them."""
+    if least == most:
+        least, most = (0, most) if most > 0 else (least, least + 1)
+    least = min(0, least) if least < (most - least) / 2 else least
+    raw = (most - least) / 5
+    power = 10 ** math.floor(math.log10(raw))
+    step = next(factor * power for factor in (1, 2, 5, 10) if raw <= factor * power * 1.0001)
+    first, last = math.floor(least / step), math.ceil(most / step)
+    return [place * step for place in range(first, last + 1)]
+
+
+def drawn(series, x_name, y_name):
+    """The plot of a dictionary from names to lists of points."""
+    points = [point for list_of in series.values() for point in list_of]
+    x_axis = Axis([x for x, _ in points], LEFT, WIDTH - RIGHT)
+    y_axis = Axis([y for _, y in points], HEIGHT - BOTTOM, TOP)
+    parts = [f'<svg xmlns="http://www.w3.org/2000/svg" width="{WIDTH}" height="{HEIGHT}" '
+             f'viewBox="0 0 {WIDTH} {HEIGHT}" font-family="sans-serif" font-size="12">',
+             f'<rect width="{WIDTH}" height="{HEIGHT}" fill="white"/>', *grid(x_axis, y_axis)]
+    middle = (TOP + HEIGHT - BOTTOM) / 2
+    parts.append(text((LEFT + WIDTH - RIGHT) / 2, HEIGHT - 14, x_name + scale(x_axis), "middle"))
+    parts.append(f'<g transform="rotate(-90 16 {middle})">{text(16, middle, y_name + scale(y_axis), "middle")}</g>')
+    for place, (name, list_of) in enumerate(series.items()):
+        parts += line(list_of, x_axis, y_axis, COLOURS[place % len(COLOURS)])
+        if name and place < MOST_NAMES:
+            parts += legend(name, place)
+    if len(series) > MOST_NAMES:
+        parts.append(text(WIDTH - RIGHT + 20, TOP + 20 * MOST_NAMES + 12, f"and {len(series) - MOST_NAMES} more"))
+    return "\n".join([*parts, "</svg>"]) + "\n"
+
+
+def scale(axis):
+    return " (logarithmic)" if axis.is_logarithmic else ""
+
+
+def text(x, y, words, anchor="start"):
+    # No picture may have other characters, though a name of a file may.
+    return f'<text x="{x:.1f}" y="{y:.1f}" text-anchor="{anchor}">{escape(without_controls(words))}</text>'
+
+
+def number(value):
+    return f"{value:,.0f}" if value >= 1000 or value == int(value) else f"{value:.6g}"
+
+
+def grid(x_axis, y_axis):
+    for tick in x_axis.ticks:
+        x = x_axis.place(tick)
+        yield f'<line x1="{x:.1f}" y1="{TOP}" x2="{x:.1f}" y2="{HEIGHT - BOTTOM}" stroke="#e4e4e4"/>'
+        yield text(x, HEIGHT - BOTTOM + 18, number(tick), "middle")
+    for tick in y_axis.ticks:
+        y = y_axis.place(tick)
+        yield f'<line x1="{LEFT}" y1="{y:.1f}" x2="{WIDTH - RIGHT}" y2="{y:.1f}" stroke="#e4e4e4"/>'
+        yield text(LEFT - 8, y + 4, number(tick), "end")
+
+
+def line(points, x_axis, y_axis, colour):
+    """The points, and a line through the mean of those at each place."""
+    columns = {}
+    for x, y in points:
+        columns.setdefault(x, []).append(y)
+    means = [(x, sum(columns[x]) / len(columns[x])) for x in sorted(columns)]
+    path = " ".join(f"{x_axis.place(x):.1f},{y_axis.place(y):.1f}" for x, y in means)
+    yield f'<polyline points="{path}" fill="none" stroke="{colour}" stroke-width="1.5"/>'
+    for x, y in points:
+        yield f'<circle cx="{x_axis.place(x):.1f}" cy="{y_axis.place(y):.1f}" r="3" fill="{colour}"/>'
+
+
+def legend(name, place):
+    y = TOP + 20 * place + 8
+    yield f'<circle cx="{WIDTH - RIGHT + 24}" cy="{y}" r="4" fill="{COLOURS[place % len(COLOURS)]}"/>'
+    yield text(WIDTH - RIGHT + 34, y + 4, name)

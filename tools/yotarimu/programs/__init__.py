@@ -1,0 +1,1 @@
+"""The built programs: how they are run, what they are to answer, and what they bear."""

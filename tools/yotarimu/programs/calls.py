@@ -1,0 +1,96 @@
+"""Runs of the program over a grid of options, several at once."""
+from __future__ import annotations
+
+import concurrent.futures
+import subprocess
+import tempfile
+import threading
+
+from yotarimu.common.outcome import Refused
+
+# What a shell tells of a program that it can't start.
+NOT_STARTED = 126
+MOST_AT_ONCE = 1 << 16
+
+
+def built(program):
+    """The absolute path of a built program; a refusal where there is none."""
+    if not program.is_file():
+        raise Refused(f"{program}: the program isn't built; ./fractal prove builds it.")
+    return program.absolute()
+
+
+class Calls:
+    """Calls of a built program, all of which can be ended."""
+
+    def __init__(self, program):
+        self.program = built(program)
+        self.lock, self.running, self.is_stopped = threading.Lock(), set(), False
+
+    def each(self, function, items, jobs):
+        """Each item with its result, in order. When it is left early, by an interrupt too, all calls are ended."""
+        pool = concurrent.futures.ThreadPoolExecutor(jobs)
+        try:
+            yield from zip(items, pool.map(function, items))
+        finally:
+            self.stop()
+            pool.shutdown(cancel_futures=True)
+
+    def stop(self):
+        with self.lock:
+            self.is_stopped = True
+            for process in self.running:
+                process.kill()
+
+    def start(self, words, stdin):
+        """A call of the program that runs, or None where it can't be started."""
+        with self.lock:
+            if self.is_stopped:
+                return None
+            try:
+                process = subprocess.Popen([self.program, *words], stdin=stdin, stdout=subprocess.PIPE)
+            except OSError:
+                return None
+            self.running.add(process)
+            return process
+
+    def status_of(self, process):
+        """The status of a call, once it has ended."""
+        process.wait()
+        with self.lock:
+            self.running.discard(process)
+        return process.returncode if process.returncode >= 0 else 128 - process.returncode
+
+    def call(self, words, data):
+        """The status of a call of the program, and what it wrote."""
+        process = self.start(words, subprocess.PIPE)
+        if process is None:
+            return NOT_STARTED, b""
+        try:
+            written, _ = process.communicate(data)
+        except BaseException:
+            process.kill()
+            raise
+        return self.status_of(process), written
+
+    def read(self, words, data, reader):
+        """The status of a call of the program, and what `reader` makes of what it writes, as it comes; or what it
+        refuses that for."""
+        with tempfile.TemporaryFile() as given:
+            given.write(data)
+            given.seek(0)
+            process = self.start(words, given)
+            if process is None:
+                return NOT_STARTED, None
+            with process.stdout:
+                try:
+                    made = reader(process.stdout)
+                except Refused as refused:
+                    made = refused
+                    # The status is to be the program's own.
+                    while process.stdout.read(MOST_AT_ONCE):
+                        pass
+                except BaseException:
+                    process.kill()
+                    raise
+            return self.status_of(process), made

@@ -1,0 +1,97 @@
+"""A large program in C: its sources, its run, and what a plain C program leaves of the same data."""
+from __future__ import annotations
+
+import dataclasses
+import pathlib
+import subprocess
+import tempfile
+
+from yotarimu.common.files import write_whole
+from yotarimu.common.outcome import Refused
+from yotarimu.common.places import EXAMPLES_FOLDER
+from yotarimu.images import large_programs
+from yotarimu.images.image import DATA, WINDOW_WORDS, image_bytes
+from yotarimu.reports.report import read_report
+
+MOST_ADVANCES = 6_000_000
+HOST_COMPILER = "cc"
+
+
+@dataclasses.dataclass(frozen=True)
+class Kind:
+    """A large program: the name of its data, the one that makes it, sizes, and the variable with the result."""
+    data: str
+    made: callable
+    sizes: range
+    size: int
+    result: str
+    told: str
+
+
+KINDS = {
+    "roads": Kind("graph.h", large_programs.roads, range(2, 12_001), 10_000, "distance", "{:,} crossings"),
+    "circuit": Kind("circuit.h", large_programs.circuit, range(2, 17), 8, "wires", "a multiplier of {:,} bits"),
+}
+
+
+def write_sources(name, kind, folder, size, seed):
+    if folder.exists() and (not folder.is_dir() or any(folder.iterdir())):
+        raise Refused(f"{folder}: it is there and not empty.")
+    (folder / "plain").mkdir(parents=True, exist_ok=True)
+    sources = EXAMPLES_FOLDER / "c" / "large"
+    write_whole({folder / kind.data: kind.made(size, seed).encode(),
+                 folder / "task.c": (sources / f"{name}.c").read_bytes(),
+                 folder / "plain" / "plain.c": (sources / f"{name}_plain.c").read_bytes()})
+
+
+def plain_words(folder):
+    """The words that the plain program writes."""
+    # A path that begins with a slash is no option.
+    folder = folder.absolute()
+    with tempfile.TemporaryDirectory() as place:
+        program = pathlib.Path(place) / "plain"
+        for words in ([HOST_COMPILER, "-O2", "-I", folder, "-o", program, folder / "plain" / "plain.c"], [program]):
+            done = subprocess.run(words, capture_output=True, text=True, errors="replace", stdin=subprocess.DEVNULL)
+            if done.returncode != 0:
+                raise Refused(f"{folder / 'plain' / 'plain.c'}: {done.stderr.strip() or done.returncode}")
+    return [int(word, 16) for word in done.stdout.split()]
+
+
+def words_left(calls, image, label):
+    """The words that a run leaves from a label on, one window after another, and the report of the last."""
+    words, whole = [], -(-label.size // 4)
+    while len(words) < whole:
+        image.window_offset = label.address - DATA + 4 * len(words)
+        image.window_words = min(WINDOW_WORDS, whole - len(words))
+        written = said(calls, ["run"], image_bytes(image))
+        report = read_report(written.decode("ascii", "replace"), "run")
+        if report.end != "normal":
+            raise Refused(f"the run ended otherwise: {written.splitlines()[-1].decode('ascii')}.")
+        if len(report.window) != image.window_words:
+            raise Refused(f"the run tells {len(report.window):,} words, and not {image.window_words:,}.")
+        words += [value for _, value in report.window]
+    told = said(calls, ["check"], image_bytes(image) + written)
+    if told != b"check ok %d\n" % len(report.entries):
+        raise Refused(f"the report is refused: {told.decode('ascii', 'replace').strip()}.")
+    return words, report
+
+
+def said(calls, words, data):
+    status, written = calls.call(words, data)
+    if status != 0 or written.startswith(b"fault"):
+        raise Refused(f"`{' '.join(words)}` ended with status {status}.")
+    return written
+
+
+def events_of(calls, image, commits):
+    """How many events the run has: so many acts `advance` are answered otherwise than that it is over."""
+    advances = 16 * commits
+    while advances <= MOST_ADVANCES:
+        written = said(calls, ["steps"], image_bytes(image) + b"advance\n" * advances)
+        replies, head, _ = written.partition(b"fractal 1\n")
+        if not head:
+            raise Refused("`steps` wrote no report.")
+        if ended := replies.count(b"ended "):
+            return advances - ended
+        advances *= 2
+    raise Refused(f"the run has no end within {MOST_ADVANCES:,} events.")

@@ -1,0 +1,145 @@
+"""The launcher's completion for a shell and its manual page, made of its table."""
+from __future__ import annotations
+
+# A range of so many values is completed by each, a larger one by its ends and what stands unless given.
+MOST_VALUES = 16
+NAME = "fractal"
+# Two dashes in bold, as the macros of man write them.
+DASHES = "\\fB\\-\\-"
+BASH = """\
+# Completes the words of `{name}` in bash. ./fractal shell makes it from what `{name} table` tells.
+_{name}() {{
+    local current=${{COMP_WORDS[COMP_CWORD]}} before=${{COMP_WORDS[COMP_CWORD - 1]}} command=${{COMP_WORDS[1]}} words=
+    # bash takes `=` for a word.
+    [ "$current" = = ] && before=$before current=
+    [ "$before" = = ] && before=${{COMP_WORDS[COMP_CWORD - 2]}}
+    if [ "$COMP_CWORD" -eq 1 ]; then
+        words='{first}'
+    else
+        case $before in
+{values}
+            *)
+                case $command in
+                    {commands})
+                        words='{options}'
+                        [ "$command $COMP_CWORD" != 'load 2' ] || words='{kinds}'
+                        ;;
+                    watch)
+                        words='{options}'
+                        [ "$COMP_CWORD" -ne 2 ] || words='{leading}'
+                        [ "$COMP_CWORD ${{COMP_WORDS[2]}}" != '4 views' ] || words='{courses}'
+                        ;;
+                    help) words='{commands_apart}' ;;
+                esac
+                ;;
+        esac
+    fi
+    COMPREPLY=($(compgen -W "$words" -- "$current"))
+}}
+complete -o bashdefault -o default -F _{name} {name}
+"""
+ZSH = """\
+#compdef {name}
+# Completes the words of `{name}` in zsh. ./fractal shell makes it from what `{name} table` tells.
+local -a words_of_{name}
+words_of_{name}=(
+{described}
+)
+if (( CURRENT == 2 )); then
+    _describe -t commands command words_of_{name}
+    return
+fi
+local command=$words[2]
+shift words
+(( CURRENT-- ))
+case $command in
+    {commands})
+        local -a further
+        [[ $command == load ]] && further=({further})
+        _arguments -S $further \\
+{options}
+        ;;
+    watch)
+        _arguments -S '1:course:({leading})' '*:further:' \\
+{options}
+        ;;
+esac
+"""
+
+
+def values_of(option):
+    """The values of an option that are offered."""
+    values = list(option.values)
+    offered = values if len(values) <= MOST_VALUES + 1 else [values[0], option.default, values[-1]]
+    return " ".join(map(str, dict.fromkeys(offered)))
+
+
+def bash(table):
+    values = "\n".join(f"            --{name}) words='{values_of(it)}' ;;" for name, it in table.options.items())
+    return BASH.format(name=NAME, first=" ".join([*table.commands, *table.own]), values=values,
+                       options=" ".join(f"--{name}" for name in table.options), kinds=" ".join(table.kinds),
+                       commands="|".join(table.commands), commands_apart=" ".join(table.commands),
+                       leading=leading_words(table), courses=" ".join(table.course_rows))
+
+
+def zsh(table):
+    purposes = {**{name: row[2] for name, row in table.command_rows.items()}, **table.own}
+    described = "\n".join(f"    {zsh_text(f'{name}:{purpose}')}" for name, purpose in purposes.items())
+    options = " \\\n".join(f"            {zsh_text(option_told(option))}" for option in table.options.values())
+    kinds = "'1:kind:({})' '2:seed:' '3:size:'".format(" ".join(table.kinds))
+    return ZSH.format(name=NAME, described=described, commands="|".join(table.commands), options=options, further=kinds,
+                      leading=leading_words(table))
+
+
+def leading_words(table):
+    """What may stand right behind `watch`."""
+    return " ".join([*table.course_rows, "views"])
+
+
+def option_told(option):
+    return f"--{option.name}=[{option.purpose}]:{option.told()}:({values_of(option)})"
+
+
+def zsh_text(text):
+    return "'" + text.replace("'", "'\\''") + "'"
+
+
+def man(table):
+    """The manual page in the macros of man."""
+    lines = [f'.TH {NAME.upper()} 1 "" "{NAME} {table.version}" ""', ".SH NAME",
+             f"{NAME} \\- simulates a machine that runs tasks ahead of their turn and commits them in order",
+             ".SH SYNOPSIS", f".B {NAME}", ".I COMMAND", f"[{DASHES}\\fIOPTION VALUE\\fR]...", "<", ".I INPUT",
+             ".SH DESCRIPTION", "An image comes from standard input, a report goes to standard output.", ".SH COMMANDS"]
+    for name, (further, given, purpose) in table.command_rows.items():
+        lines += entry(f"{name} {further}".strip(), f"{purpose}; reads {given or 'nothing'}")
+    lines.append(".SH COURSES OF WATCH")
+    for name, (further, given, purpose) in table.course_rows.items():
+        lines += entry(f"{name} {further}".strip(), f"{purpose}; reads {given}")
+    lines.append(".SH FURTHER COMMANDS")
+    for name, purpose in table.own.items():
+        lines += entry(f"{name} {table.own_words[name]}".strip(), purpose)
+    lines += [".SH OPTIONS", "Each stands at most once, as", f"{DASHES}\\fIOPTION VALUE\\fR",
+              "or", f"{DASHES}\\fIOPTION\\fR=\\fIVALUE\\fR."]
+    for option in table.options.values():
+        lines += entry(f"--{option.name}", f"{option.purpose} ({option.told()}; {option.default} unless given)")
+    lines.append(".SH GENERATED IMAGES")
+    for name, (sizes, purpose) in table.kinds.items():
+        lines += entry(name, f"{purpose}; SIZE is {sizes[0]} to {sizes[-1]}")
+    lines.append(".SH EXIT STATUS")
+    for number, meaning in table.statuses.items():
+        lines += entry(str(number), meaning)
+    lines += [".SH EXAMPLES", ".nf", escaped(f"{NAME} run < image.bin > report"),
+              escaped(f"cat image.bin report | {NAME} check"), ".fi"]
+    return "\n".join(lines) + "\n"
+
+
+def entry(name, text):
+    return [".TP", f".B {escaped(name)}", escaped(text)]
+
+
+def escaped(text):
+    text = text.replace("\\", "\\e").replace("-", "\\-").replace("'", "\\(aq").replace("`", "\\(ga")
+    return f"\\&{text}" if text.startswith(".") else text
+
+
+KINDS = {"bash": bash, "zsh": zsh, "man": man}

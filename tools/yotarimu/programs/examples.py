@@ -1,0 +1,26 @@
+"""The project's own examples, and the schedules that it plays."""
+from __future__ import annotations
+
+from yotarimu.common.files import read_text
+from yotarimu.common.outcome import Refused
+from yotarimu.common.places import EXAMPLES_FOLDER
+
+EXAMPLES = ("hello", "fork_join", "pipeline", "reduction", "nested", "trap", "recursion", "shortest_paths") + tuple(
+    f"c/{name}" for name in ("shortest_paths", "breadth_first", "tree_of_sums", "quicksort", "bank"))
+SCHEDULES = tuple(f"schedules/{name}" for name in (
+    "conflict", "by_hand", "stale_leg", "kept_trap", "commit_queue", "commit_wait", "stall", "four_cores", "two_lines",
+    "two_lines_apart", "one_word"))
+
+
+def words_of(schedule):
+    """The words with which the program plays a schedule."""
+    path = EXAMPLES_FOLDER / schedule / "words"
+    words = read_text(path).split()
+    if not words or not all(word.isascii() and word.isprintable() for word in words):
+        raise Refused(f"{path}: these are no words of a call, as `steps --tiles 2` is one.")
+    return words
+
+
+def with_sources(names):
+    """Those of the folders that have sources of their own; the others share an image."""
+    return [name for name in names if any(path.suffix in (".s", ".c") for path in (EXAMPLES_FOLDER / name).iterdir())]

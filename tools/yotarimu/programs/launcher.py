@@ -1,0 +1,45 @@
+"""Calls of the launcher, which runs the built program or, where there is none, an unproved one."""
+from __future__ import annotations
+
+import signal
+import subprocess
+import threading
+
+from yotarimu.programs.program import LAUNCHER
+
+# What was started and hasn't ended, and whether all of it is to end.
+RUNNING, LOCK, ENDING = set(), threading.Lock(), threading.Event()
+
+
+def launched(words, data, errors=None):
+    """The status of a call, what it wrote, and what came on standard error where `errors` is a pipe for it."""
+    # An interrupt at the terminal reaches the script alone, so that one sentence comes of it.
+    process = subprocess.Popen([LAUNCHER, *words], stdin=subprocess.PIPE, stdout=subprocess.PIPE, stderr=errors,
+                               start_new_session=True)
+    with LOCK:
+        RUNNING.add(process)
+    try:
+        if ENDING.is_set():
+            end(process)
+        written, said = process.communicate(data)
+    except BaseException:
+        end(process)
+        process.wait()
+        raise
+    finally:
+        with LOCK:
+            RUNNING.discard(process)
+    return process.returncode, written, said
+
+
+def end(process):
+    """Asks a launcher to end what it started, and to say nothing."""
+    process.send_signal(signal.SIGUSR1)
+
+
+def end_all():
+    """Asks all that threads have started, or are about to start, to end."""
+    ENDING.set()
+    with LOCK:
+        for process in RUNNING:
+            end(process)

@@ -1,0 +1,98 @@
+"""Calls of the built program under a limit of address space that falls."""
+from __future__ import annotations
+
+import os
+import resource
+import subprocess
+
+from yotarimu.common.outcome import Refused
+
+NO_MEMORY = 5
+# The status with which the system's loader ends.
+NOT_LOADED = 127
+# What may come of a call; its whole answer is the one that it gives with ample memory.
+WHOLE, OUT_OF_MEMORY, NOT_STARTED, KILLED = "whole answers", "out of memory", "not started", "killed"
+OUTCOMES = (WHOLE, OUT_OF_MEMORY, NOT_STARTED, KILLED)
+# An answer that wants more address space isn't looked for.
+MOST = 1 << 34
+PAGE = resource.getpagesize()
+# A limit falls by a page, or by this part of the least ample one.
+MOST_STEPS = 1_024
+# The C library then asks the system for little at a time, and not by the thread, and a thread's stack is a mebibyte.
+ENVIRONMENT = {"MALLOC_TOP_PAD_": "0", "MALLOC_ARENA_MAX": "1"}
+STACK = 1 << 20
+
+
+def answer(program, words, data, limit=None):
+    """The status of a call under a limit of address space, and what it wrote; None where the system can't start it."""
+
+    def bound():
+        resource.setrlimit(resource.RLIMIT_STACK, (STACK, resource.getrlimit(resource.RLIMIT_STACK)[1]))
+        if limit is not None:
+            resource.setrlimit(resource.RLIMIT_AS, (limit, resource.getrlimit(resource.RLIMIT_AS)[1]))
+
+    try:
+        done = subprocess.run([program, *words], input=data, stdout=subprocess.PIPE, stderr=subprocess.DEVNULL,
+                              env={**os.environ, **ENVIRONMENT}, preexec_fn=bound)
+    except (OSError, subprocess.SubprocessError):
+        return None
+    return done.returncode, done.stdout
+
+
+class Call:
+    """A call of the program, and the answers that it gives with ample memory."""
+
+    def __init__(self, program, words, data):
+        self.program, self.words, self.data = program, words, data
+        self.has_threads = "--workers" in words
+        first = answer(program, words, data)
+        if first is None or first[0] < 0:
+            raise Refused(f"{program}: it can't be run with `{' '.join(words)}`.")
+        (self.status, self.written), self.answers = first, {first}
+
+    def fall(self):
+        """Each limit, from an ample one to none, with what came of the call under it, and the answer."""
+        least = self.least()
+        step = max(PAGE, least // MOST_STEPS // PAGE * PAGE)
+        # Stacks of threads take what is above the least, and then memory runs out while threads run.
+        limit = least + (4 * STACK if self.has_threads else 16 * step)
+        while limit >= 0:
+            outcome, said = self.outcome(limit)
+            yield limit, outcome, said
+            limit -= 16 * step if outcome in (NOT_STARTED, KILLED) else step
+
+    def least(self):
+        """A limit under which the answer is whole, where a page less is too little."""
+        ample, scarce = MOST, 0
+        if self.outcome(ample)[0] is not WHOLE:
+            raise Refused(f"`{' '.join(self.words)}` has no whole answer in {MOST >> 30} GiB of address space.")
+        while ample - scarce > PAGE:
+            middle = (ample + scarce) // 2 // PAGE * PAGE
+            if self.outcome(middle)[0] is WHOLE:
+                ample = middle
+            else:
+                scarce = middle
+        return ample
+
+    def outcome(self, limit):
+        """What came of the call under a limit, and the answer; None in its place where that may not be."""
+        said = answer(self.program, self.words, self.data, limit)
+        if said is None or said == (NOT_LOADED, b""):
+            return NOT_STARTED, said
+        if self.is_whole(said):
+            return WHOLE, said
+        if said == (NO_MEMORY, b""):
+            return OUT_OF_MEMORY, said
+        return KILLED if said[0] < 0 and not said[1] else None, said
+
+    def is_whole(self, said):
+        """Whether this is an answer of ample memory. Host threads have several, each a report that `check` accepts."""
+        if said in self.answers:
+            return True
+        if not self.has_threads or said[0] != self.status or not said[1]:
+            return False
+        checked = answer(self.program, ["check"], self.data + said[1])
+        if checked is None or checked[0] != 0:
+            return False
+        self.answers.add(said)
+        return True

@@ -1,0 +1,162 @@
+"""A long run in pieces: each ends at a commit limit, and the next begins with the image that `save` made there.
+
+All of it stands in one folder: of each piece its image and, once it was run, its report. The tasks that pend at its end
+have no names in a saved image, so the piece is run again by tools/machine.py, and what pends is held against the image.
+"""
+from __future__ import annotations
+
+import dataclasses
+import pathlib
+
+from yotarimu.common.files import read_bytes, write_whole
+from yotarimu.common.outcome import Refused
+from yotarimu.images.image import read_image
+from yotarimu.images.serial_machine import Machine
+from yotarimu.reports.report import Name, read_report
+
+LIMIT, NESTED, TOO_MANY = 4, 12, 13
+MOST_COMMITS = 1_000_000
+# As many tasks may an image have.
+MOST_TASKS = 65_536
+IMAGE, REPORT, WORDS = "image", "report", "words"
+
+
+@dataclasses.dataclass
+class Piece:
+    """A piece that was run: its number, its image, its report as it was written and read, and whether it is the last."""
+    number: int
+    image: bytes
+    written: bytes
+    report: object
+    is_last: bool
+
+
+class Folder:
+    """The pieces of one run. What is there is whole; a piece whose report is missing is run again."""
+
+    def __init__(self, path, image, words):
+        self.path = pathlib.Path(path)
+        if self.path.exists() and not self.path.is_dir():
+            raise Refused(f"{path}: this is no folder.")
+        self.path.mkdir(parents=True, exist_ok=True)
+        self.keep({self.name(WORDS): " ".join(words).encode() + b"\n", self.name(IMAGE, 1): image})
+
+    def name(self, kind, number=None):
+        return self.path / (kind if number is None else f"{number:04}.{kind}")
+
+    def keep(self, files):
+        """Writes files that are missing; one that is there has to say the same."""
+        missing = {}
+        for path, data in files.items():
+            if not path.exists():
+                missing[path] = data
+            elif path.is_dir() or read_bytes(path) != data:
+                raise Refused(f"{path}: this folder has the pieces of another run; name a new folder.")
+        if self.name(IMAGE, 1) in missing and any(self.path.iterdir()):
+            raise Refused(f"{self.path}: this folder holds other files; name a new folder.")
+        write_whole(missing)
+
+    def image(self, number):
+        return read_bytes(self.name(IMAGE, number))
+
+    def has_run(self, number):
+        """Whether the piece was run: its report is there, and the next image where the run goes on."""
+        report = self.name(REPORT, number)
+        if not report.exists():
+            return False
+        return self.name(IMAGE, number + 1).exists() or not read_bytes(report).endswith(b"\nend limit\n")
+
+    def write_piece(self, number, report, following):
+        """The next image first: without it a report that ends at its limit counts for nothing."""
+        if following is not None:
+            write_whole({self.name(IMAGE, number + 1): following})
+        write_whole({self.name(REPORT, number): report})
+
+    def pieces(self):
+        number = 1
+        while self.has_run(number):
+            written = read_bytes(self.name(REPORT, number))
+            is_last = not self.name(IMAGE, number + 1).exists()
+            report = read_report(written.decode("utf-8", "replace"), self.name(REPORT, number))
+            yield Piece(number, self.image(number), written, report, is_last)
+            number += 1
+
+
+def replayed(image, report, name):
+    """The machine after the turns of a report."""
+    machine = Machine(read_image(image, name))
+    lost = machine.follow(report.entries)
+    if lost:
+        raise Refused(f"{name}: its tasks can't be run again: {lost}.")
+    return machine
+
+
+def pending_of(machine):
+    """The tasks without a turn, by their names."""
+    tasks = [task for task in machine.tasks.values() if not task.turn]
+    return sorted(tasks, key=lambda task: (task.name.creator, task.name.index))
+
+
+def held_against(machine, following, name):
+    """The names of the tasks that pend, which are those of the saved image in its order; else a refusal."""
+    saved, pending = read_image(following, name), pending_of(machine)
+    if len(saved.tasks) != len(pending):
+        raise Refused(f"{name}: it has {len(saved.tasks):,} tasks, and {len(pending):,} pend after the piece before.")
+    for place, (task, other) in enumerate(zip(saved.tasks, pending)):
+        if (task.entry, task.timestamp, task.arguments) != (other.entry, other.timestamp, other.arguments):
+            raise Refused(f"{name}: its task {place} isn't {other.name}, which pends after the piece before.")
+    if saved.initial != bytes(machine.memory):
+        raise Refused(f"{name}: its data aren't the memory that the piece before left.")
+    return [task.name for task in pending]
+
+
+def next_cut(image, report, after, name):
+    """The first count of commits above `after` at which all that pends is of the root domain, and not too much; None
+    where there is none before the report's end."""
+    machine = Machine(read_image(image, name))
+    for count, entry in enumerate(report.entries, 1):
+        lost = machine.follow([entry])
+        if lost:
+            raise Refused(f"{name}: its tasks can't be run again: {lost}.")
+        pending = pending_of(machine) if count > after else []
+        if pending and len(pending) <= MOST_TASKS and all(task.domain.depth == 1 for task in pending):
+            return count
+    return None
+
+
+def joined(pieces):
+    """One report of pieces: the names of each in those of the first image, the outputs one after another, the window
+    and the end of the last."""
+    lines, output, names, turns = ["fractal 1"], [], None, 0
+    for piece in pieces:
+        report = piece.report
+        for entry in report.entries:
+            name = shifted(entry.name, names, turns)
+            lines.append(f"{turns + entry.turn} {name} {entry.depth} {entry.timestamp}")
+        output.append(report.output)
+        if piece.is_last:
+            lines.append(f"output {b''.join(output).hex() or '-'}")
+            lines += [f"window {address:08x} {word:08x}" for address, word in report.window]
+            lines.append(end_line(report, names, turns))
+        else:
+            names = [shifted(name, names, turns) for name in piece.pending]
+            turns += len(report.entries)
+    return "\n".join(lines).encode() + b"\n"
+
+
+def shifted(name, names, turns):
+    """A task's name in the joined run: the first image's own stay, those of a saved image are the pending ones."""
+    if name.creator:
+        return Name(turns + name.creator, name.index)
+    if names is None:
+        return name
+    if name.index >= len(names):
+        raise Refused(f"after turn {turns} a piece has the task {name}, and its image has {len(names):,} tasks.")
+    return names[name.index]
+
+
+def end_line(report, names, turns):
+    if report.trap is None:
+        return f"end {report.end}"
+    trap = report.trap
+    return f"end trap {trap.cause} {trap.pc:08x} {shifted(trap.name, names, turns)}"

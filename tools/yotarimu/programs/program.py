@@ -1,0 +1,16 @@
+"""The program: what it knows, as the launcher tells it, and how it is run."""
+from __future__ import annotations
+
+from yotarimu.common.places import HOME
+
+LAUNCHER = HOME / "fractal"
+PROGRAM = HOME / "crates" / "fractal_sim" / "out" / "fractal_sim"
+# The second program, which ./fractal watch runs.
+SECOND_PROGRAM = HOME / "crates" / "fractal_watch" / "out" / "fractal_watch"
+# The status that belongs to the end of a report.
+STATUSES = {"normal": 0, "trap": 3, "limit": 4, "open": 0}
+
+
+def end_of(report):
+    """The word after `end` of a report's bytes, or nothing."""
+    return report.rpartition(b"\nend ")[2].partition(b" ")[0].strip().decode("ascii", "replace")

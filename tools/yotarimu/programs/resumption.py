@@ -1,0 +1,121 @@
+"""A run in pieces of so many commits, by the built program, and their reports joined to one."""
+from __future__ import annotations
+
+import sys
+
+from yotarimu.common.files import read_bytes, write_whole
+from yotarimu.common.outcome import Refused, is_at_terminal, say
+from yotarimu.common.text import counted
+from yotarimu.images.image import read_image
+from yotarimu.programs import pieces
+from yotarimu.programs.program import STATUSES, end_of
+from yotarimu.reports.report import read_report
+
+NAME = "resume"
+
+
+class Resumed:
+    """A run in pieces, by the built program."""
+
+    def __init__(self, calls, words, every, folder):
+        self.calls, self.words, self.every, self.folder = calls, words, every, folder
+
+    def call(self, command, data, commits):
+        return self.calls.call([command, *self.words, "--commits", str(commits)], data)
+
+    def run_all(self):
+        """Runs each piece that wasn't run yet, up to the end of the run."""
+        number, turns = 1, 0
+        while not self.is_over(number):
+            if not self.folder.has_run(number):
+                self.run_piece(number, turns)
+            turns += len(self.report(number).entries)
+            show_progress(f"{counted(turns, 'commit')} in {counted(number, 'piece')}")
+            number += 1
+        show_progress("")
+
+    def is_over(self, number):
+        return number > 1 and self.folder.has_run(number - 1) and not self.folder.name(pieces.IMAGE, number).exists()
+
+    def report(self, number):
+        name = self.folder.name(pieces.REPORT, number)
+        return read_report(read_bytes(name).decode("utf-8", "replace"), name)
+
+    def run_piece(self, number, turns):
+        """Runs a piece, and keeps it with the image that goes on."""
+        image = self.folder.image(number)
+        commits = self.every
+        status, saved = self.call("save", image, commits)
+        if status in (pieces.NESTED, pieces.TOO_MANY):
+            commits = self.cut_later(number, image, turns, saved)
+            status, saved = self.call("save", image, commits) if commits else self.whole(image)
+        if status == pieces.LIMIT and commits:
+            report = self.need("run", image, commits, {pieces.LIMIT})
+            read_image(saved, "what `save` wrote")
+            self.need_end("run", status, report)
+            self.folder.write_piece(number, report, saved)
+        else:
+            self.need_status("save", status, saved, {STATUSES["normal"], STATUSES["trap"], pieces.LIMIT})
+            self.need_end("save", status, saved)
+            self.folder.write_piece(number, saved, None)
+
+    def whole(self, image):
+        """The rest of a run that can't be cut any more, up to its end."""
+        return self.call("run", image, pieces.MOST_COMMITS)
+
+    def cut_later(self, number, image, turns, told):
+        """The count of commits at which the piece can be cut; None where it can't before the run ends."""
+        report = self.need("run", image, pieces.MOST_COMMITS, set(STATUSES.values()))
+        name = self.folder.name(pieces.IMAGE, number)
+        read = read_report(report.decode("utf-8", "replace"), name)
+        commits = pieces.next_cut(image, read, self.every, name)
+        where = f"after {counted(turns + self.every, 'commit')} the run can't be cut ({told.decode('ascii', 'replace').strip()})"
+        then = f"the next cut is after {turns + commits:,}" if commits else "nor anywhere behind, so the rest is one piece"
+        say(NAME, f"{where}; {then}.")
+        return commits
+
+    def need(self, command, image, commits, statuses):
+        status, written = self.call(command, image, commits)
+        return self.need_status(command, status, written, statuses)
+
+    def need_status(self, command, status, written, statuses):
+        if status not in statuses:
+            text = written[:200].decode("utf-8", "backslashreplace").strip()
+            raise Refused(f"`{command}` ended with status {status}{f' and said `{text}`' if text else ''}.")
+        return written
+
+    def need_end(self, command, status, report):
+        """Holds that a report ends as its status says, before it is kept."""
+        if STATUSES.get(end_of(report)) != status:
+            raise Refused(f"`{command}` ended with status {status}, and with no such report.")
+
+    def join(self):
+        """The pieces as one report, which is checked and kept."""
+        read, names = list(self.folder.pieces()), self.folder.name
+        for piece in read:
+            if not piece.is_last:
+                machine = pieces.replayed(piece.image, piece.report, names(pieces.IMAGE, piece.number))
+                following = self.folder.image(piece.number + 1)
+                piece.pending = pieces.held_against(machine, following, names(pieces.IMAGE, piece.number + 1))
+        report = pieces.joined(read)
+        turns = sum(len(piece.report.entries) for piece in read)
+        if turns <= pieces.MOST_COMMITS:
+            self.check(read[0].image, report, turns, "the joined report")
+        else:
+            for piece in read:
+                self.check(piece.image, piece.written, len(piece.report.entries), f"piece {piece.number}")
+        write_whole({names(pieces.REPORT): report})
+        return len(read), turns
+
+    def check(self, image, report, turns, what):
+        # At the limit of a piece no further task may commit.
+        commits = turns if end_of(report) == "limit" else pieces.MOST_COMMITS
+        status, told = self.call("check", image + report, max(commits, 1))
+        if status != 0:
+            raise Refused(f"{what} was refused: {told.decode('ascii', 'replace').strip()}.")
+
+
+def show_progress(text):
+    """One line on the terminal, which is written again and again, and cleared at the end."""
+    if is_at_terminal():
+        print(f"\r\x1b[K{NAME}: {text}" if text else "\r\x1b[K", end="", file=sys.stderr, flush=True)

@@ -1,0 +1,57 @@
+"""Runs with host threads, again and again, each of which has to be right."""
+from __future__ import annotations
+
+import collections
+import re
+
+from yotarimu.common.outcome import is_at_terminal
+from yotarimu.common.progress import show_progress
+from yotarimu.images.image import read_image
+from yotarimu.programs.calls import Calls
+from yotarimu.programs.pieces import LIMIT, NESTED
+from yotarimu.programs.program import STATUSES, end_of
+
+WORKERS = (2, 4, 16)
+
+
+def answers_of(program, image, words, runs, jobs, name):
+    """How often each status and text came."""
+    counts, calls = collections.Counter(), Calls(program)
+    for done, (_, answer) in enumerate(calls.each(lambda _: calls.call(words, image), range(runs), jobs), 1):
+        counts[answer] += 1
+        if is_at_terminal():
+            show_progress(name, done, runs)
+    return counts
+
+
+def fault_of(program, image, answer):
+    """What is wrong with a status and a report; None where it is a run's."""
+    status, report = answer
+    if status != STATUSES.get(end_of(report)):
+        return f"ended with status {status} and `{report[-60:].decode('ascii', 'backslashreplace').strip()}`"
+    status, told = Calls(program).call(["check"], image + report)
+    if status != 0:
+        return f"was refused: {told.decode('ascii', 'replace').strip()}"
+    return None
+
+
+def fault_of_saved(program, commits, answer):
+    """What is wrong with what `save` answered at a commit limit below the run's length; None where all is right."""
+    status, written = answer
+    if status == NESTED and re.fullmatch(rb"fault nested [0-9]+\n", written):
+        return None
+    if status != LIMIT:
+        return f"`save --commits {commits}` ended with status {status}"
+    read_image(written, "a saved image")
+    fault = fault_of(program, written, Calls(program).call(["run"], written))
+    return fault and f"an image that was saved after {commits} commits {fault}"
+
+
+def tried(told, program, image, words, runs, jobs, fault_of_answer):
+    """Whether all runs of these words are right; a line tells."""
+    counts = answers_of(program, image, words, runs, jobs, told)
+    faults = [(count, fault_of_answer(answer)) for answer, count in counts.items()]
+    faults = [f"{count} of {runs} {fault}" for count, fault in faults if fault]
+    kinds = "one answer" if len(counts) == 1 else f"{len(counts)} different answers"
+    print(f"{told}: {'; '.join(faults) or f'{runs} runs accepted, {kinds}'}", flush=True)
+    return not faults

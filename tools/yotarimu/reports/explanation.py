@@ -1,0 +1,135 @@
+"""A report as text for people: tasks with labels, the output as text, the window in decimal, the end in words."""
+from __future__ import annotations
+
+from yotarimu.common.text import printable
+from yotarimu.images.image import DATA, STACK, TEXT
+from yotarimu.images.serial_machine import REGISTERS
+from yotarimu.reports.meanings import ENDS, REPLIES, cause_told, tasks_told
+
+# How far below the stack an address is told as one.
+BELOW_STACK = 65_536
+REGISTERS_IN_LINE = 5
+# Replies to more acts than that are counted.
+MOST_REPLIES = 200
+
+
+def image_line(path, image):
+    kind = "ordered" if image.is_ordered else "unordered"
+    return (f"{path}: version {image.version}, an {kind} root domain, {len(image.text) // 4:,} words of text from "
+            f"{TEXT:08x} on, {image.size:,} bytes of data.")
+
+
+def tree_lines(report, machine, listing):
+    """The tasks in the order of their turns, deeper ones set in."""
+    if not report.entries:
+        return ["No task took its turn."]
+    lines = ["Tasks in the order of their turns; those of a subdomain are set in, and arguments come after labels:",
+             "", f"{'turn':>7}  {'task':<11} {'timestamp':>10}  label"]
+    for entry in report.entries:
+        task = machine.tasks.get(entry.name)
+        known = listing.task_words(task.entry, task.arguments) if task and task.turn == entry.turn else "?"
+        lines.append(f"{entry.turn:>7}  {entry.name!s:<11} {entry.timestamp:>10}  {'  ' * (entry.depth - 1)}{known}")
+    return lines
+
+
+def reply_lines(replies):
+    """What the acts of a script were answered: each of a few, else how often which."""
+    if not replies:
+        return []
+    back = sum(said.taken_back for said in replies)
+    acts = "1 act" if len(replies) == 1 else f"{len(replies):,} acts"
+    lines = [f"Replies to {acts} of a script; {back:,} tasks were taken back:", ""]
+    if len(replies) <= MOST_REPLIES:
+        lines += [f"{number:>7}  {reply_told(said)}" for number, said in enumerate(replies, 1)]
+    else:
+        kinds = dict.fromkeys(said.reply for said in replies)
+        lines += [f"{sum(said.reply == kind for said in replies):>7,}  {kind}{meaning(kind)}" for kind in kinds]
+    return [*lines, ""]
+
+
+def reply_told(said):
+    back = f", {said.taken_back:,} taken back" if said.taken_back else ""
+    return f"{said.reply}{meaning(said.reply)}{back}"
+
+
+def meaning(reply):
+    return f": {REPLIES[reply]}" if reply in REPLIES else ""
+
+
+def output_lines(output):
+    if not output:
+        return ["No byte was emitted."]
+    count = "1 byte" if len(output) == 1 else f"{len(output):,} bytes"
+    return [f"Output, {count}, as text:", "", *(f"  {line}" for line in text_lines(output))]
+
+
+def text_lines(output):
+    """Bytes as lines of text, each with its newline written out."""
+    pieces = [piece + b"\n" for piece in output.split(b"\n")]
+    pieces[-1] = pieces[-1][:-1]
+    return [printable(piece) for piece in pieces if piece]
+
+
+def window_lines(window, listing):
+    if not window:
+        return []
+    lines = ["Window, each word in decimal and in hexadecimal:", ""]
+    for address, value in window:
+        as_signed = f"  or {value - 2 ** 32}" if value >= 2 ** 31 else ""
+        lines.append(f"  {listing.label(address) or '':<20} {address:08x} {value:>12} {value:08x}{as_signed}")
+    return [*lines, ""]
+
+
+def end_lines(report, machine, listing):
+    if not report.trap:
+        return [ENDS[report.end]]
+    trap = report.trap
+    task = machine.tasks.get(trap.name)
+    what, usual = cause_told(trap.cause, machine.image.limits)
+    known = ""
+    if task:
+        words = listing.task_words(task.entry, task.arguments)
+        known = f" ({words}; timestamp {task.timestamp}, depth {task.domain.depth})"
+    place = listing.place(trap.pc)
+    return [f"The run ended in a trap of the task {trap.name}{known}.",
+            f"  cause {trap.cause}: {what}; usually from {usual}",
+            f"  at {trap.pc:08x}, {listing.label(trap.pc) or 'without a label'}" + (f", {place}" if place else ""),
+            *state_lines(machine, listing, trap)]
+
+
+def state_lines(machine, listing, trap):
+    """The address and the registers of the trap, where running the task again comes to it."""
+    found = machine.trapped(trap)
+    if not found:
+        return []
+    run, trapped = found
+    lines = [] if trapped.address is None else [f"  address {address_told(listing, machine.image, trapped.address)}"]
+    registers = [f"{name} {value:08x}" for name, value in zip(REGISTERS, run.registers) if value]
+    for first in range(0, len(registers), REGISTERS_IN_LINE):
+        title = "" if first else "registers"
+        lines.append(f"  {title:<9} {'  '.join(registers[first:first + REGISTERS_IN_LINE])}")
+    return [*lines, f"  {'':<9} all others are 0"]
+
+
+def address_told(listing, image, address):
+    """An address, with what is there."""
+    if TEXT <= address < TEXT + len(image.text):
+        place = f"{listing.labelled(address)}, in the text"
+    elif DATA <= address < DATA + image.size:
+        place = f"{listing.labelled(address)}, in the data"
+    elif STACK <= address < STACK + image.limits.stack:
+        place = "in the stack"
+    elif image.limits.stack and STACK - BELOW_STACK <= address < STACK:
+        place = f"{STACK - address:,} bytes below the stack"
+    elif DATA <= address < STACK:
+        place = f"{address - DATA - image.size:,} bytes after the end of the data"
+    else:
+        place = "where nothing is"
+    return f"{address:08x}, {place}"
+
+
+def text_of(image_path, image, replies, report, machine, listing):
+    """All that is told, for people."""
+    return [image_line(image_path, image), f"{tasks_told(len(report.entries))}.", "", *reply_lines(replies),
+            *tree_lines(report, machine, listing), "", *output_lines(report.output), "",
+            *window_lines(report.window, listing), *end_lines(report, machine, listing)]

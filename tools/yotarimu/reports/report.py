@@ -1,0 +1,90 @@
+"""Reports as files: docs/guest/FORMATS.md."""
+from __future__ import annotations
+
+import dataclasses
+import re
+
+from yotarimu.common.outcome import Refused
+
+NUMBER = "([0-9]{1,10})"
+# From 1 to 16.
+DEPTH = "([1-9]|1[0-6])"
+
+
+@dataclasses.dataclass(frozen=True)
+class Name:
+    """A task's name: which turn created it (0: the image), and the place among that turn's children."""
+    creator: int
+    index: int
+
+    def __str__(self):
+        return f"{self.creator}.{self.index}"
+
+
+@dataclasses.dataclass
+class Entry:
+    """A task that took its turn."""
+    turn: int
+    name: Name
+    depth: int
+    timestamp: int
+
+
+@dataclasses.dataclass
+class Trap:
+    cause: int
+    pc: int
+    name: Name
+
+
+@dataclasses.dataclass
+class Report:
+    """A report's parts. `end` is normal, limit, open or trap, and `trap` is told with the last."""
+    entries: list
+    output: bytes
+    window: list
+    end: str
+    trap: Trap
+
+
+@dataclasses.dataclass
+class Lines:
+    """The lines of a report, taken one after another."""
+    name: str
+    texts: list
+    taken: int = 0
+
+    def take(self, pattern):
+        """The match of the next line, which is taken if it has this form; else None."""
+        found = re.fullmatch(pattern, self.texts[self.taken]) if self.taken < len(self.texts) else None
+        self.taken += found is not None
+        return found
+
+    def need(self, pattern, what):
+        return self.take(pattern) or self.refuse(f"{what} is wanted")
+
+    def refuse(self, why):
+        raise Refused(f"{self.name}:{self.taken + 1}: this is no report: {why}.")
+
+
+def read_report(text, name, start=0):
+    """The report that a text is, after so many lines of something else."""
+    lines = Lines(name, text.removesuffix("\n").split("\n"), start)
+    lines.need("fractal 1", "the line `fractal 1`")
+    entries = []
+    while found := lines.take(rf"{NUMBER} {NUMBER}\.{NUMBER} {DEPTH} {NUMBER}"):
+        turn, creator, index, depth, timestamp = map(int, found.groups())
+        if turn != len(entries) + 1:
+            lines.taken -= 1
+            lines.refuse(f"the turn {len(entries) + 1} is wanted")
+        entries.append(Entry(turn, Name(creator, index), depth, timestamp))
+    output = lines.need("output (-|(?:[0-9a-f]{2})+)", "an entry or the output")[1]
+    window = []
+    while found := lines.take("window ([0-9a-f]{8}) ([0-9a-f]{8})"):
+        window.append((int(found[1], 16), int(found[2], 16)))
+    trap = rf"trap {NUMBER} ([0-9a-f]{{8}}) {NUMBER}\.{NUMBER}"
+    end = lines.need(f"end (normal|limit|open|{trap})", "a word of the window or the end")
+    if lines.taken < len(lines.texts):
+        lines.refuse("nothing is wanted after the end")
+    trap = Trap(int(end[2]), int(end[3], 16), Name(int(end[4]), int(end[5]))) if end[2] else None
+    return Report(entries, b"" if output == "-" else bytes.fromhex(output), window, end[1].split()[0], trap)
