@@ -18,7 +18,7 @@ STUB_BUILD = """cat >/dev/null; mkdir -p out; cp '{}'/"${{PWD##*/}}"/out/"${{PWD
 def build(place):
     need_built(PROGRAM, SECOND_PROGRAM)
     place.stub_tool("rt", STUB_BUILD.format(PROGRAM.parents[2]))
-    expect(place.call("fractal", "build").status == 0, "a build")
+    expect(place.call("fractal", "prove").status == 0, "a build")
 
 
 def archive_of(place):
@@ -51,7 +51,7 @@ def packages_run_elsewhere(place):
     expect(done.returncode == 0 and done.stdout.count(": OK") == 2, "the checksums of both programs", done)
     answer = place.call("fractal", "watch", "least", stdin=image_of(place, "hello"))
     expect(answer.output.startswith(b'{"watch":1,') and answer.errors == "", "the second program's lines", answer)
-    for word in ("build", "package"):
+    for word in ("prove", "package"):
         expect(place.call("fractal", word).status == 69, f"that {word} wants a clone")
 
 
@@ -108,19 +108,19 @@ def packages_are_of_one_commit(place):
     build(place)
     (place.clone / "README.md").write_text("")
     place.call("fractal", "package").sentence("differs from its commit", "README.md", status=70)
-    place.call("fractal", "build")
+    place.call("fractal", "prove")
     git = ["git", "-C", str(place.clone), "-c", "user.name=a", "-c", "user.email=a@b.c"]
     subprocess.run([*git, "checkout", "-q", "README.md"], check=True)
     place.call("fractal", "package").sentence("nothing tells which commit", status=70)
-    place.call("fractal", "build")
+    place.call("fractal", "prove")
     subprocess.run([*git, "commit", "-q", "--allow-empty", "-m", "more"], check=True)
     place.call("fractal", "package").sentence("was built from the commit", status=70)
-    place.call("fractal", "build")
+    place.call("fractal", "prove")
     for program in (place.program, place.second_program):
         with open(program, "ab") as file:
             file.write(b"more")
         place.call("fractal", "package").sentence(f"{program.name} isn't the one that was built", status=70)
-        place.call("fractal", "build")
+        place.call("fractal", "prove")
     one_sentence_each([
         (place.call("fractal", "package", "--fast"), ["`--fast`"]),
         (place.call("fractal", "package", "one", "two"), ["one FOLDER"]),
@@ -153,7 +153,7 @@ def shells_are_helped(place):
         if shutil.which(shell):
             expect(place.call("/usr/bin/env", shell, "-n", shell).status == 0, f"that {shell} reads it")
     script = '. ./bash; COMP_WORDS=({}); COMP_CWORD={}; _fractal; echo "${{COMPREPLY[*]}}"'
-    for words, place_of, wanted in (("fractal lo", 1, "load"), ("fractal run --li", 2, "--line"),
+    for words, place_of, wanted in (("fractal lo", 1, "load lockstep"), ("fractal run --li", 2, "--line"),
                                     ("fractal run --line ''", 3, "4 8 16 32 64"), ("fractal run --line = 6", 4, "64"),
                                     ("fractal load ''", 2, "walk nest"), ("fractal load walk 7 --ti", 4, "--tiles"),
                                     ("fractal watch l", 2, "least lockstep"), ("fractal watch views 3 s", 4, "steps"),

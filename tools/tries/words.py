@@ -40,7 +40,7 @@ REFUSED = (
     ("load walk 7 100001", "`100001`", "1 to 100000"),
     ("load nest 7 10001", "`10001`", "1 to 10000"),
     ("load nest 7 1 1", "one word too many"),
-    ("build now", "`build` stands alone", "`now`"),
+    ("prove now", "`prove` stands alone", "`now`"),
     ("README.md", "no command"),
 )
 # A line of a script that is refused, and why.

@@ -1,4 +1,4 @@
-"""Tries what ./fractal and the scripts of examples/ and bench/ promise, each in a fresh clone of what is committed.
+"""Tries what ./fractal, its tools and the scripts of bench/ promise, each in a fresh clone of what is committed.
 
 usage: ./fractal tries [WORD]...     the tries whose names hold one of the words; all where none is told
 

@@ -1,6 +1,6 @@
 """What a line of the second program says, in a sentence: docs/guest/FORMATS.md has the lines.
 
-A sentence is made of a line that was read, with what it did, and of the machine behind it, as `tools.watched` gives
+A sentence is made of a line that was read, with what it did, and of the machine behind it, as `lines.reader` gives
 them. A listing gives labels to addresses. Until the creator of a task commits, the task has a label in place of a name:
 `0.1+2` is child 2 of 0.1, counted from 0.
 """

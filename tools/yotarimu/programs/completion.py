@@ -29,7 +29,7 @@ _{name}() {{
                         [ "$COMP_CWORD" -ne 2 ] || words='{leading}'
                         [ "$COMP_CWORD ${{COMP_WORDS[2]}}" != '4 views' ] || words='{courses}'
                         ;;
-                    help) words='{commands_apart}' ;;
+                    help) words='{first}' ;;
                 esac
                 ;;
         esac
@@ -63,6 +63,8 @@ case $command in
         _arguments -S '1:course:({leading})' '*:further:' \\
 {options}
         ;;
+    help) _describe -t commands command words_of_{name} ;;
+    *) _files ;;
 esac
 """
 
@@ -78,7 +80,7 @@ def bash(table):
     values = "\n".join(f"            --{name}) words='{values_of(it)}' ;;" for name, it in table.options.items())
     return BASH.format(name=NAME, first=" ".join([*table.commands, *table.own]), values=values,
                        options=" ".join(f"--{name}" for name in table.options), kinds=" ".join(table.kinds),
-                       commands="|".join(table.commands), commands_apart=" ".join(table.commands),
+                       commands="|".join(table.commands),
                        leading=leading_words(table), courses=" ".join(table.course_rows))
 
 
@@ -115,7 +117,7 @@ def man(table):
     lines.append(".SH COURSES OF WATCH")
     for name, (further, given, purpose) in table.course_rows.items():
         lines += entry(f"{name} {further}".strip(), f"{purpose}; reads {given}")
-    lines.append(".SH FURTHER COMMANDS")
+    lines.append(".SH FURTHER WORDS")
     for name, purpose in table.own.items():
         lines += entry(f"{name} {table.own_words[name]}".strip(), purpose)
     lines += [".SH OPTIONS", "Each stands at most once, as", f"{DASHES}\\fIOPTION VALUE\\fR",
