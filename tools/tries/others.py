@@ -31,7 +31,8 @@ for file in "$3"/*.args; do
     case=${file%.args}
     status=0
     case $(head -n 2 "$case.stdout" | tr '\\0' ' ') in
-        'fault usage'*) status=1 ;; 'fault image'*) status=2 ;; 'fault long'*) status=10 ;; 'fault journal'*) status=8 ;;
+        'fault usage'*) status=1 ;; 'fault image'*) status=2 ;; 'fault long'*) status=10 ;;
+        'fault journal'*) status=8 ;;
         'fault script'*) status=9 ;; 'fault nested'*) status=12 ;; 'fault tasks'*) status=13 ;; FRAC*) status=4 ;;
     esac
     ! grep -aq '^end trap' "$case.stdout" || status=3
@@ -90,7 +91,8 @@ def each_instruction_has_its_line(place):
             expect(not without or is_library, f"a source line of each instruction of {name}", without)
             counts.append(len(lines) - len(without))
         expect(sum(counts) > 2, f"instructions of {name}", text)
-    text = "# image: task main\nmain:\n    lw a0, odd\n    li a7, 0\n    ecall\n    .data\n    .byte 1\nodd:\n    .word 5\n"
+    text = ("# image: task main\nmain:\n    lw a0, odd\n    li a7, 0\n    ecall\n"
+            "    .data\n    .byte 1\nodd:\n    .word 5\n")
     folder = folder_with(place, "second", task=text)
     expect(place.call("fractal build", str(folder)).status == 0, "an image")
     report = b"fractal 1\noutput -\nend trap 4 00010004 0.0\n"
@@ -193,7 +195,7 @@ def explain_refuses_bad_files(place):
         (place.call(explain, "/dev/zero", report), ["/dev/zero", "more than 268,435,456 bytes"]),
         (place.call(explain, image, report, "/dev/zero"), ["/dev/zero", "more than"]),
         (place.call("fractal sweep", "--rows", "/dev/zero"), ["/dev/zero", "more than"]),
-        (place.call("/bin/sh", "-c", '"$0" "$1" - <&-', str(place.clone / explain), image), ["standard input is closed"]),
+        (place.by_shell('"$0" explain "$1" - <&-', image), ["standard input is closed"]),
     ])
 
 
@@ -306,8 +308,9 @@ def each_fails_the_gate(place):
     source = place.clone / "crates" / "rv_core" / "src" / "lib.rt"
     text = source.read_text()
     for proved, is_built, is_spoiled, is_wide, wanted in (
-            (0, False, True, False, 0), (0, True, False, False, 0), (0, True, True, False, 1), (2, True, False, False, 2),
-            (2, True, True, True, 2), (2, False, False, False, 2), (0, True, False, True, 1), (0, False, False, True, 1)):
+            (0, False, True, False, 0), (0, True, False, False, 0), (0, True, True, False, 1),
+            (2, True, False, False, 2), (2, True, True, True, 2), (2, False, False, False, 2),
+            (0, True, False, True, 1), (0, False, False, True, 1)):
         (place.root / "proved").write_text(str(proved))
         shutil.rmtree(place.program.parent, ignore_errors=True)
         if is_built:
@@ -394,7 +397,8 @@ def broken_programs_are_rows(place):
     place.stub(place.program, 'cat >/dev/null; case $* in *budget=2*) exit 5 ;; esac\n'
                               "printf '\\n1 0.0 1 0\\noutput -\\nend normal\\n'\n")
     answer = place.call("fractal sweep", image, "--budget", "1,2")
-    expect(answer.status == 0 and [row["status"] for row in rows_in(answer.output)] == ["0", "5"], "one that failed", answer)
+    statuses = [row["status"] for row in rows_in(answer.output)]
+    expect(answer.status == 0 and statuses == ["0", "5"], "one that failed", answer)
 
 
 def files_are_written_through(place):
@@ -530,11 +534,12 @@ def sweep_refuses_bad_words(place):
 
 
 def interrupted_sweeps_leave_nothing(place):
-    """a sweep that is interrupted says so, ends its runs, leaves no file, and has what was finished on standard output"""
+    """a sweep that is interrupted says so, ends its runs, leaves no file, and tells what was finished"""
     mark = place.root / "started"
     image = files_of(place, "hello")[0]
     words = ["fractal sweep", image, "--jobs", "2", "--budget", "1..9", "--csv", "x.csv"]
-    report = "cat >/dev/null; case $* in *budget=1\\ *) printf '\\n1 0.0 1 0\\noutput -\\nend normal\\n'; exit ;; esac\n"
+    report = ("cat >/dev/null; case $* in *budget=1\\ *) "
+              "printf '\\n1 0.0 1 0\\noutput -\\nend normal\\n'; exit ;; esac\n")
     for start, finished in (("", 0), (report, 1)):
         mark.unlink(missing_ok=True)
         place.stub(place.program, f"{start}touch '{mark}'; exec sleep 100\n")

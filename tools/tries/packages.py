@@ -204,12 +204,14 @@ def wrong_files(place, exercise):
             ("journal", "1 0.0 1 0\n2 1.2 2 0\n", "line 2: the timestamp"), ("journal", "", "one more comes"),
             ("journal", "1 0.0 1 0\n2 1.2 1 9\n", "line 2: the depth"),
             ("journal", "1 0.0 1 0\n2 1.2 2 9\n3 1.1 1 1\n4 0.1 1 2\n5 1.0 1 3\n6 0.2 1 4\n", "only 5 tasks"),
-            ("abort", "commit\n", "no act takes"), ("abort", stepped, "hasn't come to its end"), ("abort", "# no\n", "no act"),
+            ("abort", "commit\n", "no act takes"), ("abort", stepped, "hasn't come to its end"),
+            ("abort", "# no\n", "no act"),
             ("abort", "dispatch 0\nabort 0\n", "no act takes"), ("stall", "commit\n", "answered `stall`"),
             ("stall", "dispatch 0\ndispatch 0\nstep 0 0\nstep 0 1\n", "hasn't come to its end")):
         (place.root / "answer").write_text(text)
         answer = place.call(exercise, name, "answer")
-        expect(answer.status == 1 and answer.output.startswith(b"wrong: ") and part in answer.output.decode(), part, answer)
+        told = answer.output.decode()
+        expect(answer.status == 1 and told.startswith("wrong: ") and part in told, part, answer)
 
 
 def exercises_are_rebuilt(place):

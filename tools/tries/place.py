@@ -169,7 +169,7 @@ class Place:
         return Answer(done.returncode, done.stdout, done.stderr.decode("utf-8", "replace"))
 
     def command(self, word):
-        """The words of a call: `fractal build` and `bench/run` are the clone's; one that begins with a slash is itself."""
+        """A call: `fractal build` and `bench/run` are the clone's; one that begins with a slash is itself."""
         if str(word).startswith("/"):
             return [word]
         path, *further = str(word).split(" ")

@@ -382,7 +382,8 @@ def threads_are_checked(place):
     wanted = "".join(f"hello with {workers} workers: 3 runs accepted, one answer\n" for workers in (2, 4, 16))
     answer = place.call("fractal workers", "hello", "--runs", "3", "--jobs", "2")
     expect(answer == Answer(0, wanted.encode(), ""), "nine runs", answer)
-    for text, part in (("exit 3", "status 3"), ("[ $1 = run ] || { echo 'fault journal 2'; exit 8; }", "fault journal 2")):
+    refusing = "[ $1 = run ] || { echo 'fault journal 2'; exit 8; }"
+    for text, part in (("exit 3", "status 3"), (refusing, "fault journal 2")):
         stub = place.stub(place.root / "stub", f"cat >/dev/null; {text}; printf '\\nend normal\\n'\n")
         answer = place.call("fractal workers", "hello", "--runs", "2", "--program", str(stub))
         expect(answer.status == 1 and "2 of 2 " in answer.output.decode(), "a failure", answer)
@@ -469,9 +470,11 @@ def benches_are_told(place):
 def programs_are_held_against_each_other(place):
     """two programs that say the same are told so, by kinds; at the first difference both answers are kept"""
     one = str(place.stub(place.root / "one", "cat >/dev/null; echo fault usage; exit 1\n"))
-    other = str(place.stub(place.root / "other", "cat >/dev/null; echo fault usage; [ $1 = trace ]; exit $((2 - $?))\n"))
+    lying = "cat >/dev/null; echo fault usage; [ $1 = trace ]; exit $((2 - $?))\n"
+    other = str(place.stub(place.root / "other", lying))
     answer = place.call("bench/same", one, one, "20")
-    expect((answer.status, answer.errors) == (0, "") and b"20 cases, with " in answer.output, "the same answers", answer)
+    expect((answer.status, answer.errors) == (0, ""), "no difference", answer)
+    expect(b"20 cases, with " in answer.output, "the same answers", answer)
     kept = place.root / "kept"
     kept.mkdir()
     answer = place.call("bench/same", one, other, "40", "--to", str(kept))

@@ -155,8 +155,8 @@ def number(chance, least, most, values=()):
 
 def change(chance, words, table):
     """One change of a call, which may leave it right."""
-    other = chance.choice(("", "-", "--", "---", "--=", "--tiles", "--tiles=2", "--line=16=", "-1", "+1", " 2", "2 ", "١",
-                           "é", "1\n2", "0x2", "1e3", "walk", "run", "--Tiles", "--tiles ", "--help", "--version", "|",
+    other = chance.choice(("", "-", "--", "---", "--=", "--tiles", "--tiles=2", "--line=16=", "-1", "+1", " 2", "2 ",
+                           "١", "é", "1\n2", "0x2", "1e3", "walk", "run", "--Tiles", "--tiles ", "--help", "--version", "|",
                            "--tiles|1..16", "*", "\\n", *table.options, *table.commands))
     place = chance.randrange(len(words) + 1)
     kind = chance.choice("insert remove replace repeat swap spell".split())
@@ -181,7 +181,7 @@ def change(chance, words, table):
 
 
 def refused_scripts_are_told(place):
-    """a script's refusal tells the line and what is wrong with it, where it comes from a file; from a pipe it tells that"""
+    """a script's refusal tells the line and what is wrong with it, where it comes from a file, and that from a pipe"""
     place.needs_program()
     image = (place.clone / "examples" / "pipeline" / "image.bin").read_bytes()
     for line, *parts in LINES:
@@ -255,7 +255,8 @@ def scripts_are_played_beside_their_lines(place):
     answer = place.call("fractal play", str(script), *words, "--plain", "plain")
     wanted = ["    1  # First.", "    2", "    3  dispatch 0   # starts  ok", "    5", ""]
     lines = answer.output.decode().splitlines()
-    expect((answer.status, answer.errors) == (0, "") and [lines[at] for at in (0, 1, 2, 4, 6)] == wanted, "lines", answer)
+    expect((answer.status, answer.errors) == (0, ""), "no error", answer)
+    expect([lines[at] for at in (0, 1, 2, 4, 6)] == wanted, "lines", answer)
     expect(lines[3].split() == ["4", "step", "0", "0", "ok"] and lines[5].endswith("  stale"), "replies", answer)
     expect((place.root / "plain").read_bytes() == b"dispatch 0\nstep 0 0\nstep 1 0\n", "the plain script")
     expect("3 acts; 0 commits" in " ".join(picture_in((place.root / "p.svg").read_bytes())), "a picture")

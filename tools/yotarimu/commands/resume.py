@@ -3,12 +3,12 @@ reports to one.
 
 usage: ./fractal resume IMAGE FOLDER --every N [--OPTION VALUE]... [--program FILE]
 
-FOLDER is all that it keeps: `0001.image` and `0001.report`, and so on, and at the end `report`, the run as one. Where it
-was interrupted, the same words go on with the piece that was under way. A run can't be cut where a task of a subdomain
-pends, or more tasks than an image has room for: then it is told, and cut at the next count of commits at which it can be.
-The joined report is checked, up to 1,000,000 commits; of a longer run each piece is. OPTION is one of the program but
---commits, and --workers 0 alone, since a run with workers isn't made twice alike. --program names a built program in
-place of the one of this clone.
+FOLDER is all that it keeps: `0001.image` and `0001.report`, and so on, and at the end `report`, the run as one. Where
+it was interrupted, the same words go on with the piece that was under way. A run can't be cut where a task of a
+subdomain pends, or more tasks than an image has room for: then it is told, and cut at the next count of commits at
+which it can be. The joined report is checked, up to 1,000,000 commits; of a longer run each piece is. OPTION is one of
+the program but --commits, and --workers 0 alone, since a run with workers isn't made twice alike. --program names a
+built program in place of the one of this clone.
 """
 from __future__ import annotations
 

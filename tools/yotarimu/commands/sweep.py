@@ -17,9 +17,9 @@ FROM..TO..STEP; the grid has a run for each choice of one value an option. Furth
   --rows CSV                 runs nothing, and plots the rows of such a file
 
 Columns: input, each option as --OPTION, status, commits, seconds (on the clock), output and window (the first 16 digits
-of a SHA-256 of the bytes that were emitted and of the lines of the window), check. A run that fails is a row; the status is
-1 where each one failed, which is to give no report, or one that `check` refuses. A sweep that is ended early, or whose
-FILE can't be written, has the rows that are there on standard output.
+of a SHA-256 of the bytes that were emitted and of the lines of the window), check. A run that fails is a row; the
+status is 1 where each one failed, which is to give no report, or one that `check` refuses. A sweep that is ended early,
+or whose FILE can't be written, has the rows that are there on standard output.
 """
 from __future__ import annotations
 

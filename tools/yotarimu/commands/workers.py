@@ -4,10 +4,10 @@ usage: ./fractal workers [NAME]... [--runs N] [--jobs N] [--program FILE]
 
 Each example, all where none is named, is run N times (200 unless told) with 2, with 4 and with 16 workers. Its line
 tells how many different reports came. Each has to have the status of its end and to be accepted by `check`; the status
-is 1 where one isn't. Then `save` ends it after half of its commits, as often: each saved image has to run to an accepted
-report, or the status has to tell that there is none (12). --jobs tells how many runs are made at once (1 unless told),
-and --program a built program in place of the one of this clone. This stands beside the gate: all of it takes some
-minutes.
+is 1 where one isn't. Then `save` ends it after half of its commits, as often: each saved image has to run to an
+accepted report, or the status has to tell that there is none (12). --jobs tells how many runs are made at once (1
+unless told), and --program a built program in place of the one of this clone. This stands beside the gate: all of it
+takes some minutes.
 """
 from __future__ import annotations
 

@@ -43,8 +43,8 @@ def judge_journal(path):
     given = [(number, fields) for number, fields in enumerate(given, 1) if fields]
     for number, fields in given:
         if len(fields) != len(FIELDS):
-            raise Refused(f"{path}:{number}: `{' '.join(fields)[:MOST_SHOWN]}` is no line of a journal, which is a turn, "
-                          "a name, a depth and a timestamp.")
+            raise Refused(f"{path}:{number}: `{' '.join(fields)[:MOST_SHOWN]}` is no line of a journal, which is a "
+                          "turn, a name, a depth and a timestamp.")
     report = run_of(FOLDER / "journal" / "image.bin")
     for (number, fields), entry in zip(given, report.entries):
         wanted = (entry.turn, entry.name, entry.depth, entry.timestamp)

@@ -1,4 +1,4 @@
-"""Scripts, what the program says when it plays them, and scripts that are made: docs/guest/FORMATS.md has their lines."""
+"""Scripts, what the program says when it plays them, and scripts in lockstep: docs/guest/FORMATS.md has their lines."""
 from __future__ import annotations
 
 import collections

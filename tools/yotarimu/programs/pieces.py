@@ -1,7 +1,8 @@
 """A long run in pieces: each ends at a commit limit, and the next begins with the image that `save` made there.
 
 All of it stands in one folder: of each piece its image and, once it was run, its report. The tasks that pend at its end
-have no names in a saved image, so the piece is run again by the plain reading of its instructions, and what pends is held against the image.
+have no names in a saved image, so the piece is run again by the plain reading of its instructions, and what pends is
+held against the image.
 """
 from __future__ import annotations
 
@@ -23,7 +24,7 @@ IMAGE, REPORT, WORDS = "image", "report", "words"
 
 @dataclasses.dataclass
 class Piece:
-    """A piece that was run: its number, its image, its report as it was written and read, and whether it is the last."""
+    """A piece that was run: its number, its image, its report as written and as read, and whether it is the last."""
     number: int
     image: bytes
     written: bytes

@@ -69,9 +69,11 @@ class Resumed:
         name = self.folder.name(pieces.IMAGE, number)
         read = read_report(report.decode("utf-8", "replace"), name)
         commits = pieces.next_cut(image, read, self.every, name)
-        where = f"after {counted(turns + self.every, 'commit')} the run can't be cut ({told.decode('ascii', 'replace').strip()})"
-        then = f"the next cut is after {turns + commits:,}" if commits else "nor anywhere behind, so the rest is one piece"
-        say(NAME, f"{where}; {then}.")
+        why = told.decode("ascii", "replace").strip()
+        rest = "nor anywhere behind, so the rest is one piece"
+        if commits:
+            rest = f"the next cut is after {turns + commits:,}"
+        say(NAME, f"after {counted(turns + self.every, 'commit')} the run can't be cut ({why}); {rest}.")
         return commits
 
     def need(self, command, image, commits, statuses):

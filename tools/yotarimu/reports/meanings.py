@@ -31,8 +31,8 @@ ENDS = {
     "open": "The end is open: a task is left, and nobody ran it.",
 }
 # The words of causes that an image's version decides, where that isn't known.
-EITHER = {"readable": "text, data and any stack", "writable": "data and any stack", "stack": "more than a stack, if any",
-          "depth": "8 or 16", "child": "65th, or in version 2 a 257th,"}
+EITHER = {"readable": "text, data and any stack", "writable": "data and any stack",
+          "stack": "more than a stack, if any", "depth": "8 or 16", "child": "65th, or in version 2 a 257th,"}
 # What a reply says, where it isn't what was asked for.
 REPLIES = {
     "empty": "there is nothing to do it with",
@@ -69,7 +69,8 @@ def told_without_report(text):
     if found := re.fullmatch("fault script ([0-9]{1,10})", line):
         return f"The script was refused: its line {found[1]} is the first outside the grammar."
     if found := re.fullmatch("fault nested ([0-9]{1,10})", line):
-        return f"No image was saved: a task pends in a subdomain, at depth {found[1]}; another --commits may cut elsewhere."
+        return (f"No image was saved: a task pends in a subdomain, at depth {found[1]}; "
+                "another --commits may cut elsewhere.")
     if found := re.fullmatch("fault tasks ([0-9]{1,10})", line):
         return f"No image was saved: {int(found[1]):,} tasks pend, and an image has 65,536 at most."
     statuses = {"fault usage": 1, "fault long": 10}

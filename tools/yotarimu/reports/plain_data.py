@@ -1,5 +1,5 @@
-"""What ./fractal explain tells, for other programs: as plain data, and tasks as rows; and whether a report is of an image
-at all."""
+"""What ./fractal explain tells, for other programs: as plain data, and tasks as rows; and whether a report is of an
+image at all."""
 from __future__ import annotations
 
 import csv

@@ -25,7 +25,8 @@ SHAPES = {
 # What the program holds against a line that is inside the grammar.
 OTHER_RUNS = {
     "an entry": "no run has this task there: it isn't pending, isn't of the innermost domain that has a task, hasn't "
-                "the least timestamp there, traps, or has another depth or timestamp; or --commits was reached before it",
+                "the least timestamp there, traps, or has another depth or timestamp; or --commits was reached before "
+                "it",
     "the output": "these aren't the bytes that the tasks emitted",
     "a word of the window": "the image's window has no such word there, or the memory holds another value at the end",
     "the end": "the run doesn't end so, or a word of the window is missing before it",
