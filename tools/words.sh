@@ -144,7 +144,8 @@ fault_of_text() {
     case $2 in
         -?*)
             values_of option "$1"
-            put "a value is missing after \`--$1\`, which takes $(told_values "$values"); $(shown "$2") begins with a dash."
+            dashed="$(shown "$2") begins with a dash"
+            put "a value is missing after \`--$1\`, which takes $(told_values "$values"); $dashed."
             ;;
         *) fault_of_value "$1" "$2" ;;
     esac

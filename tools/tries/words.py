@@ -156,8 +156,8 @@ def number(chance, least, most, values=()):
 def change(chance, words, table):
     """One change of a call, which may leave it right."""
     other = chance.choice(("", "-", "--", "---", "--=", "--tiles", "--tiles=2", "--line=16=", "-1", "+1", " 2", "2 ",
-                           "١", "é", "1\n2", "0x2", "1e3", "walk", "run", "--Tiles", "--tiles ", "--help", "--version", "|",
-                           "--tiles|1..16", "*", "\\n", *table.options, *table.commands))
+                           "١", "é", "1\n2", "0x2", "1e3", "walk", "run", "--Tiles", "--tiles ", "--help", "--version",
+                           "|", "--tiles|1..16", "*", "\\n", *table.options, *table.commands))
     place = chance.randrange(len(words) + 1)
     kind = chance.choice("insert remove replace repeat swap spell".split())
     if kind == "insert" or not words:
