@@ -1,4 +1,17 @@
-"""Reads what the second program tells, line by line, while the machine of the lines follows."""
+"""A run that the second program told, read line by line, while the machine of the lines follows.
+
+`open_watched` opens a text, and `Watched` reads it. Each turn of its loop is a line behind the head, after the machine
+has done what it tells:
+
+    with open_watched("lines") as watched:
+        for told in watched:
+            told.number, told.line           # the line's number in the text, and its fields by name
+            told.task, told.taken, ...       # what it did, as objects
+            watched.machine                  # as it stands behind it
+    watched.head, watched.end                # the first and the last line's fields; the end is None in a cut text
+
+A line that can't follow is refused by its number.
+"""
 from __future__ import annotations
 
 import contextlib

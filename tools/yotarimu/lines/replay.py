@@ -1,18 +1,9 @@
-"""A run that the second program told, read line by line and replayed: the machine's inside, from the lines alone.
+"""The machine as the second program's lines leave it, made of the lines alone.
 
-`open_watched` opens a text, and `Watched` reads it. Each turn of its loop is a line behind the head, after the machine
-has done what it tells:
-
-    with open_watched("lines") as watched:
-        for told in watched:
-            told.number, told.line           # the line's number in the text, and its fields by name
-            told.task, told.taken, ...       # what it did, as objects
-            watched.machine                  # as it stands behind it
-    watched.head, watched.end                # the first and the last line's fields; the end is None in a cut text
-
-What is kept doesn't grow with the text: the uncommitted tasks, the words of memory that were touched where the caller
-asks for them, and nothing of a task once it has left. Each line is held against the machine. One that can't follow is
-refused by its number: a task that isn't there, work or a name that isn't what counting gives.
+`lines.reader` hands each line to `Machine.follow`. What is kept doesn't grow with the text: the uncommitted tasks, the
+words of memory that were touched where the caller asks for them, and nothing of a task once it has left. Each line is
+held against the machine. One that can't follow is refused: a task that isn't there, work or a name that isn't what
+counting gives.
 """
 from __future__ import annotations
 

@@ -1,4 +1,4 @@
-"""Runs of the program over a grid of options, several at once."""
+"""Calls of a built program, several at once, all of which can be ended."""
 from __future__ import annotations
 
 import concurrent.futures

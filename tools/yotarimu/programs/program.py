@@ -1,4 +1,4 @@
-"""The program: what it knows, as the launcher tells it, and how it is run."""
+"""Where the launcher and the built programs stand, and which status belongs to which end of a report."""
 from __future__ import annotations
 
 from yotarimu.common.places import HOME
