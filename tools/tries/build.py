@@ -292,6 +292,7 @@ def interrupts_leave_nothing(place):
     folder = folder_with(place, "slow", task=GOOD)
     mark = place.root / "started"
     place.stub_tool("riscv64-linux-gnu-as", f"touch '{mark}'; exec sleep 100\n")
+    place.stub_tool("riscv64-linux-gnu-ar", "")
     place.stub_tool("riscv64-linux-gnu-ld", "")
     place.stub_tool("riscv64-linux-gnu-objdump", "")
     for number in (signal.SIGINT, signal.SIGTERM):
