@@ -89,7 +89,7 @@ def own_words_are_told(place):
     version = answer.output.decode()
     expect(version.startswith("fractal ") and f"commit {head.stdout.strip()}\n" in version, "the commit", answer)
     page = place.call("fractal", "help").output
-    for words in (["run", "--help"], ["run", "--tiles", "2", "--help"], ["help", "run"]):
+    for words in (["run", "--help"], ["run", "--tiles", "2", "--help"], ["help", "--help"]):
         expect(place.call("fractal", *words) == Answer(0, page, ""), "the page", words)
     (place.clone / "README.md").write_text("")
     expect(b", with changes\n" in place.call("fractal", "--version").output, "a clone that was changed")
@@ -240,6 +240,16 @@ def refusals_want_both(place):
 # ---- play
 
 
+def each_word_is_told(place):
+    """`help WORD` tells how each word is called, and a word that isn't known is refused in a sentence"""
+    table = Table()
+    for word in (*table.commands, *table.own):
+        answer = place.call("fractal", "help", word)
+        expect((answer.status, answer.errors) == (0, ""), f"a page on {word}", answer)
+        expect(f"usage: ./fractal {word}".encode() in answer.output, f"how {word} is called", answer)
+    place.call("fractal", "help", "rum").sentence("`rum` is no word", "./fractal help lists them")
+
+
 def scripts_are_played_beside_their_lines(place):
     """a script with comments, blank lines and CRLF is played, each reply beside its line, and drawn"""
     place.needs_program()
@@ -289,6 +299,6 @@ def play_refuses_bad_words(place):
 
 
 TRIES = (
-    refused_words_are_told, own_words_are_told, random_words_are_judged_alike, refused_scripts_are_told,
-    refused_reports_are_told, refusals_want_both, scripts_are_played_beside_their_lines, play_refuses_bad_words,
+    refused_words_are_told, own_words_are_told, each_word_is_told, random_words_are_judged_alike,
+    refused_scripts_are_told, refused_reports_are_told, refusals_want_both, scripts_are_played_beside_their_lines, play_refuses_bad_words,
 )
