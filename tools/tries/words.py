@@ -300,5 +300,6 @@ def play_refuses_bad_words(place):
 
 TRIES = (
     refused_words_are_told, own_words_are_told, each_word_is_told, random_words_are_judged_alike,
-    refused_scripts_are_told, refused_reports_are_told, refusals_want_both, scripts_are_played_beside_their_lines, play_refuses_bad_words,
+    refused_scripts_are_told, refused_reports_are_told, refusals_want_both, scripts_are_played_beside_their_lines,
+    play_refuses_bad_words,
 )
