@@ -1,6 +1,7 @@
 -- Contracts mean all but Picks, which serves this crate alone.
 pub mod Settings
 pub mod View
+pub mod Effects
 pub mod StateValue
 pub mod Fits
 pub mod Children
