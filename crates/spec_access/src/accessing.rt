@@ -23,6 +23,7 @@ use undo_log::{load_with, store_with};
 fn reserve_access<N: Naming>(state: &mut State<N>, id: TaskId) -> Result<(), AllocError>
     requires live { IsSome (task_at state.old.view id.0) }
     ensures view { state.new.view ≡ state.old.view }
+    ensures effect { state.new.effect ≡ state.old.effect }
     ensures spare { state.new.spare ≡ record state.old.spare { log = state.new.spare.log } }
     ensures covers { OnOk result (CoversLog state.new id.0) }
     ensures enough { CoversLog state.old id.0 → IsOk result }
@@ -48,6 +49,7 @@ fn load_reserved<N: Naming>(
         → TakesLeg state.old.view tile core leg.now id.0 task
         → HasNotes task.lines (notes_of state.old.view.settings.line task.log)
         → LoadsFrom id.0 task leg.now width rd offset state.old.view state.new.view }
+    ensures effect { state.new.effect ≡ state.old.effect }
     ensures spare { state.new.spare ≡ record state.old.spare { log = state.new.spare.log } }
 {
     let _to = leg.to();
@@ -82,6 +84,7 @@ pub fn load_at<N: Naming>(
         → LoadsFrom id.0 task leg.now width rd offset state.old.view state.new.view) }
     ensures err { OnErr result (state.new ≡ state.old) }
     ensures covered { CoversLog state.old id.0 → IsOk result }
+    ensures effect { state.new.effect ≡ state.old.effect }
     ensures spare { state.new.spare ≡ record state.old.spare { log = state.new.spare.log } }
 {
     reserve_access(state, id)?;
@@ -105,6 +108,7 @@ fn store_reserved<N: Naming>(
         → TakesLeg state.old.view tile core leg.now id.0 task
         → HasNotes task.lines (notes_of state.old.view.settings.line task.log)
         → StoresTo id.0 task leg.now offset width value state.old.view state.new.view }
+    ensures effect { state.new.effect ≡ state.old.effect }
     ensures spare { state.new.spare ≡ record state.old.spare { log = state.new.spare.log } }
 {
     let budget = state.settings.budget;
@@ -141,6 +145,7 @@ pub fn store_at<N: Naming>(
         → StoresTo id.0 task leg.now offset width value state.old.view state.new.view) }
     ensures err { OnErr result (state.new ≡ state.old) }
     ensures covered { CoversLog state.old id.0 → IsOk result }
+    ensures effect { state.new.effect ≡ state.old.effect }
     ensures spare { state.new.spare ≡ record state.old.spare { log = state.new.spare.log } }
 {
     reserve_access(state, id)?;

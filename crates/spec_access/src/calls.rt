@@ -35,6 +35,7 @@ pub fn read<N: Naming>(state: &mut State<N>, task: TaskId, leg: &Leg<N>) -> Resu
         → LoadsFrom task.0 t leg.now width rd offset state.old.view state.new.view) }
     ensures err { OnErr result (state.new ≡ state.old) }
     ensures covered { CoversLog state.old task.0 → IsOk result }
+    ensures effect { state.new.effect ≡ state.old.effect }
     ensures spare { state.new.spare ≡ record state.old.spare { log = state.new.spare.log } }
 {
     let (width, rd, offset) = load_of(request_of_task(state, task, leg));
@@ -52,6 +53,7 @@ pub fn write<N: Naming>(state: &mut State<N>, task: TaskId, leg: &Leg<N>) -> Res
         → StoresTo task.0 t leg.now offset width value state.old.view state.new.view) }
     ensures err { OnErr result (state.new ≡ state.old) }
     ensures covered { CoversLog state.old task.0 → IsOk result }
+    ensures effect { state.new.effect ≡ state.old.effect }
     ensures spare { state.new.spare ≡ record state.old.spare { log = state.new.spare.log } }
 {
     let (offset, width, value) = store_of(request_of_task(state, task, leg));
@@ -75,6 +77,7 @@ pub fn spawn<N: Naming>(
         → Enqueues task.0 t leg.now child tile state.old.view state.new.view) }
     ensures err { OnErr result (state.new ≡ state.old) }
     ensures covered { CoversChild state.old task.0 → IsOk result }
+    ensures effect { state.new.effect ≡ record state.old.effect { arrived = state.new.effect.arrived } }
     ensures spare { state.new.spare ≡ record state.old.spare { spawns = state.new.spare.spawns } }
 {
     let child = spawn_of(request_of_task(state, task, leg));
@@ -88,6 +91,7 @@ pub fn make_sub<N: Naming>(state: &mut State<N>, task: TaskId, leg: &Leg<N>)
         → TakesLeg state.old.view tile core leg.now task.0 t
         → request_of state.old.view t leg.now ≡ MakeSub kind
         → MakesSub task.0 t leg.now kind state.old.view state.new.view }
+    ensures effect { state.new.effect ≡ state.old.effect }
     ensures spare { state.new.spare ≡ state.old.spare }
 {
     let kind = kind_of(request_of_task(state, task, leg));
@@ -101,6 +105,7 @@ pub fn emit<N: Naming>(state: &mut State<N>, task: TaskId, leg: &Leg<N>)
         → TakesLeg state.old.view tile core leg.now task.0 t
         → request_of state.old.view t leg.now ≡ Emit byte
         → Emits task.0 t leg.now byte state.old.view state.new.view }
+    ensures effect { state.new.effect ≡ state.old.effect }
     ensures spare { state.new.spare ≡ state.old.spare }
 {
     let byte = byte_of(request_of_task(state, task, leg));
@@ -119,6 +124,7 @@ pub fn keep<N: Naming>(state: &mut State<N>, task: TaskId, leg: &Leg<N>)
         → TakesLeg state.old.view tile core leg.now task.0 t
         → request_of state.old.view t leg.now ≡ Trap cause
         → KeepsTrap task.0 t leg.now core cause state.old.view state.new.view }
+    ensures effect { state.new.effect ≡ state.old.effect }
     ensures spare { state.new.spare ≡ state.old.spare }
 {
     match cause_of(request_of_task(state, task, leg)) {

@@ -5,3 +5,4 @@ pub mod Marking
 pub mod TakenBack
 pub mod Removed
 pub mod Lists
+pub mod Told
