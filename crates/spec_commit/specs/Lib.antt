@@ -2,3 +2,4 @@
 pub mod Latest
 pub mod Spilling
 pub mod Committing
+pub mod Told

@@ -86,6 +86,13 @@ impl Effect {
         self.arrived = None;
     }
 
+    /// Forgets which tasks were spilled.
+    pub fn clear_spilled(&mut self)
+        ensures { self.new ≡ record self.old { spilled = [] } }
+    {
+        self.spilled.clear();
+    }
+
     /// Adds a task that is taken back, where fewer are there than can be.
     pub fn note_taken(&mut self, task: TakenTask)
         requires { length self.old.back < MAX_TAKEN }
