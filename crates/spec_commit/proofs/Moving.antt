@@ -3,7 +3,7 @@ use Rattle.std.proofs.Common.{◌≡◌, ◌≢◌, ◌<◌, ◌≤◌, ◌+◌,
 use Rattle.std.specs.Prelude.{Contains, IsSome, is_some, slice_set}
 use Rattle.spec_state.specs.declared.effect.SpilledTask.{SpilledTask}
 use Rattle.spec_state.specs.Effects.{EffectValue}
-use Rattle.spec_commit.specs.Told.{told_spilled}
+use Rattle.spec_state.specs.Told.{told_spilled}
 use Rattle.std.specs.List.{AllZip}
 use Rattle.std.proofs.lemmas.Bool.{cases_eq}
 use Rattle.std.proofs.lemmas.Bool.Decides.{nat_tests}

@@ -2,4 +2,3 @@
 pub mod Latest
 pub mod Spilling
 pub mod Committing
-pub mod Told

@@ -11,7 +11,7 @@ ghost use Rattle.spec_state.specs.StateValue.{CoversPushes};
 ghost use Rattle.spec_state.specs.Tasks.{depth_of, descriptor_of, spilled_as};
 ghost use Rattle.spec_state.specs.Fronts.{name_given};
 ghost use Rattle.spec_state.specs.Room.{IsMovable, AreChosen, Coalesces};
-ghost use Rattle.spec_commit.specs.Told.{told_spilled};
+ghost use Rattle.spec_state.specs.Told.{told_spilled};
 ghost use Rattle.spec_commit.specs.Spilling.{IsIdleTask, Spills, KeepsOtherSpare};
 
 use crate::choosing::chosen_tasks;

@@ -3,7 +3,7 @@
 ghost use Rattle.std.specs.Prelude.{◌≡◌, ◌<◌, ◌≤◌, ◌++◌, ◌∷◌, ℕ, [], Contains, IsSome, length, map};
 ghost use Rattle.spec_state.specs.declared.reserving.TheConstants.{MAX_MOVED};
 ghost use Rattle.spec_state.specs.View.{task_at};
-ghost use Rattle.spec_commit.specs.Told.{told_spilled};
+ghost use Rattle.spec_state.specs.Told.{told_spilled};
 
 use rv_core::Naming;
 use spec_state::{SpilledTask, State, TaskId, name_given};

@@ -17,7 +17,7 @@ use Rattle.spec_rollback.specs.Marking.{FindsConflicts}
 use Rattle.spec_rollback.specs.Pulled.{pull_in}
 use Rattle.spec_rollback.specs.TakenBack.{freed_of_these, TakesThese}
 use Rattle.spec_state.specs.declared.effect.TakenTask.{TakenTask}
-use Rattle.spec_rollback.specs.Told.{TellsBack}
+use Rattle.spec_state.specs.Told.{TellsBack}
 use Rattle.spec_rollback.proofs.Told.{tells_none}
 use Rattle.spec_rollback.proofs.Marked.{none_counted}
 use Rattle.spec_rollback.proofs.Pulled.{pull_is, reached_there}

@@ -9,7 +9,7 @@ use Rattle.spec_state.specs.View.{View}
 use Rattle.spec_state.specs.StateValue.{Scratch}
 use Rattle.spec_state.specs.declared.effect.TakenTask.{TakenTask}
 use Rattle.spec_rollback.specs.Pulled.{ListsMarked}
-use Rattle.spec_rollback.specs.Told.{told_at, TellsBack}
+use Rattle.spec_state.specs.Told.{told_at, TellsBack}
 
 -- one more of a list
 pub told_more : (f : ℕ → TakenTask) (members : List ℕ) (place id : ℕ) (told : List TakenTask)

@@ -5,4 +5,3 @@ pub mod Marking
 pub mod TakenBack
 pub mod Removed
 pub mod Lists
-pub mod Told

@@ -8,7 +8,7 @@ ghost use Rattle.spec_state.specs.Groups.{logged_tasks};
 ghost use Rattle.spec_state.specs.Aborts.{Aborts, OnlyNode};
 ghost use Rattle.spec_state.specs.Effects.{nothing};
 ghost use Rattle.spec_state.specs.Queries.{Conflicts};
-ghost use Rattle.spec_rollback.specs.Told.{TellsBack};
+ghost use Rattle.spec_state.specs.Told.{TellsBack};
 
 use crate::cascade::close_marks;
 use crate::marking::{mark_conflicts, mark_one};

@@ -5,7 +5,7 @@ ghost use Rattle.abort_cascade.specs.Cascade.{Marked};
 ghost use Rattle.spec_state.specs.Effects.{nothing};
 ghost use Rattle.spec_state.specs.View.{task_at};
 ghost use Rattle.spec_rollback.specs.Pulled.{ListsMarked};
-ghost use Rattle.spec_rollback.specs.Told.{told_at, told_of};
+ghost use Rattle.spec_state.specs.Told.{told_at, told_of};
 
 use crate::releasing::{has_marked_creator, member};
 use rv_core::Naming;

@@ -13,6 +13,7 @@ pub mod Least
 pub mod Fronts
 pub mod Queries
 pub mod Aborts
+pub mod Told
 pub mod Room
 pub mod Numbers
 pub mod Changes

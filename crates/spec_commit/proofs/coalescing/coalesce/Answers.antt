@@ -3,7 +3,7 @@ use Rattle.spec_state.specs.StateValue.{Spare}
 use Rattle.spec_state.specs.Effects.{EffectValue}
 use Rattle.spec_state.specs.Room.{AreChosen, Coalesces}
 use Rattle.spec_state.specs.View.{View}
-use Rattle.spec_commit.specs.Told.{told_spilled}
+use Rattle.spec_state.specs.Told.{told_spilled}
 use Rattle.spec_commit.proofs.Moving.{chosen_there, coalesced_telling, some_chosen}
 use Rattle.spec_commit.proofs.coalescing.coalesce.Goals as goal
 

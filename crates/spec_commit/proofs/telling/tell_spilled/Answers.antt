@@ -4,7 +4,7 @@ use Rattle.std.proofs.lemmas.List.{length-map, length-take-le, map-append, take_
 use Rattle.spec_state.specs.declared.effect.SpilledTask.{SpilledTask}
 use Rattle.spec_state.specs.Effects.{EffectValue}
 use Rattle.spec_state.specs.View.{View, task_at}
-use Rattle.spec_commit.specs.Told.{told_spilled}
+use Rattle.spec_state.specs.Told.{told_spilled}
 use Rattle.spec_commit.proofs.telling.tell_spilled.Goals as goal
 
 pub loop-id-init : goal.loop-id-init

@@ -1,5 +1,5 @@
 use Rattle.std.proofs.Common.{◌≡◌, map, take}
-use Rattle.spec_commit.specs.Told.{told_spilled}
+use Rattle.spec_state.specs.Told.{told_spilled}
 use Rattle.spec_commit.proofs.telling.tell_spilled.Given as goal
 
 abbrev pub invariant-loop-id : goal.invariant-loop-id

@@ -10,7 +10,7 @@ use Rattle.spec_state.specs.Groups.{logged_tasks}
 use Rattle.spec_state.specs.Aborts.{is_marked}
 use Rattle.spec_rollback.specs.Pulled.{ListsMarked}
 use Rattle.spec_rollback.specs.TakenBack.{TakesThese}
-use Rattle.spec_rollback.specs.Told.{told_at}
+use Rattle.spec_state.specs.Told.{told_at}
 use Rattle.spec_rollback.proofs.Aborted.{members_there, telling_from}
 use Rattle.spec_rollback.proofs.Told.{tells_members}
 use Rattle.spec_rollback.proofs.aborting.abort_marked.Goals as goal

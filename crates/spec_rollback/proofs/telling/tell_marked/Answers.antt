@@ -4,7 +4,7 @@ use Rattle.spec_state.specs.declared.effect.TakenTask.{TakenTask}
 use Rattle.spec_state.specs.Effects.{EffectValue, nothing}
 use Rattle.spec_state.specs.StateValue.{Scratch}
 use Rattle.spec_state.specs.View.{View, task_at}
-use Rattle.spec_rollback.specs.Told.{told_at}
+use Rattle.spec_state.specs.Told.{told_at}
 use Rattle.spec_rollback.proofs.Members.{member_marked}
 use Rattle.spec_rollback.proofs.Told.{told_more, told_length}
 use Rattle.spec_rollback.proofs.telling.tell_marked.Goals as goal

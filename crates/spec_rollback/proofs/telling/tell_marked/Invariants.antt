@@ -1,6 +1,6 @@
 use Rattle.std.proofs.Common.{◌≡◌, map, take}
 use Rattle.spec_state.specs.Effects.{nothing}
-use Rattle.spec_rollback.specs.Told.{told_at}
+use Rattle.spec_state.specs.Told.{told_at}
 use Rattle.spec_rollback.proofs.telling.tell_marked.Given as goal
 
 abbrev pub invariant-loop-place : goal.invariant-loop-place
