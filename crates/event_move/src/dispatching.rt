@@ -67,7 +67,7 @@ pub fn make_dispatch<N: Naming>(state: &mut State<N>, tile: u32, id: TaskId) -> 
     requires goes_on { IsOver state.old.view → ⊥ }
     requires idle { (task : Task) × IsLeastIdle state.old.view tile id.0 task }
     requires may { AllCoresHeld state.old.view tile → IsTheLeast state.old.view id.0 }
-    ensures { ComesSo N state.old.view (event.Dispatch tile) (Made result) state.new.view }
+    ensures { ComesSo N state.old.view (event.Dispatch tile) (Made result) state.new.view state.new.effect }
 {
     let aborted = clear_core(state, tile);
     dispatch_task(state, tile, id);
@@ -79,7 +79,7 @@ pub fn make_dispatch<N: Naming>(state: &mut State<N>, tile: u32, id: TaskId) -> 
 pub fn dispatch<N: Naming>(state: &mut State<N>, tile: u32) -> Came
     requires sound { Sound N.image state.old.view }
     requires tile { tile < state.old.view.settings.tiles }
-    ensures { ComesSo N state.old.view (event.Dispatch tile) result state.new.view }
+    ensures { ComesSo N state.old.view (event.Dispatch tile) result state.new.view state.new.effect }
 {
     if end_of(state).is_some() {
         return Came::Refused(Reply::Ended);

@@ -26,7 +26,7 @@ fn make_coalesce<N: Naming>(state: &mut State<N>, tile: u32) -> Came
     requires tile { tile < state.old.view.settings.tiles }
     requires goes_on { IsOver state.old.view → ⊥ }
     requires some { (id : ℕ) × IsMovable state.old.view tile id }
-    ensures { ComesSo N state.old.view (event.Coalesce tile) result state.new.view }
+    ensures { ComesSo N state.old.view (event.Coalesce tile) result state.new.view state.new.effect }
 {
     match spill(state, tile) {
         Ok(_) => Came::Made(record_of(state, Deed::Coalesce, tile, 0)),
@@ -39,7 +39,7 @@ fn make_coalesce<N: Naming>(state: &mut State<N>, tile: u32) -> Came
 pub fn coalesce<N: Naming>(state: &mut State<N>, tile: u32) -> Came
     requires sound { Sound N.image state.old.view }
     requires tile { tile < state.old.view.settings.tiles }
-    ensures { ComesSo N state.old.view (event.Coalesce tile) result state.new.view }
+    ensures { ComesSo N state.old.view (event.Coalesce tile) result state.new.view state.new.effect }
 {
     if end_of(state).is_some() {
         return Came::Refused(Reply::Ended);
@@ -58,7 +58,7 @@ fn return_to_queue<N: Naming>(state: &mut State<N>, tile: u32) -> Record
     requires some { block_at state.old.view tile ≢ [] }
     requires may { QueueHasRoom state.old.view tile ⊎ IsLeastSpilled state.old.view tile }
     requires covered { CoversPushes state.old tile MAX_MOVED }
-    ensures { ComesSo N state.old.view (event.Split tile) (Made result) state.new.view }
+    ensures { ComesSo N state.old.view (event.Split tile) (Made result) state.new.view state.new.effect }
 {
     let aborted = make_room(state, tile, None);
     let _ = return_least(state, tile);
@@ -73,7 +73,7 @@ pub fn make_split<N: Naming>(state: &mut State<N>, tile: u32) -> Came
     requires goes_on { IsOver state.old.view → ⊥ }
     requires some { block_at state.old.view tile ≢ [] }
     requires may { QueueHasRoom state.old.view tile ⊎ IsLeastSpilled state.old.view tile }
-    ensures { ComesSo N state.old.view (event.Split tile) result state.new.view }
+    ensures { ComesSo N state.old.view (event.Split tile) result state.new.view state.new.effect }
 {
     match state.reserve(None, tile) {
         Ok(()) => Came::Made(return_to_queue(state, tile)),
@@ -94,7 +94,7 @@ fn may_return<N: Naming>(state: &State<N>, tile: u32) -> bool
 pub fn split<N: Naming>(state: &mut State<N>, tile: u32) -> Came
     requires sound { Sound N.image state.old.view }
     requires tile { tile < state.old.view.settings.tiles }
-    ensures { ComesSo N state.old.view (event.Split tile) result state.new.view }
+    ensures { ComesSo N state.old.view (event.Split tile) result state.new.view state.new.effect }
 {
     if end_of(state).is_some() {
         return Came::Refused(Reply::Ended);

@@ -83,7 +83,7 @@ pub(crate) fn load<N: Naming>(
     requires goes_on { IsOver state.old.view → ⊥ }
     requires tile { tile < state.old.view.settings.tiles }
     requires asks { Asks state.old.view leg.now id.0 (Load width rd offset) }
-    ensures { QuietlyComes N tile leg.now id.0 state.old.view result state.new.view }
+    ensures { QuietlyComes N tile leg.now id.0 state.old.view result state.new.view state.new.effect }
 {
     if state.reserve(Some(id), tile).is_err() {
         return Came::Refused(Reply::Memory);
@@ -129,7 +129,7 @@ pub(crate) fn store<N: Naming>(
     requires goes_on { IsOver state.old.view → ⊥ }
     requires tile { tile < state.old.view.settings.tiles }
     requires asks { Asks state.old.view leg.now id.0 (Store offset width value) }
-    ensures { QuietlyComes N tile leg.now id.0 state.old.view result state.new.view }
+    ensures { QuietlyComes N tile leg.now id.0 state.old.view result state.new.view state.new.effect }
 {
     if state.reserve(Some(id), tile).is_err() {
         return Came::Refused(Reply::Memory);

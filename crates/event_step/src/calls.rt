@@ -19,7 +19,7 @@ use trace_tap::Deed;
 pub(crate) fn go_on<N: Naming>(state: &mut State<N>, tile: u32, id: TaskId, leg: &Leg<N>) -> Came
     requires goes_on { IsOver state.old.view → ⊥ }
     requires asks { Asks state.old.view leg.now id.0 Continue }
-    ensures { QuietlyComes N tile leg.now id.0 state.old.view result state.new.view }
+    ensures { QuietlyComes N tile leg.now id.0 state.old.view result state.new.view state.new.effect }
 {
     end_quantum(state, id, leg);
     Came::Made(record_of(state, Deed::Keep, tile, None, 0))
@@ -35,7 +35,7 @@ pub(crate) fn make_subdomain<N: Naming>(
 ) -> Came
     requires goes_on { IsOver state.old.view → ⊥ }
     requires asks { Asks state.old.view leg.now id.0 (MakeSub kind) }
-    ensures { QuietlyComes N tile leg.now id.0 state.old.view result state.new.view }
+    ensures { QuietlyComes N tile leg.now id.0 state.old.view result state.new.view state.new.effect }
 {
     open_sub(state, id, leg, kind);
     Came::Made(record_of(state, Deed::Call, tile, None, 0))
@@ -51,7 +51,7 @@ pub(crate) fn emit_byte<N: Naming>(
 ) -> Came
     requires goes_on { IsOver state.old.view → ⊥ }
     requires asks { Asks state.old.view leg.now id.0 (Emit byte) }
-    ensures { QuietlyComes N tile leg.now id.0 state.old.view result state.new.view }
+    ensures { QuietlyComes N tile leg.now id.0 state.old.view result state.new.view state.new.effect }
 {
     put_byte(state, id, leg, byte);
     Came::Made(record_of(state, Deed::Call, tile, None, 0))
@@ -67,7 +67,7 @@ pub(crate) fn keep_trap<N: Naming>(
 ) -> Came
     requires goes_on { IsOver state.old.view → ⊥ }
     requires asks { Asks state.old.view leg.now id.0 (Trap cause) }
-    ensures { QuietlyComes N tile leg.now id.0 state.old.view result state.new.view }
+    ensures { QuietlyComes N tile leg.now id.0 state.old.view result state.new.view state.new.effect }
 {
     call_trap(state, id, leg, cause);
     Came::Made(record_of(state, Deed::Keep, tile, None, 0))

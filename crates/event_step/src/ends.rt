@@ -84,7 +84,7 @@ pub(crate) fn end<N: Naming>(state: &mut State<N>, tile: u32, id: TaskId, leg: &
     requires takes { let old = state.old.view in
         (core : ℕ) × (task : Task) × TakesLeg old tile core leg.now id.0 task }
     requires asks { Asks state.old.view leg.now id.0 End }
-    ensures { QuietlyComes N tile leg.now id.0 state.old.view result state.new.view }
+    ensures { QuietlyComes N tile leg.now id.0 state.old.view result state.new.view state.new.effect }
 {
     if state.commit_free(tile) > 0 {
         finish(state, id, leg);

@@ -67,7 +67,8 @@ pub(crate) fn enqueue<N: Naming, P: Placer>(
     requires asks { Asks state.old.view leg.now id.0 (Enqueue child) }
     ensures { let old = state.old.view in
         let before = map P.policy placers.old in
-        TaskComes N tile leg.now id.0 old before result state.new.view (map P.policy placers.new) }
+        TaskComes N tile leg.now id.0 old before result state.new.view (map P.policy placers.new)
+        state.new.effect }
 {
     let target = pick(state, placers, child.hint);
     if stalls(state, target, Some(id)) {

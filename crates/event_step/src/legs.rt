@@ -62,7 +62,8 @@ pub fn make_step<N: Naming, P: Placer>(
         (core : ℕ) × (task : Task) × TakesLeg old tile core leg.now id.0 task }
     ensures { let old = state.old.view in
         let before = map P.policy placers.old in
-        TaskComes N tile leg.now id.0 old before result state.new.view (map P.policy placers.new) }
+        TaskComes N tile leg.now id.0 old before result state.new.view (map P.policy placers.new)
+        state.new.effect }
 {
     // Most legs end here, and need no request made for them.
     if let Stop::Quantum = leg.stop() {
@@ -100,7 +101,8 @@ pub fn step<N: Naming, P: Placer>(
     requires core { core < state.old.view.settings.cores }
     ensures { let old = state.old.view in
         let before = map P.policy placers.old in
-        StepComes N tile core leg.now old before result state.new.view (map P.policy placers.new) }
+        StepComes N tile core leg.now old before result state.new.view (map P.policy placers.new)
+        state.new.effect }
 {
     if end_of(state).is_some() {
         return Came::Refused(Reply::Ended);
