@@ -126,3 +126,7 @@ abbrev pub TellsAdvance : (N : Type 0) (image : ImageValue) (old : BookView) (an
 TellsAdvance N image old (answers.Moved aborted) new answered effect =
     Tells old answered.0 aborted new.view new.placers answered.3.makes effect
 TellsAdvance N image old other new answered effect = effect ≡ nothing
+
+abbrev pub AdvanceTelling : Type 0 → ImageValue → BookView → Advance → BookView → EffectValue → Type 0
+AdvanceTelling N image old answer new effect =
+    (answered : AdvanceAnswers N image old answer new) × TellsAdvance N image old answer new answered effect
