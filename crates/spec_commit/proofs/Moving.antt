@@ -329,6 +329,8 @@ pub coalesced_telling : (tile : ℕ) (old new : View) (slice : List ℕ) (n : �
     → told ≡ record before { spilled = map (told_spilled old) slice }
     → (c : Coalesces tile old new) × (n ≡ length c.ids)
     × (told ≡ record before { spilled = map (told_spilled old) c.ids })
-coalesced_telling tile old new slice n before told moved count is =
-    (moved.0, count ∙ ap length (sym moved.1),
-    is ∙ ap (λ (ids : List ℕ). record before { spilled = map (told_spilled old) ids }) (sym moved.1))
+coalesced_telling tile old new slice n before told moved count is = (
+  moved.0,
+  count ∙ ap length (sym moved.1),
+  is ∙ ap (λ (ids : List ℕ). record before { spilled = map (told_spilled old) ids }) (sym moved.1),
+)
