@@ -11,10 +11,11 @@ ghost use Rattle.spec_state.specs.declared.task.Task.{Task};
 ghost use Rattle.spec_state.specs.StateValue.{CoversLog, CoversChild};
 ghost use Rattle.spec_state.specs.Filters.{HasNotes};
 ghost use Rattle.spec_state.specs.Room.{QueueHasRoom};
-ghost use Rattle.spec_state.specs.Changes.{TakesLeg, request_of, LoadsFrom, StoresTo, Enqueues};
+ghost use Rattle.spec_state.specs.Changes.{TakesLeg, request_of, LoadsFrom, StoresTo};
 ghost use Rattle.spec_state.specs.Changes.{MakesSub, Emits, KeepsQuantum, KeepsTrap};
 ghost use Rattle.spec_access.specs.Asking.{AsksToLoad, AsksToStore, AsksForChild};
 ghost use Rattle.spec_access.specs.Asking.{AsksForSubdomain, AsksToEmit, AsksForNothing};
+ghost use Rattle.spec_access.specs.Telling.{EnqueuesTold};
 
 use crate::accessing::{load_at, store_at};
 use crate::calling::{call_trap, end_quantum, open_sub, put_byte};
@@ -74,7 +75,7 @@ pub fn spawn<N: Naming>(
     ensures enqueues { OnOk result ((from core : ℕ) (t : Task) (child : Spawn)
         → TakesLeg state.old.view from core leg.now task.0 t
         → request_of state.old.view t leg.now ≡ Enqueue child
-        → Enqueues task.0 t leg.now child tile state.old.view state.new.view) }
+        → EnqueuesTold task.0 t leg.now child tile state.old.view state.new.view state.new.effect.arrived) }
     ensures err { OnErr result (state.new ≡ state.old) }
     ensures covered { CoversChild state.old task.0 → IsOk result }
     ensures effect { state.new.effect ≡ record state.old.effect { arrived = state.new.effect.arrived } }

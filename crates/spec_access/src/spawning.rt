@@ -6,8 +6,9 @@ ghost use Rattle.spec_state.specs.declared.task.Task.{Task};
 ghost use Rattle.spec_state.specs.View.{task_at};
 ghost use Rattle.spec_state.specs.StateValue.{CoversChild};
 ghost use Rattle.spec_state.specs.Room.{QueueHasRoom};
-ghost use Rattle.spec_state.specs.Changes.{TakesLeg, Keeps, Enqueues, task_past_leg};
+ghost use Rattle.spec_state.specs.Changes.{TakesLeg, Keeps, task_past_leg};
 ghost use Rattle.spec_access.specs.Asking.{Asks};
+ghost use Rattle.spec_access.specs.Telling.{EnqueuesTold};
 
 use crate::calling::put_behind;
 use crate::child::child_of;
@@ -61,7 +62,7 @@ fn spawn_reserved<N: Naming>(
     requires covers { CoversChild state.old id.0 }
     ensures enqueues { (from core : ℕ) (task : Task)
         → TakesLeg state.old.view from core leg.now id.0 task
-        → Enqueues id.0 task leg.now spawn tile state.old.view state.new.view }
+        → EnqueuesTold id.0 task leg.now spawn tile state.old.view state.new.view state.new.effect.arrived }
     ensures effect { state.new.effect ≡ record state.old.effect { arrived = state.new.effect.arrived } }
     ensures spare { state.new.spare ≡ record state.old.spare { spawns = state.new.spare.spawns } }
 {
@@ -84,7 +85,7 @@ pub fn enqueue_child<N: Naming>(
     requires free { QueueHasRoom state.old.view tile }
     ensures enqueues { OnOk result ((from core : ℕ) (task : Task)
         → TakesLeg state.old.view from core leg.now id.0 task
-        → Enqueues id.0 task leg.now spawn tile state.old.view state.new.view) }
+        → EnqueuesTold id.0 task leg.now spawn tile state.old.view state.new.view state.new.effect.arrived) }
     ensures err { OnErr result (state.new ≡ state.old) }
     ensures covered { CoversChild state.old id.0 → IsOk result }
     ensures effect { state.new.effect ≡ record state.old.effect { arrived = state.new.effect.arrived } }
