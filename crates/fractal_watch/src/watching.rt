@@ -37,7 +37,7 @@ fn tell_course<N: Naming, P: Placer, T: Tap, K: Sink>(
     requires few { length script.now < 2 ^ 32 }
     requires each { IfSome watch.old.each (λ number. 1 ≤ number) }
     requires count { watch.old.count ≡ 0 }
-    requires held { watch.old.held.items ≡ [] }
+    requires held { watch.old.player.held ≡ [] }
     requires rounds { HasRounds course }
     requires within { let settings = (machine_view watch.old.book).settings in
         All (ActIsInRange settings.tiles settings.cores) script.now }

@@ -16,7 +16,7 @@ use Rattle.event_def.specs.declared.event.Reply.TheVariants as reply
 use Rattle.event_def.specs.Book.{BookView}
 use Rattle.event_def.specs.Events.{IsGiven}
 use Rattle.event_def.specs.Happens.{Happens}
-use Rattle.watch_text.specs.Asking.{Hands}
+use Rattle.step_script.specs.Asking.{Hands}
 use Rattle.watch_text.specs.Changes.{arrived_in, child_in, done_in, last_item}
 use Rattle.watch_text.specs.Moments.{IsAbout, IsAskedFor}
 use Rattle.watch_text.specs.Taking.{id_count, is_back, table_of, was_discarded}

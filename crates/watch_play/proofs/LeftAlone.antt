@@ -31,9 +31,9 @@ use Rattle.conflict_book.specs.Legless.{event_of}
 use Rattle.conflict_book.specs.Ranges.{IsInRange}
 use Rattle.conflict_book.specs.declared.legless.Legless.{Legless}
 use Rattle.conflict_book.specs.declared.legless.Legless.TheVariants as legless
-use Rattle.watch_text.specs.declared.asking.Asked.{Asked}
-use Rattle.watch_text.specs.declared.asking.Asked.TheVariants as asked
-use Rattle.watch_text.specs.Asking.{AskedIsInRange, Hands, Says, asks_of}
+use Rattle.step_script.specs.declared.asked.Asked.{Asked}
+use Rattle.step_script.specs.declared.asked.Asked.TheVariants as asked
+use Rattle.step_script.specs.Asking.{AskedIsInRange, AttemptComes, Hands, Says, asks_of}
 use Rattle.watch_text.specs.Changes.{HasOrphans, HasOrphansIn, LeavesOthers, affected_in, arrived_in, child_in, done_in}
 use Rattle.watch_text.specs.Changes.{last_item}
 use Rattle.watch_text.specs.Moments.{IsAbout, IsAskedFor}
@@ -42,7 +42,6 @@ use Rattle.watch_text.specs.Taking.{is_id, is_made_by, is_orphan, remembered, ta
 use Rattle.watch_text.specs.Taking.{was_spilled}
 use Rattle.watch_text.specs.declared.before.Before.{Before}
 use Rattle.watch_text.proofs.Proved.{affected_some}
-use Rattle.watch_play.specs.Made.{AttemptComes}
 use Rattle.watch_play.specs.Room.{AttemptHasRoom}
 use Rattle.watch_play.proofs.NothingTaken.{TookNone, nothing_taken, other_id, same_took_none}
 use Rattle.watch_play.proofs.Remembered.{commit_remembers}

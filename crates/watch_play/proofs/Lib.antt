@@ -1,4 +1,3 @@
-pub mod Asked
 pub mod Cascading
 pub mod Chosen
 pub mod Does

@@ -10,21 +10,15 @@ use Rattle.event_def.specs.Book.{BookView}
 use Rattle.event_law.proofs.Replies.{refusals_change_nothing}
 use Rattle.step_script.specs.declared.act.Act.{Act}
 use Rattle.step_script.specs.Playing.{PlayState}
-use Rattle.watch_text.specs.Asking.{Attempt, AsksFor, Hands, Says}
+use Rattle.step_script.specs.Asking.{Attempt, AttemptComes, AsksFor, Hands, Says}
+use Rattle.step_script.proofs.Does.{comes_of}
 use Rattle.watch_text.specs.Lines.{line_of, rest_text}
-use Rattle.watch_text.specs.Moments.{ComesOf, IsAbout, IsAskedFor, Moment}
+use Rattle.watch_text.specs.Moments.{IsAbout, IsAskedFor, Moment}
 use Rattle.watch_text.specs.Requests.{front_text}
 use Rattle.watch_text.specs.declared.before.Before.{Before}
 use Rattle.watch_text.specs.Taking.{table_of}
-use Rattle.watch_play.specs.Made.{AttemptComes}
 use Rattle.watch_play.specs.Playing.{IsMomentAt}
 use Rattle.watch_play.specs.Texts.{moment_lines, view_text}
-
--- where memory doesn't run out
-comes_of : {N : Type 0} (asks : Attempt N) (answer : Reply) (aborted : ℕ) (old new : BookView) → answer ≢ reply.Memory
-    → AttemptComes asks answer aborted old new → ComesOf asks answer aborted old new
-comes_of (Hands e) answer aborted old new there came = (there, came)
-comes_of (Says word) answer aborted old new there came = came
 
 -- an act that is refused leaves the book, and so the table of its tasks
 pub table_stays : {N : Type 0} (asks : Attempt N) (answer : Reply) (aborted : ℕ) (old new : BookView)

@@ -38,7 +38,7 @@ use Rattle.event_def.specs.Events.{AbortEvent, ComesTo, DispatchEvent, FreesComm
 use Rattle.event_def.specs.Happens.{Happens}
 use Rattle.event_law.proofs.Proved.{spared_stays}
 use Rattle.fractal_vt.proofs.Proved.{get_end, is_some_mapped}
-use Rattle.watch_text.specs.Asking.{Hands}
+use Rattle.step_script.specs.Asking.{Hands}
 use Rattle.watch_text.specs.Changes.{arrived_in, child_at, child_in, done_in, is_child_at, is_child, is_some_child}
 use Rattle.watch_text.specs.Changes.{last_child, last_child_of, last_item}
 use Rattle.watch_text.specs.Moments.{IsAbout, IsAskedFor}

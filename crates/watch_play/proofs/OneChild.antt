@@ -20,10 +20,9 @@ use Rattle.event_def.specs.Events.{ComesTo}
 use Rattle.event_def.specs.Happens.{Happens}
 use Rattle.event_lemma.specs.Forcing.{TakesStill}
 use Rattle.event_lemma.proofs.Proved.{room_leaves_asker}
-use Rattle.watch_text.specs.Asking.{Attempt, Hands, Says}
+use Rattle.step_script.specs.Asking.{Attempt, AttemptComes, Hands, Says}
 use Rattle.watch_text.specs.Changes.{IsOneIn, IsOneLastOf}
 use Rattle.watch_text.specs.Moments.{IsAbout, IsAskedFor}
-use Rattle.watch_play.specs.Made.{AttemptComes}
 use Rattle.watch_play.proofs.NothingTaken.{asked_is, only_child, told_is}
 
 module _ (N : Type 0) (image : ImageValue) (book : BookView) (sound : Sound image book.view) (aborted : ℕ) (new : View)

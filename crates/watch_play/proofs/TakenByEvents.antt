@@ -39,7 +39,7 @@ use Rattle.event_lemma.specs.Forcing.{RunsIfTask, TakesStill}
 use Rattle.event_lemma.proofs.Proved.{commit_leaves_taker, conflicts_leave_taker, core_leaves_idle, room_leaves}
 use Rattle.event_lemma.proofs.Proved.{holder_is_dispatched, room_leaves_asker, taken_is_live, taker_asks}
 use Rattle.fractal_vt.proofs.Proved.{is_some_mapped}
-use Rattle.watch_text.specs.Asking.{Hands}
+use Rattle.step_script.specs.Asking.{Hands}
 use Rattle.watch_text.specs.Changes.{child_in, is_some_child, last_child, last_item}
 use Rattle.watch_text.specs.Moments.{IsAbout, IsAskedFor}
 use Rattle.watch_text.specs.Taking.{before_of, id_count, is_id, remembered}

@@ -22,7 +22,7 @@ use Rattle.event_def.specs.Book.{BookView, picked_tile}
 use Rattle.event_def.specs.Events as events
 use Rattle.event_def.specs.Events.{ComesTo, FreesCommit, FreesCore, IsGiven, Makes}
 use Rattle.event_def.specs.Happens.{Happens}
-use Rattle.watch_text.specs.Asking.{Hands}
+use Rattle.step_script.specs.Asking.{Hands}
 use Rattle.watch_text.specs.Changes.{arrived_in, done_in}
 use Rattle.watch_text.specs.Moments.{IsAbout, IsAskedFor}
 use Rattle.watch_text.specs.Taking.{id_count, ids_back, is_back, table_of, was_discarded, was_spilled}

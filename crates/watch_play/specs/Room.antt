@@ -7,7 +7,7 @@ use Rattle.spec_state.specs.Room.{QueueHasRoom}
 use Rattle.event_def.specs.declared.event.Event.{Event}
 use Rattle.event_def.specs.declared.event.Event.TheVariants as event
 use Rattle.event_def.specs.Book.{BookView, picked_tile}
-use Rattle.watch_text.specs.Asking.{Attempt, Hands, Says}
+use Rattle.step_script.specs.Asking.{Attempt, Hands, Says}
 
 -- the queue in which a request's child would stand has a free place
 abbrev pub RequestHasRoom : BookView → Option Request → Type 0

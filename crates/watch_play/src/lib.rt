@@ -2,12 +2,11 @@
 //! in lockstep.
 //!
 //! Each act that is asked for is one line, with a whole view behind each so many where there are views, and is one
-//! piece for the sink, written before the next act. Between the acts stand the legs that are held and the one that
-//! stands ready, a table of the tasks, the line and the order of a round: the memory does not grow with the number of
-//! acts. It stands on the lines of `watch_text`, on scripts and on the book; `fractal_watch` calls it.
+//! piece for the sink, written before the next act. Between the acts stand the player, a table of the tasks, the line
+//! and the order of a round: the memory does not grow with the number of acts. It stands on the lines of `watch_text`,
+//! on scripts, by whose player it plays, and on the book; `fractal_watch` calls it.
 #![tactic(auto)]
 
-mod asking;
 mod courses;
 mod laws;
 mod lockstep;

@@ -8,18 +8,17 @@ ghost use Rattle.spec_law.specs.Sound.{Sound};
 ghost use Rattle.event_def.specs.declared.event.Reply.TheVariants as reply;
 ghost use Rattle.conflict_book.specs.BookViews.{events_made, machine_view, view_of};
 ghost use Rattle.step_script.specs.Ranges.{ActIsInRange};
-ghost use Rattle.watch_text.specs.Asking.{AskedIsInRange, asks_of};
+ghost use Rattle.step_script.specs.Asking.{AskedIsInRange, asks_of};
 ghost use Rattle.watch_text.specs.Changes.{HasOrphans, HasOrphansIn, AreFound, IsOneIn, LeavesOthers};
 ghost use Rattle.watch_text.specs.Changes.{affected_in, arrived_in};
 ghost use Rattle.watch_text.specs.Lines.{rest_text};
 ghost use Rattle.watch_text.specs.Moments.{task_of};
 ghost use Rattle.watch_text.specs.Taking.{id_count, table_of};
-ghost use Rattle.watch_play.specs.Made.{AttemptComes, TellsAct, play_of};
+ghost use Rattle.watch_play.specs.Made.{TellsAct, play_of};
 ghost use Rattle.watch_play.specs.Playing.{ComesToLine};
 ghost use Rattle.watch_play.specs.Room.{AttemptHasRoom};
 ghost use Rattle.watch_play.specs.Texts.{is_due, view_text};
 
-use crate::asking::ask;
 use crate::room::has_its_room;
 use crate::stop::StoryStop;
 use crate::watch::Watch;
@@ -29,11 +28,11 @@ use place_policy::Placer;
 use rv_core::{Leg, Naming};
 use sim_io::{Sink, write_all};
 use std::alloc::AllocError;
-use step_script::Act;
+use step_script::{Act, Asked};
 use trace_tap::Tap;
 use watch_text::{
-    About, Asked, AttemptEffect, about_of, affected_by, arrived_in, orphans_of, put_front,
-    put_rest, put_view, remember_behind,
+    About, AttemptEffect, about_of, affected_by, arrived_in, orphans_of, put_front, put_rest,
+    put_view, remember_behind,
 };
 
 /// What came of an act.
@@ -55,26 +54,6 @@ fn are_sound<N: Naming, P: Placer, T: Tap>(book: &Book<N, P, T>, leg: &Leg<N>)
 {
     book.is_sound();
     let _ = leg.stop();
-}
-
-/// Hands in what an act came to, or says its word.
-fn make<N: Naming, P: Placer, T: Tap>(
-    book: &mut Book<N, P, T>,
-    asked: &Asked,
-    leg: &Leg<N>,
-) -> Applied
-    requires { AskedIsInRange N (machine_view book.old).settings asked.now }
-    ensures comes { let old = view_of P.policy T.notes book.old in
-        let new = view_of P.policy T.notes book.new in
-        AttemptComes {N = N} (asks_of asked.now leg.now) result.reply result.aborted old new }
-    ensures settings { let old = view_of P.policy T.notes book.old in
-        (machine_view book.new).settings ≡ old.view.settings }
-{
-    match *asked {
-        Asked::Legless(event) => book.apply_legless(event),
-        Asked::Ready { tile, core } => book.apply_step(tile, core, leg),
-        Asked::Says(reply) => Applied { reply, aborted: 0 },
-    }
 }
 
 /// Whether the view is told behind the last of so many moments.
@@ -279,19 +258,19 @@ fn play_act<N: Naming, P: Placer, T: Tap>(
     ensures count { result ≡ PlayedAct.Told → watch.new.count ≡ watch.old.count + 1 }
     ensures table { result ≡ PlayedAct.Told → watch.new.table.items ≡ table_of (machine_view watch.new.book) }
 {
-    let Ok(asked) = ask(&mut watch.leg, image, &watch.book, &mut watch.held, act) else {
+    let Ok(asked) = watch.player.ask(image, &watch.book, act) else {
         return PlayedAct::Unmade;
     };
-    let about = about_of(watch.book.state(), &asked, &watch.leg);
+    let about = about_of(watch.book.state(), &asked, watch.player.leg());
     let Ok(ahead) = read_ahead(&watch.book, &asked, &about) else {
         return PlayedAct::Unmade;
     };
     watch.line.clear();
-    if put_front(&mut watch.line, at, act, &asked, &about, &watch.leg).is_err() {
+    if put_front(&mut watch.line, at, act, &asked, &about, watch.player.leg()).is_err() {
         return PlayedAct::Unmade;
     }
-    are_sound(&watch.book, &watch.leg);
-    let applied = make(&mut watch.book, &asked, &watch.leg);
+    are_sound(&watch.book, watch.player.leg());
+    let applied = watch.player.make(&mut watch.book, asked);
     if applied.reply == Reply::Memory {
         return PlayedAct::Unmade;
     }

@@ -4,15 +4,16 @@ ghost use Rattle.std.specs.Prelude.{◌<◌, IsTrue};
 ghost use Rattle.rv_core.specs.LegValue.{LegValue};
 ghost use Rattle.spec_state.specs.Room.{QueueHasRoom};
 ghost use Rattle.conflict_book.specs.BookViews.{machine_view, view_of};
-ghost use Rattle.watch_text.specs.Asking.{AskedIsInRange, asks_of};
+ghost use Rattle.step_script.specs.Asking.{AskedIsInRange, asks_of};
 ghost use Rattle.watch_play.specs.Room.{AttemptHasRoom, RequestHasRoom};
 
 use conflict_book::{Book, Legless};
 use place_policy::Placer;
 use rv_core::Naming;
+use step_script::Asked;
 use task_request::Request;
 use trace_tap::Tap;
-use watch_text::{About, Asked};
+use watch_text::About;
 
 /// Whether the task queue of a tile has a free place.
 fn has_place<N: Naming, P: Placer, T: Tap>(book: &Book<N, P, T>, tile: u32) -> bool

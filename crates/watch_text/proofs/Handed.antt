@@ -8,7 +8,7 @@ use Rattle.task_request.specs.declared.request.Request.{Request}
 use Rattle.spec_state.specs.View.{View}
 use Rattle.event_def.specs.declared.event.Event.{Event}
 use Rattle.watch_text.specs.declared.before.Before.{Before}
-use Rattle.watch_text.specs.Asking.{Attempt, Hands}
+use Rattle.step_script.specs.Asking.{Attempt, Hands}
 use Rattle.watch_text.specs.Changes.{arrived_in, change_text, done_in, own_text, taken_text}
 
 -- what changed is what it took back and spilled, and its own change

@@ -7,7 +7,7 @@ use Rattle.rv_core.specs.declared.state.Stop.TheVariants as stop
 use Rattle.task_request.specs.declared.request.Request.{Request}
 use Rattle.spec_state.specs.View.{View}
 use Rattle.watch_text.specs.declared.before.Before.{Before}
-use Rattle.watch_text.specs.Asking.{Attempt}
+use Rattle.step_script.specs.Asking.{Attempt}
 use Rattle.watch_text.specs.Changes.{LeavesOthers, affected_in, arrived_in, done_in}
 use Rattle.watch_text.specs.Taking.{OthersRemembered, ids_affected}
 

@@ -20,7 +20,7 @@ use Rattle.event_def.specs.declared.event.Event.TheVariants as event
 use Rattle.event_def.specs.declared.event.Reply.{Reply}
 use Rattle.event_def.specs.declared.event.Reply.TheVariants as reply
 use Rattle.watch_text.specs.declared.before.Before.{Before}
-use Rattle.watch_text.specs.Asking.{Attempt, Hands, Says}
+use Rattle.step_script.specs.Asking.{Attempt, Hands, Says}
 use Rattle.watch_text.specs.Fields.{hex_text, items_field, name_field, number_field, pair_text, some_field, word_field}
 use Rattle.watch_text.specs.Taking.{OthersRemembered, id_count, ids_affected, ids_back, ids_gone, ids_spilled}
 use Rattle.watch_text.specs.Taking.{is_orphan, remembered, was_at}

@@ -1,5 +1,4 @@
 -- Contracts of public calls mean all of these but Remembering.
-pub mod Asking
 pub mod Moments
 pub mod Taking
 pub mod Fields

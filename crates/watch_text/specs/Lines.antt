@@ -5,7 +5,7 @@ use Rattle.task_request.specs.declared.request.Request.{Request}
 use Rattle.spec_state.specs.View.{View}
 use Rattle.event_def.specs.declared.event.Reply.{Reply}
 use Rattle.watch_text.specs.declared.before.Before.{Before}
-use Rattle.watch_text.specs.Asking.{Attempt}
+use Rattle.step_script.specs.Asking.{Attempt}
 use Rattle.watch_text.specs.Changes.{change_by, change_text, reply_part}
 use Rattle.watch_text.specs.Moments.{Moment}
 use Rattle.watch_text.specs.Requests.{front_text}

@@ -1,5 +1,5 @@
 -- A moment: an act that was told, with the book before and after it.
-use Rattle.std.specs.Prelude.{◌≡◌, ◌≢◌, ℕ, Some, None, slice_get, option_map}
+use Rattle.std.specs.Prelude.{◌≡◌, ℕ, Some, None, slice_get, option_map}
 use Rattle.std.specs.declared.option.Option.{Option}
 use Rattle.guest_image.specs.ImageValue.{ImageValue}
 use Rattle.task_request.specs.declared.request.Request.{Request}
@@ -10,14 +10,12 @@ use Rattle.spec_state.specs.Least.{IsTheLeast}
 use Rattle.spec_state.specs.Queries.{IsDispatched, IsIdle, IsLatestDispatched, IsLeastIdle}
 use Rattle.event_def.specs.declared.event.Event.TheVariants as event
 use Rattle.event_def.specs.declared.event.Reply.{Reply}
-use Rattle.event_def.specs.declared.event.Reply.TheVariants as reply
 use Rattle.event_def.specs.Book.{BookView}
 use Rattle.event_def.specs.Causes.{IsStale}
-use Rattle.event_def.specs.Happens.{Happens}
 use Rattle.step_script.specs.declared.act.Act.{Act}
 use Rattle.step_script.specs.Playing.{PlayState}
 use Rattle.watch_text.specs.declared.about.About.{About}
-use Rattle.watch_text.specs.Asking.{Attempt, Hands, Says, AsksFor}
+use Rattle.step_script.specs.Asking.{AsksFor, Attempt, ComesOf, Hands, Says}
 
 -- the number of the act, and which of the told ones it is, both from 1; the act, what it came to, the task that this
 -- is about and what that asks for; the reply, how many tasks were taken back, and the book before and after
@@ -57,11 +55,6 @@ IsAskedFor view (Hands (event.Step tile core leg)) None = IsStale view tile core
 IsAskedFor view (Hands (event.Step tile core leg)) (Some request) =
     (id : ℕ) × (task : Task) × TakesLeg view tile core leg id task × (request_of view task leg ≡ request)
 IsAskedFor view other request = request ≡ None
-
--- what comes of it: the event has this reply, which isn't that memory ran out; or the word is said
-abbrev pub ComesOf : {N : Type 0} → Attempt N → Reply → ℕ → BookView → BookView → Type 0
-ComesOf (Hands event) answer aborted old new = (answer ≢ reply.Memory) × Happens old event answer aborted new
-ComesOf (Says word) answer aborted old new = (answer ≡ word) × (aborted ≡ 0) × (new ≡ old)
 
 -- the moment leads from one of these states of a play to the other: its act comes to what it says, with all that it
 -- says of that

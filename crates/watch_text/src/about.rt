@@ -7,14 +7,15 @@ ghost use Rattle.spec_state.specs.Changes.{TakesLeg, request_of};
 ghost use Rattle.spec_state.specs.Least.{IsTheLeast};
 ghost use Rattle.event_def.specs.Causes.{IsStale};
 ghost use Rattle.event_lemma.specs.Whereabouts.{queued_in};
-ghost use Rattle.watch_text.specs.Asking.{AskedIsInRange, asks_of};
+ghost use Rattle.step_script.specs.declared.asked.Asked.TheVariants as asks;
+ghost use Rattle.step_script.specs.Asking.{AskedIsInRange, asks_of};
 ghost use Rattle.watch_text.specs.Moments.{IsAbout, IsAskedFor, task_of};
 
-use crate::asking::Asked;
 use conflict_book::Legless;
 use event_step::taker;
 use rv_core::{Leg, Naming};
 use spec_state::{State, TaskId, Where};
+use step_script::Asked;
 use task_request::{Request, request_of};
 
 /// What an event is about.
@@ -85,10 +86,10 @@ fn request_at<N: Naming>(state: &State<N>, tile: u32, core: u32, leg: &Leg<N>) -
 
 /// What an event without a leg is about.
 fn about_legless<N: Naming>(state: &State<N>, event: Legless) -> Option<TaskId>
-    requires { AskedIsInRange N state.now.view.settings (Asked.Legless event) }
-    ensures task { (leg : LegValue) → IsAbout {N = N} state.now.view (asks_of (Asked.Legless event) leg)
+    requires { AskedIsInRange N state.now.view.settings (asks.Legless event) }
+    ensures task { (leg : LegValue) → IsAbout {N = N} state.now.view (asks_of (asks.Legless event) leg)
         (option_map (λ id. id.0) result) }
-    ensures request { (leg : LegValue) → IsAskedFor {N = N} state.now.view (asks_of (Asked.Legless event) leg) None }
+    ensures request { (leg : LegValue) → IsAskedFor {N = N} state.now.view (asks_of (asks.Legless event) leg) None }
 {
     match event {
         Legless::Dispatch { tile } => state.idle(tile),

@@ -6,7 +6,7 @@ ghost use Rattle.std.specs.String.{string_bytes};
 ghost use Rattle.rv_core.specs.LegValue.{LegValue};
 ghost use Rattle.spec_state.specs.Fronts.{name_given};
 ghost use Rattle.spec_state.specs.View.{queue_at};
-ghost use Rattle.watch_text.specs.Asking.{AskedIsInRange, asks_of};
+ghost use Rattle.step_script.specs.Asking.{AskedIsInRange, asks_of};
 ghost use Rattle.watch_text.specs.Changes.{AreFound, IsOneChild, IsOneIn, IsOneLast, aborted_text};
 ghost use Rattle.watch_text.specs.Changes.{arrived_in, back_text, child_at, child_in};
 ghost use Rattle.watch_text.specs.Changes.{done_in, is_child_at, last_child, last_item, lists_text, named_text};
@@ -16,7 +16,6 @@ ghost use Rattle.watch_text.specs.Moments.{task_of};
 ghost use Rattle.watch_text.specs.Taking.{ids_affected, ids_back, ids_gone, ids_spilled};
 
 use crate::about::{About, task_of};
-use crate::asking::Asked;
 use crate::before::{Before, id_count};
 use crate::effect::AttemptEffect;
 use crate::fields::{put_list, put_number};
@@ -26,6 +25,7 @@ use rv_core::Naming;
 use spec_state::{Creator, State, TaskId};
 use std::alloc::AllocError;
 use std::fmt::Write;
+use step_script::Asked;
 use task_request::Request;
 
 fn work_of(was: Before) -> u32

@@ -10,7 +10,6 @@
 #![tactic(auto)]
 
 mod about;
-mod asking;
 mod before;
 mod change;
 mod effect;
@@ -28,7 +27,6 @@ mod view;
 mod words;
 
 pub use about::{About, about_of};
-pub use asking::Asked;
 pub use before::{Before, remember};
 pub use change::arrived_in;
 pub use effect::AttemptEffect;

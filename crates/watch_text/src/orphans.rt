@@ -3,18 +3,18 @@
 ghost use Rattle.std.specs.Prelude.{◌≡◌, ◌<◌, ℕ, Contains, IfOk, true};
 ghost use Rattle.std.specs.List.{range_with_len};
 ghost use Rattle.rv_core.specs.LegValue.{LegValue};
-ghost use Rattle.watch_text.specs.Asking.{asks_of};
+ghost use Rattle.step_script.specs.Asking.{asks_of};
 ghost use Rattle.watch_text.specs.Changes.{HasOrphans};
 ghost use Rattle.watch_text.specs.Moments.{task_of};
 ghost use Rattle.watch_text.specs.Taking.{id_count, remembered, was_made_by};
 
 use crate::about::About;
-use crate::asking::Asked;
 use crate::before::id_count;
 use crate::change::done_in;
 use rv_core::Naming;
 use spec_state::State;
 use std::alloc::{AllocError, Global};
+use step_script::Asked;
 
 /// The same ids, as wide as those of tasks.
 fn widened(ids: &[u32], alloc: Global) -> Result<Vec<usize>, AllocError>

@@ -3,7 +3,7 @@
 ghost use Rattle.std.specs.Prelude.{◌≡◌, ◌<◌, ◌++◌, OnOk, Some, drop, option_copied};
 ghost use Rattle.std.specs.String.{string_bytes};
 ghost use Rattle.rv_core.specs.LegValue.{LegValue};
-ghost use Rattle.watch_text.specs.Asking.{asks_of};
+ghost use Rattle.step_script.specs.Asking.{asks_of};
 ghost use Rattle.watch_text.specs.Changes.{arrived_in, arrived_text, child_in, commit_text, core_of_status};
 ghost use Rattle.watch_text.specs.Changes.{dispatched_text, emitted_text};
 ghost use Rattle.watch_text.specs.Changes.{entry_text};
@@ -12,7 +12,6 @@ ghost use Rattle.watch_text.specs.Changes.{split_text, step_text, task_if, tile_
 ghost use Rattle.watch_text.specs.Moments.{task_of};
 
 use crate::about::{About, task_of};
-use crate::asking::Asked;
 use crate::change::{name_creator, name_index};
 use crate::effect::AttemptEffect;
 use crate::fields::{put_core, put_field, put_hex, put_name, put_some, put_text};
@@ -21,6 +20,7 @@ use rv_core::Naming;
 use serial_machine::Entry;
 use spec_state::{State, Status, Task, TaskId};
 use std::alloc::AllocError;
+use step_script::Asked;
 use task_request::Request;
 
 /// The core that a status names.

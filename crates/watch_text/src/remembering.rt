@@ -2,18 +2,18 @@
 
 ghost use Rattle.std.specs.Prelude.{◌≡◌, length};
 ghost use Rattle.rv_core.specs.LegValue.{LegValue};
-ghost use Rattle.watch_text.specs.Asking.{asks_of};
+ghost use Rattle.step_script.specs.Asking.{asks_of};
 ghost use Rattle.watch_text.specs.Changes.{HasOrphansIn, AreFound, LeavesOthers};
 ghost use Rattle.watch_text.specs.Moments.{task_of};
 ghost use Rattle.watch_text.specs.Remembering.{Refreshes, is_among};
 ghost use Rattle.watch_text.specs.Taking.{OthersRemembered, id_count, ids_affected, is_id, table_of};
 
 use crate::about::{About, task_of};
-use crate::asking::Asked;
 use crate::before::{Before, remembered};
 use crate::effect::AttemptEffect;
 use rv_core::Naming;
 use spec_state::State;
+use step_script::Asked;
 
 /// Remembers the task of an id anew, where the table has a place for it.
 fn remember_one<N: Naming>(state: &State<N>, table: &mut [Option<Before>], id: Option<usize>)

@@ -4,14 +4,13 @@ ghost use Rattle.std.specs.Prelude.{◌≡◌, ◌++◌, OnOk};
 ghost use Rattle.std.specs.String.{string_bytes};
 ghost use Rattle.rv_core.specs.LegValue.{LegValue};
 ghost use Rattle.event_def.specs.declared.event.Reply.TheVariants as replies;
-ghost use Rattle.watch_text.specs.Asking.{asks_of};
+ghost use Rattle.step_script.specs.Asking.{asks_of};
 ghost use Rattle.watch_text.specs.Changes.{AreFound, arrived_in, change_by, change_text, done_in, own_text};
 ghost use Rattle.watch_text.specs.Changes.{reply_part, taken_text};
 ghost use Rattle.watch_text.specs.Lines.{rest_text};
 ghost use Rattle.watch_text.specs.Moments.{task_of};
 
 use crate::about::About;
-use crate::asking::Asked;
 use crate::before::Before;
 use crate::change::put_taken_by;
 use crate::effect::AttemptEffect;
@@ -22,6 +21,7 @@ use event_def::Reply;
 use rv_core::Naming;
 use spec_state::State;
 use std::alloc::AllocError;
+use step_script::Asked;
 
 /// The reply, and how many events were made so far.
 #[tactic(auto, unfolding(crate::specs::Changes::reply_part))]

@@ -3,7 +3,7 @@
 ghost use Rattle.std.specs.Prelude.{◌≡◌, IfOk};
 ghost use Rattle.rv_core.specs.LegValue.{LegValue};
 ghost use Rattle.spec_state.specs.View.{task_at};
-ghost use Rattle.watch_text.specs.Asking.{asks_of};
+ghost use Rattle.step_script.specs.Asking.{asks_of};
 ghost use Rattle.watch_text.specs.Changes.{affected_in, arrived_in};
 ghost use Rattle.watch_text.specs.Moments.{task_of};
 ghost use Rattle.watch_text.specs.Taking.{creator_taken, has_left, ids_affected, ids_back, ids_gone, ids_spilled};
@@ -11,12 +11,12 @@ ghost use Rattle.watch_text.specs.Taking.{is_affected, is_back, is_gone, is_id, 
 ghost use Rattle.watch_text.specs.Taking.{was_discarded, was_spilled, was_taken};
 
 use crate::about::About;
-use crate::asking::Asked;
 use crate::before::Before;
 use crate::change::done_in;
 use rv_core::Naming;
 use spec_state::{Creator, State, TaskId};
 use std::alloc::AllocError;
+use step_script::Asked;
 
 fn is_id(one: Option<usize>, id: usize) -> bool
     ensures { result ≡ is_id one id }

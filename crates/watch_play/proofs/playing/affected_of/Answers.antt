@@ -1,6 +1,6 @@
 use Rattle.std.proofs.Common.{◌∙◌}
 use Rattle.std.proofs.lemmas.Result.{IfOk-weaker}
-use Rattle.watch_text.specs.Asking.{asks_of}
+use Rattle.step_script.specs.Asking.{asks_of}
 use Rattle.watch_text.specs.Changes.{affected_in}
 use Rattle.watch_text.specs.Moments.{task_of}
 use Rattle.watch_play.proofs.playing.affected_of.Goals as goal

@@ -3,7 +3,7 @@ use Rattle.std.specs.String.{string_bytes}
 use Rattle.event_def.specs.declared.event.Reply.TheVariants as reply
 use Rattle.conflict_book.specs.BookViews.{machine_view, view_of}
 use Rattle.step_script.specs.Playing.{PlayState}
-use Rattle.watch_text.specs.Asking.{asks_of}
+use Rattle.step_script.specs.Asking.{asks_of}
 use Rattle.watch_text.specs.Changes.{HasOrphans}
 use Rattle.watch_text.specs.Moments.{task_of}
 use Rattle.watch_play.specs.Made.{play_of}

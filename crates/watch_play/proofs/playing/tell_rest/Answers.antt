@@ -1,6 +1,6 @@
 use Rattle.std.proofs.Common.{sym, ap, ◌∙◌}
 use Rattle.spec_state.specs.View.{View}
-use Rattle.watch_text.specs.Asking.{asks_of}
+use Rattle.step_script.specs.Asking.{asks_of}
 use Rattle.watch_text.specs.Changes.{affected_in, arrived_in}
 use Rattle.watch_text.specs.Moments.{task_of}
 use Rattle.watch_play.proofs.playing.tell_rest.Goals as goal

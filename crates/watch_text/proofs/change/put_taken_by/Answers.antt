@@ -1,5 +1,5 @@
 use Rattle.std.proofs.Common.{◌∙◌}
-use Rattle.watch_text.specs.Asking.{asks_of}
+use Rattle.step_script.specs.Asking.{asks_of}
 use Rattle.watch_text.specs.Moments.{task_of}
 use Rattle.watch_text.proofs.Named.{affected_are, some_leg}
 use Rattle.watch_text.proofs.change.put_taken_by.Goals as goal

@@ -1,6 +1,6 @@
 use Rattle.std.proofs.Common.{◌∙◌, ap}
-use Rattle.watch_text.specs.declared.asking.Asked.{Asked}
-use Rattle.watch_text.specs.Asking.{asks_of}
+use Rattle.step_script.specs.declared.asked.Asked.{Asked}
+use Rattle.step_script.specs.Asking.{asks_of}
 use Rattle.watch_text.specs.Changes.{arrived_in}
 use Rattle.watch_text.specs.Moments.{task_of}
 use Rattle.watch_text.proofs.Named.{some_leg}

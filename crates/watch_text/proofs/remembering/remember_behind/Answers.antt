@@ -1,6 +1,6 @@
 use Rattle.std.proofs.Common.{◌∙◌, refl, subst, sym}
 use Rattle.std.specs.Prelude.{Contains}
-use Rattle.watch_text.specs.Asking.{asks_of}
+use Rattle.step_script.specs.Asking.{asks_of}
 use Rattle.watch_text.specs.Changes.{done_in}
 use Rattle.watch_text.specs.Moments.{task_of}
 use Rattle.watch_text.proofs.Named.{affected_are, others_kept, some_leg}

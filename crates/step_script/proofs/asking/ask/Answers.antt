@@ -1,6 +1,6 @@
 use Rattle.step_script.specs.declared.act.Act.TheVariants as acts
-use Rattle.watch_play.proofs.Asked.{asks_by, asks_by_ok}
-use Rattle.watch_play.proofs.asking.ask.Goals as goal
+use Rattle.step_script.proofs.Attempts.{asks_by, asks_by_ok, runs_out}
+use Rattle.step_script.proofs.asking.ask.Goals as goal
 
 pub returns-in-Step-clause-asks : goal.returns-in-Step-clause-asks
 returns-in-Step-clause-asks g c =
@@ -11,6 +11,11 @@ pub returns-in-Take-clause-asks : goal.returns-in-Take-clause-asks
 returns-in-Take-clause-asks g c =
     asks_by_ok g.row.N.Denot g.N.Naming.image _ c.in-Take.tile c.in-Take.core _ c.args.leg.now c.ask_take.new.held.items
     c.ask_take.result c.in-Take.is c.ask_take.ensures.asks
+
+pub returns-in-Take-clause-out_of_memory : goal.returns-in-Take-clause-out_of_memory
+returns-in-Take-clause-out_of_memory g c =
+    runs_out _ c.in-Take.tile c.in-Take.core c.args.held.now.items c.ask_take.new.held.items c.args.leg.now
+    c.ask_take.result c.in-Take.is c.ask_take.ensures.out_of_memory
 
 pub returns-in-Give-clause-asks : goal.returns-in-Give-clause-asks
 returns-in-Give-clause-asks g c =

@@ -1,5 +1,6 @@
--- What an act comes to before the book is asked: an event that is handed in, or a word that is said in its place.
-use Rattle.std.specs.Prelude.{◌≡◌, ◌<◌, ℕ, List, Some, None}
+-- What an act comes to before the book is asked: an event that is handed in, or a word that is said in its place; and
+-- what comes of that.
+use Rattle.std.specs.Prelude.{◌≡◌, ◌≢◌, ◌<◌, ℕ, List, Some, None}
 use Rattle.guest_image.specs.ImageValue.{ImageValue}
 use Rattle.rv_core.specs.LegValue.{LegValue}
 use Rattle.spec_state.specs.declared.settings.Settings.{Settings}
@@ -8,14 +9,17 @@ use Rattle.event_def.specs.declared.event.Event.TheVariants as event
 use Rattle.event_def.specs.declared.event.Reply.{Reply}
 use Rattle.event_def.specs.declared.event.Reply.TheVariants as reply
 use Rattle.event_def.specs.Advancing.{IsNextEvent}
+use Rattle.event_def.specs.Book.{BookView}
 use Rattle.event_def.specs.End.{IsOver}
+use Rattle.event_def.specs.Happens.{Happens}
 use Rattle.conflict_book.specs.Legless.{event_of}
 use Rattle.conflict_book.specs.Ranges.{IsInRange}
 use Rattle.step_script.specs.declared.act.Act.{Act}
 use Rattle.step_script.specs.declared.act.Act.TheVariants as acts
-use Rattle.step_script.specs.Playing.{HasLegAt, HeldLeg, NoneRuns, PlayState, held_for, holding, without_held_leg}
-use Rattle.watch_text.specs.declared.asking.Asked.{Asked}
-use Rattle.watch_text.specs.declared.asking.Asked.TheVariants as asked
+use Rattle.step_script.specs.Playing.{HasLegAt, HeldLeg, NoneRuns, PlayState, PlayerValue, held_for, holding}
+use Rattle.step_script.specs.Playing.{without_held_leg}
+use Rattle.step_script.specs.declared.asked.Asked.{Asked}
+use Rattle.step_script.specs.declared.asked.Asked.TheVariants as asked
 
 -- an event is handed in, or this reply is said and nothing happens
 pub data Attempt (N : Type 0) : Type 0 where
@@ -91,3 +95,20 @@ AsksFor image acts.Commit old asks held = HandsEvent event.Commit old asks held
 AsksFor image (acts.Coalesce tile) old asks held = HandsEvent (event.Coalesce tile) old asks held
 AsksFor image (acts.Split tile) old asks held = HandsEvent (event.Split tile) old asks held
 AsksFor image acts.Advance old asks held = AsksAdvance image old asks held
+
+-- no memory is left for what an act comes to: where it is a `take`, nothing is held for its core then; all else stays
+abbrev pub RunsOut : Act → PlayerValue → PlayerValue → Type 0
+RunsOut (acts.Take tile core) old new = new ≡ record old { held = without_held_leg tile core old.held }
+RunsOut other old new = new ≡ old
+
+-- ---- what comes of it
+
+-- the event has this reply; or the word is said, and nothing happens
+abbrev pub AttemptComes : {N : Type 0} → Attempt N → Reply → ℕ → BookView → BookView → Type 0
+AttemptComes (Hands event) answer aborted old new = Happens old event answer aborted new
+AttemptComes (Says word) answer aborted old new = (answer ≡ word) × (aborted ≡ 0) × (new ≡ old)
+
+-- the same, where the reply to an event isn't that memory ran out
+abbrev pub ComesOf : {N : Type 0} → Attempt N → Reply → ℕ → BookView → BookView → Type 0
+ComesOf (Hands event) answer aborted old new = (answer ≢ reply.Memory) × Happens old event answer aborted new
+ComesOf (Says word) answer aborted old new = (answer ≡ word) × (aborted ≡ 0) × (new ≡ old)

@@ -1,6 +1,6 @@
 use Rattle.std.proofs.Common.{rules}
-use Rattle.watch_play.proofs.Asked.{step_asks}
-use Rattle.watch_play.proofs.asking.ask_step.Goals as goal
+use Rattle.step_script.proofs.Attempts.{step_asks}
+use Rattle.step_script.proofs.asking.ask_step.Goals as goal
 
 pub returns-then-run_at-clause-asks : goal.returns-then-run_at-clause-asks
 returns-then-run_at-clause-asks g c =

@@ -1,6 +1,6 @@
 use Rattle.event_def.specs.declared.event.Event.TheVariants as event
-use Rattle.watch_play.proofs.Asked.{advance_asks, seen_in_tile, seen_leg, seen_on_core, seen_running}
-use Rattle.watch_play.proofs.asking.ask_running.Goals as goal
+use Rattle.step_script.proofs.Attempts.{advance_asks, seen_in_tile, seen_leg, seen_on_core, seen_running}
+use Rattle.step_script.proofs.asking.ask_running.Goals as goal
 
 pub run_at-requires-clause-core : goal.run_at-requires-clause-core
 run_at-requires-clause-core g c =

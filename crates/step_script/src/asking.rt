@@ -1,15 +1,20 @@
 //! What acts come to.
 
-ghost use Rattle.std.specs.Prelude.{◌≡◌, ◌<◌, IfOk, List};
+ghost use Rattle.std.specs.Prelude.{◌≡◌, ◌<◌, IfOk, List, OnErr};
 ghost use Rattle.conflict_book.specs.BookViews.{machine_view, view_of};
 ghost use Rattle.rv_core.specs.LegValue.{LegValue};
 ghost use Rattle.spec_state.specs.declared.task.Where.TheVariants as where_;
 ghost use Rattle.spec_state.specs.Least.{IsLeast};
 ghost use Rattle.event_def.specs.End.{IsOver};
-ghost use Rattle.step_script.specs.Playing.{HeldLeg};
+ghost use Rattle.step_script.specs.Playing.{HeldLeg, without_held_leg};
 ghost use Rattle.step_script.specs.Ranges.{ActIsInRange};
-ghost use Rattle.watch_text.specs.Asking.{AskedIsInRange, AsksAdvance, AsksFor, AsksGive, AsksStep, AsksTake, asks_of};
+ghost use Rattle.step_script.specs.Asking.{AskedIsInRange, AsksAdvance, AsksFor, AsksGive, AsksStep, AsksTake};
+ghost use Rattle.step_script.specs.Asking.{RunsOut, asks_of};
 
+use crate::act::Act;
+use crate::asked::Asked;
+use crate::holding::{Held, forget, hand_out, hold};
+use crate::running::{leg_at, run_at};
 use conflict_book::{Book, Legless};
 use event_def::Reply;
 use guest_image::Image;
@@ -17,9 +22,7 @@ use place_policy::Placer;
 use rv_core::{Leg, Naming};
 use spec_state::{Status, TaskId, Where};
 use std::alloc::AllocError;
-use step_script::{Act, Held, forget, hand_out, hold, leg_at, run_at};
 use trace_tap::Tap;
-use watch_text::Asked;
 
 /// `step`: the leg of the running task on a core is run, in the place of the one that stood ready.
 fn ask_step<N: Naming, P: Placer, T: Tap>(
@@ -62,6 +65,7 @@ fn ask_take<N: Naming, P: Placer, T: Tap>(
         IfOk result (λ asked. (leg : LegValue) → AsksTake {N = N} N.image tile core
         (record { book = book; held = held.old.items }) (asks_of asked leg) held.new.items) }
     ensures within { IfOk result (AskedIsInRange N (machine_view book.now).settings) }
+    ensures out_of_memory { OnErr result (held.new.items ≡ without_held_leg tile core held.old.items) }
 {
     match leg_at(image, book, tile, core) {
         Some(leg) => {
@@ -158,8 +162,7 @@ fn ask_advance<N: Naming, P: Placer, T: Tap>(
     }
 }
 
-/// What an act comes to, before the book is asked. A leg that is to be handed in takes the place of the one that stood
-/// ready.
+/// The same as `Player::ask`, of the parts of a player.
 pub(crate) fn ask<N: Naming, P: Placer, T: Tap>(
     leg: &mut Leg<N>,
     image: &Image,
@@ -174,6 +177,8 @@ pub(crate) fn ask<N: Naming, P: Placer, T: Tap>(
         IfOk result (λ asked. AsksFor {N = N} N.image act (record { book = book; held = held.old.items })
         (asks_of asked leg.new) held.new.items) }
     ensures within { IfOk result (AskedIsInRange N (machine_view book.now).settings) }
+    ensures out_of_memory { OnErr result (RunsOut act (record { held = held.old.items; leg = leg.old })
+        (record { held = held.new.items; leg = leg.new })) }
 {
     match act {
         Act::Dispatch(tile) => Ok(Asked::Legless(Legless::Dispatch { tile })),

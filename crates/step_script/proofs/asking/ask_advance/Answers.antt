@@ -1,7 +1,7 @@
 use Rattle.std.proofs.Common.{rules}
 use Rattle.event_def.specs.declared.event.Event.TheVariants as event
-use Rattle.watch_play.proofs.Asked.{advance_asks, none_trapped, seen_commit, seen_dispatch, seen_split}
-use Rattle.watch_play.proofs.asking.ask_advance.Goals as goal
+use Rattle.step_script.proofs.Attempts.{advance_asks, none_trapped, seen_commit, seen_dispatch, seen_split}
+use Rattle.step_script.proofs.asking.ask_advance.Goals as goal
 
 pub unreachable-requires : goal.unreachable-requires
 unreachable-requires g c =

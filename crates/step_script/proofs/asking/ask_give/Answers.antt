@@ -1,6 +1,6 @@
 use Rattle.std.proofs.Common.{rules, refl}
-use Rattle.watch_play.proofs.Asked.{give_asks, give_asks_none}
-use Rattle.watch_play.proofs.asking.ask_give.Goals as goal
+use Rattle.step_script.proofs.Attempts.{give_asks, give_asks_none}
+use Rattle.step_script.proofs.asking.ask_give.Goals as goal
 
 pub returns-in-Some-clause-asks : goal.returns-in-Some-clause-asks
 returns-in-Some-clause-asks g c =

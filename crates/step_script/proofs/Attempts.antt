@@ -1,11 +1,11 @@
 -- What acts come to.
 use Rattle.std.proofs.Common.{◌≡◌, ◌⊎◌, ◌≤◌, ◌<◌, ℕ, List, [], length, Some, None}
 use Rattle.std.proofs.Common.{Result, inl, inr, refl, sym, ap, subst, ◌∙◌}
-use Rattle.std.specs.Prelude.{IfOk, slice_get}
+use Rattle.std.specs.Prelude.{IfOk, OnErr, slice_get}
 use Rattle.std.proofs.lemmas.Bool.{cases_lt}
 use Rattle.std.proofs.lemmas.List.{get_or_past}
 use Rattle.std.proofs.lemmas.Option.{slice_get_within}
-use Rattle.std.proofs.lemmas.Result.{IfOk-weaker}
+use Rattle.std.proofs.lemmas.Result.{IfOk-weaker, on_err_weaker}
 use Rattle.guest_image.specs.ImageValue.{ImageValue}
 use Rattle.rv_core.specs.LegValue.{LegValue}
 use Rattle.spec_state.specs.declared.task.Status.TheVariants.{Running}
@@ -27,11 +27,12 @@ use Rattle.event_def.specs.End.{IsOver}
 use Rattle.event_lemma.proofs.Proved.{next_is_step, trapped_is_over}
 use Rattle.step_script.specs.declared.act.Act.{Act}
 use Rattle.step_script.specs.declared.act.Act.TheVariants as acts
-use Rattle.step_script.specs.Playing.{HasLegAt, HeldLeg, PlayState, held_for, holding, without_held_leg}
+use Rattle.step_script.specs.Playing.{HasLegAt, HeldLeg, PlayState, PlayerValue, held_for, holding}
+use Rattle.step_script.specs.Playing.{without_held_leg}
 use Rattle.step_script.proofs.HeldLegs.{without_unheld}
-use Rattle.watch_text.specs.declared.asking.Asked.{Asked}
-use Rattle.watch_text.specs.Asking.{Attempt, AsksAdvance, AsksFor, AsksGive, AsksStep, AsksTake, Hands, Says}
-use Rattle.watch_text.specs.Asking.{advance_next, asks_of, give_hands, give_stale, step_runs, take_holds}
+use Rattle.step_script.specs.declared.asked.Asked.{Asked}
+use Rattle.step_script.specs.Asking.{Attempt, AsksAdvance, AsksFor, AsksGive, AsksStep, AsksTake, Hands, RunsOut}
+use Rattle.step_script.specs.Asking.{Says, advance_next, asks_of, give_hands, give_stale, step_runs, take_holds}
 use Rattle.conflict_book.proofs.Proved.{ReadsTile, next_commit, next_dispatch, next_split, tile_is}
 
 -- a step comes to the leg of the task that runs there
@@ -81,6 +82,29 @@ pub asks_by_ok : {E : Type 0} (N : Type 0) (image : ImageValue) (act : Act) (til
 asks_by_ok N image act tile core old leg held r is =
     IfOk-weaker r _ _ (λ asked takes. asks_by N image act (acts.Take tile core) old (asks_of asked leg) held is
     (takes leg))
+
+-- where memory runs out over a take
+pub runs_out : {E : Type 0} (act : Act) (tile core : ℕ) (held after : List HeldLeg) (leg : LegValue)
+    (r : Result Asked E) → act ≡ acts.Take tile core → OnErr r (after ≡ without_held_leg tile core held)
+    → OnErr r (RunsOut act (record { held = held; leg = leg }) (record { held = after; leg = leg }))
+runs_out act tile core held after leg r is =
+    on_err_weaker r (λ rest. subst (λ a. RunsOut a (record { held = held; leg = leg })
+    (record { held = after; leg = leg })) (sym is) (ap (λ h. record { held = h; leg = leg }) rest))
+
+-- ---- of a player, by its parts
+
+module _ {E : Type 0} (N : Type 0) (image : ImageValue) (act : Act) (book : BookView) (inside old new : PlayerValue)
+    (r : Result Asked E) (same : inside ≡ old) where
+  pub player_asks : IfOk r (λ asked. AsksFor {N = N} image act (record { book = book; held = inside.held })
+      (asks_of asked new.leg) new.held)
+      → IfOk r (λ asked. AsksFor {N = N} image act (record { book = book; held = old.held }) (asks_of asked new.leg)
+      new.held)
+  player_asks =
+      subst (λ (p : PlayerValue). IfOk r (λ asked. AsksFor {N = N} image act (record { book = book; held = p.held })
+      (asks_of asked new.leg) new.held)) same
+
+  pub player_runs_out : OnErr r (RunsOut act inside new) → OnErr r (RunsOut act old new)
+  player_runs_out = subst (λ (p : PlayerValue). OnErr r (RunsOut act p new)) same
 
 -- ---- the least task
 
