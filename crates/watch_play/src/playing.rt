@@ -261,15 +261,16 @@ fn play_act<N: Naming, P: Placer, T: Tap>(
     let Ok(asked) = watch.player.ask(image, &watch.book, act) else {
         return PlayedAct::Unmade;
     };
-    let about = about_of(watch.book.state(), &asked, watch.player.leg());
+    let leg = watch.player.leg();
+    let about = about_of(watch.book.state(), &asked, leg);
     let Ok(ahead) = read_ahead(&watch.book, &asked, &about) else {
         return PlayedAct::Unmade;
     };
     watch.line.clear();
-    if put_front(&mut watch.line, at, act, &asked, &about, watch.player.leg()).is_err() {
+    if put_front(&mut watch.line, at, act, &asked, &about, leg).is_err() {
         return PlayedAct::Unmade;
     }
-    are_sound(&watch.book, watch.player.leg());
+    are_sound(&watch.book, leg);
     let applied = watch.player.make(&mut watch.book, asked);
     if applied.reply == Reply::Memory {
         return PlayedAct::Unmade;

@@ -3,7 +3,7 @@ use Rattle.std.specs.String.{string_bytes}
 use Rattle.event_def.specs.declared.event.Reply.TheVariants as reply
 use Rattle.conflict_book.specs.BookViews.{machine_view, view_of}
 use Rattle.step_script.specs.Playing.{PlayState}
-use Rattle.step_script.specs.Asking.{asks_of}
+use Rattle.step_script.specs.Asking.{AsksFor, AttemptComes, asks_of}
 use Rattle.watch_text.specs.Changes.{HasOrphans}
 use Rattle.watch_text.specs.Moments.{task_of}
 use Rattle.watch_play.specs.Made.{play_of}
@@ -18,14 +18,19 @@ returns-in-Ok-tell_rest-clause-comes g c =
     let old = play_of g.P.Placer.policy g.T.Tap.notes c.args.watch.now in
     let new : PlayState = record {
       book = view_of g.P.Placer.policy g.T.Tap.notes c.make-applied.new.book;
-      held =
-          c.ask.new.held.items;
+      held = c.ask.new.self.held;
     } in
-    let asks = asks_of {N = g.row.N.Denot} c.in-Ok.asked c.ask.new.leg in
+    let asks = asks_of {N = g.row.N.Denot} c.in-Ok.asked c.leg-leg.result.now in
     let task = task_of c.about_of-about.result in
     let request = c.about_of-about.result.request in
     let answer = c.make-applied.result.reply in
     let aborted = c.make-applied.result.aborted in
+    let asked =
+    subst (λ l. AsksFor {N = g.row.N.Denot} g.N.Naming.image c.args.act old (asks_of c.in-Ok.asked l) new.held)
+    (sym c.leg-leg.ensures) c.in-Ok.ensures.asks in
+    let came =
+    subst (λ l. AttemptComes {N = g.row.N.Denot} (asks_of c.in-Ok.asked l) answer aborted old.book new.book)
+    (sym c.leg-leg.ensures) c.make-applied.ensures.comes in
     let there : c.make-applied.result.reply ≢ reply.Memory = search rules in
     let effect = c.in-Ok-effect_of.effect in
     let told = c.in-Ok-effect_of.ensures in (
@@ -33,14 +38,13 @@ returns-in-Ok-tell_rest-clause-comes g c =
       moment_is g.row.N.Denot g.N.Naming.image c.args.at number c.args.act old new asks task request answer aborted
           c.state.result.now.view (play_of g.P.Placer.policy g.T.Tap.notes c.tell_rest.new.watch) c.state.ensures.view
           c.tell_rest.ensures.play
-          c.in-Ok.ensures.asks c.about_of-about.ensures.task c.about_of-about.ensures.request there
-          c.make-applied.ensures.comes,
+          asked c.about_of-about.ensures.task c.about_of-about.ensures.request there came,
       line_is g.row.N.Denot g.N.Naming.image c.args.at number c.args.act old new asks task request answer aborted
           c.args.watch.now.each (string_bytes c.clear.new.self) (string_bytes c.put_front.new.line)
           (string_bytes c.tell_rest.new.watch.line) c.args.watch.now.table.items effect.output effect.reply effect.aborted
           (search rules) (search rules) c.requires.table (told.output ∙ c.in-Ok-read_ahead.ensures.output) told.reply
           told.aborted
-          (c.in-Ok-tell_rest.ensures.line c.ask.new.leg),
+          (c.in-Ok-tell_rest.ensures.line c.leg-leg.result.now),
     )
 
 pub returns-clause-comes : goal.returns-clause-comes
@@ -49,21 +53,25 @@ returns-clause-comes g c =
     let old = play_of g.P.Placer.policy g.T.Tap.notes c.args.watch.now in
     let new : PlayState = record {
       book = view_of g.P.Placer.policy g.T.Tap.notes c.make-applied.new.book;
-      held =
-          c.ask.new.held.items;
+      held = c.ask.new.self.held;
     } in
-    let asks = asks_of {N = g.row.N.Denot} c.in-Ok.asked c.ask.new.leg in
+    let asks = asks_of {N = g.row.N.Denot} c.in-Ok.asked c.leg-leg.result.now in
     let task = task_of c.about_of-about.result in
     let request = c.about_of-about.result.request in
     let answer = c.make-applied.result.reply in
     let aborted = c.make-applied.result.aborted in
+    let asked =
+    subst (λ l. AsksFor {N = g.row.N.Denot} g.N.Naming.image c.args.act old (asks_of c.in-Ok.asked l) new.held)
+    (sym c.leg-leg.ensures) c.in-Ok.ensures.asks in
+    let came =
+    subst (λ l. AttemptComes {N = g.row.N.Denot} (asks_of c.in-Ok.asked l) answer aborted old.book new.book)
+    (sym c.leg-leg.ensures) c.make-applied.ensures.comes in
     let there : c.make-applied.result.reply ≢ reply.Memory = search rules in (
       made g.row.N.Denot g.N.Naming.image c.args.at number c.args.act old new asks task request answer aborted,
       moment_is g.row.N.Denot g.N.Naming.image c.args.at number c.args.act old new asks task request answer aborted
           c.state.result.now.view (play_of g.P.Placer.policy g.T.Tap.notes c.tell_rest.new.watch) c.state.ensures.view
           c.tell_rest.ensures.play
-          c.in-Ok.ensures.asks c.about_of-about.ensures.task c.about_of-about.ensures.request there
-          c.make-applied.ensures.comes,
+          asked c.about_of-about.ensures.task c.about_of-about.ensures.request there came,
     )
 
 pub returns-in_default-effect_of-clause-comes : goal.returns-in_default-effect_of-clause-comes
@@ -72,20 +80,24 @@ returns-in_default-effect_of-clause-comes g c =
     let old = play_of g.P.Placer.policy g.T.Tap.notes c.args.watch.now in
     let new : PlayState = record {
       book = view_of g.P.Placer.policy g.T.Tap.notes c.make-applied.new.book;
-      held =
-          c.ask.new.held.items;
+      held = c.ask.new.self.held;
     } in
-    let asks = asks_of {N = g.row.N.Denot} c.in-Ok.asked c.ask.new.leg in
+    let asks = asks_of {N = g.row.N.Denot} c.in-Ok.asked c.leg-leg.result.now in
     let task = task_of c.about_of-about.result in
     let request = c.about_of-about.result.request in
     let answer = c.make-applied.result.reply in
     let aborted = c.make-applied.result.aborted in
+    let asked =
+    subst (λ l. AsksFor {N = g.row.N.Denot} g.N.Naming.image c.args.act old (asks_of c.in-Ok.asked l) new.held)
+    (sym c.leg-leg.ensures) c.in-Ok.ensures.asks in
+    let came =
+    subst (λ l. AttemptComes {N = g.row.N.Denot} (asks_of c.in-Ok.asked l) answer aborted old.book new.book)
+    (sym c.leg-leg.ensures) c.make-applied.ensures.comes in
     let there : c.make-applied.result.reply ≢ reply.Memory = search rules in (
       made g.row.N.Denot g.N.Naming.image c.args.at number c.args.act old new asks task request answer aborted,
       moment_is g.row.N.Denot g.N.Naming.image c.args.at number c.args.act old new asks task request answer aborted
           c.state.result.now.view new c.state.ensures.view refl
-          c.in-Ok.ensures.asks c.about_of-about.ensures.task c.about_of-about.ensures.request there
-          c.make-applied.ensures.comes,
+          asked c.about_of-about.ensures.task c.about_of-about.ensures.request there came,
     )
 
 pub tell_rest-requires-clause-found : goal.tell_rest-requires-clause-found
@@ -94,7 +106,7 @@ tell_rest-requires-clause-found g c done leg =
 
 pub tell_rest-requires-clause-stands : goal.tell_rest-requires-clause-stands
 tell_rest-requires-clause-stands g c = λ refused.
-    table_stays (asks_of {N = g.row.N.Denot} c.in-Ok.asked c.ask.new.leg)
+    table_stays (asks_of {N = g.row.N.Denot} c.in-Ok.asked c.ask.new.self.leg)
     c.make-applied.result.reply c.make-applied.result.aborted _ _ _ c.requires.table c.make-applied.ensures.comes
     (λ made. refused (c.in-Ok-effect_of.ensures.reply ∙ made))
 
@@ -109,9 +121,12 @@ tell_rest-requires-clause-others g c done =
     let new = view_of g.P.Placer.policy g.T.Tap.notes c.make-applied.new.book in
     let about = c.about_of-about in
     let applied = c.make-applied in
+    let came =
+    subst (λ l. AttemptComes {N = g.row.N.Denot} (asks_of c.in-Ok.asked l) applied.result.reply applied.result.aborted
+    old new) (sym c.leg-leg.ensures) applied.ensures.comes in
     others_are_left g.row.N.Denot g.N.Naming.image old new (task_of about.result) about.result.request
-    c.are_sound.ensures.sound c.ask.new.leg c.in-Ok.asked c.state.result.now.view c.args.watch.now.table.items
-    applied.result.reply applied.result.aborted c.state.ensures.view c.requires.table applied.ensures.comes
+    c.are_sound.ensures.sound c.leg-leg.result.now c.in-Ok.asked c.state.result.now.view c.args.watch.now.table.items
+    applied.result.reply applied.result.aborted c.state.ensures.view c.requires.table came
     about.ensures.task about.ensures.request (sym c.in-Ok-effect_of.ensures.reply ∙ done) c.in-Ok.ensures.within
     c.are_sound.ensures.run
 
@@ -131,10 +146,13 @@ effect_of-requires-clause-quiet g c made none room =
     let new = view_of g.P.Placer.policy g.T.Tap.notes c.make-applied.new.book in
     let about = c.about_of-about in
     let applied = c.make-applied in
+    let came =
+    subst (λ l. AttemptComes {N = g.row.N.Denot} (asks_of c.in-Ok.asked l) applied.result.reply applied.result.aborted
+    old new) (sym c.leg-leg.ensures) applied.ensures.comes in
     none_are_affected g.row.N.Denot g.N.Naming.image old new (task_of about.result) about.result.request
-    c.are_sound.ensures.sound c.ask.new.leg c.in-Ok.asked c.state.result.now.view c.args.watch.now.table.items
-    applied.result.reply applied.result.aborted c.state.ensures.view c.requires.table applied.ensures.comes
-    about.ensures.task about.ensures.request made none (c.in-Ok-read_ahead.ensures.room room c.ask.new.leg)
+    c.are_sound.ensures.sound c.leg-leg.result.now c.in-Ok.asked c.state.result.now.view c.args.watch.now.table.items
+    applied.result.reply applied.result.aborted c.state.ensures.view c.requires.table came
+    about.ensures.task about.ensures.request made none (c.in-Ok-read_ahead.ensures.room room c.leg-leg.result.now)
 
 pub effect_of-requires-clause-one : goal.effect_of-requires-clause-one
 effect_of-requires-clause-one g c =
@@ -142,7 +160,10 @@ effect_of-requires-clause-one g c =
     let new = view_of g.P.Placer.policy g.T.Tap.notes c.make-applied.new.book in
     let about = c.about_of-about in
     let applied = c.make-applied in
+    let came =
+    subst (λ l. AttemptComes {N = g.row.N.Denot} (asks_of c.in-Ok.asked l) applied.result.reply applied.result.aborted
+    old new) (sym c.leg-leg.ensures) applied.ensures.comes in
     child_is_one g.row.N.Denot g.N.Naming.image old new (task_of about.result) about.result.request
-    c.are_sound.ensures.sound applied.result.aborted (asks_of {N = g.row.N.Denot} c.in-Ok.asked c.ask.new.leg)
-    c.state.result.now.view applied.result.reply c.state.ensures.view applied.ensures.comes about.ensures.task
+    c.are_sound.ensures.sound applied.result.aborted (asks_of {N = g.row.N.Denot} c.in-Ok.asked c.leg-leg.result.now)
+    c.state.result.now.view applied.result.reply c.state.ensures.view came about.ensures.task
     about.ensures.request
