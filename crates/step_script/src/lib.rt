@@ -8,16 +8,21 @@
 #![tactic(auto)]
 
 mod act;
+mod asked;
+mod asking;
 mod fault;
 mod holding;
 mod parsing;
+mod player;
 mod playing;
 mod reading;
+mod running;
 mod saying;
 
 pub use act::Act;
+pub use asked::Asked;
 pub use fault::ScriptFault;
-pub use holding::{Held, forget, hand_out, hold};
-pub use playing::{first_leg, leg_at, play, run_at};
+pub use player::Player;
+pub use playing::play;
 pub use reading::{read_script, written_scripts_read_back};
 pub use saying::{Said, Word};

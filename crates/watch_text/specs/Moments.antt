@@ -1,22 +1,20 @@
 -- A moment: an act that was told, with the book before and after it.
-use Rattle.std.specs.Prelude.{◌≡◌, ◌≢◌, ℕ, Some, None, slice_get, option_map}
+use Rattle.std.specs.Prelude.{◌≡◌, ℕ, Some, None, slice_get, option_map}
 use Rattle.std.specs.declared.option.Option.{Option}
 use Rattle.guest_image.specs.ImageValue.{ImageValue}
 use Rattle.task_request.specs.declared.request.Request.{Request}
 use Rattle.spec_state.specs.declared.task.Task.{Task}
-use Rattle.spec_state.specs.Effects.{EffectValue, nothing}
+use Rattle.spec_state.specs.Effects.{EffectValue}
 use Rattle.spec_state.specs.View.{View, cores_at}
 use Rattle.spec_state.specs.Changes.{TakesLeg, request_of}
 use Rattle.spec_state.specs.Least.{IsTheLeast}
 use Rattle.spec_state.specs.Queries.{IsDispatched, IsIdle, IsLatestDispatched, IsLeastIdle}
 use Rattle.event_def.specs.declared.event.Event.TheVariants as event
 use Rattle.event_def.specs.declared.event.Reply.{Reply}
-use Rattle.event_def.specs.declared.event.Reply.TheVariants as reply
 use Rattle.event_def.specs.Book.{BookView}
 use Rattle.event_def.specs.Causes.{IsStale}
-use Rattle.event_def.specs.Telling.{HappensTelling}
 use Rattle.step_script.specs.declared.act.Act.{Act}
-use Rattle.step_script.specs.Asking.{AsksFor, Attempt, Hands, Says}
+use Rattle.step_script.specs.Asking.{AsksFor, Attempt, AttemptTells, ComesOf, Hands, Says}
 use Rattle.step_script.specs.Playing.{PlayState}
 use Rattle.watch_text.specs.declared.about.About.{About}
 
@@ -61,13 +59,6 @@ IsAskedFor view (Hands (event.Step tile core leg)) (Some request) =
     (id : ℕ) × (task : Task) × TakesLeg view tile core leg id task × (request_of view task leg ≡ request)
 IsAskedFor view other request = request ≡ None
 
--- what comes of it: the event has this reply, which isn't that memory ran out, and tells what it did; or the word is
--- said, and nothing is done
-abbrev pub ComesOf : {N : Type 0} → Attempt N → Reply → ℕ → EffectValue → BookView → BookView → Type 0
-ComesOf (Hands event) answer aborted effect old new =
-    (answer ≢ reply.Memory) × HappensTelling old event answer aborted new effect
-ComesOf (Says word) answer aborted effect old new = (answer ≡ word) × (aborted ≡ 0) × (effect ≡ nothing) × (new ≡ old)
-
 -- the moment leads from one of these states of a play to the other: its act comes to what it says, with all that it
 -- says of that
 pub record IsMoment {N : Type 0} (image : ImageValue) (m : Moment N) (before after : PlayState) : Type 0 where
@@ -76,4 +67,5 @@ pub record IsMoment {N : Type 0} (image : ImageValue) (m : Moment N) (before aft
   pub asked : AsksFor image m.act before m.asks after.held
   pub about : IsAbout m.old.view m.asks m.task
   pub asked_for : IsAskedFor m.old.view m.asks m.request
-  pub came : ComesOf m.asks m.reply m.aborted m.effect m.old m.new
+  pub came : ComesOf m.asks m.reply m.aborted m.old m.new
+  pub told : AttemptTells m.asks m.reply m.aborted m.old m.new m.effect

@@ -2,7 +2,7 @@ use Rattle.std.proofs.Common.{ap}
 use Rattle.std.specs.String.{string_bytes}
 use Rattle.conflict_book.specs.Legless.{event_of}
 use Rattle.event_def.specs.declared.event.Event.TheVariants as event
-use Rattle.step_script.specs.declared.asking.Asked.{Asked}
+use Rattle.step_script.specs.declared.asked.Asked.{Asked}
 use Rattle.step_script.specs.Asking.{asks_of}
 use Rattle.watch_text.specs.Moments.{task_of}
 use Rattle.watch_text.proofs.Handed.{change_put}

@@ -1,0 +1,194 @@
+//! What acts come to.
+
+ghost use Rattle.std.specs.Prelude.{◌≡◌, ◌<◌, IfOk, List, OnErr};
+ghost use Rattle.conflict_book.specs.BookViews.{machine_view, view_of};
+ghost use Rattle.rv_core.specs.LegValue.{LegValue};
+ghost use Rattle.spec_state.specs.declared.task.Where.TheVariants as where_;
+ghost use Rattle.spec_state.specs.Least.{IsLeast};
+ghost use Rattle.event_def.specs.End.{IsOver};
+ghost use Rattle.step_script.specs.Playing.{HeldLeg, without_held_leg};
+ghost use Rattle.step_script.specs.Ranges.{ActIsInRange};
+ghost use Rattle.step_script.specs.Asking.{AskedIsInRange, AsksAdvance, AsksFor, AsksGive, AsksStep, AsksTake};
+ghost use Rattle.step_script.specs.Asking.{RunsOut, asks_of};
+
+use crate::act::Act;
+use crate::asked::Asked;
+use crate::holding::{Held, forget, hand_out, hold};
+use crate::running::{leg_at, run_at};
+use conflict_book::{Book, Legless};
+use event_def::Reply;
+use guest_image::Image;
+use place_policy::Placer;
+use rv_core::{Leg, Naming};
+use spec_state::{Status, TaskId, Where};
+use std::alloc::AllocError;
+use trace_tap::Tap;
+
+/// `step`: the leg of the running task on a core is run, in the place of the one that stood ready.
+fn ask_step<N: Naming, P: Placer, T: Tap>(
+    leg: &mut Leg<N>,
+    image: &Image,
+    book: &Book<N, P, T>,
+    tile: u32,
+    core: u32,
+) -> Asked
+    requires image { image.now ≡ N.image }
+    requires tile { tile < (machine_view book.now).settings.tiles }
+    requires core { core < (machine_view book.now).settings.cores }
+    ensures asks { let book = view_of P.policy T.notes book.now in
+        (held : List HeldLeg) → AsksStep {N = N} N.image tile core (record { book = book; held = held })
+        (asks_of result leg.new) held }
+    ensures within { AskedIsInRange N (machine_view book.now).settings result }
+{
+    if book.end().is_some() {
+        return Asked::Says(Reply::Ended);
+    }
+    if run_at(leg, image, book, tile, core) {
+        Asked::Ready { tile, core }
+    } else {
+        Asked::Says(Reply::Stale)
+    }
+}
+
+/// `take`: the leg of the running task on a core is held; where no task runs there, nothing is held for that core.
+fn ask_take<N: Naming, P: Placer, T: Tap>(
+    image: &Image,
+    book: &Book<N, P, T>,
+    held: &mut Vec<Held<N>>,
+    tile: u32,
+    core: u32,
+) -> Result<Asked, AllocError>
+    requires image { image.now ≡ N.image }
+    requires tile { tile < (machine_view book.now).settings.tiles }
+    requires core { core < (machine_view book.now).settings.cores }
+    ensures asks { let book = view_of P.policy T.notes book.now in
+        IfOk result (λ asked. (leg : LegValue) → AsksTake {N = N} N.image tile core
+        (record { book = book; held = held.old.items }) (asks_of asked leg) held.new.items) }
+    ensures within { IfOk result (AskedIsInRange N (machine_view book.now).settings) }
+    ensures out_of_memory { OnErr result (held.new.items ≡ without_held_leg tile core held.old.items) }
+{
+    match leg_at(image, book, tile, core) {
+        Some(leg) => {
+            hold(held, tile, core, leg)?;
+            Ok(Asked::Says(Reply::Ok))
+        }
+        None => {
+            forget(held, tile, core);
+            Ok(Asked::Says(Reply::Stale))
+        }
+    }
+}
+
+/// `give`: the leg that is held for a core takes the place of the one that stood ready.
+fn ask_give<N: Naming, P: Placer, T: Tap>(
+    leg: &mut Leg<N>,
+    book: &Book<N, P, T>,
+    held: &mut Vec<Held<N>>,
+    tile: u32,
+    core: u32,
+) -> Asked
+    requires tile { tile < (machine_view book.now).settings.tiles }
+    requires core { core < (machine_view book.now).settings.cores }
+    ensures asks { let book = view_of P.policy T.notes book.now in
+        AsksGive {N = N} tile core (record { book = book; held = held.old.items }) (asks_of result leg.new)
+        held.new.items }
+    ensures within { AskedIsInRange N (machine_view book.now).settings result }
+{
+    if book.end().is_some() {
+        return Asked::Says(Reply::Ended);
+    }
+    match hand_out(held, tile, core) {
+        Some(found) => {
+            *leg = found;
+            Asked::Ready { tile, core }
+        }
+        None => Asked::Says(Reply::Stale),
+    }
+}
+
+/// A leg of the least task, which runs.
+fn ask_running<N: Naming, P: Placer, T: Tap>(
+    leg: &mut Leg<N>,
+    image: &Image,
+    book: &Book<N, P, T>,
+    id: TaskId,
+) -> Asked
+    requires image { image.now ≡ N.image }
+    requires goes_on { IsOver (machine_view book.now) → ⊥ }
+    requires least { IsLeast (machine_view book.now) (where_.Running id) }
+    ensures asks { let book = view_of P.policy T.notes book.now in
+        (held : List HeldLeg) → AsksAdvance {N = N} N.image (record { book = book; held = held })
+        (asks_of result leg.new) held }
+    ensures within { AskedIsInRange N (machine_view book.now).settings result }
+{
+    let state = book.state();
+    let tile = state.tile_of(id);
+    match state.task(id).status {
+        Status::Running { core } => {
+            if run_at(leg, image, book, tile, core) {
+                Asked::Ready { tile, core }
+            } else {
+                unreachable!()
+            }
+        }
+        Status::Idle | Status::Trapped { .. } | Status::Finished => unreachable!(),
+    }
+}
+
+/// `advance`: what brings the least task on.
+fn ask_advance<N: Naming, P: Placer, T: Tap>(
+    leg: &mut Leg<N>,
+    image: &Image,
+    book: &Book<N, P, T>,
+) -> Asked
+    requires image { image.now ≡ N.image }
+    ensures asks { let book = view_of P.policy T.notes book.now in
+        (held : List HeldLeg) → AsksAdvance {N = N} N.image (record { book = book; held = held })
+        (asks_of result leg.new) held }
+    ensures within { AskedIsInRange N (machine_view book.now).settings result }
+{
+    if book.end().is_some() {
+        return Asked::Says(Reply::Ended);
+    }
+    match book.state().least() {
+        Some(Where::Idle(id)) => Asked::Legless(Legless::Dispatch {
+            tile: book.state().tile_of(id),
+        }),
+        Some(Where::Running(id)) => ask_running(leg, image, book, id),
+        Some(Where::Finished(_)) => Asked::Legless(Legless::Commit),
+        Some(Where::Spilled(tile)) => Asked::Legless(Legless::Split { tile }),
+        Some(Where::Trapped(_)) => unreachable!(),
+        None => unreachable!(),
+    }
+}
+
+/// The same as `Player::ask`, of the parts of a player.
+pub(crate) fn ask<N: Naming, P: Placer, T: Tap>(
+    leg: &mut Leg<N>,
+    image: &Image,
+    book: &Book<N, P, T>,
+    held: &mut Vec<Held<N>>,
+    act: Act,
+) -> Result<Asked, AllocError>
+    requires image { image.now ≡ N.image }
+    requires within { let settings = (machine_view book.now).settings in
+        ActIsInRange settings.tiles settings.cores act }
+    ensures asks { let book = view_of P.policy T.notes book.now in
+        IfOk result (λ asked. AsksFor {N = N} N.image act (record { book = book; held = held.old.items })
+        (asks_of asked leg.new) held.new.items) }
+    ensures within { IfOk result (AskedIsInRange N (machine_view book.now).settings) }
+    ensures out_of_memory { OnErr result (RunsOut act (record { held = held.old.items; leg = leg.old })
+        (record { held = held.new.items; leg = leg.new })) }
+{
+    match act {
+        Act::Dispatch(tile) => Ok(Asked::Legless(Legless::Dispatch { tile })),
+        Act::Step(tile, core) => Ok(ask_step(leg, image, book, tile, core)),
+        Act::Take(tile, core) => ask_take(image, book, held, tile, core),
+        Act::Give(tile, core) => Ok(ask_give(leg, book, held, tile, core)),
+        Act::Abort(tile) => Ok(Asked::Legless(Legless::Abort { tile })),
+        Act::Commit => Ok(Asked::Legless(Legless::Commit)),
+        Act::Coalesce(tile) => Ok(Asked::Legless(Legless::Coalesce { tile })),
+        Act::Split(tile) => Ok(Asked::Legless(Legless::Split { tile })),
+        Act::Advance => Ok(ask_advance(leg, image, book)),
+    }
+}
