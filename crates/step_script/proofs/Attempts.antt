@@ -1,7 +1,8 @@
 -- What acts come to.
 use Rattle.std.proofs.Common.{◌≡◌, ◌⊎◌, ◌≤◌, ◌<◌, ℕ, List, [], length, Some, None}
 use Rattle.std.proofs.Common.{Result, inl, inr, refl, sym, ap, subst, ◌∙◌}
-use Rattle.std.specs.Prelude.{IfOk, OnErr, slice_get}
+use Rattle.std.specs.Prelude.{IfOk, IfSome, OnErr, slice_get}
+use Rattle.std.specs.declared.option.Option.{Option}
 use Rattle.std.proofs.lemmas.Bool.{cases_lt}
 use Rattle.std.proofs.lemmas.List.{get_or_past}
 use Rattle.std.proofs.lemmas.Option.{slice_get_within}
@@ -192,24 +193,35 @@ module _ (image : ImageValue) (seen view : View) (same : seen ≡ view) (sound :
         → HasLegAt image view tile core leg → IsNextEvent {N = N} image view (event.Step tile core leg)
     seen_leg = next_is_leg image view here id tile core task stands_here runs read_here
 
-  module _ (w : Where) (least : IsLeast seen w) where
-    is_least : (other : Where) → w ≡ other → IsLeast view other
-    is_least other is = subst (IsLeast view) is (subst (λ v. IsLeast v w) same least)
+-- the run goes on where it isn't over, also as the state is read
+pub least_goes : (seen view : View) → seen ≡ view → (least : Option Where) → (IsOver seen → ⊥)
+    → IfSome least (IsLeast seen) → IfSome least (λ w. (IsOver view → ⊥) × IsLeast view w)
+least_goes seen view same least going is =
+    subst (λ v. IfSome least (λ w. (IsOver v → ⊥) × IsLeast v w)) same (both least is)
+  where
+    both : (l : Option Where) → IfSome l (IsLeast seen) → IfSome l (λ w. (IsOver seen → ⊥) × IsLeast seen w)
+    both None h = tt
+    both (Some w) h = (going, h)
 
-    module _ (going : IsOver view → ⊥) where
-      -- a trapped one would end the run
-      pub none_trapped : (id : TaskId) → w ≡ where_.Trapped id → ⊥
-      none_trapped id is = going (trapped_is_over image view id here (is_least (where_.Trapped id) is))
+-- the event for the least task, while the run goes on
+module _ (image : ImageValue) (view : View) (sound : Sound image view) (w : Where)
+    (least : (IsOver view → ⊥) × IsLeast view w) where
+  is_least : (other : Where) → w ≡ other → IsLeast view other
+  is_least other is = subst (IsLeast view) is least.1
 
-      module _ (N : Type 0) where
-        pub seen_dispatch : (id : TaskId) (tile : ℕ) → w ≡ where_.Idle id → ReadsTile seen id tile
-            → IsNextEvent {N = N} image view (event.Dispatch tile)
-        seen_dispatch id tile is read =
-            next_dispatch N image view here going id tile (is_least (where_.Idle id) is)
-            (subst (λ v. ReadsTile v id tile) same read)
+  -- a trapped one would end the run
+  pub none_trapped : (id : TaskId) → w ≡ where_.Trapped id → ⊥
+  none_trapped id is = least.0 (trapped_is_over image view id sound (is_least (where_.Trapped id) is))
 
-        pub seen_commit : (id : TaskId) → w ≡ where_.Finished id → IsNextEvent {N = N} image view event.Commit
-        seen_commit id is = next_commit N image view here going id (is_least (where_.Finished id) is)
+  module _ (N : Type 0) where
+    pub least_dispatch : (seen : View) → seen ≡ view → (id : TaskId) (tile : ℕ) → w ≡ where_.Idle id
+        → ReadsTile seen id tile → IsNextEvent {N = N} image view (event.Dispatch tile)
+    least_dispatch seen same id tile is read =
+        next_dispatch N image view sound least.0 id tile (is_least (where_.Idle id) is)
+        (subst (λ v. ReadsTile v id tile) same read)
 
-        pub seen_split : (tile : ℕ) → w ≡ where_.Spilled tile → IsNextEvent {N = N} image view (event.Split tile)
-        seen_split tile is = next_split N image view here going tile (is_least (where_.Spilled tile) is)
+    pub least_commit : (id : TaskId) → w ≡ where_.Finished id → IsNextEvent {N = N} image view event.Commit
+    least_commit id is = next_commit N image view sound least.0 id (is_least (where_.Finished id) is)
+
+    pub least_split : (tile : ℕ) → w ≡ where_.Spilled tile → IsNextEvent {N = N} image view (event.Split tile)
+    least_split tile is = next_split N image view sound least.0 tile (is_least (where_.Spilled tile) is)

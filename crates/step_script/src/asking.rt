@@ -1,6 +1,6 @@
 //! What acts come to.
 
-ghost use Rattle.std.specs.Prelude.{◌≡◌, ◌<◌, IfOk, List, OnErr};
+ghost use Rattle.std.specs.Prelude.{◌≡◌, ◌<◌, IfOk, IfSome, IsNone, List, OnErr};
 ghost use Rattle.conflict_book.specs.BookViews.{machine_view, view_of};
 ghost use Rattle.rv_core.specs.LegValue.{LegValue};
 ghost use Rattle.spec_state.specs.declared.task.Where.TheVariants as where_;
@@ -17,6 +17,7 @@ use crate::holding::{Held, forget, hand_out, hold};
 use crate::running::{leg_at, run_at};
 use conflict_book::{Book, Legless};
 use event_def::Reply;
+use event_room::end_with;
 use guest_image::Image;
 use place_policy::Placer;
 use rv_core::{Leg, Naming};
@@ -135,6 +136,20 @@ fn ask_running<N: Naming, P: Placer, T: Tap>(
     }
 }
 
+/// The least task, while a run goes on, for which it looks once; None where the run is over.
+fn least_going<N: Naming, P: Placer, T: Tap>(book: &Book<N, P, T>) -> Option<Where>
+    ensures some { let view = machine_view book.now in
+        IfSome result (λ least. (IsOver view → ⊥) × IsLeast view least) }
+    ensures none { IsNone result → IsOver (machine_view book.now) }
+{
+    let state = book.state();
+    let least = state.least();
+    if end_with(state, least).is_some() {
+        return None;
+    }
+    least
+}
+
 /// `advance`: what brings the least task on.
 fn ask_advance<N: Naming, P: Placer, T: Tap>(
     leg: &mut Leg<N>,
@@ -147,10 +162,9 @@ fn ask_advance<N: Naming, P: Placer, T: Tap>(
         (asks_of result leg.new) held }
     ensures within { AskedIsInRange N (machine_view book.now).settings result }
 {
-    if book.end().is_some() {
-        return Asked::Says(Reply::Ended);
-    }
-    match book.state().least() {
+    book.is_sound();
+    match least_going(book) {
+        None => Asked::Says(Reply::Ended),
         Some(Where::Idle(id)) => Asked::Legless(Legless::Dispatch {
             tile: book.state().tile_of(id),
         }),
@@ -158,7 +172,6 @@ fn ask_advance<N: Naming, P: Placer, T: Tap>(
         Some(Where::Finished(_)) => Asked::Legless(Legless::Commit),
         Some(Where::Spilled(tile)) => Asked::Legless(Legless::Split { tile }),
         Some(Where::Trapped(_)) => unreachable!(),
-        None => unreachable!(),
     }
 }
 
