@@ -221,9 +221,11 @@ telling_from firsts old mid new marks found told size least counted rest takes u
 pub nothing_told : (size : ℕ) (view : View) → IsStored size view → (firsts : ℕ → Type 0)
     → ((id : ℕ) → firsts id → ⊥) → (ids : List ℕ) → IsByKey (logged_tasks view) ids → AbortsTelling firsts view 0 [] view
 unfolding aborts_by nothing_by nothing_aborted
-nothing_told size view stored firsts none ids by_key =
-    (nothing_aborted size view stored firsts none ids by_key, tells_none view (replicate (length view.tasks) false)
-    (off_marks (length view.tasks)))
+nothing_told size view stored firsts none ids by_key = (
+  nothing_aborted size view stored firsts none ids by_key,
+  tells_none view (replicate (length view.tasks) false)
+      (off_marks (length view.tasks)),
+)
 
 -- where the task of this id is there, the cascades of the first tasks that it gives are taken back, and are told
 abbrev TellsFor : (Task → ℕ → Type 0) → View → View → ℕ → List TakenTask → ℕ → Type 0
