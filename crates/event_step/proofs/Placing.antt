@@ -74,7 +74,7 @@ pub places_telling : (tile id : ℕ) (task : Task) (leg : LegValue) (spawn : Spa
 places_telling tile id task leg spawn old mid new aborted effect last makes is enqueues = (
   record { mid = mid; forced = makes.0; change = enqueues.0 },
   subst (λ e. TellsRoom tile (Enqueuer id) old aborted mid makes.0 e) (sym is)
-  (room_told tile (Enqueuer id) old makes.0 effect last.arrived makes.1),
+      (room_told tile (Enqueuer id) old makes.0 effect last.arrived makes.1),
   enqueues.1,
 )
 

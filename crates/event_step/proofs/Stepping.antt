@@ -98,9 +98,9 @@ module _ (N : Type 0) (old : View) (placers : List Policy) (taps : List TapValue
       → ComesTelling {N = N} book (event.Step tile core leg) (Made seen) new after effect
   made_granted aborted new after effect seen may telling is =
       let told = subst (λ r. RequestTelling tile core leg id task r book aborted new after effect) (sym asked)
-          telling in
+      telling in
       let step : StepEvent tile core leg book aborted new after =
-          record { id = id; task = task; takes = takes; comes = told.0 } in
+      record { id = id; task = task; takes = takes; comes = told.0 } in
       subst (λ (s : Record). ComesTelling {N = N} book (event.Step tile core leg) (Made s) new after effect) (sym is) (
         (
           may,
