@@ -1,5 +1,6 @@
 -- What is forced for an access or an enqueue leaves it spare, and for an access what its task asks for.
-use Rattle.std.proofs.Common.{ℕ, ◌≡◌, ◌<◌, ◌/◌, Bool, true, false, List, Some, Result, Ok, Err, sym, ap, subst, ◌∙◌, length}
+use Rattle.std.proofs.Common.{ℕ, ◌≡◌, ◌<◌, ◌/◌, Bool, true, false, List, Some, Result, Ok, Err, length}
+use Rattle.std.proofs.Common.{sym, ap, subst, ◌∙◌}
 use Rattle.std.specs.Prelude.{IsOk, OnOk, IfSome, Option}
 use Rattle.guest_image.specs.ImageValue.{ImageValue}
 use Rattle.rv_core.specs.LegValue.{LegValue}
@@ -56,21 +57,25 @@ child_still old mid id there spare covers =
     subst (λ n. IfSome (task_at mid.view id) (λ task. length task.spawns < n)) (sym spare)
     (subst (λ (o : Option Task). IfSome o (λ task. length task.spawns < old.spare.spawns)) (sym there) covers)
 
+-- what conflicts with an access of the task to this line is taken back, and told
+abbrev LineTelling : View → ℕ → Bool → ℕ → View → EffectValue → Task → Type 0
+LineTelling old line write aborted new effect task =
+    (aborts : Aborts (Conflicts old task line write) old aborted new) × TellsBack old aborts.marks effect.back
+
 -- what conflicts with the task's access is taken back, and it alone is told
 pub conflicts_taken : (image : ImageValue) (old new : View) (effect : EffectValue) (id line offset aborted : ℕ)
     (write : Bool) (task : Task)
     → Sound image old → task_at old id ≡ Some task → line ≡ offset / old.settings.line
     → IfSome (task_at old id) (λ t. (ids : List ℕ) → IsByKey (logged_tasks old) ids
-    → (a : Aborts (Conflicts old t line write) old aborted new) × TellsBack old a.marks effect.back)
+    → LineTelling old line write aborted new effect t)
     → effect ≡ record nothing { back = effect.back }
     → TakesTelling task offset write old aborted new effect
 conflicts_taken image old new effect id line offset aborted write task sound there line_is aborts alone =
     let by_key = sound_by_key image old sound in
     let taken = subst (λ (o : Option Task). IfSome o (λ t. (ids : List ℕ) → IsByKey (logged_tasks old) ids
-    → (a : Aborts (Conflicts old t line write) old aborted new) × TellsBack old a.marks effect.back))
+    → LineTelling old line write aborted new effect t))
     there aborts in
-    let told = subst (λ n. (a : Aborts (Conflicts old task n write) old aborted new) × TellsBack old a.marks effect.back)
-    line_is (taken by_key.0 by_key.1) in (
+    let told = subst (λ n. LineTelling old n write aborted new effect task) line_is (taken by_key.0 by_key.1) in (
       told.0,
       (told.1, ap (λ (e : EffectValue). e.spilled) alone),
       ap (λ (e : EffectValue). e.arrived) alone,

@@ -1,6 +1,6 @@
 //! Loads and stores: what conflicts with the access is taken back, and then it is made.
 
-ghost use Rattle.std.specs.Prelude.{◌≡◌, ◌/◌, ℕ, None};
+ghost use Rattle.std.specs.Prelude.{◌≡◌, ◌/◌, ℕ};
 ghost use Rattle.task_request.specs.declared.request.Request.TheVariants.{Load, Store};
 ghost use Rattle.spec_state.specs.declared.task.Task.{Task};
 ghost use Rattle.spec_state.specs.Effects.{nothing};

@@ -33,6 +33,6 @@ returns g c from core task takes =
     let covers = child_still c.args.state.now c.make_room-aborted.new.state c.args.id.0 (still.there ∙ sym
     takes.runs.on.there) spare
     c.requires.covered.child in
-    places_telling c.args.tile c.args.id.0 task c.args.leg.now c.args.child _ _ _ _ _ _ c.make_room-aborted.ensures.makes
-    c.enqueue_child.ensures.effect
+    places_telling c.args.tile c.args.id.0 task c.args.leg.now c.args.child _ _ _ _ _ _
+    c.make_room-aborted.ensures.makes c.enqueue_child.ensures.effect
     (of_ok _ _ c.enqueue_child.ensures.enqueues (c.enqueue_child.ensures.covered covers) from core task still.takes)
