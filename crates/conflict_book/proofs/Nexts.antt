@@ -1,10 +1,12 @@
 -- The events for the least tasks.
-use Rattle.std.proofs.Common.{ℕ, ◌≡◌, ◌+◌, ◌*◌, ◌≤◌, Bool, false, List, inl, inr, refl, sym, ap, subst, ◌∙◌, arith, add-one, suc, length}
+use Rattle.std.proofs.Common.{ℕ, ◌≡◌, ◌+◌, ◌*◌, ◌≤◌, Bool, false, List, inl, inr, refl, sym, ap, subst, ◌∙◌, arith,
+    add-one, suc, length}
 use Rattle.std.proofs.lemmas.Nat.{mul-le}
 use Rattle.guest_image.specs.ImageValue.{ImageValue}
 use Rattle.place_policy.specs.Policy.{Policy}
 use Rattle.task_request.specs.declared.request.Request.{Request}
-use Rattle.task_request.specs.declared.request.Request.TheVariants.{Continue, Load, Store, Enqueue, MakeSub, Emit, End, Trap}
+use Rattle.task_request.specs.declared.request.Request.TheVariants.{Continue, Load, Store, Enqueue, MakeSub, Emit,
+    End, Trap}
 use Rattle.trace_tap.specs.declared.record.Deed.{Deed}
 use Rattle.trace_tap.specs.declared.record.Record.{Record}
 use Rattle.trace_tap.specs.TapValue.{TapValue}
@@ -23,11 +25,12 @@ use Rattle.event_def.specs.declared.event.Reply.{Reply}
 use Rattle.event_def.specs.declared.event.Reply.TheVariants as reply
 use Rattle.event_def.specs.Advancing.{AdvanceAnswers, AdvancesBy, IsNextEvent}
 use Rattle.event_def.specs.Book.{BookView, CountedView}
-use Rattle.event_def.specs.Comes.{Comes, IsAsBefore}
+use Rattle.event_def.specs.Comes.{IsAsBefore}
 use Rattle.event_def.specs.Happens.{Happens}
 use Rattle.event_def.specs.Telling.{AdvanceTelling, ComesTelling}
 use Rattle.event_def.specs.Trace.{deed_of}
-use Rattle.event_law.proofs.Proved.{advances_fall, least_event_is_granted, least_events_are_few, next_event_is_given, rest_is_there}
+use Rattle.event_law.proofs.Proved.{advances_fall, least_event_is_granted, least_events_are_few, next_event_is_given,
+    rest_is_there}
 use Rattle.event_lemma.proofs.Proved.{comes_stays_sound}
 use Rattle.conflict_book.specs.Halting.{FallsIfMoved, AdvanceGoesOn, NextComes, RunsLeast, advance_by, advance_of}
 use Rattle.conflict_book.specs.Halting.{last_answer}
@@ -39,7 +42,8 @@ pub next_comes_sound : (N : Type 0) (image : ImageValue) (book : BookView) (came
     (placers : List Policy) (effect : EffectValue)
     → Sound image book.view → NextComes N image book came new placers effect → Sound image new
 next_comes_sound N image book came new placers effect sound next =
-    comes_stays_sound N image book next.0 came new placers (next_event_is_given N image book.view next.0 sound next.1) sound
+    comes_stays_sound N image book next.0 came new placers (next_event_is_given N image book.view next.0 sound next.1)
+        sound
     next.2.0
 
 module _ (N : Type 0) (image : ImageValue) (old new : BookView) (aborted : ℕ) (effect : EffectValue) where
@@ -69,7 +73,8 @@ module _ (N : Type 0) (image : ImageValue) (book : BookView) (goes_on : book.sto
   unfolding happens_made
   made_by (event.Dispatch tile) next comes =
       subst Answers (ap (λ (r : Record). r.deed) (sym comes.0.2))
-      ((event.Dispatch tile, next, tt, happens_made book goes_on (event.Dispatch tile) view placers seen comes.0), comes.1)
+      ((event.Dispatch tile, next, tt, happens_made book goes_on (event.Dispatch tile) view placers seen comes.0),
+          comes.1)
   made_by (event.Step tile core leg) next comes =
       let step : Event N = event.Step tile core leg in
       subst Answers (ap (λ (r : Record). r.deed) (sym comes.0.2.3))
@@ -174,13 +179,15 @@ module _ (N : Type 0) (image : ImageValue) (had sound : CountedView) (forgot : s
 pub falls_if_moved : (N : Type 0) (image : ImageValue) (old new : BookView) (answer : Advance) → Sound image old.view
     → AdvanceAnswers N image old answer new → FallsIfMoved answer old.view new.view
 falls_if_moved N image old new (answers.Moved aborted) sound answered =
-    λ before after had has. advances_fall N image old new answered.0 aborted before after sound answered.1 answered.2 answered.3 had has
+    λ before after had has. advances_fall N image old new answered.0 aborted before after sound answered.1 answered.2
+        answered.3 had has
 falls_if_moved N image old new answers.Committed sound answered = tt
 falls_if_moved N image old new (answers.Ended end) sound answered = tt
 falls_if_moved N image old new answers.Memory sound answered = tt
 
 -- a run of one event more
-next_one : (N : Type 0) (image : ImageValue) (n : ℕ) (old mid new : BookView) (answer : Advance) → AdvancesBy N image n old mid
+next_one : (N : Type 0) (image : ImageValue) (n : ℕ) (old mid new : BookView) (answer : Advance) → AdvancesBy N image
+    n old mid
     → AdvanceAnswers N image mid answer new → AdvanceGoesOn answer → AdvancesBy N image (suc n) old new
 next_one N image n old mid new (answers.Moved aborted) advances answered goes =
     (mid, aborted, advances, record { event = answered.0; next = answered.1; happens = answered.3 })
@@ -189,19 +196,23 @@ next_one N image n old mid new answers.Committed advances answered goes =
 next_one N image n old mid new (answers.Ended end) advances answered goes = absurd goes
 next_one N image n old mid new answers.Memory advances answered goes = absurd goes
 
-pub one_more : (N : Type 0) (image : ImageValue) (n : ℕ) (old mid new : BookView) (answer : Advance) → AdvancesBy N image n old mid
+pub one_more : (N : Type 0) (image : ImageValue) (n : ℕ) (old mid new : BookView) (answer : Advance) → AdvancesBy N
+    image n old mid
     → AdvanceAnswers N image mid answer new → AdvanceGoesOn answer → AdvancesBy N image (n + 1) old new
 one_more N image n old mid new answer advances answered goes =
-    subst (λ m. AdvancesBy N image m old new) (sym (add-one n)) (next_one N image n old mid new answer advances answered goes)
+    subst (λ m. AdvancesBy N image m old new) (sym (add-one n)) (next_one N image n old mid new answer advances
+        answered goes)
 
 -- a run that halts has changed nothing at its last answer
-pub halts_where : (N : Type 0) (image : ImageValue) (mid new : BookView) (halt : Halt) → AdvanceAnswers N image mid (last_answer halt) new → new ≡ mid
+pub halts_where : (N : Type 0) (image : ImageValue) (mid new : BookView) (halt : Halt) → AdvanceAnswers N image mid
+    (last_answer halt) new → new ≡ mid
 halts_where N image mid new (halts.Ended end) answered = answered.2
 halts_where N image mid new halts.Memory (inl stopped) = stopped.1
 halts_where N image mid new halts.Memory (inr wants) = wants.2.1.same
 
 -- so it is a run that halts there
-pub halted : (N : Type 0) (image : ImageValue) (n : ℕ) (old mid new : BookView) (halt : Halt) → Sound image old.view → AdvancesBy N image n old mid
+pub halted : (N : Type 0) (image : ImageValue) (n : ℕ) (old mid new : BookView) (halt : Halt) → Sound image old.view →
+    AdvancesBy N image n old mid
     → AdvanceAnswers N image mid (last_answer halt) new → RunsLeast N image old halt new
 halted N image n old mid new halt sound advances answered =
     let same = halts_where N image mid new halt answered in
@@ -218,13 +229,16 @@ halted N image n old mid new halt sound advances answered =
     }
 
 -- and there are not enough events to go on for ever
-pub not_enough : (N : Type 0) (image : ImageValue) (n : ℕ) (old mid : BookView) → Sound image old.view → AdvancesBy N image n old mid
+pub not_enough : (N : Type 0) (image : ImageValue) (n : ℕ) (old mid : BookView) → Sound image old.view → AdvancesBy N
+    image n old mid
     → n ≡ (old.view.settings.commits + 1) * (old.view.settings.budget + 4) + 1 → ⊥
 not_enough N image n old mid sound advances all =
     let few = least_events_are_few N image n old mid sound advances in
     let left = rest_is_there image mid.view few.sound in
     let most = few.few left.0 left.1 in
-    let within : length mid.view.history ≤ old.view.settings.commits = subst (λ s. length mid.view.history ≤ s.commits) few.settings few.sound.tasks.few in
+    let within : length mid.view.history ≤ old.view.settings.commits = subst
+        (λ s. length mid.view.history ≤ s.commits) few.settings few.sound.tasks.few in
     let longer = few.longer in
-    let product = mul-le (few.commits + 1) (old.view.settings.budget + 4) (old.view.settings.commits + 1) (old.view.settings.budget + 4) (omega (arith, within, longer)) (omega arith) in
+    let product = mul-le (few.commits + 1) (old.view.settings.budget + 4) (old.view.settings.commits + 1)
+        (old.view.settings.budget + 4) (omega (arith, within, longer)) (omega arith) in
     omega (arith, all, most, product)

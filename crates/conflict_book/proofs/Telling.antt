@@ -24,9 +24,10 @@ use Rattle.conflict_book.specs.BookViews.{going_book, after_event}
 abbrev pub moved : BookView → View → List Policy → BookView
 moved book view placers = record book { view = view; placers = placers }
 
-module _ {N : Type 0} (book : BookView) (goes_on : book.stopped ≡ false) (e : Event N) (view : View) (placers : List Policy) where
+module _ {N : Type 0} (book : BookView) (goes_on : book.stopped ≡ false) (e : Event N) (view : View)
+    (placers : List Policy) where
   -- an event that was made
-  pub happens_made : (seen : Record) → Comes book e (Made seen) view placers
+  unfoldable pub happens_made : (seen : Record) → Comes book e (Made seen) view placers
       → Happens book e reply.Ok seen.aborted (after_event seen (moved book view placers))
   happens_made seen comes = record {
     goes_on = goes_on;
@@ -105,7 +106,8 @@ module _ {N : Type 0} (had sound : CountedView) (forgot : sound ≡ record had {
       → ComesTelling (going_book sound placers taps) e (Made seen) view after told
       → HappensTelling (before stopped) e reply.Ok seen.aborted new effect
   part_made seen new told effect is kept comes =
-      let made = made_telling (going_book had placers taps) refl e view after seen told (as_had (Made seen) told comes) in
+      let made = made_telling (going_book had placers taps) refl e view after seen told
+          (as_had (Made seen) told comes) in
       subst (HappensTelling (before stopped) e reply.Ok seen.aborted new) (sym kept)
       (subst (λ b. HappensTelling (before stopped) e reply.Ok seen.aborted b told)
       (sym (is ∙ ap (λ n. after_event seen (behind n stopped)) steps_had))
@@ -125,25 +127,33 @@ module _ {N : Type 0} (had sound : CountedView) (forgot : sound ≡ record had {
 pub forgot_effect : (had sound : CountedView) → sound ≡ record had { effect = nothing } → sound.effect ≡ nothing
 forgot_effect had sound forgot = ap (λ (s : CountedView). s.effect) forgot
 
+-- the book of a state, by its parts
+abbrev pub parts_of : List Policy → List TapValue → Bool → CountedView → BookView
+parts_of placers taps stopped s =
+    record { view = s.view; placers = placers; taps = taps; steps = s.steps; stopped = stopped }
+
+-- it stays where what was told is forgotten
+pub parts_forgot : (placers : List Policy) (taps : List TapValue) (stopped : Bool) (had sound : CountedView)
+    → sound ≡ record had { effect = nothing }
+    → parts_of placers taps stopped sound ≡ parts_of placers taps stopped had
+parts_forgot placers taps stopped had sound forgot = ap (parts_of placers taps stopped) forgot
+
 -- a stopped book is out of memory, and tells nothing
-module _ {N : Type 0} (had sound : CountedView) (forgot : sound ≡ record had { effect = nothing })
-    (placers : List Policy) (taps : List TapValue) (stopped : Bool) (is_stopped : stopped ≡ true) where
-  -- the book of these
-  abbrev pub parts_of : CountedView → BookView
-  parts_of s = record { view = s.view; placers = placers; taps = taps; steps = s.steps; stopped = stopped }
-
-  pub stays_stopped : parts_of sound ≡ parts_of had
-  stays_stopped = ap parts_of forgot
-
-  pub stopped_telling : (e : Event N) → HappensTelling (parts_of had) e reply.Memory 0 (parts_of sound) sound.effect
-  stopped_telling e =
-      ((inl is_stopped, record { none = refl; same = stays_stopped }), forgot_effect had sound forgot)
+pub stopped_telling : {N : Type 0} (had sound : CountedView) → sound ≡ record had { effect = nothing }
+    → (placers : List Policy) (taps : List TapValue) (stopped : Bool) → stopped ≡ true → (e : Event N)
+    → HappensTelling (parts_of placers taps stopped had) e reply.Memory 0 (parts_of placers taps stopped sound)
+    sound.effect
+stopped_telling had sound forgot placers taps stopped is_stopped e = (
+  (inl is_stopped, record { none = refl; same = parts_forgot placers taps stopped had sound forgot }),
+  forgot_effect had sound forgot,
+)
 
 -- the settings stay, whatever comes of an event
 module _ (N : Type 0) (image : ImageValue) (book : BookView) (e : Event N) (new : View) (placers : List Policy)
     (given : IsGiven image book.view.settings e) (sound : Sound image book.view) where
   pub comes_keeps_settings : (came : Came) → Comes book e came new placers → new.settings ≡ book.view.settings
-  comes_keeps_settings (Made seen) comes = makes_keeps_settings N image book e seen.aborted new placers given sound comes.0 comes.1
+  comes_keeps_settings (Made seen) comes = makes_keeps_settings N image book e seen.aborted new placers given sound
+      comes.0 comes.1
   comes_keeps_settings (Refused reply.Ok) comes = absurd comes
   comes_keeps_settings (Refused reply.Memory) comes = ap (λ v. v.settings) comes.2.0
   comes_keeps_settings (Refused reply.Empty) comes = ap (λ v. v.settings) comes.1.0

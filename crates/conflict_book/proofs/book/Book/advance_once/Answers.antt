@@ -1,19 +1,21 @@
 use Rattle.std.proofs.Common.{inl, map, subst, sym}
+use Rattle.spec_law.specs.Sound.{Sound}
+use Rattle.event_def.specs.Book.{CountedView}
+use Rattle.event_def.specs.End.{HasEnd}
 use Rattle.event_def.specs.Telling.{AdvanceTelling}
 use Rattle.event_def.specs.declared.event.Came.{Came}
 use Rattle.conflict_book.specs.Halting.{NextComes}
 use Rattle.conflict_book.specs.BookViews.{effect_of, going_book, view_of}
 use Rattle.conflict_book.proofs.Nexts.{parts_made, parts_refused, parts_stay}
-use Rattle.conflict_book.proofs.Telling.{stays_stopped, forgot_effect}
+use Rattle.conflict_book.proofs.Telling.{forgot_effect, parts_forgot}
 use Rattle.conflict_book.proofs.book.Book.advance_once.Goals as goal
 
 pub returns-then-self : goal.returns-then-self
 returns-then-self g c = (
   inl (
     c.if-self.true,
-    stays_stopped c.args.self.now.sound c.forget.new.self c.forget.ensures
-        (map g.P.Placer.policy c.args.self.now.placers.items) (map g.T.Tap.notes c.args.self.now.taps.items)
-        c.args.self.now.stopped c.if-self.true,
+    parts_forgot (map g.P.Placer.policy c.args.self.now.placers.items) (map g.T.Tap.notes c.args.self.now.taps.items)
+        c.args.self.now.stopped c.args.self.now.sound c.forget.new.self c.forget.ensures,
   ),
   forgot_effect c.args.self.now.sound c.forget.new.self c.forget.ensures,
 )
@@ -23,7 +25,7 @@ returns-in-Over g c =
     let over = c.in-Over.ensures.next (map g.T.Tap.notes c.args.self.now.taps.items) in (
       (
         c.if-self.false,
-        over.0,
+        subst (λ (s : CountedView). HasEnd s.view c.in-Over.end) c.forget.ensures over.0,
         parts_stay g.row.N.Denot g.N.Naming.image c.args.self.now.sound c.forget.new.self c.forget.ensures
             (map g.P.Placer.policy c.args.self.now.placers.items) (map g.T.Tap.notes c.args.self.now.taps.items)
             c.args.self.now.stopped c.if-self.false c.come_next.new.self.view
@@ -57,7 +59,9 @@ returns-in-Came-Refused g c =
     let after = map g.P.Placer.policy c.come_next.new.placers.items in
     parts_refused g.row.N.Denot g.N.Naming.image c.args.self.now.sound c.forget.new.self c.forget.ensures placers taps
     c.args.self.now.stopped c.if-self.false c.come_next.new.self.view after c.come_next.new.self.steps
-    c.come_next.ensures.steps c.is_sound.ensures.sound c.in-Came-Refused.field-0-0 _
+    c.come_next.ensures.steps
+    (subst (λ (s : CountedView). Sound g.N.Naming.image s.view) c.forget.ensures c.is_sound.ensures.sound)
+    c.in-Came-Refused.field-0-0 _
     (subst (λ (came : Came). NextComes g.row.N.Denot g.N.Naming.image (going_book c.forget.new.self placers taps) came
     c.come_next.new.self.view after c.come_next.new.self.effect) c.in-Came-Refused.field-0-is
     (c.in-Came-Refused.ensures.next taps))
