@@ -28,7 +28,7 @@ use Rattle.event_def.specs.End.{IsOver}
 use Rattle.event_lemma.proofs.Proved.{next_is_step, trapped_is_over}
 use Rattle.step_script.specs.declared.act.Act.{Act}
 use Rattle.step_script.specs.declared.act.Act.TheVariants as acts
-use Rattle.step_script.specs.Playing.{HasLegAt, HeldLeg, PlayState, PlayerValue, held_for, holding}
+use Rattle.step_script.specs.Playing.{HasLegAt, HeldLeg, PlayerValue, held_for, holding}
 use Rattle.step_script.specs.Playing.{without_held_leg}
 use Rattle.step_script.proofs.HeldLegs.{without_unheld}
 use Rattle.step_script.specs.declared.asked.Asked.{Asked}
@@ -69,43 +69,36 @@ pub advance_asks : (N : Type 0) (image : ImageValue) (book : BookView) (e : Even
     → (held : List HeldLeg) → AsksAdvance image (record { book = book; held = held }) (Hands e) held
 advance_asks N image book e next held = advance_next e next (record { asks_is = refl; held_is = refl })
 
--- an act that is this one comes to the same
-pub asks_by : (N : Type 0) (image : ImageValue) (act this : Act) (old : PlayState) (asks : Attempt N)
-    (held : List HeldLeg)
-    → act ≡ this → AsksFor image this old asks held → AsksFor image act old asks held
-asks_by N image act this old asks held is asked = subst (λ a. AsksFor image a old asks held) (sym is) asked
+-- ---- what a player asks, by its parts
 
--- also where memory may run out
-pub asks_by_ok : {E : Type 0} (N : Type 0) (image : ImageValue) (act : Act) (tile core : ℕ) (old : PlayState)
-    (leg : LegValue) (held : List HeldLeg) (r : Result Asked E) → act ≡ acts.Take tile core
-    → IfOk r (λ asked. (some : LegValue) → AsksTake {N = N} image tile core old (asks_of asked some) held)
-    → IfOk r (λ asked. AsksFor {N = N} image act old (asks_of asked leg) held)
-asks_by_ok N image act tile core old leg held r is =
-    IfOk-weaker r _ _ (λ asked takes. asks_by N image act (acts.Take tile core) old (asks_of asked leg) held is
-    (takes leg))
+module _ (N : Type 0) (image : ImageValue) (act this : Act) (is : act ≡ this) (inside old : PlayerValue)
+    (same : inside ≡ old) (book : BookView) where
+  -- an act that is this one comes to the same
+  pub asks_by : (asks : Attempt N) (held : List HeldLeg)
+      → AsksFor image this (record { book = book; held = inside.held }) asks held
+      → AsksFor image act (record { book = book; held = old.held }) asks held
+  asks_by asks held asked =
+      subst (λ a. AsksFor image a (record { book = book; held = old.held }) asks held) (sym is)
+      (subst (λ (p : PlayerValue). AsksFor image this (record { book = book; held = p.held }) asks held) same asked)
 
--- where memory runs out over a take
-pub runs_out : {E : Type 0} (act : Act) (tile core : ℕ) (held after : List HeldLeg) (leg : LegValue)
-    (r : Result Asked E) → act ≡ acts.Take tile core → OnErr r (after ≡ without_held_leg tile core held)
-    → OnErr r (RunsOut act (record { held = held; leg = leg }) (record { held = after; leg = leg }))
-runs_out act tile core held after leg r is =
-    on_err_weaker r (λ rest. subst (λ a. RunsOut a (record { held = held; leg = leg })
-    (record { held = after; leg = leg })) (sym is) (ap (λ h. record { held = h; leg = leg }) rest))
-
--- ---- of a player, by its parts
-
-module _ {E : Type 0} (act : Act) (inside old new : PlayerValue) (r : Result Asked E) (same : inside ≡ old) where
-  pub player_asks : (N : Type 0) (image : ImageValue) (book : BookView)
-      → IfOk r (λ asked. AsksFor {N = N} image act (record { book = book; held = inside.held })
-      (asks_of asked new.leg) new.held)
+-- a take, over which memory may run out
+module _ {E : Type 0} (act : Act) (tile core : ℕ) (is : act ≡ acts.Take tile core) (inside old : PlayerValue)
+    (same : inside ≡ old) (held : List HeldLeg) (r : Result Asked E) where
+  pub takes_by : (N : Type 0) (image : ImageValue) (book : BookView)
+      → IfOk r (λ asked. (some : LegValue) → AsksTake {N = N} image tile core
+      (record { book = book; held = inside.held }) (asks_of asked some) held)
       → IfOk r (λ asked. AsksFor {N = N} image act (record { book = book; held = old.held })
-      (asks_of asked new.leg) new.held)
-  player_asks N image book =
-      subst (λ (p : PlayerValue). IfOk r (λ asked. AsksFor {N = N} image act (record { book = book; held = p.held })
-      (asks_of asked new.leg) new.held)) same
+      (asks_of asked inside.leg) held)
+  takes_by N image book =
+      IfOk-weaker r _ _ (λ asked takes. asks_by N image act (acts.Take tile core) is inside old same book
+      (asks_of asked inside.leg) held (takes inside.leg))
 
-  pub player_runs_out : OnErr r (RunsOut act inside new) → OnErr r (RunsOut act old new)
-  player_runs_out = subst (λ (p : PlayerValue). OnErr r (RunsOut act p new)) same
+  pub runs_out : OnErr r (held ≡ without_held_leg tile core inside.held)
+      → OnErr r (RunsOut act old (record { held = held; leg = inside.leg }))
+  runs_out =
+      on_err_weaker r (λ rest. subst (λ a. RunsOut a old (record { held = held; leg = inside.leg })) (sym is)
+      (subst (λ (p : PlayerValue). RunsOut (acts.Take tile core) p (record { held = held; leg = inside.leg })) same
+      (ap (λ h. record { held = h; leg = inside.leg }) rest)))
 
 -- ---- the least task
 
