@@ -1,12 +1,39 @@
 -- The events for the least tasks.
-use Rattle.std.proofs.Common.{ℕ, ◌≡◌, ◌+◌, ◌*◌, ◌≤◌, Bool, false, List, inl, inr, refl, sym, ap, subst, ◌∙◌, arith,
-    add-one, suc, length}
+use Rattle.std.proofs.Common.{
+  ℕ,
+  ◌≡◌,
+  ◌+◌,
+  ◌*◌,
+  ◌≤◌,
+  Bool,
+  false,
+  List,
+  inl,
+  inr,
+  refl,
+  sym,
+  ap,
+  subst,
+  ◌∙◌,
+  arith,
+  add-one,
+  suc,
+  length,
+}
 use Rattle.std.proofs.lemmas.Nat.{mul-le}
 use Rattle.guest_image.specs.ImageValue.{ImageValue}
 use Rattle.place_policy.specs.Policy.{Policy}
 use Rattle.task_request.specs.declared.request.Request.{Request}
-use Rattle.task_request.specs.declared.request.Request.TheVariants.{Continue, Load, Store, Enqueue, MakeSub, Emit,
-    End, Trap}
+use Rattle.task_request.specs.declared.request.Request.TheVariants.{
+  Continue,
+  Load,
+  Store,
+  Enqueue,
+  MakeSub,
+  Emit,
+  End,
+  Trap,
+}
 use Rattle.trace_tap.specs.declared.record.Deed.{Deed}
 use Rattle.trace_tap.specs.declared.record.Record.{Record}
 use Rattle.trace_tap.specs.TapValue.{TapValue}
@@ -29,8 +56,13 @@ use Rattle.event_def.specs.Comes.{IsAsBefore}
 use Rattle.event_def.specs.Happens.{Happens}
 use Rattle.event_def.specs.Telling.{AdvanceTelling, ComesTelling}
 use Rattle.event_def.specs.Trace.{deed_of}
-use Rattle.event_law.proofs.Proved.{advances_fall, least_event_is_granted, least_events_are_few, next_event_is_given,
-    rest_is_there}
+use Rattle.event_law.proofs.Proved.{
+  advances_fall,
+  least_event_is_granted,
+  least_events_are_few,
+  next_event_is_given,
+  rest_is_there,
+}
 use Rattle.event_lemma.proofs.Proved.{comes_stays_sound}
 use Rattle.conflict_book.specs.Halting.{FallsIfMoved, AdvanceGoesOn, NextComes, RunsLeast, advance_by, advance_of}
 use Rattle.conflict_book.specs.Halting.{last_answer}
@@ -43,7 +75,7 @@ pub next_comes_sound : (N : Type 0) (image : ImageValue) (book : BookView) (came
     → Sound image book.view → NextComes N image book came new placers effect → Sound image new
 next_comes_sound N image book came new placers effect sound next =
     comes_stays_sound N image book next.0 came new placers (next_event_is_given N image book.view next.0 sound next.1)
-        sound
+    sound
     next.2.0
 
 module _ (N : Type 0) (image : ImageValue) (old new : BookView) (aborted : ℕ) (effect : EffectValue) where
@@ -72,9 +104,10 @@ module _ (N : Type 0) (image : ImageValue) (book : BookView) (goes_on : book.sto
       → AdvanceTelling N image book (advance_of seen) after effect
   unfolding happens_made
   made_by (event.Dispatch tile) next comes =
-      subst Answers (ap (λ (r : Record). r.deed) (sym comes.0.2))
-      ((event.Dispatch tile, next, tt, happens_made book goes_on (event.Dispatch tile) view placers seen comes.0),
-          comes.1)
+      subst Answers (ap (λ (r : Record). r.deed) (sym comes.0.2)) (
+        (event.Dispatch tile, next, tt, happens_made book goes_on (event.Dispatch tile) view placers seen comes.0),
+        comes.1,
+      )
   made_by (event.Step tile core leg) next comes =
       let step : Event N = event.Step tile core leg in
       subst Answers (ap (λ (r : Record). r.deed) (sym comes.0.2.3))
@@ -104,10 +137,17 @@ module _ (N : Type 0) (image : ImageValue) (book : BookView) (sound : Sound imag
   refused_by e next reply.Ok comes = absurd comes.0
   refused_by e next reply.Memory comes =
       let same = comes.0.2 in (
-        inr (e, next, (inr (comes.0.0, comes.0.1), record {
-          none = refl;
-          same = λ i. record book { view = same.0 i; placers = same.1 i };
-        })),
+        inr (
+          e,
+          next,
+          (
+            inr (comes.0.0, comes.0.1),
+            record {
+              none = refl;
+              same = λ i. record book { view = same.0 i; placers = same.1 i };
+            },
+          ),
+        ),
         comes.1,
       )
   refused_by e next reply.Empty comes =
@@ -180,7 +220,7 @@ pub falls_if_moved : (N : Type 0) (image : ImageValue) (old new : BookView) (ans
     → AdvanceAnswers N image old answer new → FallsIfMoved answer old.view new.view
 falls_if_moved N image old new (answers.Moved aborted) sound answered =
     λ before after had has. advances_fall N image old new answered.0 aborted before after sound answered.1 answered.2
-        answered.3 had has
+    answered.3 had has
 falls_if_moved N image old new answers.Committed sound answered = tt
 falls_if_moved N image old new (answers.Ended end) sound answered = tt
 falls_if_moved N image old new answers.Memory sound answered = tt
@@ -201,7 +241,7 @@ pub one_more : (N : Type 0) (image : ImageValue) (n : ℕ) (old mid new : BookVi
     → AdvanceAnswers N image mid answer new → AdvanceGoesOn answer → AdvancesBy N image (n + 1) old new
 one_more N image n old mid new answer advances answered goes =
     subst (λ m. AdvancesBy N image m old new) (sym (add-one n)) (next_one N image n old mid new answer advances
-        answered goes)
+    answered goes)
 
 -- a run that halts has changed nothing at its last answer
 pub halts_where : (N : Type 0) (image : ImageValue) (mid new : BookView) (halt : Halt) → AdvanceAnswers N image mid
@@ -237,8 +277,8 @@ not_enough N image n old mid sound advances all =
     let left = rest_is_there image mid.view few.sound in
     let most = few.few left.0 left.1 in
     let within : length mid.view.history ≤ old.view.settings.commits = subst
-        (λ s. length mid.view.history ≤ s.commits) few.settings few.sound.tasks.few in
+    (λ s. length mid.view.history ≤ s.commits) few.settings few.sound.tasks.few in
     let longer = few.longer in
     let product = mul-le (few.commits + 1) (old.view.settings.budget + 4) (old.view.settings.commits + 1)
-        (old.view.settings.budget + 4) (omega (arith, within, longer)) (omega arith) in
+    (old.view.settings.budget + 4) (omega (arith, within, longer)) (omega arith) in
     omega (arith, all, most, product)

@@ -107,7 +107,7 @@ module _ {N : Type 0} (had sound : CountedView) (forgot : sound ≡ record had {
       → HappensTelling (before stopped) e reply.Ok seen.aborted new effect
   part_made seen new told effect is kept comes =
       let made = made_telling (going_book had placers taps) refl e view after seen told
-          (as_had (Made seen) told comes) in
+      (as_had (Made seen) told comes) in
       subst (HappensTelling (before stopped) e reply.Ok seen.aborted new) (sym kept)
       (subst (λ b. HappensTelling (before stopped) e reply.Ok seen.aborted b told)
       (sym (is ∙ ap (λ n. after_event seen (behind n stopped)) steps_had))

@@ -10,9 +10,12 @@ pub returns : goal.returns
 returns g c taps steps =
     as_slice g.P.Placer.policy c.args.placers.now.items c.as_mut_slice.result.now c.step.new.placers _
     (λ before after. ComesTelling {N = g.row.N.Denot} (book_of c.args.state.now.view before taps steps)
-        (event.Step c.args.tile c.args.core c.args.leg.now) c.step.result c.step.new.state.view after
-        c.step.new.state.effect)
+    (event.Step c.args.tile c.args.core c.args.leg.now) c.step.result c.step.new.state.view after
+    c.step.new.state.effect)
     c.as_mut_slice.ensures.value
-    (with_items_is c.args.placers.now c.step.new.placers (omega (arith, c.step.auto.placers,
-        c.as_mut_slice.ensures.len)))
+    (with_items_is c.args.placers.now c.step.new.placers (omega (
+      arith,
+      c.step.auto.placers,
+      c.as_mut_slice.ensures.len,
+    )))
     (c.step.ensures taps steps)

@@ -6,7 +6,7 @@ use Rattle.conflict_book.proofs.book.Book.apply_legless.Goals as goal
 pub returns-in-Made-clause-happens : goal.returns-in-Made-clause-happens
 returns-in-Made-clause-happens g c =
     (part_made c.args.self.now.sound c.forget.new.self c.forget.ensures
-        (map g.P.Placer.policy c.args.self.now.placers.items)
+    (map g.P.Placer.policy c.args.self.now.placers.items)
     (map g.T.Tap.notes c.args.self.now.taps.items) c.args.self.now.stopped c.if-self.false
     (event_of c.args.event) c.come.new.self.view (map g.P.Placer.policy c.come.new.placers.items)
     c.come.new.self.steps c.come.ensures.steps c.in-Made.seen _ c.come.new.self.effect _ c.note.ensures.noted
@@ -15,7 +15,7 @@ returns-in-Made-clause-happens g c =
 pub returns-in-Made-clause-told : goal.returns-in-Made-clause-told
 returns-in-Made-clause-told g c =
     part_made c.args.self.now.sound c.forget.new.self c.forget.ensures
-        (map g.P.Placer.policy c.args.self.now.placers.items)
+    (map g.P.Placer.policy c.args.self.now.placers.items)
     (map g.T.Tap.notes c.args.self.now.taps.items) c.args.self.now.stopped c.if-self.false
     (event_of c.args.event) c.come.new.self.view (map g.P.Placer.policy c.come.new.placers.items)
     c.come.new.self.steps c.come.ensures.steps c.in-Made.seen _ c.come.new.self.effect _ c.note.ensures.noted
@@ -24,7 +24,7 @@ returns-in-Made-clause-told g c =
 pub returns-in-Refused-clause-happens : goal.returns-in-Refused-clause-happens
 returns-in-Refused-clause-happens g c =
     (part_refused c.args.self.now.sound c.forget.new.self c.forget.ensures
-        (map g.P.Placer.policy c.args.self.now.placers.items)
+    (map g.P.Placer.policy c.args.self.now.placers.items)
     (map g.T.Tap.notes c.args.self.now.taps.items) c.args.self.now.stopped c.if-self.false
     (event_of c.args.event) c.come.new.self.view (map g.P.Placer.policy c.come.new.placers.items)
     c.come.new.self.steps c.come.ensures.steps c.in-Refused.reply _
@@ -33,7 +33,7 @@ returns-in-Refused-clause-happens g c =
 pub returns-in-Refused-clause-told : goal.returns-in-Refused-clause-told
 returns-in-Refused-clause-told g c =
     part_refused c.args.self.now.sound c.forget.new.self c.forget.ensures
-        (map g.P.Placer.policy c.args.self.now.placers.items)
+    (map g.P.Placer.policy c.args.self.now.placers.items)
     (map g.T.Tap.notes c.args.self.now.taps.items) c.args.self.now.stopped c.if-self.false
     (event_of c.args.event) c.come.new.self.view (map g.P.Placer.policy c.come.new.placers.items)
     c.come.new.self.steps c.come.ensures.steps c.in-Refused.reply _
@@ -42,13 +42,13 @@ returns-in-Refused-clause-told g c =
 pub returns-then-self-clause-happens : goal.returns-then-self-clause-happens
 returns-then-self-clause-happens g c =
     (stopped_telling {N = g.row.N.Denot} c.args.self.now.sound c.forget.new.self c.forget.ensures
-        (map g.P.Placer.policy c.args.self.now.placers.items)
+    (map g.P.Placer.policy c.args.self.now.placers.items)
     (map g.T.Tap.notes c.args.self.now.taps.items) c.args.self.now.stopped c.if-self.true
     (event_of c.args.event)).0
 
 pub returns-then-self-clause-told : goal.returns-then-self-clause-told
 returns-then-self-clause-told g c =
     stopped_telling {N = g.row.N.Denot} c.args.self.now.sound c.forget.new.self c.forget.ensures
-        (map g.P.Placer.policy c.args.self.now.placers.items)
+    (map g.P.Placer.policy c.args.self.now.placers.items)
     (map g.T.Tap.notes c.args.self.now.taps.items) c.args.self.now.stopped c.if-self.true
     (event_of c.args.event)
