@@ -81,7 +81,8 @@ impl<N: Naming, P: Placer, T: Tap> Book<N, P, T> {
             Happens {N = N} old (event.Step tile core leg.now) result.reply result.aborted new }
         ensures told { let old = view_of P.policy T.notes self.old in
             let new = view_of P.policy T.notes self.new in
-            HappensTelling {N = N} old (event.Step tile core leg.now) result.reply result.aborted new (effect_of self.new) }
+            HappensTelling {N = N} old (event.Step tile core leg.now) result.reply result.aborted new
+            (effect_of self.new) }
         ensures settings { let old = view_of P.policy T.notes self.old in
             (machine_view self.new).settings ≡ old.view.settings }
     {

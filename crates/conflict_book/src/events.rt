@@ -118,8 +118,8 @@ fn come_step<N: Naming, P: Placer>(
     requires fresh { state.old.effect ≡ nothing }
     ensures { let before = map P.policy placers.old.items in
         (taps : List TapValue) (steps : ℕ)
-        → ComesTelling {N = N} (book_of state.old.view before taps steps) (event.Step tile core leg.now) result state.new.view
-        (map P.policy placers.new.items) state.new.effect }
+        → ComesTelling {N = N} (book_of state.old.view before taps steps) (event.Step tile core leg.now) result
+        state.new.view (map P.policy placers.new.items) state.new.effect }
 {
     step(state, placers.as_mut_slice(), tile, core, leg)
 }

@@ -86,8 +86,8 @@ impl<N: Naming, P: Placer, T: Tap> Book<N, P, T> {
         self.sound.state()
     }
 
-    /// What the last event did beside its one change: whom it took back, whom it spilled, and who came. Nothing where it
-    /// was refused, and before the first one.
+    /// What the last event did beside its one change: whom it took back, whom it spilled, and who came. Nothing where
+    /// it was refused, and before the first one.
     pub fn effect(&self) -> &Effect
         ensures { result.now ≡ effect_of self.now }
     {

@@ -59,7 +59,8 @@ pub(crate) fn tell_marked<N: Naming>(state: &mut State<N>, found: usize)
     requires live { let old = state.old in
         (id : ℕ) → Marked old.scratch.marks id → IsSome (task_at old.view id) }
     ensures told { let old = state.old in
-        state.new.effect ≡ record nothing { back = map (told_at old.view old.scratch.marks) (take found old.scratch.members) } }
+        let ids = take found old.scratch.members in
+        state.new.effect ≡ record nothing { back = map (told_at old.view old.scratch.marks) ids } }
     ensures view { state.new.view ≡ state.old.view }
     ensures scratch { state.new.scratch ≡ state.old.scratch }
     ensures spare { state.new.spare ≡ state.old.spare }

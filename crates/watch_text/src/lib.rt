@@ -3,8 +3,8 @@
 //! end.
 //!
 //! A line is put together in one text: before the event from what the act came to, behind it from readers of the state
-//! and from what the event tells that it did beside its one change. It costs what it writes. It stands on scripts and on
-//! the readers of the machine; `watch_play` calls it, and `fractal_watch` for the last line.
+//! and from what the event tells that it did beside its one change. It costs what it writes. It stands on scripts and
+//! on the readers of the machine; `watch_play` calls it, and `fractal_watch` for the last line.
 #![tactic(auto)]
 
 mod about;
