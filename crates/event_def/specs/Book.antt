@@ -3,6 +3,7 @@ use Rattle.std.specs.Prelude.{◌+◌, ◌-◌, ◌^◌, ◌%◌, ◌==◌, ◌�
 use Rattle.place_policy.specs.Policy.{Policy}
 use Rattle.place_policy.specs.Serving.{serving_tile}
 use Rattle.trace_tap.specs.TapValue.{TapValue}
+use Rattle.spec_state.specs.Effects.{EffectValue}
 use Rattle.spec_state.specs.View.{View, loads}
 
 -- a view, the placers that are left, of which the first serves, the taps, how many events have been made, and
@@ -19,10 +20,11 @@ abbrev pub book_of : View → List Policy → List TapValue → ℕ → BookView
 book_of view placers taps steps =
     record { view = view; placers = placers; taps = taps; steps = steps; stopped = false }
 
--- a view, and how many events have been made on it: what a type can keep of a book, since placers and taps are
--- functions
+-- a view, what the last event did beside its one change, and how many events have been made: what a type can keep of a
+-- book, since placers and taps are functions
 pub record CountedView : Type 0 where
   pub view : View
+  pub effect : EffectValue
   pub steps : ℕ
 
 -- the tile that the serving placer picks for a task of this hint, which its call promises to be there

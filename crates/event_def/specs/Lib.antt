@@ -7,5 +7,6 @@ pub mod Happens
 pub mod Comes
 pub mod Opening
 pub mod Advancing
+pub mod Telling
 pub mod Closing
 pub mod End

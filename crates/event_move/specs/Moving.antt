@@ -2,19 +2,21 @@
 use Rattle.std.specs.Prelude.{ℕ, List, length}
 use Rattle.place_policy.specs.Policy.{Policy}
 use Rattle.trace_tap.specs.TapValue.{TapValue}
+use Rattle.spec_state.specs.Effects.{EffectValue}
 use Rattle.spec_state.specs.View.{View}
 use Rattle.event_def.specs.declared.event.Came.{Came}
 use Rattle.event_def.specs.declared.event.Came.TheVariants.{Made, Refused}
 use Rattle.event_def.specs.declared.event.Event.{Event}
 use Rattle.event_def.specs.declared.event.Event.TheVariants as event
 use Rattle.event_def.specs.Book.{book_of, placers_after_commit}
-use Rattle.event_def.specs.Comes.{Comes}
+use Rattle.event_def.specs.Telling.{ComesTelling}
 
--- from a view an event leads to another one, or is refused, as a book's does, and the placers stay
-abbrev pub ComesSo : (N : Type 0) → View → Event N → Came → View → Type 0
-ComesSo N old event came new =
+-- from a view an event leads to another one and tells what it did, or is refused, as a book's does, and the placers
+-- stay
+abbrev pub ComesSo : (N : Type 0) → View → Event N → Came → View → EffectValue → Type 0
+ComesSo N old event came new effect =
     (placers : List Policy) (taps : List TapValue) (steps : ℕ)
-    → Comes (book_of old placers taps steps) event came new placers
+    → ComesTelling (book_of old placers taps steps) event came new placers effect
 
 -- the placers after a commit that was made, and as they were where it was refused
 abbrev pub placers_after : ℕ → ℕ → Came → List Policy → List Policy
@@ -22,8 +24,8 @@ placers_after phase commits (Made seen) placers = placers_after_commit phase com
 placers_after phase commits (Refused reply) placers = placers
 
 -- the same of a commit, after which another placer may serve
-abbrev pub CommitComes : (N : Type 0) → View → Came → View → Type 0
-CommitComes N old came new =
+abbrev pub CommitComes : (N : Type 0) → View → Came → View → EffectValue → Type 0
+CommitComes N old came new effect =
     (placers : List Policy) (taps : List TapValue) (steps : ℕ)
-    → Comes {N = N} (book_of old placers taps steps) event.Commit came new
-    (placers_after old.settings.phase (length new.history) came placers)
+    → ComesTelling {N = N} (book_of old placers taps steps) event.Commit came new
+    (placers_after old.settings.phase (length new.history) came placers) effect

@@ -3,6 +3,7 @@
 ghost use Rattle.std.specs.Prelude.{◌≡◌, ◌<◌};
 ghost use Rattle.spec_law.specs.Sound.{Sound};
 ghost use Rattle.spec_state.specs.declared.task.Task.{Task};
+ghost use Rattle.spec_state.specs.Effects.{nothing};
 ghost use Rattle.spec_state.specs.Least.{IsTheLeast};
 ghost use Rattle.spec_state.specs.Queries.{IsLatestDispatched};
 ghost use Rattle.event_def.specs.declared.event.Came.TheVariants.{Made};
@@ -24,7 +25,7 @@ fn make_abort<N: Naming>(state: &mut State<N>, tile: u32, id: TaskId) -> Record
     requires goes_on { IsOver state.old.view → ⊥ }
     requires latest { (task : Task) × IsLatestDispatched state.old.view tile id.0 task }
     requires other { IsTheLeast state.old.view id.0 → ⊥ }
-    ensures { ComesSo N state.old.view (event.Abort tile) (Made result) state.new.view }
+    ensures { ComesSo N state.old.view (event.Abort tile) (Made result) state.new.view state.new.effect }
 {
     let aborted = take_back(state, id);
     record_of(state, Deed::Abort, tile, aborted)
@@ -35,7 +36,8 @@ fn make_abort<N: Naming>(state: &mut State<N>, tile: u32, id: TaskId) -> Record
 pub fn abort<N: Naming>(state: &mut State<N>, tile: u32) -> Came
     requires sound { Sound N.image state.old.view }
     requires tile { tile < state.old.view.settings.tiles }
-    ensures { ComesSo N state.old.view (event.Abort tile) result state.new.view }
+    requires fresh { state.old.effect ≡ nothing }
+    ensures { ComesSo N state.old.view (event.Abort tile) result state.new.view state.new.effect }
 {
     if end_of(state).is_some() {
         return Came::Refused(Reply::Ended);

@@ -3,6 +3,7 @@
 ghost use Rattle.std.specs.Prelude.{◌≡◌, ◌≢◌, ◌<◌, ◌⊎◌, ◌↔◌, [], ℕ, IsTrue};
 ghost use Rattle.spec_law.specs.Sound.{Sound};
 ghost use Rattle.spec_state.specs.declared.reserving.TheConstants.{MAX_MOVED};
+ghost use Rattle.spec_state.specs.Effects.{nothing};
 ghost use Rattle.spec_state.specs.View.{block_at};
 ghost use Rattle.spec_state.specs.StateValue.{CoversPushes};
 ghost use Rattle.spec_state.specs.Least.{IsLeastSpilled};
@@ -26,7 +27,8 @@ fn make_coalesce<N: Naming>(state: &mut State<N>, tile: u32) -> Came
     requires tile { tile < state.old.view.settings.tiles }
     requires goes_on { IsOver state.old.view → ⊥ }
     requires some { (id : ℕ) × IsMovable state.old.view tile id }
-    ensures { ComesSo N state.old.view (event.Coalesce tile) result state.new.view }
+    requires fresh { state.old.effect ≡ nothing }
+    ensures { ComesSo N state.old.view (event.Coalesce tile) result state.new.view state.new.effect }
 {
     match spill(state, tile) {
         Ok(_) => Came::Made(record_of(state, Deed::Coalesce, tile, 0)),
@@ -39,7 +41,8 @@ fn make_coalesce<N: Naming>(state: &mut State<N>, tile: u32) -> Came
 pub fn coalesce<N: Naming>(state: &mut State<N>, tile: u32) -> Came
     requires sound { Sound N.image state.old.view }
     requires tile { tile < state.old.view.settings.tiles }
-    ensures { ComesSo N state.old.view (event.Coalesce tile) result state.new.view }
+    requires fresh { state.old.effect ≡ nothing }
+    ensures { ComesSo N state.old.view (event.Coalesce tile) result state.new.view state.new.effect }
 {
     if end_of(state).is_some() {
         return Came::Refused(Reply::Ended);
@@ -58,7 +61,8 @@ fn return_to_queue<N: Naming>(state: &mut State<N>, tile: u32) -> Record
     requires some { block_at state.old.view tile ≢ [] }
     requires may { QueueHasRoom state.old.view tile ⊎ IsLeastSpilled state.old.view tile }
     requires covered { CoversPushes state.old tile MAX_MOVED }
-    ensures { ComesSo N state.old.view (event.Split tile) (Made result) state.new.view }
+    requires fresh { state.old.effect ≡ nothing }
+    ensures { ComesSo N state.old.view (event.Split tile) (Made result) state.new.view state.new.effect }
 {
     let aborted = make_room(state, tile, None);
     let _ = return_least(state, tile);
@@ -73,7 +77,8 @@ pub fn make_split<N: Naming>(state: &mut State<N>, tile: u32) -> Came
     requires goes_on { IsOver state.old.view → ⊥ }
     requires some { block_at state.old.view tile ≢ [] }
     requires may { QueueHasRoom state.old.view tile ⊎ IsLeastSpilled state.old.view tile }
-    ensures { ComesSo N state.old.view (event.Split tile) result state.new.view }
+    requires fresh { state.old.effect ≡ nothing }
+    ensures { ComesSo N state.old.view (event.Split tile) result state.new.view state.new.effect }
 {
     match state.reserve(None, tile) {
         Ok(()) => Came::Made(return_to_queue(state, tile)),
@@ -94,7 +99,8 @@ fn may_return<N: Naming>(state: &State<N>, tile: u32) -> bool
 pub fn split<N: Naming>(state: &mut State<N>, tile: u32) -> Came
     requires sound { Sound N.image state.old.view }
     requires tile { tile < state.old.view.settings.tiles }
-    ensures { ComesSo N state.old.view (event.Split tile) result state.new.view }
+    requires fresh { state.old.effect ≡ nothing }
+    ensures { ComesSo N state.old.view (event.Split tile) result state.new.view state.new.effect }
 {
     if end_of(state).is_some() {
         return Came::Refused(Reply::Ended);

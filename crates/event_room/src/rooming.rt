@@ -1,12 +1,14 @@
 //! A free place in a task queue, for a child or for a spilled task that comes back.
 
-ghost use Rattle.std.specs.Prelude.{◌<◌, ◌↔◌, ℕ, IsTrue, IsFalse, option_map};
+ghost use Rattle.std.specs.Prelude.{◌≡◌, ◌<◌, ◌↔◌, ℕ, IsTrue, IsFalse, None, option_map};
 ghost use Rattle.spec_law.specs.Sound.{Sound};
 ghost use Rattle.spec_commit.specs.Spilling.{KeepsOtherSpare};
 ghost use Rattle.spec_state.specs.declared.reserving.TheConstants.{MAX_MOVED};
 ghost use Rattle.spec_state.specs.StateValue.{CoversPushes};
 ghost use Rattle.spec_state.specs.Room.{IsFull, IsMovable, NoneMoves, IsLeastAsker, Stalls, Coalesces, MakesRoom};
 ghost use Rattle.spec_state.specs.Room.{asker_of};
+ghost use Rattle.spec_state.specs.Effects.{nothing};
+ghost use Rattle.event_def.specs.Telling.{TellsRoom, TellsSpilled};
 ghost use Rattle.event_lemma.specs.Forcing.{RunsIfTask};
 ghost use Rattle.event_room.specs.Entering.{MayEnter};
 
@@ -49,7 +51,9 @@ fn spill<N: Naming>(state: &mut State<N>, tile: u32)
     requires tile { tile < state.old.view.settings.tiles }
     requires some { (id : ℕ) × IsMovable state.old.view tile id }
     requires covered { CoversPushes state.old tile MAX_MOVED }
-    ensures moves { Coalesces tile state.old.view state.new.view }
+    ensures moves { (moves : Coalesces tile state.old.view state.new.view)
+        × TellsSpilled state.old.view moves.ids state.new.effect }
+    ensures effect { state.new.effect ≡ record state.old.effect { spilled = state.new.effect.spilled } }
     ensures others { KeepsOtherSpare tile state.old.spare state.new.spare }
 {
     match coalesce(state, tile) {
@@ -69,7 +73,10 @@ fn take_victim<N: Naming>(state: &mut State<N>, tile: u32, asker: Option<TaskId>
     requires least { IsLeastAsker state.old.view tile (asker_of (option_map (λ id. id.0) asker)) }
     requires covered { CoversPushes state.old tile MAX_MOVED }
     ensures makes { let who = asker_of (option_map (λ id. id.0) asker) in
-        MakesRoom tile who state.old.view result state.new.view }
+        let old = state.old.view in
+        (makes : MakesRoom tile who old result state.new.view)
+        × TellsRoom tile who old result state.new.view makes state.new.effect }
+    ensures arrived { state.new.effect.arrived ≡ None }
     ensures others { KeepsOtherSpare tile state.old.spare state.new.spare }
 {
     let last = victim_of(state, tile, asker);
@@ -84,16 +91,20 @@ fn take_victim<N: Naming>(state: &mut State<N>, tile: u32, asker: Option<TaskId>
 }
 
 /// Makes a free place in a tile's task queue for who asks, a running task for its child or else the splitter, which
-/// doesn't stall. It tells how many tasks were taken back for it. The tile's block has the pushes to spare, so it
-/// takes no memory.
+/// doesn't stall. It tells how many tasks were taken back for it, and in the state which, and which were spilled. The
+/// tile's block has the pushes to spare, so it takes no memory.
 pub fn make_room<N: Naming>(state: &mut State<N>, tile: u32, asker: Option<TaskId>) -> u32
     requires sound { Sound N.image state.old.view }
     requires tile { tile < state.old.view.settings.tiles }
     requires runs { RunsIfTask state.old.view (asker_of (option_map (λ id. id.0) asker)) }
     requires granted { MayEnter state.old.view tile (asker_of (option_map (λ id. id.0) asker)) }
     requires covered { CoversPushes state.old tile MAX_MOVED }
+    requires fresh { state.old.effect ≡ nothing }
     ensures makes { let who = asker_of (option_map (λ id. id.0) asker) in
-        MakesRoom tile who state.old.view result state.new.view }
+        let old = state.old.view in
+        (makes : MakesRoom tile who old result state.new.view)
+        × TellsRoom tile who old result state.new.view makes state.new.effect }
+    ensures arrived { state.new.effect.arrived ≡ None }
     ensures others { KeepsOtherSpare tile state.old.spare state.new.spare }
 {
     if state.queue_has_room(tile) {

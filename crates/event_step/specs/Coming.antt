@@ -4,26 +4,30 @@ use Rattle.place_policy.specs.Policy.{Policy}
 use Rattle.trace_tap.specs.TapValue.{TapValue}
 use Rattle.rv_core.specs.LegValue.{LegValue}
 use Rattle.spec_state.specs.declared.task.Task.{Task}
+use Rattle.spec_state.specs.Effects.{EffectValue}
 use Rattle.spec_state.specs.View.{View}
 use Rattle.spec_state.specs.Changes.{TakesLeg}
 use Rattle.event_def.specs.declared.event.Came.{Came}
 use Rattle.event_def.specs.declared.event.Event.TheVariants as event
 use Rattle.event_def.specs.Book.{book_of}
-use Rattle.event_def.specs.Comes.{Comes}
+use Rattle.event_def.specs.Telling.{ComesTelling}
 
--- what comes of a step on this core of this tile, whatever taps there are and however many events were made
-abbrev pub StepComes : (N : Type 0) → ℕ → ℕ → LegValue → View → List Policy → Came → View → List Policy → Type 0
-StepComes N tile core leg old before came new after =
+-- what comes of a step on this core of this tile, and what it tells, whatever taps there are and however many events
+-- were made
+abbrev pub StepComes : (N : Type 0) → ℕ → ℕ → LegValue → View → List Policy → Came → View → List Policy
+    → EffectValue → Type 0
+StepComes N tile core leg old before came new after effect =
     (taps : List TapValue) (steps : ℕ)
-    → Comes {N = N} (book_of old before taps steps) (event.Step tile core leg) came new after
+    → ComesTelling {N = N} (book_of old before taps steps) (event.Step tile core leg) came new after effect
 
 -- what comes of the step of the task of this id in this tile, on the core on which it takes the leg
-abbrev pub TaskComes : (N : Type 0) → ℕ → LegValue → ℕ → View → List Policy → Came → View → List Policy → Type 0
-TaskComes N tile leg id old before came new after =
+abbrev pub TaskComes : (N : Type 0) → ℕ → LegValue → ℕ → View → List Policy → Came → View → List Policy
+    → EffectValue → Type 0
+TaskComes N tile leg id old before came new after effect =
     (core : ℕ) (task : Task) → TakesLeg old tile core leg id task
-    → StepComes N tile core leg old before came new after
+    → StepComes N tile core leg old before came new after effect
 
 -- and tells no placer
-abbrev pub QuietlyComes : (N : Type 0) → ℕ → LegValue → ℕ → View → Came → View → Type 0
-QuietlyComes N tile leg id old came new =
-    (placers : List Policy) → TaskComes N tile leg id old placers came new placers
+abbrev pub QuietlyComes : (N : Type 0) → ℕ → LegValue → ℕ → View → Came → View → EffectValue → Type 0
+QuietlyComes N tile leg id old came new effect =
+    (placers : List Policy) → TaskComes N tile leg id old placers came new placers effect

@@ -37,7 +37,7 @@ fn tell_course<N: Naming, P: Placer, T: Tap, K: Sink>(
     requires few { length script.now < 2 ^ 32 }
     requires each { IfSome watch.old.each (λ number. 1 ≤ number) }
     requires count { watch.old.count ≡ 0 }
-    requires held { watch.old.held.items ≡ [] }
+    requires held { watch.old.player.held ≡ [] }
     requires rounds { HasRounds course }
     requires within { let settings = (machine_view watch.old.book).settings in
         All (ActIsInRange settings.tiles settings.cores) script.now }
@@ -78,9 +78,7 @@ fn tell_book<N: Naming, P: Placer, T: Tap, K: Sink>(
     let told = tell_course(&mut watch, sink, image, asking.course, script);
     let Watch {
         book,
-        held: _,
-        leg: _,
-        table: _,
+        player: _,
         line,
         each: _,
         count: _,

@@ -1,6 +1,7 @@
 -- What a task asks for is one thing: what was found for its leg is what any clause says of it.
 use Rattle.std.proofs.Common.{◌≡◌, ◌⊎◌, inl, inr, ℕ, Result, Ok, Err, refl, sym, subst, ◌∙◌}
 use Rattle.std.specs.Prelude.{OnOk}
+use Rattle.std.specs.declared.option.Option.{Option}
 use Rattle.guest_image.specs.declared.image.Kind.{Kind}
 use Rattle.rv_core.specs.LegValue.{LegValue}
 use Rattle.rv_table.specs.declared.instr.LoadWidth.{LoadWidth}
@@ -9,11 +10,13 @@ use Rattle.task_request.specs.declared.request.Request.{Request}
 use Rattle.task_request.specs.declared.request.Request.TheVariants.{Continue, Load, Store, Enqueue, MakeSub, Emit}
 use Rattle.task_request.specs.declared.request.Request.TheVariants.{Trap}
 use Rattle.spec_state.specs.declared.task.Task.{Task}
+use Rattle.spec_state.specs.declared.task.TaskId.{TaskId}
 use Rattle.memory_law.specs.Notes.{notes_of}
 use Rattle.spec_state.specs.View.{View}
 use Rattle.spec_state.specs.Filters.{HasNotes}
-use Rattle.spec_state.specs.Changes.{TakesLeg, request_of, LoadsFrom, StoresTo, Enqueues, MakesSub, Emits}
+use Rattle.spec_state.specs.Changes.{TakesLeg, request_of, LoadsFrom, StoresTo, MakesSub, Emits}
 use Rattle.spec_access.specs.Asking.{Asks, AsksForNothing}
+use Rattle.spec_access.specs.Telling.{EnqueuesTold}
 use Rattle.spec_access.proofs.Asking.{asked_is}
 
 -- two requests of one leg are one
@@ -38,9 +41,9 @@ abbrev StoresSo : ℕ → Task → LegValue → View → View → Request → Ty
 StoresSo id task leg old new (Store offset bytes value) = StoresTo id task leg offset bytes value old new
 StoresSo id task leg old new other = Unit {0}
 
-abbrev EnqueuesSo : ℕ → Task → LegValue → ℕ → View → View → Request → Type 0
-EnqueuesSo id task leg tile old new (Enqueue child) = Enqueues id task leg child tile old new
-EnqueuesSo id task leg tile old new other = Unit {0}
+abbrev EnqueuesSo : ℕ → Task → LegValue → ℕ → View → View → Option TaskId → Request → Type 0
+EnqueuesSo id task leg tile old new arrived (Enqueue child) = EnqueuesTold id task leg child tile old new arrived
+EnqueuesSo id task leg tile old new arrived other = Unit {0}
 
 abbrev MakesSubSo : ℕ → Task → LegValue → View → View → Request → Type 0
 MakesSubSo id task leg old new (MakeSub kind) = MakesSub id task leg kind old new
@@ -59,9 +62,9 @@ module _ (id : ℕ) (task : Task) (leg : LegValue) (old new : View) where
       → StoresTo id task leg offset bytes value old new → StoresTo id task leg at count other old new
   same_store offset at bytes count value other same does = subst (StoresSo id task leg old new) same does
 
-  pub same_child : (tile : ℕ) (child other : Spawn) → Enqueue child ≡ Enqueue other
-      → Enqueues id task leg child tile old new → Enqueues id task leg other tile old new
-  same_child tile child other same does = subst (EnqueuesSo id task leg tile old new) same does
+  pub same_child : (tile : ℕ) (child other : Spawn) (arrived : Option TaskId) → Enqueue child ≡ Enqueue other
+      → EnqueuesTold id task leg child tile old new arrived → EnqueuesTold id task leg other tile old new arrived
+  same_child tile child other arrived same does = subst (EnqueuesSo id task leg tile old new arrived) same does
 
   pub same_sub : (kind other : Kind) → MakeSub kind ≡ MakeSub other
       → MakesSub id task leg kind old new → MakesSub id task leg other old new
@@ -96,15 +99,16 @@ module _ {T E : Type 0} (view new : View) (leg : LegValue) (id : ℕ) (found : R
       (sym is ∙ found_is view leg id found asks tile core t (Store o b v) takes asked) (does tile core t takes noted)
   stores_found (Err error) offset bytes value is does = does
 
-  pub enqueues_found : (result : Result T E) (tile : ℕ) (child : Spawn) → found ≡ Enqueue child
+  pub enqueues_found : (result : Result T E) (tile : ℕ) (child : Spawn) (arrived : Option TaskId)
+      → found ≡ Enqueue child
       → OnOk result ((from core : ℕ) (t : Task) → TakesLeg view from core leg id t
-      → Enqueues id t leg child tile view new)
+      → EnqueuesTold id t leg child tile view new arrived)
       → OnOk result ((from core : ℕ) (t : Task) (other : Spawn) → TakesLeg view from core leg id t
-      → request_of view t leg ≡ Enqueue other → Enqueues id t leg other tile view new)
-  enqueues_found (Ok value) tile child is does = λ from core t other takes asked.
-      same_child id t leg view new tile child other
+      → request_of view t leg ≡ Enqueue other → EnqueuesTold id t leg other tile view new arrived)
+  enqueues_found (Ok value) tile child arrived is does = λ from core t other takes asked.
+      same_child id t leg view new tile child other arrived
       (sym is ∙ found_is view leg id found asks from core t (Enqueue other) takes asked) (does from core t takes)
-  enqueues_found (Err error) tile child is does = does
+  enqueues_found (Err error) tile child arrived is does = does
 
 -- a task that asks for nothing takes its leg
 pub takes_some : (view : View) (leg : LegValue) (id : ℕ) → AsksForNothing view leg id

@@ -1,2 +1,3 @@
--- Contracts mean it.
+-- Contracts mean both.
 pub mod Asking
+pub mod Telling

@@ -18,11 +18,12 @@ use spec_state::{State, TaskId};
 use std::alloc::AllocError;
 use undo_log::{load_with, store_with};
 
-/// Sees to it that one access more of the task is spare.
+/// Sees to it that one access more of the task is spare. `AllocError` where memory runs out; nothing has changed then.
 #[inline]
-fn reserve_access<N: Naming>(state: &mut State<N>, id: TaskId) -> Result<(), AllocError>
+pub fn reserve_access<N: Naming>(state: &mut State<N>, id: TaskId) -> Result<(), AllocError>
     requires live { IsSome (task_at state.old.view id.0) }
     ensures view { state.new.view ≡ state.old.view }
+    ensures effect { state.new.effect ≡ state.old.effect }
     ensures spare { state.new.spare ≡ record state.old.spare { log = state.new.spare.log } }
     ensures covers { OnOk result (CoversLog state.new id.0) }
     ensures enough { CoversLog state.old id.0 → IsOk result }
@@ -32,9 +33,10 @@ fn reserve_access<N: Naming>(state: &mut State<N>, id: TaskId) -> Result<(), All
     state.buffers.log.reserve(made + 1)
 }
 
-/// Loads where the access is spare.
+/// A task loads from the data, where the access is spare: the register `rd` has what the memory has from `offset` on,
+/// counted from the start of the data, and the access joins its log and its lines. It takes no memory.
 #[inline]
-fn load_reserved<N: Naming>(
+pub fn load_reserved<N: Naming>(
     state: &mut State<N>,
     id: TaskId,
     leg: &Leg<N>,
@@ -48,6 +50,7 @@ fn load_reserved<N: Naming>(
         → TakesLeg state.old.view tile core leg.now id.0 task
         → HasNotes task.lines (notes_of state.old.view.settings.line task.log)
         → LoadsFrom id.0 task leg.now width rd offset state.old.view state.new.view }
+    ensures effect { state.new.effect ≡ state.old.effect }
     ensures spare { state.new.spare ≡ record state.old.spare { log = state.new.spare.log } }
 {
     let _to = leg.to();
@@ -67,7 +70,7 @@ fn load_reserved<N: Naming>(
 /// A task loads from the data: the register `rd` has what the memory has from `offset` on, counted
 /// from the start of the data, as many bytes as the width says, and the access joins its log and
 /// its lines. `AllocError` where memory runs out; nothing has changed then.
-pub fn load_at<N: Naming>(
+pub(crate) fn load_at<N: Naming>(
     state: &mut State<N>,
     id: TaskId,
     leg: &Leg<N>,
@@ -82,6 +85,7 @@ pub fn load_at<N: Naming>(
         → LoadsFrom id.0 task leg.now width rd offset state.old.view state.new.view) }
     ensures err { OnErr result (state.new ≡ state.old) }
     ensures covered { CoversLog state.old id.0 → IsOk result }
+    ensures effect { state.new.effect ≡ state.old.effect }
     ensures spare { state.new.spare ≡ record state.old.spare { log = state.new.spare.log } }
 {
     reserve_access(state, id)?;
@@ -89,9 +93,11 @@ pub fn load_at<N: Naming>(
     Ok(())
 }
 
-/// Stores where the access is spare.
+/// A task stores to the data, where the access is spare: the low bytes of the value, 1, 2 or 4 of them, are written
+/// from `offset` on, counted from the start of the data, and the access joins its log and its lines. It takes no
+/// memory.
 #[inline]
-fn store_reserved<N: Naming>(
+pub fn store_reserved<N: Naming>(
     state: &mut State<N>,
     id: TaskId,
     leg: &Leg<N>,
@@ -105,6 +111,7 @@ fn store_reserved<N: Naming>(
         → TakesLeg state.old.view tile core leg.now id.0 task
         → HasNotes task.lines (notes_of state.old.view.settings.line task.log)
         → StoresTo id.0 task leg.now offset width value state.old.view state.new.view }
+    ensures effect { state.new.effect ≡ state.old.effect }
     ensures spare { state.new.spare ≡ record state.old.spare { log = state.new.spare.log } }
 {
     let budget = state.settings.budget;
@@ -126,7 +133,7 @@ fn store_reserved<N: Naming>(
 /// A task stores to the data: the low bytes of the value, 1, 2 or 4 of them, are written from
 /// `offset` on, counted from the start of the data, and the access joins its log and its lines.
 /// `AllocError` where memory runs out; nothing has changed then.
-pub fn store_at<N: Naming>(
+pub(crate) fn store_at<N: Naming>(
     state: &mut State<N>,
     id: TaskId,
     leg: &Leg<N>,
@@ -141,6 +148,7 @@ pub fn store_at<N: Naming>(
         → StoresTo id.0 task leg.now offset width value state.old.view state.new.view) }
     ensures err { OnErr result (state.new ≡ state.old) }
     ensures covered { CoversLog state.old id.0 → IsOk result }
+    ensures effect { state.new.effect ≡ state.old.effect }
     ensures spare { state.new.spare ≡ record state.old.spare { log = state.new.spare.log } }
 {
     reserve_access(state, id)?;

@@ -43,6 +43,7 @@ pub fn end_quantum<N: Naming>(state: &mut State<N>, id: TaskId, leg: &Leg<N>)
     ensures goes_on { (tile core : ℕ) (task : Task)
         → TakesLeg state.old.view tile core leg.now id.0 task
         → KeepsQuantum id.0 task leg.now state.old.view state.new.view }
+    ensures effect { state.new.effect ≡ state.old.effect }
     ensures spare { state.new.spare ≡ state.old.spare }
 {
     leg.put_end(&mut state.tasks[id.0].core);
@@ -54,6 +55,7 @@ pub fn call_trap<N: Naming>(state: &mut State<N>, id: TaskId, leg: &Leg<N>, caus
     ensures traps { (tile core : ℕ) (task : Task)
         → TakesLeg state.old.view tile core leg.now id.0 task
         → KeepsTrap id.0 task leg.now core cause state.old.view state.new.view }
+    ensures effect { state.new.effect ≡ state.old.effect }
     ensures spare { state.new.spare ≡ state.old.spare }
 {
     let task = &mut state.tasks[id.0];
@@ -68,6 +70,7 @@ pub fn open_sub<N: Naming>(state: &mut State<N>, id: TaskId, leg: &Leg<N>, kind:
     ensures makes { (tile core : ℕ) (task : Task)
         → TakesLeg state.old.view tile core leg.now id.0 task
         → MakesSub id.0 task leg.now kind state.old.view state.new.view }
+    ensures effect { state.new.effect ≡ state.old.effect }
     ensures spare { state.new.spare ≡ state.old.spare }
 {
     let budget = state.settings.budget;
@@ -82,6 +85,7 @@ pub fn put_byte<N: Naming>(state: &mut State<N>, id: TaskId, leg: &Leg<N>, byte:
     ensures emits { (tile core : ℕ) (task : Task)
         → TakesLeg state.old.view tile core leg.now id.0 task
         → Emits id.0 task leg.now byte state.old.view state.new.view }
+    ensures effect { state.new.effect ≡ state.old.effect }
     ensures spare { state.new.spare ≡ state.old.spare }
 {
     let budget = state.settings.budget;

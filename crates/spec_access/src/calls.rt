@@ -11,10 +11,11 @@ ghost use Rattle.spec_state.specs.declared.task.Task.{Task};
 ghost use Rattle.spec_state.specs.StateValue.{CoversLog, CoversChild};
 ghost use Rattle.spec_state.specs.Filters.{HasNotes};
 ghost use Rattle.spec_state.specs.Room.{QueueHasRoom};
-ghost use Rattle.spec_state.specs.Changes.{TakesLeg, request_of, LoadsFrom, StoresTo, Enqueues};
+ghost use Rattle.spec_state.specs.Changes.{TakesLeg, request_of, LoadsFrom, StoresTo};
 ghost use Rattle.spec_state.specs.Changes.{MakesSub, Emits, KeepsQuantum, KeepsTrap};
 ghost use Rattle.spec_access.specs.Asking.{AsksToLoad, AsksToStore, AsksForChild};
 ghost use Rattle.spec_access.specs.Asking.{AsksForSubdomain, AsksToEmit, AsksForNothing};
+ghost use Rattle.spec_access.specs.Telling.{EnqueuesTold};
 
 use crate::accessing::{load_at, store_at};
 use crate::calling::{call_trap, end_quantum, open_sub, put_byte};
@@ -35,6 +36,7 @@ pub fn read<N: Naming>(state: &mut State<N>, task: TaskId, leg: &Leg<N>) -> Resu
         → LoadsFrom task.0 t leg.now width rd offset state.old.view state.new.view) }
     ensures err { OnErr result (state.new ≡ state.old) }
     ensures covered { CoversLog state.old task.0 → IsOk result }
+    ensures effect { state.new.effect ≡ state.old.effect }
     ensures spare { state.new.spare ≡ record state.old.spare { log = state.new.spare.log } }
 {
     let (width, rd, offset) = load_of(request_of_task(state, task, leg));
@@ -52,6 +54,7 @@ pub fn write<N: Naming>(state: &mut State<N>, task: TaskId, leg: &Leg<N>) -> Res
         → StoresTo task.0 t leg.now offset width value state.old.view state.new.view) }
     ensures err { OnErr result (state.new ≡ state.old) }
     ensures covered { CoversLog state.old task.0 → IsOk result }
+    ensures effect { state.new.effect ≡ state.old.effect }
     ensures spare { state.new.spare ≡ record state.old.spare { log = state.new.spare.log } }
 {
     let (offset, width, value) = store_of(request_of_task(state, task, leg));
@@ -72,9 +75,10 @@ pub fn spawn<N: Naming>(
     ensures enqueues { OnOk result ((from core : ℕ) (t : Task) (child : Spawn)
         → TakesLeg state.old.view from core leg.now task.0 t
         → request_of state.old.view t leg.now ≡ Enqueue child
-        → Enqueues task.0 t leg.now child tile state.old.view state.new.view) }
+        → EnqueuesTold task.0 t leg.now child tile state.old.view state.new.view state.new.effect.arrived) }
     ensures err { OnErr result (state.new ≡ state.old) }
     ensures covered { CoversChild state.old task.0 → IsOk result }
+    ensures effect { state.new.effect ≡ record state.old.effect { arrived = state.new.effect.arrived } }
     ensures spare { state.new.spare ≡ record state.old.spare { spawns = state.new.spare.spawns } }
 {
     let child = spawn_of(request_of_task(state, task, leg));
@@ -88,6 +92,7 @@ pub fn make_sub<N: Naming>(state: &mut State<N>, task: TaskId, leg: &Leg<N>)
         → TakesLeg state.old.view tile core leg.now task.0 t
         → request_of state.old.view t leg.now ≡ MakeSub kind
         → MakesSub task.0 t leg.now kind state.old.view state.new.view }
+    ensures effect { state.new.effect ≡ state.old.effect }
     ensures spare { state.new.spare ≡ state.old.spare }
 {
     let kind = kind_of(request_of_task(state, task, leg));
@@ -101,6 +106,7 @@ pub fn emit<N: Naming>(state: &mut State<N>, task: TaskId, leg: &Leg<N>)
         → TakesLeg state.old.view tile core leg.now task.0 t
         → request_of state.old.view t leg.now ≡ Emit byte
         → Emits task.0 t leg.now byte state.old.view state.new.view }
+    ensures effect { state.new.effect ≡ state.old.effect }
     ensures spare { state.new.spare ≡ state.old.spare }
 {
     let byte = byte_of(request_of_task(state, task, leg));
@@ -119,6 +125,7 @@ pub fn keep<N: Naming>(state: &mut State<N>, task: TaskId, leg: &Leg<N>)
         → TakesLeg state.old.view tile core leg.now task.0 t
         → request_of state.old.view t leg.now ≡ Trap cause
         → KeepsTrap task.0 t leg.now core cause state.old.view state.new.view }
+    ensures effect { state.new.effect ≡ state.old.effect }
     ensures spare { state.new.spare ≡ state.old.spare }
 {
     match cause_of(request_of_task(state, task, leg)) {

@@ -62,6 +62,7 @@ pub fn finish<N: Naming>(state: &mut State<N>, id: TaskId, leg: &Leg<N>)
     ensures finishes { (tile core : ℕ) (task : Task)
         → TakesLeg state.old.view tile core leg.now id.0 task
         → Finishes tile core id.0 task leg.now state.old.view state.new.view }
+    ensures effect { state.new.effect ≡ state.old.effect }
     ensures spare { state.new.spare ≡ state.old.spare }
 {
     let budget = state.settings.budget;

@@ -17,7 +17,7 @@ mod finishing;
 mod requests;
 mod spawning;
 
-pub use accessing::{load_at, store_at};
+pub use accessing::{load_reserved, reserve_access, store_reserved};
 pub use calling::{call_trap, end_quantum, open_sub, put_byte};
 pub use calls::{emit, keep, make_sub, read, spawn, write};
 pub use finishing::finish;

@@ -6,8 +6,9 @@ ghost use Rattle.spec_state.specs.declared.task.Task.{Task};
 ghost use Rattle.spec_state.specs.View.{task_at};
 ghost use Rattle.spec_state.specs.StateValue.{CoversChild};
 ghost use Rattle.spec_state.specs.Room.{QueueHasRoom};
-ghost use Rattle.spec_state.specs.Changes.{TakesLeg, Keeps, Enqueues, task_past_leg};
+ghost use Rattle.spec_state.specs.Changes.{TakesLeg, Keeps, task_past_leg};
 ghost use Rattle.spec_access.specs.Asking.{Asks};
+ghost use Rattle.spec_access.specs.Telling.{EnqueuesTold};
 
 use crate::calling::put_behind;
 use crate::child::child_of;
@@ -21,6 +22,7 @@ use task_desc::Spawn;
 fn reserve_child<N: Naming>(state: &mut State<N>, id: TaskId) -> Result<(), AllocError>
     requires live { IsSome (task_at state.old.view id.0) }
     ensures view { state.new.view ≡ state.old.view }
+    ensures effect { state.new.effect ≡ state.old.effect }
     ensures spare { state.new.spare ≡ record state.old.spare { spawns = state.new.spare.spawns } }
     ensures covers { OnOk result (CoversChild state.new id.0) }
     ensures enough { CoversChild state.old id.0 → IsOk result }
@@ -37,6 +39,7 @@ fn add_spawn<N: Naming>(state: &mut State<N>, id: TaskId, leg: &Leg<N>, spawn: S
     ensures keeps { (task : Task) → task_at state.old.view id.0 ≡ Some task
         → Keeps id.0 (record (task_past_leg task leg.now) { spawns = task.spawns ++ spawn ∷ [] })
         state.old.view state.new.view }
+    ensures effect { state.new.effect ≡ state.old.effect }
     ensures spare { state.new.spare ≡ record state.old.spare { spawns = state.new.spare.spawns } }
 {
     let budget = state.settings.budget;
@@ -59,7 +62,8 @@ fn spawn_reserved<N: Naming>(
     requires covers { CoversChild state.old id.0 }
     ensures enqueues { (from core : ℕ) (task : Task)
         → TakesLeg state.old.view from core leg.now id.0 task
-        → Enqueues id.0 task leg.now spawn tile state.old.view state.new.view }
+        → EnqueuesTold id.0 task leg.now spawn tile state.old.view state.new.view state.new.effect.arrived }
+    ensures effect { state.new.effect ≡ record state.old.effect { arrived = state.new.effect.arrived } }
     ensures spare { state.new.spare ≡ record state.old.spare { spawns = state.new.spare.spawns } }
 {
     let child = child_of(state.version, &state.tasks[id.0], id, &spawn, tile);
@@ -81,9 +85,10 @@ pub fn enqueue_child<N: Naming>(
     requires free { QueueHasRoom state.old.view tile }
     ensures enqueues { OnOk result ((from core : ℕ) (task : Task)
         → TakesLeg state.old.view from core leg.now id.0 task
-        → Enqueues id.0 task leg.now spawn tile state.old.view state.new.view) }
+        → EnqueuesTold id.0 task leg.now spawn tile state.old.view state.new.view state.new.effect.arrived) }
     ensures err { OnErr result (state.new ≡ state.old) }
     ensures covered { CoversChild state.old id.0 → IsOk result }
+    ensures effect { state.new.effect ≡ record state.old.effect { arrived = state.new.effect.arrived } }
     ensures spare { state.new.spare ≡ record state.old.spare { spawns = state.new.spare.spawns } }
 {
     reserve_child(state, id)?;

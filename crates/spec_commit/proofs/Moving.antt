@@ -1,6 +1,9 @@
 -- Idle tasks that leave their queue and are pushed into a block, one after another.
 use Rattle.std.proofs.Common.{◌≡◌, ◌≢◌, ◌<◌, ◌≤◌, ◌+◌, ◌∷◌, ◌++◌, ℕ, zero, suc, Bool, true, false, cond, not, eqb, List, [], length, map, take, Option, Some, None, option_map, refl, sym, ap, subst, ◌∙◌, inl, inr, arith, slice_get, slice_index_or}
-use Rattle.std.specs.Prelude.{Contains, is_some, slice_set}
+use Rattle.std.specs.Prelude.{Contains, IsSome, is_some, slice_set}
+use Rattle.spec_state.specs.declared.effect.SpilledTask.{SpilledTask}
+use Rattle.spec_state.specs.Effects.{EffectValue}
+use Rattle.spec_state.specs.Told.{told_spilled}
 use Rattle.std.specs.List.{AllZip}
 use Rattle.std.proofs.lemmas.Bool.{cases_eq}
 use Rattle.std.proofs.lemmas.Bool.Decides.{nat_tests}
@@ -312,3 +315,22 @@ some_chosen tile old mid items slice same moves chosen is none =
         let has = chosen.all (subst (λ xs. length xs < MAX_MOVED) (sym empty) (omega arith)) moves.0 moves.1 in
         let nothing : Contains [] moves.0 = subst (λ xs. Contains xs moves.0) empty has in
         absurd (omega (arith, nothing.1))
+
+-- the chosen tasks are few, and are there
+pub chosen_there : (tile : ℕ) (view : View) (items slice : List ℕ) → AreChosen view tile items → slice ≡ items
+    → (length slice ≤ MAX_MOVED) × ((id : ℕ) → Contains slice id → IsSome (task_at view id))
+chosen_there tile view items slice chosen is =
+    subst (λ xs. (length xs ≤ MAX_MOVED) × ((id : ℕ) → Contains xs id → IsSome (task_at view id))) (sym is)
+    (chosen.few, λ id has. (let one = chosen.movable id has in subst IsSome (sym one.1.idle.there) refl))
+
+-- a coalescing, of which this is told
+pub coalesced_telling : (tile : ℕ) (old new : View) (slice : List ℕ) (n : ℕ) (before told : EffectValue)
+    → (c : Coalesces tile old new) × (c.ids ≡ slice) → n ≡ length slice
+    → told ≡ record before { spilled = map (told_spilled old) slice }
+    → (c : Coalesces tile old new) × (n ≡ length c.ids)
+    × (told ≡ record before { spilled = map (told_spilled old) c.ids })
+coalesced_telling tile old new slice n before told moved count is = (
+  moved.0,
+  count ∙ ap length (sym moved.1),
+  is ∙ ap (λ (ids : List ℕ). record before { spilled = map (told_spilled old) ids }) (sym moved.1),
+)

@@ -1,6 +1,6 @@
 //! Idle tasks that move into the block of their tile.
 
-ghost use Rattle.std.specs.Prelude.{◌≡◌, ◌≢◌, ◌<◌, ◌≤◌, ◌+◌, ◌^◌, [], ℕ, length, IsOk, IfOk, OnOk, OnErr};
+ghost use Rattle.std.specs.Prelude.{◌≡◌, ◌≢◌, ◌<◌, ◌≤◌, ◌+◌, ◌^◌, [], ℕ, length, map, IsOk, IfOk, OnOk, OnErr};
 ghost use Rattle.std.specs.Prelude.{slice_index_or, slice_set};
 ghost use Rattle.task_desc.specs.declared.calls.TheConstants.{MAX_DEPTH};
 ghost use Rattle.task_desc.specs.Record.{IsDesc};
@@ -11,9 +11,11 @@ ghost use Rattle.spec_state.specs.StateValue.{CoversPushes};
 ghost use Rattle.spec_state.specs.Tasks.{depth_of, descriptor_of, spilled_as};
 ghost use Rattle.spec_state.specs.Fronts.{name_given};
 ghost use Rattle.spec_state.specs.Room.{IsMovable, AreChosen, Coalesces};
+ghost use Rattle.spec_state.specs.Told.{told_spilled};
 ghost use Rattle.spec_commit.specs.Spilling.{IsIdleTask, Spills, KeepsOtherSpare};
 
 use crate::choosing::chosen_tasks;
+use crate::telling::tell_spilled;
 use fractal_vt::Vt;
 use rv_core::Naming;
 use spec_state::{MAX_MOVED, State, Task, TaskId, name_given};
@@ -47,6 +49,7 @@ fn reserve_pushes<N: Naming>(state: &mut State<N>, tile: u32) -> Result<(), Allo
     ensures covers { OnOk result (CoversPushes state.new tile MAX_MOVED) }
     ensures enough { CoversPushes state.old tile MAX_MOVED → IsOk result }
     ensures err { OnErr result (state.new ≡ state.old) }
+    ensures effect { state.new.effect ≡ state.old.effect }
     ensures others { KeepsOtherSpare tile state.old.spare state.new.spare }
 {
     state.blocks.reserve(tile, MAX_MOVED)
@@ -63,6 +66,7 @@ fn push_spilled<N: Naming>(state: &mut State<N>, tile: u32, desc: &Desc, domain:
           (after_push (block_at state.old.view tile) (record { desc = desc.now; domain = domain.now }));
     } }
     ensures spare { slice_index_or state.old.spare.blocks tile 0 ≤ slice_index_or state.new.spare.blocks tile 0 + 1 }
+    ensures effect { state.new.effect ≡ state.old.effect }
     ensures others { KeepsOtherSpare tile state.old.spare state.new.spare }
 {
     state.blocks.push(tile, desc, domain);
@@ -75,6 +79,7 @@ fn spill<N: Naming>(state: &mut State<N>, tile: u32, id: TaskId)
     requires spare { CoversPushes state.old tile 1 }
     ensures spills { Spills tile id.0 state.old.view state.new.view }
     ensures spare { slice_index_or state.old.spare.blocks tile 0 ≤ slice_index_or state.new.spare.blocks tile 0 + 1 }
+    ensures effect { state.new.effect ≡ state.old.effect }
     ensures others { KeepsOtherSpare tile state.old.spare state.new.spare }
 {
     state.is_stored();
@@ -93,6 +98,7 @@ fn spill_all<N: Naming>(state: &mut State<N>, tile: u32, ids: &[usize])
     requires some { ids.now ≢ [] }
     requires spare { CoversPushes state.old tile MAX_MOVED }
     ensures coalesces { (c : Coalesces tile state.old.view state.new.view) × (c.ids ≡ ids.now) }
+    ensures effect { state.new.effect ≡ state.old.effect }
     ensures others { KeepsOtherSpare tile state.old.spare state.new.spare }
 {
     state.is_stored();
@@ -107,13 +113,15 @@ pub fn coalesce<N: Naming>(state: &mut State<N>, tile: u32) -> Result<u32, Alloc
     requires tile { tile < state.old.view.settings.tiles }
     requires some { (id : ℕ) × IsMovable state.old.view tile id }
     ensures ok { IfOk result (λ n. (moved : Coalesces tile state.old.view state.new.view)
-        × (n ≡ length moved.ids)) }
+        × (n ≡ length moved.ids)
+        × (state.new.effect ≡ record state.old.effect { spilled = map (told_spilled state.old.view) moved.ids })) }
     ensures err { OnErr result (state.new ≡ state.old) }
     ensures covered { CoversPushes state.old tile MAX_MOVED → IsOk result }
     ensures others { KeepsOtherSpare tile state.old.spare state.new.spare }
 {
     reserve_pushes(state, tile)?;
     let ids = chosen_tasks(state, tile);
+    tell_spilled(state, ids.as_slice());
     spill_all(state, tile, ids.as_slice());
     Ok(ids.len() as u32)
 }

@@ -93,6 +93,7 @@ fn adopt_children<N: Naming>(state: &mut State<N>, id: TaskId)
     ensures each { (k : ℕ) → task_at state.new.view k
         ≡ after_adoption id.0 (length state.old.view.history) (task_at state.old.view k) }
     ensures rest { state.new.view ≡ record state.old.view { tasks = state.new.view.tasks } }
+    ensures effect { state.new.effect ≡ state.old.effect }
     ensures spare { state.new.spare ≡ state.old.spare }
 {
     let turn = state.history.count();
@@ -132,6 +133,7 @@ fn reserve_output<N: Naming>(state: &mut State<N>, id: TaskId) -> Result<(), All
         length state.old.view.output + length t.bytes ≤ state.new.spare.output)) }
     ensures enough { CoversOutput state.old id.0 → IsOk result }
     ensures err { OnErr result (state.new ≡ state.old) }
+    ensures effect { state.new.effect ≡ state.old.effect }
     ensures spare { state.new.spare ≡ record state.old.spare { output = state.new.spare.output } }
 {
     let wanted = state.output.as_slice().len() + state.task(id).bytes.as_slice().len();
@@ -159,6 +161,7 @@ fn enter_commit<N: Naming>(state: &mut State<N>, id: TaskId) -> Entry
       output = state.old.view.output ++ task.bytes;
       path = task.key.domain ++ own_level task ∷ [];
     }) }
+    ensures effect { state.new.effect ≡ state.old.effect }
     ensures spare { state.new.spare ≡ record state.old.spare { output = state.new.spare.output } }
 {
     let task = &state.tasks[id.0];
@@ -182,6 +185,7 @@ pub fn commit_task<N: Naming>(state: &mut State<N>, id: TaskId) -> Result<Entry,
         × (state.new.view.history ≡ state.old.view.history ++ entry ∷ [])) }
     ensures err { OnErr result (state.new ≡ state.old) }
     ensures enough { CoversOutput state.old id.0 → IsOk result }
+    ensures effect { state.new.effect ≡ state.old.effect }
     ensures spare { state.new.spare ≡ record state.old.spare { output = state.new.spare.output } }
 {
     reserve_output(state, id)?;

@@ -50,6 +50,7 @@ pub fn commit<N: Naming>(state: &mut State<N>) -> Result<Entry, AllocError>
     ensures err { OnErr result (state.new ≡ state.old) }
     ensures enough { (id : ℕ) (task : Task) → IsLeastTask state.old.view id task → task.status ≡ status.Finished
         → HasCommittedCreator task → CoversOutput state.old id → IsOk result }
+    ensures effect { state.new.effect ≡ state.old.effect }
     ensures spare { state.new.spare ≡ record state.old.spare { output = state.new.spare.output } }
 {
     state.is_stored();

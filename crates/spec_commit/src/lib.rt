@@ -14,6 +14,7 @@ mod committing;
 mod least;
 mod queue;
 mod splitting;
+mod telling;
 mod victim;
 
 pub use coalescing::coalesce;

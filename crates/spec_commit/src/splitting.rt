@@ -1,7 +1,7 @@
 //! A spilled task that comes back.
 
-ghost use Rattle.std.specs.Prelude.{◌≡◌, ◌≢◌, ◌<◌, ◌≤◌, ◌+◌, [], ℕ, length, IsOk, IsSome, OnOk, OnErr, Contains};
-ghost use Rattle.std.specs.Prelude.{option_map, slice_set};
+ghost use Rattle.std.specs.Prelude.{◌≡◌, ◌≢◌, ◌<◌, ◌≤◌, ◌+◌, [], ℕ, length, IsOk, IsSome, OnOk, OnErr};
+ghost use Rattle.std.specs.Prelude.{Contains, Some, option_map, slice_set};
 ghost use Rattle.task_desc.specs.Record.{IsDesc};
 ghost use Rattle.spill_store.specs.SpilledTasks.{Spilled, TakesLeast};
 ghost use Rattle.spec_state.specs.declared.task.Creator.{Creator};
@@ -67,6 +67,7 @@ fn take_spilled<N: Naming>(state: &mut State<N>, tile: u32) -> (Desc, Vt)
     ensures rest { state.new.view ≡ record state.old.view {
       blocks = slice_set state.old.view.blocks tile (block_at state.new.view tile);
     } }
+    ensures effect { state.new.effect ≡ state.old.effect }
     ensures others { KeepsOtherSpare tile state.old.spare state.new.spare }
     ensures stays { HasNoLessSpare state.old.spare state.new.spare }
 {
@@ -84,7 +85,8 @@ pub fn split<N: Naming>(state: &mut State<N>, tile: u32) -> Result<(), AllocErro
     requires free { QueueHasRoom state.old.view tile }
     requires named { (s : Spilled) → Contains (block_at state.old.view tile) s
         → (creator : Creator) × HasName state.old.view creator s.desc.name }
-    ensures ok { OnOk result (Splits tile state.old.view state.new.view) }
+    ensures ok { OnOk result ((s : Splits tile state.old.view state.new.view)
+        × (state.new.effect ≡ record state.old.effect { arrived = Some (record { 0 = s.id }) })) }
     ensures err { OnErr result (state.new ≡ state.old) }
     ensures covered { IsOk result }
     ensures others { KeepsOtherSpare tile state.old.spare state.new.spare }

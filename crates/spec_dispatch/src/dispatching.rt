@@ -18,6 +18,7 @@ fn free_number<N: Naming>(state: &mut State<N>)
     requires held { DISPATCH_NUMBERS ≤ state.old.view.next → AreNumbersHeld state.old.view }
     ensures frees { FreesNumber state.old.view state.new.view }
     ensures left { state.new.view.next < DISPATCH_NUMBERS }
+    ensures effect { state.new.effect ≡ state.old.effect }
     ensures spare { state.new.spare ≡ state.old.spare }
 {
     if state.next >= DISPATCH_NUMBERS {
@@ -34,6 +35,7 @@ pub fn dispatch_task<N: Naming>(state: &mut State<N>, tile: u32, id: TaskId)
     requires free { (core : ℕ) × IsFreeCore state.old.view tile core }
     requires held { DISPATCH_NUMBERS ≤ state.old.view.next → AreNumbersHeld state.old.view }
     ensures dispatch { NumbersAndDispatches tile state.old.view state.new.view }
+    ensures effect { state.new.effect ≡ state.old.effect }
     ensures spare { state.new.spare ≡ state.old.spare }
 {
     free_number(state);
@@ -52,6 +54,7 @@ pub fn dispatch<N: Naming>(state: &mut State<N>, tile: u32)
     requires free { (core : ℕ) × IsFreeCore state.old.view tile core }
     requires held { DISPATCH_NUMBERS ≤ state.old.view.next → AreNumbersHeld state.old.view }
     ensures dispatch { NumbersAndDispatches tile state.old.view state.new.view }
+    ensures effect { state.new.effect ≡ state.old.effect }
     ensures spare { state.new.spare ≡ state.old.spare }
 {
     match state.idle(tile) {

@@ -28,6 +28,7 @@ pub(crate) fn place<N: Naming>(state: &mut State<N>, tile: u32, id: TaskId, core
     requires free { IsLowestFree state.old.view tile core }
     requires number { state.old.view.next < DISPATCH_NUMBERS }
     ensures dispatches { Dispatches tile state.old.view state.new.view }
+    ensures effect { state.new.effect ≡ state.old.effect }
     ensures spare { state.new.spare ≡ state.old.spare }
 {
     start(&mut state.tasks[id.0], state.version, core, state.next);

@@ -54,6 +54,7 @@ pub(crate) fn renumber<N: Naming>(state: &mut State<N>)
     requires held { AreNumbersHeld state.old.view }
     ensures renumbers { Renumbers state.old.view state.new.view }
     ensures few { state.new.view.next ≤ MAX_NUMBERS_IN_USE }
+    ensures effect { state.new.effect ≡ state.old.effect }
     ensures spare { state.new.spare ≡ state.old.spare }
 {
     fill(&mut state.numbers, &state.path, &state.tasks);

@@ -1,5 +1,5 @@
 -- An abort by its parts: the cascade, the stores that are undone, and the tasks that are taken back.
-use Rattle.std.proofs.Common.{◌≡◌, ◌≤◌, ℕ, Bool, true, false, List, length, map, replicate, Option, Some, None, refl}
+use Rattle.std.proofs.Common.{◌≡◌, ◌≤◌, ℕ, Bool, true, false, List, [], length, map, replicate, Option, Some, None, refl}
 use Rattle.std.proofs.Common.{sym, ap, subst, ◌∙◌, inl, inr, arith, if◌then◌else◌}
 use Rattle.std.specs.Prelude.{◌↔◌, count_by, IsSome, IfSome}
 use Rattle.std.proofs.lemmas.List.{length-replicate, get_or-replicate, get_or_past}
@@ -16,6 +16,9 @@ use Rattle.spec_state.specs.Queries.{Conflicts}
 use Rattle.spec_rollback.specs.Marking.{FindsConflicts}
 use Rattle.spec_rollback.specs.Pulled.{pull_in}
 use Rattle.spec_rollback.specs.TakenBack.{freed_of_these, TakesThese}
+use Rattle.spec_state.specs.declared.effect.TakenTask.{TakenTask}
+use Rattle.spec_state.specs.Told.{TellsBack}
+use Rattle.spec_rollback.proofs.Told.{tells_none}
 use Rattle.spec_rollback.proofs.Marked.{none_counted}
 use Rattle.spec_rollback.proofs.Pulled.{pull_is, reached_there}
 use Rattle.spec_rollback.proofs.TakenBack.{maps_same, none_taken}
@@ -189,3 +192,73 @@ no_conflict_aborted size old new line write found marks id stored same is finds 
     by_slot (Some t) finds = λ ids by_key.
         subst (Aborts (Conflicts old t line write) old 0) (sym same)
         (nothing_aborted size old stored (Conflicts old t line write) (finds.none is) ids by_key)
+
+-- ---- aborts that are told
+
+-- an abort of these first tasks, of which this is told
+abbrev pub AbortsTelling : (ℕ → Type 0) → View → ℕ → List TakenTask → View → Type 0
+AbortsTelling firsts old aborted told new = (a : Aborts firsts old aborted new) × TellsBack old a.marks told
+
+pub telling_of : (firsts others : ℕ → Type 0) (old : View) (aborted : ℕ) (told : List TakenTask) (new : View)
+    → ((id : ℕ) → firsts id ↔ others id) → AbortsTelling firsts old aborted told new
+    → AbortsTelling others old aborted told new
+unfolding aborts_of
+telling_of firsts others old aborted told new same (aborts, tells) =
+    (aborts_of firsts others old aborted new same aborts, tells)
+
+pub telling_from : (firsts : ℕ → Type 0) (old mid new : View) (marks : List Bool) (found : ℕ) (told : List TakenTask)
+    → length old.tasks ≤ length marks → IsLeastClosed (length marks) (pull_in old.tasks) firsts marks
+    → found ≡ count_by (λ mark. mark) marks → mid ≡ record old { memory = mid.memory }
+    → TakesThese marks (is_marked marks) mid new
+    → ((ids : List ℕ) → IsByKey (logged_tasks old) ids
+    → mid.memory ≡ undone_set (is_marked marks) (logged_tasks old) ids old.memory)
+    → TellsBack old marks told
+    → (ids : List ℕ) → IsByKey (logged_tasks old) ids → AbortsTelling firsts old found told new
+unfolding aborts_by aborts_from
+telling_from firsts old mid new marks found told size least counted rest takes undone tells ids by_key =
+    (aborts_from firsts old mid new marks found size least counted rest takes undone ids by_key, tells)
+
+pub nothing_told : (size : ℕ) (view : View) → IsStored size view → (firsts : ℕ → Type 0)
+    → ((id : ℕ) → firsts id → ⊥) → (ids : List ℕ) → IsByKey (logged_tasks view) ids → AbortsTelling firsts view 0 [] view
+unfolding aborts_by nothing_by nothing_aborted
+nothing_told size view stored firsts none ids by_key = (
+  nothing_aborted size view stored firsts none ids by_key,
+  tells_none view (replicate (length view.tasks) false)
+      (off_marks (length view.tasks)),
+)
+
+-- where the task of this id is there, the cascades of the first tasks that it gives are taken back, and are told
+abbrev TellsFor : (Task → ℕ → Type 0) → View → View → ℕ → List TakenTask → ℕ → Type 0
+TellsFor firsts old new aborted told id = IfSome (task_at old id)
+    (λ t. (ids : List ℕ) → IsByKey (logged_tasks old) ids → AbortsTelling (firsts t) old aborted told new)
+
+pub conflicts_told : (old mid new : View) (aborted : ℕ) (told : List TakenTask) (line : ℕ) (write found : Bool)
+    (marks : List Bool) (id : ℕ) → mid ≡ old → found ≡ true
+    → IfSome (task_at old id) (λ t. FindsConflicts old t line write found marks)
+    → ((ids : List ℕ) → IsByKey (logged_tasks mid) ids → AbortsTelling (Marked marks) mid aborted told new)
+    → TellsFor (λ t. Conflicts old t line write) old new aborted told id
+conflicts_told old mid new aborted told line write found marks id same is finds aborts =
+    by_slot (task_at old id) finds
+  where
+    by_slot : (slot : Option Task) → IfSome slot (λ t. FindsConflicts old t line write found marks)
+        → IfSome slot (λ t. (ids : List ℕ) → IsByKey (logged_tasks old) ids
+        → AbortsTelling (Conflicts old t line write) old aborted told new)
+    by_slot None finds = tt
+    by_slot (Some t) finds = λ ids by_key.
+        telling_of (Marked marks) (Conflicts old t line write) old aborted told new (finds.some is)
+        (subst (λ (v : View). (ids : List ℕ) → IsByKey (logged_tasks v) ids
+        → AbortsTelling (Marked marks) v aborted told new) same aborts ids by_key)
+
+pub no_conflict_told : (size : ℕ) (old new : View) (line : ℕ) (write found : Bool) (marks : List Bool) (id : ℕ)
+    → IsStored size old → new ≡ old → found ≡ false
+    → IfSome (task_at old id) (λ t. FindsConflicts old t line write found marks)
+    → TellsFor (λ t. Conflicts old t line write) old new 0 [] id
+no_conflict_told size old new line write found marks id stored same is finds = by_slot (task_at old id) finds
+  where
+    by_slot : (slot : Option Task) → IfSome slot (λ t. FindsConflicts old t line write found marks)
+        → IfSome slot (λ t. (ids : List ℕ) → IsByKey (logged_tasks old) ids
+        → AbortsTelling (Conflicts old t line write) old 0 [] new)
+    by_slot None finds = tt
+    by_slot (Some t) finds = λ ids by_key.
+        subst (AbortsTelling (Conflicts old t line write) old 0 []) (sym same)
+        (nothing_told size old stored (Conflicts old t line write) (finds.none is) ids by_key)

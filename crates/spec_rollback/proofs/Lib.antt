@@ -7,6 +7,7 @@ pub mod Seen
 pub mod Conflicting
 pub mod TakenBack
 pub mod Members
+pub mod Told
 pub mod Aborted
 pub mod Removed
 pub mod Emptied

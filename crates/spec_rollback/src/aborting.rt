@@ -6,11 +6,14 @@ ghost use Rattle.memory_law.specs.Tasks.{IsByKey};
 ghost use Rattle.spec_state.specs.View.{task_at};
 ghost use Rattle.spec_state.specs.Groups.{logged_tasks};
 ghost use Rattle.spec_state.specs.Aborts.{Aborts, OnlyNode};
+ghost use Rattle.spec_state.specs.Effects.{nothing};
 ghost use Rattle.spec_state.specs.Queries.{Conflicts};
+ghost use Rattle.spec_state.specs.Told.{TellsBack};
 
 use crate::cascade::close_marks;
 use crate::marking::{mark_conflicts, mark_one};
 use crate::releasing::release_marked;
+use crate::telling::{forget, tell_marked};
 use crate::undoing::undo_marked;
 use rv_core::Naming;
 use spec_state::{State, TaskId};
@@ -22,7 +25,9 @@ pub fn abort<N: Naming>(state: &mut State<N>, task: TaskId) -> u32
     // The dispatched tasks of a sound state have an order by key.
     ensures aborts { let old = state.old.view in
         let new = state.new.view in
-        (ids : List ℕ) → IsByKey (logged_tasks old) ids → Aborts (OnlyNode task.0) old result new }
+        (ids : List ℕ) → IsByKey (logged_tasks old) ids
+        → (a : Aborts (OnlyNode task.0) old result new) × TellsBack old a.marks state.new.effect.back }
+    ensures effect { state.new.effect ≡ record nothing { back = state.new.effect.back } }
     ensures spare { state.new.spare ≡ state.old.spare }
 {
     mark_one(state, task);
@@ -36,13 +41,15 @@ pub fn abort_conflicts<N: Naming>(state: &mut State<N>, task: TaskId, line: u32,
     ensures aborts { let old = state.old.view in
         let new = state.new.view in
         IfSome (task_at old task.0) (λ t. (ids : List ℕ) → IsByKey (logged_tasks old) ids
-        → Aborts (Conflicts old t line write) old result new) }
+        → (a : Aborts (Conflicts old t line write) old result new) × TellsBack old a.marks state.new.effect.back) }
+    ensures effect { state.new.effect ≡ record nothing { back = state.new.effect.back } }
     ensures spare { state.new.spare ≡ state.old.spare }
 {
     state.is_stored();
     if mark_conflicts(state, task, line, write) {
         abort_marked(state)
     } else {
+        forget(state);
         0
     }
 }
@@ -53,11 +60,14 @@ fn abort_marked<N: Naming>(state: &mut State<N>) -> u32
         (id : ℕ) → Marked old.scratch.marks id → IsSome (task_at old.view id) }
     ensures aborts { let firsts = Marked state.old.scratch.marks in
         let old = state.old.view in
-        (ids : List ℕ) → IsByKey (logged_tasks old) ids → Aborts firsts old result state.new.view }
+        (ids : List ℕ) → IsByKey (logged_tasks old) ids
+        → (a : Aborts firsts old result state.new.view) × TellsBack old a.marks state.new.effect.back }
+    ensures effect { state.new.effect ≡ record nothing { back = state.new.effect.back } }
     ensures spare { state.new.spare ≡ state.old.spare }
 {
     let found = close_marks(state);
     undo_marked(state, found);
+    tell_marked(state, found);
     release_marked(state, found);
     found as u32
 }

@@ -9,6 +9,7 @@ mod cascade;
 mod ending;
 mod marking;
 mod releasing;
+mod telling;
 mod undoing;
 
 pub use aborting::{abort, abort_conflicts};

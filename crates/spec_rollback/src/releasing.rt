@@ -20,7 +20,7 @@ fn is_marked(marks: &[bool], id: usize) -> bool
 }
 
 /// Whether the task's creator is marked.
-fn has_marked_creator(task: &Task, marks: &[bool]) -> bool
+pub(crate) fn has_marked_creator(task: &Task, marks: &[bool]) -> bool
     ensures { result ≡ is_marked_creator marks.now (live_creator task.now.creator) }
 {
     match task.creator {
@@ -34,6 +34,7 @@ fn release<N: Naming>(state: &mut State<N>, id: usize)
     requires live { IsSome (task_at state.old.view id) }
     ensures takes { TakesOne state.old.scratch.marks id state.old.view state.new.view }
     ensures scratch { state.new.scratch ≡ state.old.scratch }
+    ensures effect { state.new.effect ≡ state.old.effect }
     ensures spare { state.new.spare ≡ state.old.spare }
 {
     if has_marked_creator(&state.tasks[id], state.marks.as_slice()) {
@@ -61,6 +62,7 @@ pub(crate) fn release_marked<N: Naming>(state: &mut State<N>, found: usize)
     ensures takes { let marks = state.old.scratch.marks in
         TakesThese marks (is_marked marks) state.old.view state.new.view }
     ensures scratch { state.new.scratch ≡ state.old.scratch }
+    ensures effect { state.new.effect ≡ state.old.effect }
     ensures spare { state.new.spare ≡ state.old.spare }
 {
     state.is_stored();

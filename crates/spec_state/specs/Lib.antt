@@ -1,6 +1,7 @@
 -- Contracts mean all but Picks, which serves this crate alone.
 pub mod Settings
 pub mod View
+pub mod Effects
 pub mod StateValue
 pub mod Fits
 pub mod Children
@@ -12,6 +13,7 @@ pub mod Least
 pub mod Fronts
 pub mod Queries
 pub mod Aborts
+pub mod Told
 pub mod Room
 pub mod Numbers
 pub mod Changes

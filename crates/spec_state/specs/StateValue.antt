@@ -3,6 +3,7 @@ use Rattle.std.specs.Prelude.{◌<◌, ◌≤◌, ◌+◌, ℕ, Bool, List, Opti
 use Rattle.spec_state.specs.declared.task.TaskId.{TaskId}
 use Rattle.spec_state.specs.declared.reserving.TheConstants.{MAX_MOVED}
 use Rattle.spec_state.specs.View.{View, task_at}
+use Rattle.spec_state.specs.Effects.{EffectValue}
 
 -- how many accesses, children and bytes of output have memory in the buffers that a full list moves into, and how
 -- many pushes are spare in each tile's block
@@ -17,11 +18,12 @@ pub record Scratch : Type 0 where
   pub marks : List Bool
   pub members : List ℕ
 
--- the view, what is spare and the notes of a cascade
+-- the view, what is spare, the notes of a cascade, and what the last event did beside its change
 pub record StateValue : Type 0 where
   pub view : View
   pub spare : Spare
   pub scratch : Scratch
+  pub effect : EffectValue
 
 -- an access more of the task is spare
 abbrev pub CoversLog : StateValue → ℕ → Type 0

@@ -73,6 +73,7 @@ impl<N: Naming> State<N> {
         requires formed { IsWellFormed N.image.data_size (length self.old.view.history) task.now }
         ensures adds { Adds result.0 task.now self.old.view self.new.view }
         ensures spare { self.new.spare ≡ self.old.spare }
+        ensures effect { self.new.effect ≡ record self.old.effect { arrived = Some result } }
     {
         let tile = task.tile();
         let arrival = fresh_arrival(
@@ -89,6 +90,7 @@ impl<N: Naming> State<N> {
         self.index.insert(&self.tasks[id].key, tile, arrival, id);
         self.next_arrival = arrival + 1;
         self.children.note(&self.tasks, id);
+        self.effect.note_arrived(TaskId(id));
         TaskId(id)
     }
 

@@ -142,6 +142,7 @@ impl<N: Naming> State<N> {
             marks: _,
             members: _,
             numbers: _,
+            effect: _,
             buffers: _,
             decoded: _,
             alloc: _,

@@ -71,6 +71,7 @@ impl<N: Naming> State<N> {
         ensures leaves { TaskLeaves id.0 self.old.view self.new.view }
         ensures spare { self.new.spare ≡ self.old.spare }
         ensures scratch { self.new.scratch ≡ self.old.scratch }
+        ensures effect { self.new.effect ≡ self.old.effect }
     {
         let task = &self.tasks[id.0];
         let tile = task.tile as usize;
@@ -90,6 +91,7 @@ impl<N: Naming> State<N> {
         ensures back { SetsBack id.0 self.old.view self.new.view }
         ensures spare { self.new.spare ≡ self.old.spare }
         ensures scratch { self.new.scratch ≡ self.old.scratch }
+        ensures effect { self.new.effect ≡ self.old.effect }
     {
         let task = &mut self.tasks[id.0];
         let tile = task.tile as usize;

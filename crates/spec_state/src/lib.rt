@@ -14,6 +14,7 @@ mod arrival;
 mod children;
 mod conflicts;
 mod context;
+mod effect;
 mod emitted;
 mod firm;
 mod fresh;
@@ -35,6 +36,7 @@ mod task;
 
 pub use children::Children;
 pub use context::Parts;
+pub use effect::{Effect, MAX_TAKEN, SpilledTask, TakenTask};
 pub use emitted::{Emitted, MAX_EMITTED};
 pub use firm::name_given;
 pub use fresh::Fresh;

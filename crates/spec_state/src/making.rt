@@ -9,6 +9,7 @@ ghost use Rattle.spec_state.specs.Fits.{HasTiles, HasSlots};
 ghost use Rattle.spill_store.specs.Fronts.{lists_in};
 
 use crate::children::Children;
+use crate::effect::Effect;
 use crate::history::History;
 use crate::numbers::MAX_NUMBERS_IN_USE;
 use crate::reserving::Buffers;
@@ -170,6 +171,7 @@ impl<N: Naming> State<N> {
         let decoded = Decoded::new(alloc, image)?;
         let lists = TileLists::new(alloc, &settings)?;
         let made = TaskMemory::new(alloc, &settings)?;
+        let effect = Effect::new(alloc)?;
         Ok(State {
             version: image.version(),
             settings,
@@ -190,6 +192,7 @@ impl<N: Naming> State<N> {
             marks: made.marks,
             members: made.members,
             numbers: made.numbers,
+            effect,
             buffers: Buffers::new(alloc),
             decoded,
             alloc,

@@ -115,6 +115,7 @@ impl<N: Naming> State<N> {
         requires live { IfSome task (λ id. IsSome (task_at self.old.view id.0)) }
         requires tile { tile < self.old.view.settings.tiles }
         ensures view { self.new.view ≡ self.old.view }
+        ensures effect { self.new.effect ≡ self.old.effect }
         ensures covers { OnOk result (Covers self.new task tile) }
         ensures stays { HasNoLessSpare self.old.spare self.new.spare }
         ensures enough { Covers self.old task tile → IsOk result }

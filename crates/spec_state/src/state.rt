@@ -1,6 +1,7 @@
 //! The state, and what its type keeps.
 
 use crate::children::Children;
+use crate::effect::Effect;
 use crate::history::History;
 use crate::reserving::Buffers;
 use crate::settings::Settings;
@@ -67,6 +68,8 @@ pub struct State<N: Naming> {
     pub members: Vec<usize>,
     /// Memory for the table of the dispatch numbers in use, which is made where they are renumbered.
     pub numbers: Vec<u64>,
+    /// What the last event did beside its one change.
+    pub effect: Effect,
     /// Spare memory that a full list moves into.
     pub buffers: Buffers,
     /// The text, decoded.
@@ -98,6 +101,7 @@ impl<N: Naming> Model for State<N> {
         blocks = map (λ block. block.spare) s.blocks.items;
       };
       scratch = record { marks = s.marks.items; members = s.members.items };
+      effect = s.effect;
     } };
 
     ghost invariant = { λ s.

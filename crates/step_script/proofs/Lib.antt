@@ -1,3 +1,5 @@
+pub mod Attempts
+pub mod Does
 pub mod HeldLegs
 pub mod Played
 pub mod Ranges

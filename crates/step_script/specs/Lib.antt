@@ -3,3 +3,4 @@ pub mod Grammar
 pub mod Ranges
 pub mod Written
 pub mod Playing
+pub mod Asking

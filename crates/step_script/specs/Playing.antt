@@ -46,6 +46,11 @@ without_held_leg tile core held = filter (λ h. not (is_held_for tile core h)) h
 abbrev pub holding : ℕ → ℕ → LegValue → List HeldLeg → List HeldLeg
 holding tile core leg held = without_held_leg tile core held ++ record { tile = tile; core = core; leg = leg } ∷ []
 
+-- what stands between acts: the legs that are held, and the leg that stands ready to be handed in
+pub record PlayerValue : Type 0 where
+  pub held : List HeldLeg
+  pub leg : LegValue
+
 -- a book that is played, and the legs that are held
 pub record PlayState : Type 0 where
   pub book : BookView

@@ -1,6 +1,6 @@
 //! Legs that are held back.
 
-ghost use Rattle.std.specs.Prelude.{◌≡◌, ◌==◌, ◌&&◌, Some, IfSome, IsNone, OnOk};
+ghost use Rattle.std.specs.Prelude.{◌≡◌, ◌==◌, ◌&&◌, Some, IfSome, IsNone, OnErr, OnOk};
 ghost use Rattle.std.specs.List.{position};
 ghost use Rattle.step_script.specs.Playing.{held_for, holding, is_held_for, without_held_leg};
 
@@ -34,20 +34,21 @@ impl<N: Naming> Held<N> {
 }
 
 /// Gives up what is held for a core.
-pub fn forget<N: Naming>(held: &mut Vec<Held<N>>, tile: u32, core: u32)
+pub(crate) fn forget<N: Naming>(held: &mut Vec<Held<N>>, tile: u32, core: u32)
     ensures { held.new.items ≡ without_held_leg tile core held.old.items }
 {
     held.retain(|one| !one.is_for(tile, core));
 }
 
-/// Holds a leg for a core, in place of an older one.
-pub fn hold<N: Naming>(
+/// Holds a leg for a core, in place of an older one, which is given up also where memory runs out.
+pub(crate) fn hold<N: Naming>(
     held: &mut Vec<Held<N>>,
     tile: u32,
     core: u32,
     leg: Leg<N>,
 ) -> Result<(), AllocError>
-    ensures { OnOk result (held.new.items ≡ holding tile core leg held.old.items) }
+    ensures ok { OnOk result (held.new.items ≡ holding tile core leg held.old.items) }
+    ensures out_of_memory { OnErr result (held.new.items ≡ without_held_leg tile core held.old.items) }
 {
     forget(held, tile, core);
     held.push(Held { tile, core, leg })?;
@@ -62,7 +63,7 @@ fn place_of<N: Naming>(held: &[Held<N>], tile: u32, core: u32) -> Option<usize>
 }
 
 /// Hands out the leg that is held for a core, for which nothing is held then; None where nothing was.
-pub fn hand_out<N: Naming>(held: &mut Vec<Held<N>>, tile: u32, core: u32) -> Option<Leg<N>>
+pub(crate) fn hand_out<N: Naming>(held: &mut Vec<Held<N>>, tile: u32, core: u32) -> Option<Leg<N>>
     ensures leg { result ≡ held_for tile core held.old.items }
     ensures rest { held.new.items ≡ without_held_leg tile core held.old.items }
 {

@@ -12,72 +12,13 @@ use Rattle.event_def.specs.Happens.{Happens}
 use Rattle.event_law.proofs.Proved.{least_event_is_granted}
 use Rattle.step_script.specs.declared.act.Act.{Act}
 use Rattle.step_script.specs.declared.act.Act.TheVariants as acts
-use Rattle.step_script.specs.declared.saying.Said.{Said}
 use Rattle.step_script.specs.declared.saying.Word.TheVariants as words
-use Rattle.step_script.specs.Playing.{Does, DoesAdvance, Gives, HeldLeg, MakesInPlay, PlayState, Stays, Steps, Takes}
-use Rattle.step_script.specs.Playing as plays
-use Rattle.watch_text.specs.Asking.{Attempt, AsksAdvance, AsksFor, AsksGive, AsksStep, AsksTake, Hands, HandsEvent}
-use Rattle.watch_text.specs.Asking.{Says, SaysWord}
-use Rattle.watch_text.specs.Asking as asking
-use Rattle.watch_text.specs.Moments.{ComesOf, IsMoment, Moment}
+use Rattle.step_script.specs.Playing.{Does, DoesAdvance, PlayState}
+use Rattle.step_script.specs.Asking.{Attempt, AsksAdvance, AsksFor, ComesOf, Hands, Says}
+use Rattle.step_script.specs.Asking as asking
+use Rattle.step_script.proofs.Does.{HasCome, does_other, said}
+use Rattle.watch_text.specs.Moments.{IsMoment, Moment}
 use Rattle.watch_play.specs.Replies.{MomentDoes, advance_word, word_by}
-
-module _ (N : Type 0) (image : ImageValue) (before after : PlayState) (answer : Reply) (aborted : ℕ) where
-  -- what came of an act
-  abbrev HasCome : Attempt N → Type 0
-  HasCome asks = ComesOf asks answer aborted before.book after.book
-
-  -- and what is said of it, where it is no advance
-  abbrev said : Said
-  said = record { word = words.Plain answer; aborted = aborted }
-
-  -- an event was handed in
-  handed : (e : Event N) (asks : Attempt N) → HandsEvent e before asks after.held → HasCome asks
-      → MakesInPlay e before said after
-  handed e asks hands came =
-      let is : HasCome (Hands e) = subst HasCome hands.asks_is came in record {
-        hands_in = record { answer = answer; word = refl; there = is.0; happens = is.1 };
-        held = hands.held_is;
-      }
-
-  -- a word was said
-  spoken : (word : Reply) (asks : Attempt N) → SaysWord word before asks after.held → HasCome asks
-      → Stays word before said after
-  spoken word asks says came =
-      let is : HasCome (Says word) = subst HasCome says.asks_is came in record {
-        word = λ i. record { word = words.Plain (is.0 i); aborted = is.1 i };
-        same = λ i. record { book = is.2 i; held = says.held_is i };
-      }
-
-  steps : (tile core : ℕ) (asks : Attempt N) → AsksStep image tile core before asks after.held → HasCome asks
-      → Steps N image tile core before said after
-  steps tile core asks (asking.step_runs leg on has hands) came =
-      plays.step_runs leg on has (handed (event.Step tile core leg) asks hands came)
-  steps tile core asks (asking.step_ended over says) came =
-      plays.step_ended over (spoken reply.Ended asks says came)
-  steps tile core asks (asking.step_stale on none says) came =
-      plays.step_stale on none (spoken reply.Stale asks says came)
-
-  takes : (tile core : ℕ) (asks : Attempt N) → AsksTake image tile core before asks after.held → HasCome asks
-      → Takes image tile core before said after
-  takes tile core asks (asking.take_holds leg has asks_is held_is) came =
-      let is : HasCome (Says reply.Ok) = subst HasCome asks_is came in
-      plays.take_holds leg has (λ i. record { word = words.Plain (is.0 i); aborted = is.1 i })
-      (λ i. record { book = is.2 i; held = held_is i })
-  takes tile core asks (asking.take_stale none asks_is held_is) came =
-      let is : HasCome (Says reply.Stale) = subst HasCome asks_is came in
-      plays.take_stale none (λ i. record { word = words.Plain (is.0 i); aborted = is.1 i })
-      (λ i. record { book = is.2 i; held = held_is i })
-
-  gives : (tile core : ℕ) (asks : Attempt N) → AsksGive tile core before asks after.held → HasCome asks
-      → Gives N tile core before said after
-  gives tile core asks (asking.give_hands leg on found asks_is held_is) came =
-      let is : HasCome (Hands (event.Step tile core leg)) = subst HasCome asks_is came in
-      plays.give_hands leg on found (record { answer = answer; word = refl; there = is.0; happens = is.1 }) held_is
-  gives tile core asks (asking.give_ended over says) came =
-      plays.give_ended over (spoken reply.Ended asks says came)
-  gives tile core asks (asking.give_stale on none says) came =
-      plays.give_stale on none (spoken reply.Stale asks says came)
 
 -- an advance, and what is said of it
 abbrev Advanced : (N : Type 0) → ImageValue → PlayState → PlayState → ℕ → Attempt N → Reply → Type 0
@@ -161,20 +102,23 @@ module _ (N : Type 0) (image : ImageValue) (before after : PlayState) (answer : 
         held = says.held_is;
       })
 
+  other : (act : Act) → act ≢ acts.Advance → (asks : Attempt N) → AsksFor image act before asks after.held
+      → HasCome N image before after answer aborted asks
+      → Does N image act before (said N image before after answer aborted) after
+  other act not asks = does_other N image before after answer aborted act asks not
+
   -- what an act comes to, and what comes of that
   does : (act : Act) (asks : Attempt N) → AsksFor image act before asks after.held → HasCome N image before after answer
       aborted asks
       → Does N image act before (record { word = word_by act asks answer; aborted = aborted }) after
-  does (acts.Dispatch tile) asks asked came =
-      handed N image before after answer aborted (event.Dispatch tile) asks asked came
-  does (acts.Step tile core) asks asked came = steps N image before after answer aborted tile core asks asked came
-  does (acts.Take tile core) asks asked came = takes N image before after answer aborted tile core asks asked came
-  does (acts.Give tile core) asks asked came = gives N image before after answer aborted tile core asks asked came
-  does (acts.Abort tile) asks asked came = handed N image before after answer aborted (event.Abort tile) asks asked came
-  does acts.Commit asks asked came = handed N image before after answer aborted event.Commit asks asked came
-  does (acts.Coalesce tile) asks asked came =
-      handed N image before after answer aborted (event.Coalesce tile) asks asked came
-  does (acts.Split tile) asks asked came = handed N image before after answer aborted (event.Split tile) asks asked came
+  does (acts.Dispatch tile) asks asked came = other (acts.Dispatch tile) (λ is. absurd (cc (is))) asks asked came
+  does (acts.Step tile core) asks asked came = other (acts.Step tile core) (λ is. absurd (cc (is))) asks asked came
+  does (acts.Take tile core) asks asked came = other (acts.Take tile core) (λ is. absurd (cc (is))) asks asked came
+  does (acts.Give tile core) asks asked came = other (acts.Give tile core) (λ is. absurd (cc (is))) asks asked came
+  does (acts.Abort tile) asks asked came = other (acts.Abort tile) (λ is. absurd (cc (is))) asks asked came
+  does acts.Commit asks asked came = other acts.Commit (λ is. absurd (cc (is))) asks asked came
+  does (acts.Coalesce tile) asks asked came = other (acts.Coalesce tile) (λ is. absurd (cc (is))) asks asked came
+  does (acts.Split tile) asks asked came = other (acts.Split tile) (λ is. absurd (cc (is))) asks asked came
   does acts.Advance asks asked came = advances asks asked came
 
 -- what came of the moment, of the plays between which it stands

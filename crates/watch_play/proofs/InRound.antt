@@ -20,9 +20,9 @@ use Rattle.event_def.specs.Happens.{Happens}
 use Rattle.event_law.proofs.Keeps.Idle.{least_idle}
 use Rattle.step_script.specs.declared.act.Act.{Act}
 use Rattle.step_script.specs.declared.act.Act.TheVariants as acts
-use Rattle.watch_text.specs.Asking.{AsksStep, Attempt, Hands, Says, step_ended, step_runs, step_stale}
+use Rattle.step_script.specs.Asking.{AsksStep, Attempt, AttemptComes, Hands, Says, step_ended, step_runs}
+use Rattle.step_script.specs.Asking.{step_stale}
 use Rattle.watch_play.specs.Courses.{IsAskedInRound}
-use Rattle.watch_play.specs.Made.{AttemptComes}
 use Rattle.watch_play.specs.Rounds.{AskedIsMade, IsMadeOrStalls, PassedIsRefused}
 
 -- ---- what is asked for

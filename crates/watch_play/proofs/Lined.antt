@@ -2,42 +2,26 @@
 use Rattle.std.proofs.Common.{◌≡◌, ◌≢◌, ◌++◌, ℕ, List, [], length, refl, sym, ap, subst, ◌∙◌}
 use Rattle.std.specs.declared.option.Option.{Option}
 use Rattle.guest_image.specs.ImageValue.{ImageValue}
+use Rattle.rv_core.specs.LegValue.{LegValue}
 use Rattle.task_request.specs.declared.request.Request.{Request}
+use Rattle.spec_state.specs.Effects.{EffectValue}
 use Rattle.spec_state.specs.View.{View}
 use Rattle.event_def.specs.declared.event.Reply.{Reply}
 use Rattle.event_def.specs.declared.event.Reply.TheVariants as reply
 use Rattle.event_def.specs.Book.{BookView}
-use Rattle.event_law.proofs.Replies.{refusals_change_nothing}
 use Rattle.step_script.specs.declared.act.Act.{Act}
+use Rattle.step_script.specs.declared.asked.Asked.{Asked}
 use Rattle.step_script.specs.Playing.{PlayState}
-use Rattle.watch_text.specs.Asking.{Attempt, AsksFor, Hands, Says}
+use Rattle.step_script.specs.Asking.{Attempt, AttemptComes, AttemptTells, AsksFor, asks_of}
+use Rattle.step_script.proofs.Does.{comes_of}
 use Rattle.watch_text.specs.Lines.{line_of, rest_text}
-use Rattle.watch_text.specs.Moments.{ComesOf, IsAbout, IsAskedFor, Moment}
+use Rattle.watch_text.specs.Moments.{IsAbout, IsAskedFor, Moment}
 use Rattle.watch_text.specs.Requests.{front_text}
-use Rattle.watch_text.specs.declared.before.Before.{Before}
-use Rattle.watch_text.specs.Taking.{table_of}
-use Rattle.watch_play.specs.Made.{AttemptComes}
 use Rattle.watch_play.specs.Playing.{IsMomentAt}
 use Rattle.watch_play.specs.Texts.{moment_lines, view_text}
 
--- where memory doesn't run out
-comes_of : {N : Type 0} (asks : Attempt N) (answer : Reply) (aborted : ℕ) (old new : BookView) → answer ≢ reply.Memory
-    → AttemptComes asks answer aborted old new → ComesOf asks answer aborted old new
-comes_of (Hands e) answer aborted old new there came = (there, came)
-comes_of (Says word) answer aborted old new there came = came
-
--- an act that is refused leaves the book, and so the table of its tasks
-pub table_stays : {N : Type 0} (asks : Attempt N) (answer : Reply) (aborted : ℕ) (old new : BookView)
-    (table : List (Option Before)) → table ≡ table_of old.view → AttemptComes asks answer aborted old new
-    → answer ≢ reply.Ok → table ≡ table_of new.view
-table_stays {N} (Hands e) answer aborted old new table is came refused =
-    is ∙ ap (λ (book : BookView). table_of book.view)
-    (sym (refusals_change_nothing N old new e answer aborted came refused).1)
-table_stays (Says word) answer aborted old new table is came refused =
-    is ∙ ap (λ (book : BookView). table_of book.view) (sym came.2)
-
 module _ (N : Type 0) (image : ImageValue) (at number : ℕ) (act : Act) (old new : PlayState) (asks : Attempt N)
-    (task : Option ℕ) (request : Option Request) (answer : Reply) (aborted : ℕ) where
+    (task : Option ℕ) (request : Option Request) (answer : Reply) (aborted : ℕ) (effect : EffectValue) where
   -- the moment
   abbrev pub made : Moment N
   made = record {
@@ -49,6 +33,7 @@ module _ (N : Type 0) (image : ImageValue) (at number : ℕ) (act : Act) (old ne
     request = request;
     reply = answer;
     aborted = aborted;
+    effect = effect;
     old = old.book;
     new = new.book;
   }
@@ -56,8 +41,9 @@ module _ (N : Type 0) (image : ImageValue) (at number : ℕ) (act : Act) (old ne
   pub is_made : AsksFor image act old asks new.held → IsAbout old.book.view asks task
       → IsAskedFor old.book.view asks request → answer ≢ reply.Memory
       → AttemptComes asks answer aborted old.book new.book
+      → AttemptTells asks answer aborted old.book new.book effect
       → IsMomentAt image at number act made old new
-  is_made asked about asked_for there came = record {
+  is_made asked about asked_for there came told = record {
     act_is = refl;
     at_is = refl;
     number_is = refl;
@@ -68,6 +54,7 @@ module _ (N : Type 0) (image : ImageValue) (at number : ℕ) (act : Act) (old ne
       about = about;
       asked_for = asked_for;
       came = comes_of asks answer aborted old.book new.book there came;
+      told = told;
     };
   }
 
@@ -75,28 +62,42 @@ module _ (N : Type 0) (image : ImageValue) (at number : ℕ) (act : Act) (old ne
   pub moment_is : (seen : View) (after : PlayState) → seen ≡ old.book.view → after ≡ new
       → AsksFor image act old asks new.held → IsAbout seen asks task → IsAskedFor seen asks request
       → answer ≢ reply.Memory → AttemptComes asks answer aborted old.book new.book
-      → IsMomentAt image at number act made old
-      after
-  moment_is seen after same left asked about asked_for there came =
+      → AttemptTells asks answer aborted old.book new.book effect
+      → IsMomentAt image at number act made old after
+  moment_is seen after same left asked about asked_for there came told =
       subst (λ p. IsMomentAt image at number act made old p) (sym left)
       (is_made asked (subst (λ v. IsAbout v asks task) same about)
       (subst (λ v. IsAskedFor v asks request) same asked_for)
-      there came)
+      there came told)
 
-  -- its line, and the view behind it, where this is said to have come of it
-  pub line_is : (each : Option ℕ) (cleared front line : List ℕ) (table : List (Option Before)) (output : ℕ)
-      (said : Reply) (took : ℕ) → cleared ≡ [] → front ≡ cleared ++ front_text at act asks task request
-      → table ≡ table_of old.book.view → output ≡ length old.book.view.output → said ≡ answer → took ≡ aborted
-      → line ≡ front ++ rest_text table output new.book.view asks task request said took new.book.steps
+  -- its line, and the view behind it
+  pub line_is : (each : Option ℕ) (cleared front line : List ℕ) (output : ℕ) → cleared ≡ []
+      → front ≡ cleared ++ front_text at act asks task request → output ≡ length old.book.view.output
+      → line ≡ front ++ rest_text effect output new.book.view asks task request answer aborted new.book.steps
       ++ view_text each number new.book.view new.book.steps → line ≡ moment_lines each made
   unfolding line_of
-  line_is each cleared front line table output said took none begun table_is output_is said_is took_is is =
+  line_is each cleared front line output none begun output_is is =
       let first : front ≡ front_text at act asks task request =
       begun ∙ ap (λ l. l ++ front_text at act asks task request) none in
-      let text = λ (t : List (Option Before)) (n : ℕ) (r : Reply) (a : ℕ).
-      rest_text t n new.book.view asks task request r a new.book.steps in
+      let text = λ (n : ℕ). rest_text effect n new.book.view asks task request answer aborted new.book.steps in
       let behind = view_text each number new.book.view new.book.steps in
-      let rest : text table output said took
-      ≡ text (table_of old.book.view) (length old.book.view.output) answer aborted =
-      (λ i. text (table_is i) (output_is i) (said_is i) (took_is i)) in
-      is ∙ (λ i. (first i ++ rest i) ++ behind)
+      is ∙ (λ i. (first i ++ text (output_is i)) ++ behind)
+
+-- the same by the leg that stands ready, of which another reader tells
+module _ (N : Type 0) (image : ImageValue) (at number : ℕ) (act : Act) (old new : PlayState) (asked : Asked)
+    (leg ready : LegValue) (task : Option ℕ) (request : Option Request) (answer : Reply) (aborted : ℕ)
+    (effect : EffectValue) (same : leg ≡ ready) where
+  abbrev pub told_by : LegValue → Moment N
+  told_by l = made N image at number act old new (asks_of asked l) task request answer aborted effect
+
+  pub is_told : (seen : View) (after : PlayState) → seen ≡ old.book.view → after ≡ new
+      → AsksFor {N = N} image act old (asks_of asked ready) new.held → IsAbout {N = N} seen (asks_of asked leg) task
+      → IsAskedFor {N = N} seen (asks_of asked leg) request → answer ≢ reply.Memory
+      → AttemptComes {N = N} (asks_of asked ready) answer aborted old.book new.book
+      → AttemptTells {N = N} (asks_of asked ready) answer aborted old.book new.book effect
+      → IsMomentAt image at number act (told_by leg) old after
+  is_told seen after read left asks about asked_for there came told =
+      moment_is N image at number act old new (asks_of asked leg) task request answer aborted effect seen after read left
+      (subst (λ l. AsksFor {N = N} image act old (asks_of asked l) new.held) (sym same) asks) about asked_for there
+      (subst (λ l. AttemptComes {N = N} (asks_of asked l) answer aborted old.book new.book) (sym same) came)
+      (subst (λ l. AttemptTells {N = N} (asks_of asked l) answer aborted old.book new.book effect) (sym same) told)

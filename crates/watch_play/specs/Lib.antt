@@ -1,4 +1,4 @@
--- Contracts of public calls mean all of these but Playing and Room.
+-- Contracts of public calls mean all of these but Playing.
 pub mod Courses
 pub mod Stories
 pub mod Texts
@@ -6,6 +6,4 @@ pub mod Playing
 pub mod Made
 pub mod Telling
 pub mod Replies
-pub mod Room
-pub mod Cascades
 pub mod Rounds

@@ -6,13 +6,10 @@ use Rattle.place_policy.specs.Policy.{Policy}
 use Rattle.sim_io.specs.Parts.{Writes}
 use Rattle.sim_io.specs.Streams.{SinkState}
 use Rattle.trace_tap.specs.TapValue.{TapValue}
-use Rattle.event_def.specs.declared.event.Reply.{Reply}
 use Rattle.event_def.specs.Book.{BookView}
-use Rattle.event_def.specs.Happens.{Happens}
 use Rattle.conflict_book.specs.BookViews.{view_of}
 use Rattle.step_script.specs.declared.act.Act.{Act}
 use Rattle.step_script.specs.Playing.{PlayState}
-use Rattle.watch_text.specs.Asking.{Attempt, Hands, Says}
 use Rattle.watch_text.specs.Moments.{Moment}
 use Rattle.watch_play.specs.declared.stop.StoryStop.{StoryStop}
 use Rattle.watch_play.specs.declared.stop.StoryStop.TheVariants as stops
@@ -22,12 +19,7 @@ use Rattle.watch_play.specs.Texts.{moment_lines}
 
 -- the play of a run that is watched
 abbrev pub play_of : {N P T : Type 0} → (P → Policy) → (T → TapValue) → Watch N P T → PlayState
-play_of policy notes watch = record { book = view_of policy notes watch.book; held = watch.held.items }
-
--- what comes of an act, also where memory runs out
-abbrev pub AttemptComes : {N : Type 0} → Attempt N → Reply → ℕ → BookView → BookView → Type 0
-AttemptComes (Hands event) answer aborted old new = Happens old event answer aborted new
-AttemptComes (Says word) answer aborted old new = (answer ≡ word) × (aborted ≡ 0) × (new ≡ old)
+play_of policy notes watch = record { book = view_of policy notes watch.book; held = watch.player.held }
 
 -- an act is played and told: it is a moment, whose lines the sink took, or a front of them, or nothing; or it is none
 abbrev pub TellsAct : Type 0 → ImageValue → Option ℕ → (at number : ℕ) → Act → PlayState → PlayState → SinkState

@@ -13,7 +13,7 @@ use Rattle.step_script.specs.declared.saying.Word.{Word}
 use Rattle.step_script.specs.declared.saying.Word.TheVariants as words
 use Rattle.step_script.specs.Playing.{Does, PlayState, Plays}
 use Rattle.step_script.specs.Ranges.{ActIsInRange}
-use Rattle.watch_text.specs.Asking.{Attempt, Hands}
+use Rattle.step_script.specs.Asking.{Attempt, Hands}
 use Rattle.watch_text.specs.Moments.{IsMoment, Moment}
 use Rattle.watch_play.specs.Courses.{OfScript}
 use Rattle.watch_play.specs.Stories.{StoryLeads}

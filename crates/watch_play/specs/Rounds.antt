@@ -10,9 +10,8 @@ use Rattle.event_def.specs.End.{IsOver}
 use Rattle.step_script.specs.declared.act.Act.{Act}
 use Rattle.step_script.specs.declared.act.Act.TheVariants as acts
 use Rattle.step_script.specs.Playing.{HeldLeg, PlayState}
-use Rattle.watch_text.specs.Asking.{AsksFor, Attempt}
+use Rattle.step_script.specs.Asking.{AsksFor, Attempt, AttemptComes}
 use Rattle.watch_play.specs.Courses.{IsAskedInRound}
-use Rattle.watch_play.specs.Made.{AttemptComes}
 
 -- the act is a step
 abbrev pub IsStep : Act → Type 0

@@ -3,7 +3,6 @@
 ghost use Rattle.std.specs.Prelude.{◌≡◌, ◌≤◌, ◌+◌, ◌<◌, ◌^◌, All, IfSome, length};
 ghost use Rattle.conflict_book.specs.BookViews.{machine_view, view_of};
 ghost use Rattle.step_script.specs.Ranges.{ActIsInRange};
-ghost use Rattle.watch_text.specs.Taking.{table_of};
 ghost use Rattle.watch_play.specs.Courses.{OfLeast, OfScript};
 ghost use Rattle.watch_play.specs.Made.{play_of};
 ghost use Rattle.watch_play.specs.Telling.{TellsCourse};
@@ -27,7 +26,6 @@ pub fn play_script<N: Naming, P: Placer, T: Tap, K: Sink>(
 ) -> Result<(), StoryStop>
     requires image { image.now ≡ N.image }
     requires each { IfSome watch.old.each (λ number. 1 ≤ number) }
-    requires table { watch.old.table.items ≡ table_of (machine_view watch.old.book) }
     requires count { watch.old.count ≡ 0 }
     requires few { length script.now < 2 ^ 32 }
     requires within { let settings = (machine_view watch.old.book).settings in
@@ -52,7 +50,6 @@ pub fn play_least<N: Naming, P: Placer, T: Tap, K: Sink>(
 ) -> Result<(), StoryStop>
     requires image { image.now ≡ N.image }
     requires each { IfSome watch.old.each (λ number. 1 ≤ number) }
-    requires table { watch.old.table.items ≡ table_of (machine_view watch.old.book) }
     requires count { watch.old.count ≡ 0 }
     ensures { let old = play_of P.policy T.notes watch.old in
         TellsCourse N N.image watch.old.each OfLeast old (view_of P.policy T.notes watch.new.book)

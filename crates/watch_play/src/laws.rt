@@ -1,6 +1,5 @@
 //! Laws of stories and their lines. Each is the contract of a function that does nothing.
 
-ghost use Rattle.watch_play.specs.Cascades.{BackIsCascade};
 ghost use Rattle.watch_play.specs.Replies.{MomentDoes, StoryPlays};
 ghost use Rattle.watch_play.specs.Rounds.{AskedIsMade, PassedIsRefused};
 
@@ -17,14 +16,6 @@ pub fn moment_does<N: Naming>()
 /// from there, since a script that is played twice says one thing.
 pub fn story_plays<N: Naming>()
     ensures { StoryPlays N }
-{}
-
-/// What is told as taken back behind an event of a sound book is exactly the cascade that the event takes back by the
-/// book's definitions, and is as many tasks as are counted; those of them are gone whose creator is one of them; and
-/// what is told as spilled is what the event's coalescing moves. No id may lie past the table. On an unsound view a
-/// creator might be idle, or the task that asks be taken back.
-pub fn back_is_cascade<N: Naming>()
-    ensures { BackIsCascade N }
 {}
 
 /// While a run goes on, what a round asks for as the machine stands is made, unless a step stalls or memory runs out.

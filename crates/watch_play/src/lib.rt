@@ -2,23 +2,21 @@
 //! in lockstep.
 //!
 //! Each act that is asked for is one line, with a whole view behind each so many where there are views, and is one
-//! piece for the sink, written before the next act. Between the acts stand the legs that are held and the one that
-//! stands ready, a table of the tasks, the line and the order of a round: the memory does not grow with the number of
-//! acts. It stands on the lines of `watch_text`, on scripts and on the book; `fractal_watch` calls it.
+//! piece for the sink, written before the next act. Between the acts stand the player, the line and the order of a
+//! round: the memory does not grow with the number of acts. It stands on the lines of `watch_text`,
+//! on scripts, by whose player it plays, and on the book; `fractal_watch` calls it.
 #![tactic(auto)]
 
-mod asking;
 mod courses;
 mod laws;
 mod lockstep;
 mod opening;
 mod playing;
-mod room;
 mod stop;
 mod watch;
 
 pub use courses::{play_least, play_script};
-pub use laws::{asked_is_made, back_is_cascade, moment_does, passed_is_refused, story_plays};
+pub use laws::{asked_is_made, moment_does, passed_is_refused, story_plays};
 pub use lockstep::play_rounds;
 pub use opening::tell_opening;
 pub use stop::StoryStop;

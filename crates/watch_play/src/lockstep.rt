@@ -6,7 +6,6 @@ ghost use Rattle.std.specs.List.{flat_map, range_with_len};
 ghost use Rattle.conflict_book.specs.BookViews.{machine_view, view_of};
 ghost use Rattle.step_script.specs.Ranges.{ActIsInRange};
 ghost use Rattle.event_def.specs.End.{IsOver};
-ghost use Rattle.watch_text.specs.Taking.{table_of};
 ghost use Rattle.watch_play.specs.Courses.{IsAskedInRound, OfRounds, next_draw, next_order, round_acts, shuffled};
 ghost use Rattle.watch_play.specs.Courses.{tile_acts};
 ghost use Rattle.watch_play.specs.Made.{play_of};
@@ -197,7 +196,6 @@ fn play_asked<N: Naming, P: Placer, T: Tap, K: Sink>(
 ) -> Result<(), StoryStop>
     requires image { image.now ≡ N.image }
     requires each { IfSome watch.old.each (λ number. 1 ≤ number) }
-    requires table { watch.old.table.items ≡ table_of (machine_view watch.old.book) }
     requires count { watch.old.count ≤ number }
     requires below { number < 2 ^ 63 }
     requires within { let settings = (machine_view watch.old.book).settings in
@@ -208,7 +206,6 @@ fn play_asked<N: Naming, P: Placer, T: Tap, K: Sink>(
     ensures settings { (machine_view watch.new.book).settings ≡ (machine_view watch.old.book).settings }
     ensures each { watch.new.each ≡ watch.old.each }
     ensures count { OnOk result (watch.new.count ≤ number + 1) }
-    ensures table { OnOk result (watch.new.table.items ≡ table_of (machine_view watch.new.book)) }
 {
     if is_asked(&watch.book, act) {
         tell_act(watch, sink, image, number + 1, act)
@@ -227,7 +224,6 @@ fn play_round<N: Naming, P: Placer, T: Tap, K: Sink>(
 ) -> Result<(), StoryStop>
     requires image { image.now ≡ N.image }
     requires each { IfSome watch.old.each (λ number. 1 ≤ number) }
-    requires table { watch.old.table.items ≡ table_of (machine_view watch.old.book) }
     requires count { watch.old.count ≤ before }
     requires below { before + length acts.now < 2 ^ 63 }
     requires within { let settings = (machine_view watch.old.book).settings in
@@ -238,7 +234,6 @@ fn play_round<N: Naming, P: Placer, T: Tap, K: Sink>(
     ensures settings { (machine_view watch.new.book).settings ≡ (machine_view watch.old.book).settings }
     ensures each { watch.new.each ≡ watch.old.each }
     ensures count { OnOk result (watch.new.count ≤ before + length acts.now) }
-    ensures table { OnOk result (watch.new.table.items ≡ table_of (machine_view watch.new.book)) }
 {
     for (place, act) in acts.iter().enumerate() {
         play_asked(watch, sink, image, before + place as u64, *act)?;
@@ -257,7 +252,6 @@ fn play_in_order<N: Naming, P: Placer, T: Tap, K: Sink>(
 ) -> Result<(), StoryStop>
     requires image { image.now ≡ N.image }
     requires each { IfSome watch.old.each (λ number. 1 ≤ number) }
-    requires table { watch.old.table.items ≡ table_of (machine_view watch.old.book) }
     requires count { watch.old.count ≡ 0 }
     requires rounds { rounds ≤ 1000000 }
     requires acts { let settings = (machine_view watch.old.book).settings in
@@ -292,7 +286,6 @@ pub fn play_rounds<N: Naming, P: Placer, T: Tap, K: Sink>(
 ) -> Result<(), StoryStop>
     requires image { image.now ≡ N.image }
     requires each { IfSome watch.old.each (λ number. 1 ≤ number) }
-    requires table { watch.old.table.items ≡ table_of (machine_view watch.old.book) }
     requires count { watch.old.count ≡ 0 }
     requires rounds { rounds ≤ 1000000 }
     ensures { let old = play_of P.policy T.notes watch.old in

@@ -4,7 +4,6 @@ ghost use Rattle.std.specs.Prelude.{◌≡◌, ◌++◌, OnOk};
 ghost use Rattle.std.specs.String.{string_bytes};
 ghost use Rattle.conflict_book.specs.BookViews.{machine_view, view_of};
 ghost use Rattle.watch_text.specs.Opening.{head_line, placed_lines};
-ghost use Rattle.watch_text.specs.Taking.{table_of};
 ghost use Rattle.watch_play.specs.Courses.{course_word};
 ghost use Rattle.watch_play.specs.Made.{play_of};
 ghost use Rattle.watch_play.specs.Telling.{Plan, TellsOpening};
@@ -17,7 +16,7 @@ use rv_core::Naming;
 use sim_io::{Sink, write_all};
 use std::alloc::AllocError;
 use trace_tap::Tap;
-use watch_text::{CourseWord, put_head, put_placed, remember};
+use watch_text::{CourseWord, put_head, put_placed};
 
 /// Puts the lines together.
 fn put_opening<N: Naming, P: Placer, T: Tap>(
@@ -31,10 +30,8 @@ fn put_opening<N: Naming, P: Placer, T: Tap>(
     ensures play { play_of P.policy T.notes watch.new ≡ play_of P.policy T.notes watch.old }
     ensures each { watch.new.each ≡ watch.old.each }
     ensures count { watch.new.count ≡ watch.old.count }
-    ensures table { OnOk result (watch.new.table.items ≡ table_of (machine_view watch.new.book)) }
 {
     watch.line.clear();
-    remember(watch.book.state(), &mut watch.table)?;
     put_head(&mut watch.line, course, watch.book.settings(), image)?;
     put_placed(&mut watch.line, watch.book.state())
 }
@@ -52,7 +49,6 @@ pub fn tell_opening<N: Naming, P: Placer, T: Tap, K: Sink>(
     ensures play { play_of P.policy T.notes watch.new ≡ play_of P.policy T.notes watch.old }
     ensures each { watch.new.each ≡ watch.old.each }
     ensures count { watch.new.count ≡ watch.old.count }
-    ensures table { OnOk result (watch.new.table.items ≡ table_of (machine_view watch.new.book)) }
 {
     if put_opening(watch, image, course).is_err() {
         return Err(StoryStop::Memory);

@@ -2,8 +2,4 @@ mod Ranged
 mod Placing
 mod Joined
 mod Handed
-mod Refreshed
-mod Named
-mod Affected
-mod Noted
-pub mod Proved
+mod Gone

@@ -1,17 +1,12 @@
--- Lists, texts and searches over the numbers from 0 on.
-use Rattle.std.proofs.Common.{◌≡◌, ◌∙◌, ℕ, ◌+◌, ◌<◌, ◌≤◌, ◌++◌, ◌∷◌, [], List, map, ap, sym, refl, arith, suc}
-use Rattle.std.proofs.Common.{zero, ⊎_elim, append_assoc, length, slice_index_or, take}
-use Rattle.std.specs.Prelude.{codes, cond, find, filter, Bool, true, false, Some, None}
+-- Texts over the numbers from 0 on.
+use Rattle.std.proofs.Common.{◌≡◌, ◌∙◌, ℕ, ◌+◌, ◌++◌, ◌∷◌, [], List, map, ap, sym, arith, suc, zero, append_assoc}
+use Rattle.std.specs.Prelude.{codes}
 use Rattle.std.specs.List.{flat_map, range_with_len}
-use Rattle.std.proofs.lemmas.Bool.{cases_lt, false_from_ne_true}
 use Rattle.std.proofs.lemmas.List.Concat.{flat_map-append}
 use Rattle.std.proofs.lemmas.List.Folds.{flat_map-map}
-use Rattle.std.proofs.lemmas.List.FromFn.{filter_of_map_range_with_len_more, map-range_with_len_more}
+use Rattle.std.proofs.lemmas.List.FromFn.{map-range_with_len_more}
 use Rattle.std.proofs.lemmas.List.{append-nil}
-use Rattle.std.proofs.lemmas.List.Elements as elements
 use Rattle.watch_text.specs.Fields.{comma_before, items_text, more_items}
-
--- ---- texts
 
 -- one piece more
 pub flat_map-range_more : {A : Type 0} (f : ℕ → List A) (a n j : ℕ) → a + n ≡ j
@@ -56,101 +51,3 @@ items_step f k start old mid new so comma more =
     ∙ ap (λ front. front ++ (comma_before k ++ f k)) so
     ∙ append_assoc start (items_text f (range_with_len 0 k)) (comma_before k ++ f k)
     ∙ ap (λ (all : List ℕ). start ++ all) (sym (items_more f k))
-
--- ---- lists
-
--- a list of values by their numbers, one of which is added
-pub table_step : {X : Type 0} (f : ℕ → X) (k : ℕ) (old new : List X) → old ≡ map f (range_with_len 0 k)
-    → new ≡ old ++ f k ∷ [] → new ≡ map f (range_with_len 0 (k + 1))
-table_step f k old new so more =
-    more ∙ ap (λ front. front ++ f k ∷ []) so ∙ sym (map-range_with_len_more f 0 k k (omega arith))
-
-map_same : (xs : List ℕ) → map (λ x. x) xs ≡ xs
-map_same [] = refl
-map_same (x ∷ xs) = ap (λ ys. x ∷ ys) (map_same xs)
-
--- the numbers below one that is added
-pub range_step : (k : ℕ) (old new : List ℕ) → old ≡ range_with_len 0 k → new ≡ old ++ k ∷ []
-    → new ≡ range_with_len 0 (k + 1)
-range_step k old new so more =
-    table_step (λ x. x) k old new (so ∙ sym (map_same (range_with_len 0 k))) more
-    ∙ map_same (range_with_len 0 (k + 1))
-
-filter_more : (p : ℕ → Bool) (k : ℕ)
-    → filter p (range_with_len 0 (k + 1)) ≡ filter p (range_with_len 0 k) ++ cond (p k) (k ∷ []) []
-filter_more p k =
-    ap (filter p) (sym (map_same (range_with_len 0 (k + 1))))
-    ∙ filter_of_map_range_with_len_more p (λ x. x) 0 k k (omega arith)
-    ∙ ap (λ xs. filter p xs ++ cond (p k) (k ∷ []) []) (map_same (range_with_len 0 k))
-
--- the numbers that pass a test: the next one does
-pub filter_takes : (p : ℕ → Bool) (k : ℕ) (old new : List ℕ) → p k ≡ true → old ≡ filter p (range_with_len 0 k)
-    → new ≡ old ++ k ∷ [] → new ≡ filter p (range_with_len 0 (k + 1))
-filter_takes p k old new is so more =
-    more ∙ ap (λ front. front ++ k ∷ []) so
-    ∙ ap (λ b. filter p (range_with_len 0 k) ++ cond b (k ∷ []) []) (sym is) ∙ sym (filter_more p k)
-
--- or it doesn't
-pub filter_passes : (p : ℕ → Bool) (k : ℕ) (old : List ℕ) → p k ≡ false → old ≡ filter p (range_with_len 0 k)
-    → old ≡ filter p (range_with_len 0 (k + 1))
-filter_passes p k old isnt so =
-    so ∙ sym (append-nil (filter p (range_with_len 0 k)))
-    ∙ ap (λ b. filter p (range_with_len 0 k) ++ cond b (k ∷ []) []) (sym isnt) ∙ sym (filter_more p k)
-
--- ---- lists of numbers that are filtered place by place
-
--- the next one passes
-pub filter_takes_next : (p : ℕ → Bool) (xs : List ℕ) (k : ℕ) (old new : List ℕ) → k < length xs
-    → p (slice_index_or xs k 0) ≡ true → old ≡ filter p (take k xs) → new ≡ old ++ slice_index_or xs k 0 ∷ []
-    → new ≡ filter p (take (k + 1) xs)
-filter_takes_next p xs k old new inside is so more =
-    more ∙ ap (λ front. front ++ slice_index_or xs k 0 ∷ []) so
-    ∙ ap (λ b. filter p (take k xs) ++ cond b (slice_index_or xs k 0 ∷ []) []) (sym is)
-    ∙ sym (elements.filter_more p xs k 0 inside)
-
--- or it doesn't
-pub filter_passes_next : (p : ℕ → Bool) (xs : List ℕ) (k : ℕ) (old : List ℕ) → k < length xs
-    → p (slice_index_or xs k 0) ≡ false → old ≡ filter p (take k xs) → old ≡ filter p (take (k + 1) xs)
-filter_passes_next p xs k old inside isnt so =
-    so ∙ sym (append-nil (filter p (take k xs)))
-    ∙ ap (λ b. filter p (take k xs) ++ cond b (slice_index_or xs k 0 ∷ []) []) (sym isnt)
-    ∙ sym (elements.filter_more p xs k 0 inside)
-
--- ---- searches
-
-none_from : (p : ℕ → Bool) (a n : ℕ) → ((k : ℕ) → a ≤ k → k < a + n → p k ≡ false)
-    → find p (range_with_len a n) ≡ None
-none_from p a zero none = refl
-none_from p a (suc n) none =
-    ap (λ b. cond b (Some a) (find p (range_with_len (a + 1) n))) (none a (omega arith) (omega arith))
-    ∙ none_from p (a + 1) n (λ k low high. none k (omega arith) (omega arith))
-
--- where no number below another passes a test, none is found
-pub find_none : (p : ℕ → Bool) (n : ℕ) → ((k : ℕ) → k < n → p k ≡ false) → find p (range_with_len 0 n) ≡ None
-find_none p n none = none_from p 0 n (λ k low high. none k (omega arith))
-
-first_from : (p : ℕ → Bool) (a n j : ℕ) → a ≤ j → j < a + n → ((k : ℕ) → a ≤ k → k < j → p k ≡ false) → p j ≡ true
-    → find p (range_with_len a n) ≡ Some j
-first_from p a zero j low high none here = absurd (omega arith)
-first_from p a (suc n) j low high none here =
-    ⊎_elim
-    (λ (less : a < j).
-    ap (λ b. cond b (Some a) (find p (range_with_len (a + 1) n))) (none a (omega arith) less)
-    ∙ first_from p (a + 1) n j (omega arith) (omega arith) (λ k above below. none k (omega arith) below) here)
-    (λ (past : j ≤ a).
-    let e : a ≡ j = omega arith in
-    ap (λ b. cond b (Some a) (find p (range_with_len (a + 1) n))) (ap p e ∙ here) ∙ ap (λ k. Some k) e)
-    (cases_lt a j)
-
--- else the first number that passes it is found
-pub find_first : (p : ℕ → Bool) (n j : ℕ) → j < n → ((k : ℕ) → k < j → p k ≡ false) → p j ≡ true
-    → find p (range_with_len 0 n) ≡ Some j
-find_first p n j below none here = first_from p 0 n j (omega arith) (omega arith) (λ k low high. none k high) here
-
--- where no two numbers pass, one that does is found
-pub find_one : (p : ℕ → Bool) (n j : ℕ) → j < n → p j ≡ true → ((a b : ℕ) → p a ≡ true → p b ≡ true → a ≡ b)
-    → find p (range_with_len 0 n) ≡ Some j
-find_one p n j below here one =
-    find_first p n j below (λ k less. false_from_ne_true (p k) (λ is.
-    (let same : k ≡ j = one k j is here in absurd (omega (arith, less, same)))))
-    here

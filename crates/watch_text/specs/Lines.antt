@@ -2,25 +2,23 @@
 use Rattle.std.specs.Prelude.{ℕ, List, ◌++◌, codes, length}
 use Rattle.std.specs.declared.option.Option.{Option}
 use Rattle.task_request.specs.declared.request.Request.{Request}
+use Rattle.spec_state.specs.Effects.{EffectValue}
 use Rattle.spec_state.specs.View.{View}
 use Rattle.event_def.specs.declared.event.Reply.{Reply}
-use Rattle.watch_text.specs.declared.before.Before.{Before}
-use Rattle.watch_text.specs.Asking.{Attempt}
+use Rattle.step_script.specs.Asking.{Attempt}
 use Rattle.watch_text.specs.Changes.{change_by, change_text, reply_part}
 use Rattle.watch_text.specs.Moments.{Moment}
 use Rattle.watch_text.specs.Requests.{front_text}
-use Rattle.watch_text.specs.Taking.{table_of}
 
 -- the rest of a line behind its event
-abbrev pub rest_text : {N : Type 0} → List (Option Before) → ℕ → View → Attempt N → Option ℕ → Option Request → Reply
-    → ℕ
-    → ℕ → List ℕ
-rest_text table output new asks task request answer aborted events =
-    reply_part answer events ++ change_by answer (change_text table output new asks task request aborted) ++ codes "}\n"
+abbrev pub rest_text : {N : Type 0} → EffectValue → ℕ → View → Attempt N → Option ℕ → Option Request → Reply → ℕ → ℕ
+    → List ℕ
+rest_text effect output new asks task request answer aborted events =
+    reply_part answer events ++ change_by answer (change_text effect output new asks task request aborted)
+    ++ codes "}\n"
 
 -- the line of a moment: what was done and asked for, the reply, and what changed
 unfoldable pub line_of : {N : Type 0} → Moment N → List ℕ
 line_of m =
     front_text m.at m.act m.asks m.task m.request
-    ++ rest_text (table_of m.old.view) (length m.old.view.output) m.new.view m.asks m.task m.request m.reply m.aborted
-    m.new.steps
+    ++ rest_text m.effect (length m.old.view.output) m.new.view m.asks m.task m.request m.reply m.aborted m.new.steps

@@ -1,26 +1,26 @@
 -- A moment: an act that was told, with the book before and after it.
-use Rattle.std.specs.Prelude.{◌≡◌, ◌≢◌, ℕ, Some, None, slice_get, option_map}
+use Rattle.std.specs.Prelude.{◌≡◌, ℕ, Some, None, slice_get, option_map}
 use Rattle.std.specs.declared.option.Option.{Option}
 use Rattle.guest_image.specs.ImageValue.{ImageValue}
 use Rattle.task_request.specs.declared.request.Request.{Request}
 use Rattle.spec_state.specs.declared.task.Task.{Task}
+use Rattle.spec_state.specs.Effects.{EffectValue}
 use Rattle.spec_state.specs.View.{View, cores_at}
 use Rattle.spec_state.specs.Changes.{TakesLeg, request_of}
 use Rattle.spec_state.specs.Least.{IsTheLeast}
 use Rattle.spec_state.specs.Queries.{IsDispatched, IsIdle, IsLatestDispatched, IsLeastIdle}
 use Rattle.event_def.specs.declared.event.Event.TheVariants as event
 use Rattle.event_def.specs.declared.event.Reply.{Reply}
-use Rattle.event_def.specs.declared.event.Reply.TheVariants as reply
 use Rattle.event_def.specs.Book.{BookView}
 use Rattle.event_def.specs.Causes.{IsStale}
-use Rattle.event_def.specs.Happens.{Happens}
 use Rattle.step_script.specs.declared.act.Act.{Act}
+use Rattle.step_script.specs.Asking.{AsksFor, Attempt, AttemptTells, ComesOf, Hands, Says}
 use Rattle.step_script.specs.Playing.{PlayState}
 use Rattle.watch_text.specs.declared.about.About.{About}
-use Rattle.watch_text.specs.Asking.{Attempt, Hands, Says, AsksFor}
 
 -- the number of the act, and which of the told ones it is, both from 1; the act, what it came to, the task that this
--- is about and what that asks for; the reply, how many tasks were taken back, and the book before and after
+-- is about and what that asks for; the reply, how many tasks were taken back, what the event did beside its one change,
+-- and the book before and after
 pub record Moment (N : Type 0) : Type 0 where
   pub at : ℕ
   pub number : ℕ
@@ -30,6 +30,7 @@ pub record Moment (N : Type 0) : Type 0 where
   pub request : Option Request
   pub reply : Reply
   pub aborted : ℕ
+  pub effect : EffectValue
   pub old : BookView
   pub new : BookView
 
@@ -58,11 +59,6 @@ IsAskedFor view (Hands (event.Step tile core leg)) (Some request) =
     (id : ℕ) × (task : Task) × TakesLeg view tile core leg id task × (request_of view task leg ≡ request)
 IsAskedFor view other request = request ≡ None
 
--- what comes of it: the event has this reply, which isn't that memory ran out; or the word is said
-abbrev pub ComesOf : {N : Type 0} → Attempt N → Reply → ℕ → BookView → BookView → Type 0
-ComesOf (Hands event) answer aborted old new = (answer ≢ reply.Memory) × Happens old event answer aborted new
-ComesOf (Says word) answer aborted old new = (answer ≡ word) × (aborted ≡ 0) × (new ≡ old)
-
 -- the moment leads from one of these states of a play to the other: its act comes to what it says, with all that it
 -- says of that
 pub record IsMoment {N : Type 0} (image : ImageValue) (m : Moment N) (before after : PlayState) : Type 0 where
@@ -72,3 +68,4 @@ pub record IsMoment {N : Type 0} (image : ImageValue) (m : Moment N) (before aft
   pub about : IsAbout m.old.view m.asks m.task
   pub asked_for : IsAskedFor m.old.view m.asks m.request
   pub came : ComesOf m.asks m.reply m.aborted m.old m.new
+  pub told : AttemptTells m.asks m.reply m.aborted m.old m.new m.effect

@@ -13,7 +13,7 @@ use Rattle.event_def.specs.declared.event.Event.TheVariants as event
 use Rattle.step_script.specs.declared.act.Act.{Act}
 use Rattle.step_script.specs.declared.act.Act.TheVariants as acts
 use Rattle.watch_text.specs.declared.front.Spot.{Spot}
-use Rattle.watch_text.specs.Asking.{Attempt, Hands, Says}
+use Rattle.step_script.specs.Asking.{Attempt, Hands, Says}
 use Rattle.watch_text.specs.Fields.{kind_word, number_field, some_field, start_text, word_field}
 
 -- ---- words

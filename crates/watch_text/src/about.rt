@@ -7,14 +7,14 @@ ghost use Rattle.spec_state.specs.Changes.{TakesLeg, request_of};
 ghost use Rattle.spec_state.specs.Least.{IsTheLeast};
 ghost use Rattle.event_def.specs.Causes.{IsStale};
 ghost use Rattle.event_lemma.specs.Whereabouts.{queued_in};
-ghost use Rattle.watch_text.specs.Asking.{AskedIsInRange, asks_of};
+ghost use Rattle.step_script.specs.Asking.{AskedIsInRange, asks_of};
 ghost use Rattle.watch_text.specs.Moments.{IsAbout, IsAskedFor, task_of};
 
-use crate::asking::Asked;
 use conflict_book::Legless;
 use event_step::taker;
 use rv_core::{Leg, Naming};
 use spec_state::{State, TaskId, Where};
+use step_script::Asked;
 use task_request::{Request, request_of};
 
 /// What an event is about.

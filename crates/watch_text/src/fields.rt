@@ -199,42 +199,6 @@ pub(crate) fn put_comma(line: &mut String, place: u32) -> Result<(), AllocError>
     }
 }
 
-/// Ids behind commas.
-fn put_more(line: &mut String, ids: &[usize]) -> Result<(), AllocError>
-    ensures { OnOk result (string_bytes line.new ≡ string_bytes line.old ++ more_items decimal ids.now) }
-{
-    for id in ids {
-        put_text(line, ",")?;
-        put_digits(line, *id as u64)?;
-    }
-    Ok(())
-}
-
-/// Ids with commas between them.
-pub(crate) fn put_ids(line: &mut String, ids: &[usize]) -> Result<(), AllocError>
-    ensures { OnOk result (string_bytes line.new ≡ string_bytes line.old ++ items_text decimal ids.now) }
-{
-    let Some((first, rest)) = ids.split_first() else {
-        return Ok(());
-    };
-    put_digits(line, *first as u64)?;
-    put_more(line, rest)
-}
-
-/// Ids under a name, where there are any.
-pub(crate) fn put_list(line: &mut String, name: &str, ids: &[usize]) -> Result<(), AllocError>
-    ensures { OnOk result (string_bytes line.new ≡ string_bytes line.old ++ items_field name.now decimal ids.now) }
-{
-    if ids.is_empty() {
-        return Ok(());
-    }
-    put_text(line, ",\"")?;
-    put_text(line, name)?;
-    put_text(line, "\":[")?;
-    put_ids(line, ids)?;
-    put_text(line, "]")
-}
-
 /// The two hex digits of a byte.
 #[tactic(auto, using(std::proofs::lemmas::Fmt::hex_byte))]
 fn put_byte(line: &mut String, byte: u8) -> Result<(), AllocError>

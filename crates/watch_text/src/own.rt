@@ -1,10 +1,10 @@
 //! What an event changed beside the tasks that it took back or spilled.
 
-ghost use Rattle.std.specs.Prelude.{◌≡◌, ◌<◌, ◌++◌, OnOk, Some, drop, option_copied};
+ghost use Rattle.std.specs.Prelude.{◌≡◌, ◌<◌, ◌++◌, OnOk, Some, drop, option_copied, option_map};
 ghost use Rattle.std.specs.String.{string_bytes};
 ghost use Rattle.rv_core.specs.LegValue.{LegValue};
-ghost use Rattle.watch_text.specs.Asking.{asks_of};
-ghost use Rattle.watch_text.specs.Changes.{arrived_in, arrived_text, child_in, commit_text, core_of_status};
+ghost use Rattle.step_script.specs.Asking.{asks_of};
+ghost use Rattle.watch_text.specs.Changes.{arrived_text, commit_text, core_of_status};
 ghost use Rattle.watch_text.specs.Changes.{dispatched_text, emitted_text};
 ghost use Rattle.watch_text.specs.Changes.{entry_text};
 ghost use Rattle.watch_text.specs.Changes.{old_in, old_text, own_text, some_entry_text, split_name_text};
@@ -12,15 +12,14 @@ ghost use Rattle.watch_text.specs.Changes.{split_text, step_text, task_if, tile_
 ghost use Rattle.watch_text.specs.Moments.{task_of};
 
 use crate::about::{About, task_of};
-use crate::asking::Asked;
 use crate::change::{name_creator, name_index};
-use crate::effect::AttemptEffect;
 use crate::fields::{put_core, put_field, put_hex, put_name, put_some, put_text};
 use conflict_book::Legless;
 use rv_core::Naming;
 use serial_machine::Entry;
 use spec_state::{State, Status, Task, TaskId};
 use std::alloc::AllocError;
+use step_script::Asked;
 use task_request::Request;
 
 /// The core that a status names.
@@ -93,15 +92,15 @@ fn tile_of<N: Naming>(state: &State<N>, id: usize) -> Option<u64>
 fn put_arrived<N: Naming>(
     line: &mut String,
     state: &State<N>,
-    arrived: Option<usize>,
+    arrived: Option<TaskId>,
 ) -> Result<(), AllocError>
     ensures { OnOk result (string_bytes line.new ≡ string_bytes line.old ++ arrived_text state.now.view arrived) }
 {
     match arrived {
         None => Ok(()),
         Some(id) => {
-            put_field(line, ",\"new\":", id as u64)?;
-            put_some(line, "in", tile_of(state, id))
+            put_field(line, ",\"new\":", id.0 as u64)?;
+            put_some(line, "in", tile_of(state, id.0))
         }
     }
 }
@@ -121,16 +120,26 @@ fn put_split_name(line: &mut String, commits: u32, task: Option<&Task>) -> Resul
     }
 }
 
+/// The number of an id.
+fn id_of(id: Option<TaskId>) -> Option<usize>
+    ensures { result ≡ option_map (λ id. id.0) id }
+{
+    match id {
+        None => None,
+        Some(id) => Some(id.0),
+    }
+}
+
 /// A task that a split brought back.
 fn put_split<N: Naming>(
     line: &mut String,
     state: &State<N>,
-    arrived: Option<usize>,
+    arrived: Option<TaskId>,
 ) -> Result<(), AllocError>
     ensures { OnOk result (string_bytes line.new ≡ string_bytes line.old ++ split_text state.now.view arrived) }
 {
     put_arrived(line, state, arrived)?;
-    put_split_name(line, state.commit_count(), task_if(state, arrived))
+    put_split_name(line, state.commit_count(), task_if(state, id_of(arrived)))
 }
 
 /// The entry of a task that committed.
@@ -184,25 +193,21 @@ fn put_commit<N: Naming>(
     put_emitted(line, behind(state.output(), output))
 }
 
-/// What a step changed, by what its task asked for.
+/// What a step changed, by what its task asked for, and the task that came.
 fn put_step<N: Naming>(
     line: &mut String,
     state: &State<N>,
     about: &About,
-    arrived: Option<usize>,
+    arrived: Option<TaskId>,
 ) -> Result<(), AllocError>
-    requires { arrived ≡ child_in state.now.view (task_of about.now) about.now.request }
     ensures { OnOk result (string_bytes line.new ≡ string_bytes line.old
-        ++ step_text state.now.view (task_of about.now) about.now.request) }
+        ++ step_text state.now.view arrived (task_of about.now) about.now.request) }
 {
     match about.request {
         None => Ok(()),
         Some(Request::Load { .. }) => put_old(line, task_if(state, task_of(about))),
         Some(Request::Store { .. }) => put_old(line, task_if(state, task_of(about))),
-        Some(Request::Enqueue(_)) => match about.task {
-            None => Ok(()),
-            Some(_) => put_arrived(line, state, arrived),
-        },
+        Some(Request::Enqueue(_)) => put_arrived(line, state, arrived),
         Some(Request::Continue) => Ok(()),
         Some(Request::MakeSub(_)) => Ok(()),
         Some(Request::Emit(_)) => Ok(()),
@@ -211,29 +216,28 @@ fn put_step<N: Naming>(
     }
 }
 
-/// What each event changed.
+/// What each event changed, where so many bytes were emitted before it.
 pub(crate) fn put_own<N: Naming>(
     line: &mut String,
     state: &State<N>,
     asked: &Asked,
     about: &About,
-    effect: &AttemptEffect,
+    arrived: Option<TaskId>,
+    output: usize,
 ) -> Result<(), AllocError>
-    requires { (leg : LegValue) → effect.now.arrived
-        ≡ arrived_in state.now.view (asks_of {N = N} asked.now leg) (task_of about.now) about.now.request }
     ensures { (leg : LegValue) → OnOk result (string_bytes line.new ≡ string_bytes line.old
-        ++ own_text state.now.view effect.now.output (asks_of {N = N} asked.now leg) (task_of about.now)
+        ++ own_text state.now.view arrived output (asks_of {N = N} asked.now leg) (task_of about.now)
         about.now.request) }
 {
     match *asked {
         Asked::Legless(Legless::Dispatch { .. }) => {
             put_dispatched(line, task_if(state, task_of(about)))
         }
-        Asked::Legless(Legless::Commit) => put_commit(line, state, effect.output),
-        Asked::Legless(Legless::Split { .. }) => put_split(line, state, effect.arrived),
+        Asked::Legless(Legless::Commit) => put_commit(line, state, output),
+        Asked::Legless(Legless::Split { .. }) => put_split(line, state, arrived),
         Asked::Legless(Legless::Abort { .. }) => Ok(()),
         Asked::Legless(Legless::Coalesce { .. }) => Ok(()),
-        Asked::Ready { .. } => put_step(line, state, about, effect.arrived),
+        Asked::Ready { .. } => put_step(line, state, about, arrived),
         Asked::Says(_) => Ok(()),
     }
 }

@@ -7,7 +7,8 @@ ghost use Rattle.watch_text.specs.Fields.{items_text, more_items};
 ghost use Rattle.watch_text.specs.Views.{block_text, finished_text, held_text, or_null, queued_text, tile_text};
 ghost use Rattle.watch_text.specs.Views.{view_line, waiting_text, working_text};
 
-use crate::fields::{put_comma, put_ids};
+use crate::fields::put_comma;
+use crate::items::put_items;
 use crate::words::status_word;
 use rv_core::Naming;
 use spec_state::{State, TaskId};
@@ -135,7 +136,7 @@ fn put_finished<N: Naming>(line: &mut String, state: &State<N>, tile: u32) -> Re
     ensures { OnOk result (string_bytes line.new ≡ string_bytes line.old ++ finished_text state.now.view tile) }
 {
     write!(line, "],\"finished\":[")?;
-    put_ids(line, state.finished_in(tile))
+    put_items(line, state.finished_in(tile))
 }
 
 /// How many tasks the block of a tile has.

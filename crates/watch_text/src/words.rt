@@ -2,20 +2,19 @@
 
 ghost use Rattle.std.specs.Prelude.{◌≡◌};
 ghost use Rattle.script_text.specs.Replies.{reply_text};
-ghost use Rattle.watch_text.specs.Asking.{asks_of};
+ghost use Rattle.step_script.specs.Asking.{asks_of};
 ghost use Rattle.watch_text.specs.Fields.{kind_word};
 ghost use Rattle.watch_text.specs.Requests.{act_word, do_word, place_word};
 ghost use Rattle.watch_text.specs.Views.{end_word, status_word};
 ghost use Rattle.rv_core.specs.LegValue.{LegValue};
 
-use crate::asking::Asked;
 use conflict_book::Legless;
 use event_def::Reply;
 use guest_image::Kind;
 use run_journal::End;
 use rv_core::Naming;
 use spec_state::Status;
-use step_script::Act;
+use step_script::{Act, Asked};
 use task_desc::Place;
 
 fn act_word(act: Act) -> &'static str

@@ -19,6 +19,6 @@ enqueue_child-requires-clause-asks g c =
 
 pub returns-clause-enqueues : goal.returns-clause-enqueues
 returns-clause-enqueues g c =
-    enqueues_found c.args.state.now.view _ c.args.leg.now c.args.task.0 _ c.request_of_task.ensures _ _ _
+    enqueues_found c.args.state.now.view _ c.args.leg.now c.args.task.0 _ c.request_of_task.ensures _ _ _ _
     c.spawn_of-child.ensures
     c.enqueue_child.ensures.enqueues

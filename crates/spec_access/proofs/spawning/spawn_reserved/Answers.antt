@@ -1,6 +1,7 @@
 use Rattle.std.proofs.Common.{◌<◌, ap, subst, sym, ◌∙◌, length}
 use Rattle.std.proofs.lemmas.Option.{same_Some}
 use Rattle.spec_state.specs.declared.task.Task.{Task}
+use Rattle.spec_state.specs.Effects.{EffectValue}
 use Rattle.spec_state.specs.StateValue.{StateValue}
 use Rattle.spec_state.specs.View.{View, task_at}
 use Rattle.spec_state.specs.Room.{QueueHasRoom}
@@ -40,8 +41,9 @@ put-requires-clause-formed g c =
 pub returns-clause-enqueues : goal.returns-clause-enqueues
 returns-clause-enqueues g c from core task takes =
     let there = takes.runs.on.there in
-    enqueued _ _ _ _ _ task _ _ _ _ there (c.add_spawn.ensures.keeps task there) c.put.ensures.adds
+    enqueued _ _ _ _ _ task _ _ _ _ _ there (c.add_spawn.ensures.keeps task there) c.put.ensures.adds
     (child_of_same c.state.inside.version c.args.state.now.view.version _ _ task _ _ _
     (ap (λ (v : StateValue). v.view.version) c.state.view_is)
     (same_Some _ task (sym c.index.ensures ∙ ap (λ (v : StateValue). task_at v.view c.args.id.0) c.state.view_is
     ∙ there)) c.child_of-child.ensures)
+    (ap (λ (e : EffectValue). e.arrived) c.put.ensures.effect)

@@ -10,6 +10,7 @@ loop-place-init g c = record {
   takes = none_taken g.N.Naming.image.data_size c.args.state.now.view c.is_stored.ensures
       c.args.state.now.scratch.marks;
   scratch = refl;
+  effect = refl;
   spare = refl;
 }
 
@@ -40,6 +41,7 @@ loop-place-preserved g c =
           (subst (λ (s : Scratch). TakesOne s.marks c.member-id.result c.loop-place.state.view
           c.release.new.state.view) c.loop-place.invariant.scratch c.release.ensures.takes);
       scratch = c.release.ensures.scratch ∙ c.loop-place.invariant.scratch;
+      effect = c.release.ensures.effect ∙ c.loop-place.invariant.effect;
       spare = c.release.ensures.spare ∙ c.loop-place.invariant.spare;
     }
 

@@ -8,5 +8,6 @@ invariant-loop-place g l = record {
   takes : TakesThese l.initial.state.scratch.marks (among (take l.place l.initial.state.scratch.members))
       l.initial.state.view l.state.view;
   scratch : l.state.scratch ≡ l.initial.state.scratch;
+  effect : l.state.effect ≡ l.initial.state.effect;
   spare : l.state.spare ≡ l.initial.state.spare;
 }

@@ -12,7 +12,7 @@ pub returns-in_err-one-clause-out_of_memory : goal.returns-in_err-one-clause-out
 returns-in_err-one-clause-out_of_memory g c =
     let seen = view_of g.P.Placer.policy g.T.Tap.notes in
     some_played g.row.N.Denot g.N.Naming.image c.args.acts.now c.loop-act.act-index (seen c.args.book.now) (seen c.loop-act.book)
-    (seen c.play_act.new.book) c.loop-act.said.items c.loop-act.held.items c.from_residual-in_err-one.result
+    (seen c.play_act.new.book) c.loop-act.said.items c.loop-act.player.held c.from_residual-in_err-one.result
     c.loop-act.invariant.played c.in_err-one.ensures.out_of_memory
 
 pub returns-in_err-push-clause-out_of_memory : goal.returns-in_err-push-clause-out_of_memory
@@ -21,7 +21,7 @@ returns-in_err-push-clause-out_of_memory g c =
     let told = c.loop-act.said.items ++ c.in_ok-one.one ∷ [] in
     let inside : c.loop-act.act-index < length c.args.acts.now = search rules in
     some_played g.row.N.Denot g.N.Naming.image c.args.acts.now (c.loop-act.act-index + 1) (seen c.args.book.now) (seen c.play_act.new.book)
-    (seen c.play_act.new.book) told c.play_act.new.held.items c.from_residual-in_err-push.result
+    (seen c.play_act.new.book) told c.play_act.new.player.held c.from_residual-in_err-push.result
     (one_more g.row.N.Denot g.N.Naming.image c.args.acts.now c.loop-act.act-index _ _ _ _ c.loop-act.said.items told c.in_ok-one.one
     inside c.loop-act.invariant.played c.in_ok-one.ensures.does refl)
     refl

@@ -40,5 +40,4 @@ loop-made-preserved g c =
           (search rules);
       each = c.tell_act.ensures.each ∙ inv.each;
       count = c.in_ok-tell_act.ensures.count ∙ ap (λ n. n + 1) inv.count;
-      table = c.in_ok-tell_act.ensures.table;
     }

@@ -1,6 +1,5 @@
 use Rattle.std.proofs.Common.{◌≡◌}
 use Rattle.conflict_book.specs.BookViews.{machine_view}
-use Rattle.watch_text.specs.Taking.{table_of}
 use Rattle.watch_play.specs.Courses.{OfLeast}
 use Rattle.watch_play.specs.Made.{play_of}
 use Rattle.watch_play.proofs.Tellings.{CourseGoes}
@@ -13,5 +12,4 @@ invariant-loop-made g l = record {
       (play_of g.P.Placer.policy g.T.Tap.notes l.watch) (g.K.Sink.state l.sink);
   each : l.watch.each ≡ l.fn.watch.each;
   count : l.watch.count ≡ l.made;
-  table : l.watch.table.items ≡ table_of (machine_view l.watch.book);
 }

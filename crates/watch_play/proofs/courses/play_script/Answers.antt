@@ -47,7 +47,6 @@ loop-act-preserved g c =
       settings = c.tell_act.ensures.settings ∙ inv.settings;
       each = c.tell_act.ensures.each ∙ inv.each;
       count = c.in_ok-tell_act.ensures.count ∙ ap (λ n. n + 1) inv.count;
-      table = c.in_ok-tell_act.ensures.table;
     }
 
 pub returns : goal.returns

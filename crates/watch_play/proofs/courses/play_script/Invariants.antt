@@ -1,6 +1,5 @@
 use Rattle.std.proofs.Common.{◌≡◌}
 use Rattle.conflict_book.specs.BookViews.{machine_view}
-use Rattle.watch_text.specs.Taking.{table_of}
 use Rattle.watch_play.specs.Courses.{OfScript}
 use Rattle.watch_play.specs.Made.{play_of}
 use Rattle.watch_play.proofs.Tellings.{CourseGoes}
@@ -15,5 +14,4 @@ invariant-loop-act g l = record {
   settings : (machine_view l.watch.book).settings ≡ (machine_view l.fn.watch.book).settings;
   each : l.watch.each ≡ l.fn.watch.each;
   count : l.watch.count ≡ l.act-index;
-  table : l.watch.table.items ≡ table_of (machine_view l.watch.book);
 }

@@ -31,7 +31,6 @@ loop-round-init g c =
       settings = search rules;
       each = search rules;
       count = search rules;
-      table = search rules;
     }
 
 pub play_round-requires-clause-within : goal.play_round-requires-clause-within
@@ -96,7 +95,6 @@ loop-round-preserved g c =
       settings = c.play_round.ensures.settings ∙ inv.settings;
       each = c.play_round.ensures.each ∙ inv.each;
       count = c.in_ok-play_round.ensures.count;
-      table = c.in_ok-play_round.ensures.table;
     }
 
 pub returns-in_err-play_round : goal.returns-in_err-play_round

@@ -1,7 +1,6 @@
 use Rattle.std.proofs.Common.{◌≡◌, ◌≤◌, ◌*◌, All, length}
 use Rattle.conflict_book.specs.BookViews.{machine_view}
 use Rattle.step_script.specs.Ranges.{ActIsInRange}
-use Rattle.watch_text.specs.Taking.{table_of}
 use Rattle.watch_play.specs.Courses.{OfRounds, Order, order_after, round_length}
 use Rattle.watch_play.specs.Made.{play_of}
 use Rattle.watch_play.proofs.Tellings.{CourseGoes}
@@ -23,5 +22,4 @@ invariant-loop-round g l = record {
   settings : (machine_view l.watch.book).settings ≡ (machine_view l.fn.watch.book).settings;
   each : l.watch.each ≡ l.fn.watch.each;
   count : l.watch.count ≤ l.before;
-  table : l.watch.table.items ≡ table_of (machine_view l.watch.book);
 }

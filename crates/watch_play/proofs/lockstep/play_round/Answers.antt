@@ -30,7 +30,6 @@ loop-place-preserved g c = record {
   settings = c.play_asked.ensures.settings ∙ c.loop-place.invariant.settings;
   each = c.play_asked.ensures.each ∙ c.loop-place.invariant.each;
   count = let count = c.in_ok-play_asked.ensures.count in omega (arith, count);
-  table = c.in_ok-play_asked.ensures.table;
 }
 
 pub returns-clause-goes_on : goal.returns-clause-goes_on

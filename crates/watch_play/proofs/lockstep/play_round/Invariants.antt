@@ -1,6 +1,5 @@
 use Rattle.std.proofs.Common.{◌≡◌, ◌≤◌, ◌+◌}
 use Rattle.conflict_book.specs.BookViews.{machine_view}
-use Rattle.watch_text.specs.Taking.{table_of}
 use Rattle.watch_play.specs.Made.{play_of}
 use Rattle.watch_play.proofs.Tellings.{RoundGoes}
 use Rattle.watch_play.proofs.lockstep.play_round.Given as goal
@@ -13,5 +12,4 @@ invariant-loop-place g l = record {
   settings : (machine_view l.watch.book).settings ≡ (machine_view l.fn.watch.book).settings;
   each : l.watch.each ≡ l.fn.watch.each;
   count : l.watch.count ≤ l.before + l.place;
-  table : l.watch.table.items ≡ table_of (machine_view l.watch.book);
 }

@@ -7,7 +7,7 @@ use Rattle.spec_state.specs.View.{View}
 use Rattle.conflict_book.specs.declared.legless.Legless.{Legless}
 use Rattle.conflict_book.specs.Legless.{event_of}
 use Rattle.event_def.specs.declared.event.Event.TheVariants as event
-use Rattle.watch_text.specs.Asking.{Hands}
+use Rattle.step_script.specs.Asking.{Hands}
 use Rattle.watch_text.specs.Moments.{IsAbout}
 use Rattle.watch_text.proofs.about.about_legless.Goals as goal
 

@@ -2,8 +2,8 @@ use Rattle.std.proofs.Common.{ap}
 use Rattle.std.specs.String.{string_bytes}
 use Rattle.conflict_book.specs.Legless.{event_of}
 use Rattle.event_def.specs.declared.event.Event.TheVariants as event
-use Rattle.watch_text.specs.declared.asking.Asked.{Asked}
-use Rattle.watch_text.specs.Asking.{asks_of}
+use Rattle.step_script.specs.declared.asked.Asked.{Asked}
+use Rattle.step_script.specs.Asking.{asks_of}
 use Rattle.watch_text.specs.Moments.{task_of}
 use Rattle.watch_text.proofs.Handed.{change_put}
 use Rattle.watch_text.proofs.rest.put_change.Goals as goal
@@ -11,14 +11,14 @@ use Rattle.watch_text.proofs.rest.put_change.Goals as goal
 pub returns-in-Legless : goal.returns-in-Legless
 returns-in-Legless g c leg =
     change_put {N = g.row.N.Denot} c.put_made.result (string_bytes c.args.line.now) (string_bytes c.put_made.new.line)
-    c.args.table.now c.args.effect.now.output c.args.state.now.view (asks_of c.args.asked.now leg)
-    (event_of c.in-Legless.field-0) (task_of c.args.about.now) c.args.about.now.request c.args.effect.now.aborted
+    c.args.effect.now c.args.answer.now.output c.args.state.now.view (asks_of c.args.asked.now leg)
+    (event_of c.in-Legless.field-0) (task_of c.args.about.now) c.args.about.now.request c.args.answer.now.aborted
     (ap (λ (asked : Asked). asks_of asked leg) c.in-Legless.is) (c.put_made.ensures leg)
 
 pub returns-in-Ready : goal.returns-in-Ready
 returns-in-Ready g c leg =
     change_put {N = g.row.N.Denot} c.put_made-in-Ready.result (string_bytes c.args.line.now)
-    (string_bytes c.put_made-in-Ready.new.line) c.args.table.now c.args.effect.now.output c.args.state.now.view
+    (string_bytes c.put_made-in-Ready.new.line) c.args.effect.now c.args.answer.now.output c.args.state.now.view
     (asks_of c.args.asked.now leg) (event.Step c.in-Ready.tile c.in-Ready.core leg) (task_of c.args.about.now)
-    c.args.about.now.request c.args.effect.now.aborted (ap (λ (asked : Asked). asks_of asked leg) c.in-Ready.is)
+    c.args.about.now.request c.args.answer.now.aborted (ap (λ (asked : Asked). asks_of asked leg) c.in-Ready.is)
     (c.put_made-in-Ready.ensures leg)

@@ -9,6 +9,6 @@ use Rattle.watch_text.proofs.view.put_finished.Goals as goal
 pub returns : goal.returns
 unfolding finished_text
 returns g c =
-    two_texts _ (string_bytes c.args.line.now) (string_bytes c.write.new.self) (string_bytes c.put_ids.new.line)
+    two_texts _ (string_bytes c.args.line.now) (string_bytes c.write.new.self) (string_bytes c.put_items.new.line)
     (codes "],\"finished\":[") (items_text decimal (finished_at c.args.state.now.view c.args.tile))
-    c.in_ok-write.ensures.bytes (rw c.finished_in.ensures at c.put_ids.ensures)
+    c.in_ok-write.ensures.bytes (rw c.finished_in.ensures at c.put_items.ensures)
