@@ -10,6 +10,10 @@ SYMBOLS = 2
 IS_ALLOCATED = 2
 SECTION = struct.Struct("<10I")
 SYMBOL = struct.Struct("<3I2BH")
+# Files of 32 bits, little-endian; objects that are to be linked; the machine RISC-V.
+MAGIC, TO_LINK, RISC_V = b"\x7fELF\x01\x01", 1, 243
+HEADER_BYTES = 52
+LOCAL = 0
 # Kinds of symbols: the last two name no place of the program.
 FUNCTION, SECTION_NAME, FILE_NAME = 2, 3, 4
 
@@ -31,6 +35,8 @@ class Label:
     section: str
     size: int = 0
     is_function: bool = False
+    # Whether other sources don't see it.
+    is_local: bool = False
 
 
 def read_elf(data):
@@ -42,6 +48,12 @@ def read_elf(data):
     sections = [Section(text_at(names, row[0]), row[1], bool(row[2] & IS_ALLOCATED), row[3], row[5], content(data, row))
                 for row in rows]
     return sections, [label for row in rows if row[1] == SYMBOLS for label in labels(data, rows, row, sections)]
+
+
+def is_object(data):
+    """Whether bytes are an object file of a RISC-V machine of 32 bits."""
+    return (len(data) >= HEADER_BYTES and data.startswith(MAGIC)
+            and struct.unpack_from("<2H", data, 16) == (TO_LINK, RISC_V))
 
 
 def flags(data):
@@ -69,4 +81,4 @@ def labels(data, rows, row, sections):
         is_place = info & 15 not in (SECTION_NAME, FILE_NAME) and 0 < section < len(sections)
         # The assembler's own local labels, and its marks of what is code, begin so.
         if is_place and name and not name.startswith((".L", "$")):
-            yield Label(name, value, sections[section].name, size, info & 15 == FUNCTION)
+            yield Label(name, value, sections[section].name, size, info & 15 == FUNCTION, info >> 4 == LOCAL)

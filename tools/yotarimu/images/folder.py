@@ -2,9 +2,10 @@
 from __future__ import annotations
 
 from yotarimu.common.files import write_whole
+from yotarimu.images.description import described
 from yotarimu.images.image import image_bytes
 from yotarimu.images.listing import listing_text
-from yotarimu.images.source import assemble, described, sources_in
+from yotarimu.images.source import assemble, sources_in
 from yotarimu.images.stack import check_stack
 
 
