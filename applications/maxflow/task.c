@@ -14,8 +14,8 @@
 #define NODES_OF_A_HINT 16
 #define RELABELLINGS_BETWEEN NODES
 
-/* The arcs of a node are those from its own place in `first` up to the next node's. An arc leads to a node, has room for
-   so much more, and there is one that leads back. */
+/* The arcs of a node are those from its own place in `first` up to the next node's. An arc leads to a node and has room
+   for so much more, and there is one that leads back. */
 uint32_t first[NODES + 1], to[ARCS], room[ARCS], back[ARCS];
 uint32_t excess[NODES], height[NODES];
 uint8_t is_active[NODES];

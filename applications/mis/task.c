@@ -1,6 +1,6 @@
-/* A set of nodes of which no two are neighbours, and to which no node can be added. The root is unordered: each node has
-   a task, which takes it if it is open, and excludes its neighbours in an unordered subdomain. For all others the two
-   are one step. */
+/* A set of nodes of which no two are neighbours, and to which no node can be added. The root is unordered: each node
+   has a task, which takes it if it is open, and excludes its neighbours in an unordered subdomain. For all others the
+   two are one step. */
 #include "task.h"
 #include "sizes.h"
 // image: root unordered

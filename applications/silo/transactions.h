@@ -1,10 +1,13 @@
-/* A database, and the two kinds of transactions that it is given most of: new orders and payments. A new order is a task
-   for its head and one for each line, a payment is one task. The timestamps of an order's lines are above its own. */
+/* A database, and the two kinds of transactions that it is given most of: new orders and payments. A new order is a
+   task for its head and one for each line, a payment is one task. The timestamps of an order's lines are above its
+   own. */
 #include "task.h"
 #include "sizes.h"
 
 /* A new order wishes for the `count` lines from `first_wish` on; a payment is of the amount `count`. */
-struct transaction { uint32_t is_payment, warehouse, district, customer, count, first_wish; } transactions[TRANSACTIONS];
+struct transaction {
+    uint32_t is_payment, warehouse, district, customer, count, first_wish;
+} transactions[TRANSACTIONS];
 struct wish { uint32_t item, warehouse, quantity; } wishes[WISHES];
 uint32_t prices[ITEMS];
 

@@ -1,4 +1,4 @@
-"""What the checks of applications accept and refuse, and what their inputs are, by cases that were worked out by hand."""
+"""What the checks of applications accept and refuse, and what their inputs are, by cases worked out by hand."""
 from __future__ import annotations
 
 import struct
@@ -171,7 +171,8 @@ class FlowTest(unittest.TestCase):
 
     def test_arcs_and_those_back(self) -> None:
         net = self.net()
-        self.assertEqual((net.first, net.to, net.room), ([0, 2, 4, 6, 8], [1, 2, 0, 3, 0, 3, 1, 2], [3, 2, 0, 2, 0, 4, 0, 0]))
+        self.assertEqual((net.first, net.to), ([0, 2, 4, 6, 8], [1, 2, 0, 3, 0, 3, 1, 2]))
+        self.assertEqual(net.room, [3, 2, 0, 2, 0, 4, 0, 0])
         self.assertEqual(net.back, [2, 4, 0, 6, 1, 7, 3, 5])
 
     def test_the_greatest_flow(self) -> None:

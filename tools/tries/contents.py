@@ -114,7 +114,7 @@ def tasks_come_from_files(place):
 
 
 def odd_files_are_refused(place):
-    """a file that doesn't fit, or with what is no number or no task, is refused with the line, and nothing is written"""
+    """a file that doesn't fit, or has what is no number or task, is refused with the line, and nothing is written"""
     for number, (line, given, part) in enumerate(ODD_DATA):
         folder = folder_with(place, f"odd {number}", task=f"# image: {line}\n{TASK}{DATA}{SIZES}")
         (folder / line.split()[-1 if line.startswith("tasks") else 2]).write_bytes(given)
@@ -140,7 +140,8 @@ def places_are_filled_once(place):
 
 def large_files_cost_little(place):
     """16 MB of data from a file are built within seconds, and labels beyond what a listing shows are in it"""
-    text = "// image: data table table.bin\nuint32_t table[4194304 - 8], after[4];\nTASK(start) { after[1] = table[7]; }\n"
+    text = "// image: data table table.bin\nuint32_t table[4194304 - 8], after[4];\n"
+    text += "TASK(start) { after[1] = table[7]; }\n"
     folder = folder_in_c(place, "large", FIRST_LINES + text)
     (folder / "table.bin").write_bytes(bytes(range(256)) * 65_535)
     start = time.monotonic()
@@ -195,8 +196,8 @@ def other_compilers_are_linked(place):
     place.needs_program()
     source = place.clone / "examples" / "c" / "breadth_first" / "task.c"
     wanted = (source.parent / "report").read_bytes()
-    options = ["clang", "--target=riscv32", "-march=rv32i", "-mabi=ilp32", "-O2", "-ffreestanding", "-Wno-c2x-extensions",
-               "-I", str(LIBRARY)]
+    options = ["clang", "--target=riscv32", "-march=rv32i", "-mabi=ilp32", "-O2", "-ffreestanding",
+               "-Wno-c2x-extensions", "-I", str(LIBRARY)]
     about = "image: task visit ts 1 args 0\n{0} image: window level 6\n"
     for suffix, mark, words in (("s", "#", ["-S"]), ("ll", ";", ["-S", "-emit-llvm"]), ("o", "#", ["-c"])):
         folder = folder_with(place, suffix)
@@ -234,7 +235,7 @@ def llvm_wants_clang(place):
 
 
 TRIES = (
-    data_comes_from_files, tasks_come_from_files, odd_files_are_refused, places_are_filled_once, large_files_cost_little,
-    data_from_files_is_read, cpp_is_built, cpp_runs, other_compilers_are_linked, odd_objects_are_refused,
+    data_comes_from_files, tasks_come_from_files, odd_files_are_refused, places_are_filled_once,
+    large_files_cost_little, data_from_files_is_read, cpp_is_built, cpp_runs, other_compilers_are_linked, odd_objects_are_refused,
     llvm_wants_clang,
 )

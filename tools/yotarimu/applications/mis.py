@@ -28,7 +28,7 @@ def check(neighbours: Neighbours, memory: Memory) -> str:
         taken = sum(states[other] == TAKEN for other in row)
         wanted = EXCLUDED if taken else TAKEN
         need(states[node] == wanted, f"state[{node}] is {states[node]}, where {taken} of its neighbours are taken")
-    return f"{states.count(TAKEN):,} of {len(states):,} nodes are taken, no two of them neighbours, and no more could be"
+    return f"{states.count(TAKEN):,} of {len(states):,} nodes are taken, no two are neighbours, and no more could be"
 
 
 APPLICATION = Application("mis", ("mis/task.c",), "nodes", range(100, 240_001),

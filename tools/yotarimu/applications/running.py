@@ -13,6 +13,7 @@ from yotarimu.programs.calls import Calls
 from yotarimu.programs.comparison import said
 from yotarimu.programs.final_memory import memory_left
 
+
 @dataclasses.dataclass(frozen=True)
 class Run:
     """A run that ended normally: how many tasks committed, and how long it took and its check."""

@@ -7,7 +7,6 @@ import functools
 from yotarimu.applications.application import Application, Problem
 from yotarimu.applications.chance import Chance
 from yotarimu.applications.inputs import Input, rows_of_words, words
-from yotarimu.applications.memory import Memory
 from yotarimu.applications.database import PRICES, Sizes, Transaction, Wish, check
 
 WAREHOUSES, DISTRICTS = 4, 10

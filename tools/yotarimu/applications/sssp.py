@@ -24,8 +24,8 @@ def check(given: Network, memory: Memory) -> str:
     distances = memory.words("distance")
     need_shortest("distance", given.roads, distances)
     reached = [distance for distance in distances if distance != FAR]
-    return f"each of {len(distances):,} crossings has its distance; {len(reached):,} are reached, the last at " \
-           f"{max(reached):,}"
+    return (f"each of {len(distances):,} crossings has its distance; {len(reached):,} are reached, the last at "
+            f"{max(reached):,}")
 
 
 APPLICATION = Application("sssp", ("sssp/task.c",), "crossings along each side of the network", range(2, 501),

@@ -93,8 +93,8 @@ def run_one(words: list[str]) -> None:
     calls = Calls(asked.program or PROGRAM)
     made, _ = made_elsewhere(case, asked.compilers[0])
     told = run(calls, made, [f"--{name}={numbers[0]}" for name, numbers in values.items()])
-    print(f"{case.told}: {told.commits:,} tasks took their turns in {told.seconds:.1f} s; `check` accepts the report, in "
-          f"{told.check_seconds:.1f} s.")
+    print(f"{case.told}: {told.commits:,} tasks took their turns in {told.seconds:.1f} s; `check` accepts the report, "
+          f"in {told.check_seconds:.1f} s.")
 
 
 def check_all(words: list[str]) -> None:

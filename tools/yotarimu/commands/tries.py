@@ -19,7 +19,8 @@ from tries import (
 from tries.place import Failed, LeftOut, Place
 
 TRIES = (*launcher.TRIES, *words.TRIES, *packages.TRIES, *build.TRIES, *c_tasks.TRIES, *contents.TRIES,
-         *applications.TRIES, *others.TRIES, *resume.TRIES, *schedules.TRIES, *watch.TRIES, *figures.TRIES, *pages.TRIES, *interrupts.TRIES)
+         *applications.TRIES, *others.TRIES, *resume.TRIES, *schedules.TRIES, *watch.TRIES, *figures.TRIES,
+         *pages.TRIES, *interrupts.TRIES)
 OK, FAILED, LEFT_OUT = "ok", "FAILED", "left"
 
 

@@ -1,4 +1,4 @@
-"""Sources in C, in C++ and of LLVM: which compiler makes objects of them, by which options, and what it complains of."""
+"""Sources in C, C++ and LLVM's language: which compiler makes objects of them, by which options, and its complaints."""
 from __future__ import annotations
 
 import pathlib
@@ -47,7 +47,7 @@ ADVICE = (
 
 def need_compiler(compiler):
     if not shutil.which(compiler):
-        raise Refused(f"{compiler} isn't in the path; it compiles the sources (Debian's package {PACKAGES[compiler]} has it).")
+        raise Refused(f"{compiler} isn't in the path; it compiles sources (Debian's package {PACKAGES[compiler]} has it).")
 
 
 def compiler_of(compiler, path):

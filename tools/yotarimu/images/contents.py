@@ -64,7 +64,7 @@ def content_of(line: Line) -> bytes:
     path = line.file(line.words[2])
     if path.suffix != NUMBERS:
         if len(line.words) == 4:
-            line.refuse(f"`{line.words[3]}` is the width of numbers, which stand in a file whose name ends in {NUMBERS}")
+            line.refuse(f"`{line.words[3]}` is the width of numbers, and those stand in a file *{NUMBERS}")
         return read_bytes(path)
     width = WIDTHS.get(line.words[3] if len(line.words) == 4 else "words")
     if width is None:

@@ -45,7 +45,7 @@ def initial_tasks(line: Line, assembled: Assembled) -> list[InitialTask]:
     content = read_bytes(path)
     if len(content) % TASK.size:
         line.refuse(f"{path} has {len(content):,} bytes, which is no multiple of the {TASK.size} of a task")
-    return [InitialTask(entry, timestamp, tuple(arguments)) for entry, timestamp, *arguments in TASK.iter_unpack(content)]
+    return [InitialTask(row[0], row[1], tuple(row[2:])) for row in TASK.iter_unpack(content)]
 
 
 def tasks_told(line: Line, path: pathlib.Path, assembled: Assembled) -> list[InitialTask]:

@@ -111,7 +111,8 @@ def data_lines(assembled, start, data, title):
         return []
     lines = ["", f"{title}: {len(data)} bytes"]
     shown = data[:MOST_BYTES]
-    labelled = sorted({label.address - start for label in assembled.labels if start <= label.address < start + len(data)})
+    labelled = sorted({label.address - start for label in assembled.labels
+                       if start <= label.address < start + len(data)})
     stops = [stop for stop in labelled if stop < len(shown)] + [len(shown)]
     place = 0
     while place < len(shown):

@@ -23,7 +23,7 @@ TOOLS = ("as", "ar", "ld", "objdump")
 
 @dataclasses.dataclass(frozen=True)
 class Language:
-    """What sources of a kind have: what begins a comment, and whether functions and stacks, as a compiler makes them."""
+    """What begins a comment in sources of a kind, and whether they have functions and stacks as a compiler makes them."""
     mark: str
     is_compiled: bool
 
@@ -65,8 +65,8 @@ INSTRUCTIONS = frozenset("""
 UNKNOWN = frozenset((".insn", ".2byte", ".4byte", ".8byte"))
 # What a file's flags ask for beyond that.
 FLAGS = ((0x1, "compressed instructions"), (0x6, "a floating-point unit"), (0x8, "16 registers alone"))
-# The architecture as an object's attribute tells it. Version 2.0 had in it what later versions call two extensions; their
-# instructions are refused by their names.
+# The architecture as an object's attribute tells it. Version 2.0 had in it what later versions call two extensions;
+# their instructions are refused by their names.
 RV32I = r"rv32i([0-9]+p[0-9]+)?(_zicsr2p0)?(_zifencei2p0)?"
 # The end call after the call of a task's body, in C.
 END_CALL = bytes.fromhex("9308000073000000")
@@ -227,8 +227,8 @@ def assemble(sources, by=compiler.GCC):
         libraries = [*memory_library(folder, prefix, by, sources), *compiler.arithmetic()] if is_compiled else []
         pathlib.Path(folder, "places").write_text(linker_script(contents, is_compiled), encoding="utf-8")
         # Without a register for small data relaxing only makes a call of C one instruction.
-        run_tool([prefix + "ld", "-m", "elf32lriscv", *([] if is_compiled else ["--no-relax"]), "-e", "0", "-T", "places",
-                  "-o", "task.elf", *(f"{place}.o" for place in range(len(sources))), *libraries], folder, sources)
+        run_tool([prefix + "ld", "-m", "elf32lriscv", *([] if is_compiled else ["--no-relax"]), "-e", "0", "-T",
+                  "places", "-o", "task.elf", *(f"{place}.o" for place in range(len(sources))), *libraries], folder, sources)
         sections, labels = elf.read_elf(pathlib.Path(folder, "task.elf").read_bytes())
         # Sources may have data alone.
         if any(section.name == ".text" for section in sections):
