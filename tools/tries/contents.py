@@ -236,6 +236,6 @@ def llvm_wants_clang(place):
 
 TRIES = (
     data_comes_from_files, tasks_come_from_files, odd_files_are_refused, places_are_filled_once,
-    large_files_cost_little, data_from_files_is_read, cpp_is_built, cpp_runs, other_compilers_are_linked, odd_objects_are_refused,
-    llvm_wants_clang,
+    large_files_cost_little, data_from_files_is_read, cpp_is_built, cpp_runs, other_compilers_are_linked,
+    odd_objects_are_refused, llvm_wants_clang,
 )

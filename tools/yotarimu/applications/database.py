@@ -55,8 +55,8 @@ def check(sizes: Sizes, transactions: list[Transaction], prices: list[int], is_o
     check_payments(sizes, transactions, memory)
     check_stocks(sizes, transactions, memory)
     lines = sum(len(it.wishes) for it in transactions)
-    return (f"{len(transactions):,} transactions, {len(places):,} of them orders of {lines:,} lines, left all tables as "
-            "they should")
+    return (f"{len(transactions):,} transactions, {len(places):,} of them orders of {lines:,} lines, left all tables "
+            "as they should")
 
 
 def district_of(sizes: Sizes, it: Transaction) -> int:

@@ -23,7 +23,7 @@ TOOLS = ("as", "ar", "ld", "objdump")
 
 @dataclasses.dataclass(frozen=True)
 class Language:
-    """What begins a comment in sources of a kind, and whether they have functions and stacks as a compiler makes them."""
+    """What begins a comment in sources of a kind, and whether they have functions as a compiler makes them."""
     mark: str
     is_compiled: bool
 
@@ -227,8 +227,9 @@ def assemble(sources, by=compiler.GCC):
         libraries = [*memory_library(folder, prefix, by, sources), *compiler.arithmetic()] if is_compiled else []
         pathlib.Path(folder, "places").write_text(linker_script(contents, is_compiled), encoding="utf-8")
         # Without a register for small data relaxing only makes a call of C one instruction.
-        run_tool([prefix + "ld", "-m", "elf32lriscv", *([] if is_compiled else ["--no-relax"]), "-e", "0", "-T",
-                  "places", "-o", "task.elf", *(f"{place}.o" for place in range(len(sources))), *libraries], folder, sources)
+        relaxing = [] if is_compiled else ["--no-relax"]
+        run_tool([prefix + "ld", "-m", "elf32lriscv", *relaxing, "-e", "0", "-T", "places", "-o", "task.elf",
+                  *(f"{place}.o" for place in range(len(sources))), *libraries], folder, sources)
         sections, labels = elf.read_elf(pathlib.Path(folder, "task.elf").read_bytes())
         # Sources may have data alone.
         if any(section.name == ".text" for section in sections):
