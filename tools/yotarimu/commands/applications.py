@@ -25,16 +25,18 @@ program, --columns, --rounds, --csv and --jobs.
 program."""
 from __future__ import annotations
 
+import contextlib
 import dataclasses
+import os
 import pathlib
 import tempfile
-from typing import Callable, Mapping, Optional, Sequence
+from typing import Callable, Iterator, Mapping, Optional, Sequence
 
 from yotarimu.applications.application import Problem
 from yotarimu.applications.catalogue import APPLICATIONS
 from yotarimu.applications.making import IMAGE, Case, Made, make, need_tools, whole_folder
 from yotarimu.applications.running import check, run
-from yotarimu.applications.words import Words, cases_of, read_words
+from yotarimu.applications.words import Words, cases_of, program_options, read_words
 from yotarimu.commands import study
 from yotarimu.common.outcome import Refused
 from yotarimu.common.tables import table
@@ -83,16 +85,11 @@ def run_one(words: list[str]) -> None:
     """Runs an application, with options of the program."""
     asked = read_words(words)
     case = one_case(asked, "run")
-    values, seen, rest = study.read_options(asked.rest, Table())
-    unknown = next((f"--{name}" for name, value in seen.items() if value is not None), next(iter(rest), None))
-    several = next((name for name, numbers in values.items() if len(numbers) > 1), None)
-    if unknown is not None:
-        raise Refused(f"`{unknown}` isn't known; {HELP}.")
-    if several is not None:
-        raise Refused(f"--{several} takes one value here.")
+    options, rest = program_options(asked.rest, Table())
+    need_no_more(dataclasses.replace(asked, rest=rest))
     calls = Calls(asked.program or PROGRAM)
     made, _ = made_elsewhere(case, asked.compilers[0])
-    told = run(calls, made, [f"--{name}={numbers[0]}" for name, numbers in values.items()])
+    told = run(calls, made, options)
     print(f"{case.told}: {told.commits:,} tasks took their turns in {told.seconds:.1f} s; `check` accepts the report, "
           f"in {told.check_seconds:.1f} s.")
 
@@ -115,10 +112,31 @@ def check_all(words: list[str]) -> None:
 
 
 def table_of_all(words: list[str]) -> Optional[int]:
-    """Plays each application in lockstep, and tells its figures."""
+    """Plays each application in lockstep, and tells its figures: a study of images that are named as they are."""
     asked = read_words(words)
-    images = {case.application.name: made_elsewhere(case, asked.compilers[0])[0].image for case in cases_of(asked)}
-    return study.played(images, [*asked.rest, f"--program={asked.second_program or SECOND_PROGRAM}"])
+    path, rest = take_option(asked.rest, "--csv")
+    if "," in asked.size or len(asked.compilers) > 1 or any(word.startswith("--plot") for word in rest):
+        raise Refused(f"`table` takes one size and one compiler, and draws no plot; {HELP}.")
+    second = Calls(asked.second_program or SECOND_PROGRAM)
+    further = [*rest, f"--program={second.program}", *([] if path is None else [f"--csv={os.path.abspath(path)}"])]
+    with tempfile.TemporaryDirectory() as folder:
+        names = [case.application.name for case in cases_of(asked)]
+        for case in cases_of(asked):
+            made, _ = made_elsewhere(case, asked.compilers[0])
+            pathlib.Path(folder, case.application.name).write_bytes(made.image)
+        with entered(folder):
+            return study.main([*names, *further])
+
+
+@contextlib.contextmanager
+def entered(folder: str) -> Iterator[None]:
+    """A folder as the one that names of files are sought in."""
+    before = os.getcwd()
+    os.chdir(folder)
+    try:
+        yield
+    finally:
+        os.chdir(before)
 
 
 def made_elsewhere(case: Case, compiler: str) -> tuple[Made, Problem]:

@@ -40,8 +40,8 @@ __doc__ = __doc__.replace("{columns}", "\n".join(f"  {name:<11}{it.head}" for na
 OWN_OPTIONS = ("seed", "jobs", "program", "rounds", "csv", "columns")
 
 
-def read_options(words, grid):
-    """The values of the program's options, those of the own ones, and the other words."""
+def read_words(words, grid):
+    """The images, the options' values and the other words."""
     values, seen = {}, {}
     for name in OWN_OPTIONS:
         seen[name], words = take_option(words, f"--{name}")
@@ -49,7 +49,12 @@ def read_options(words, grid):
         text, words = take_option(words, f"--{name}")
         if text is not None:
             values[name] = values_of(option, text)
-    return values, seen, words
+    unknown = next((word for word in words if word.startswith("--")), None)
+    if unknown is not None:
+        raise Refused(f"`{unknown}` isn't known; ./fractal study --help tells the words, ./fractal help the options.")
+    if not words:
+        raise Refused("it wants an IMAGE; ./fractal study --help tells more.")
+    return words, values, seen
 
 
 def number_of(seen, name, least, most, default):
@@ -65,29 +70,21 @@ def columns_of(text):
     return names
 
 
-def paths_of(words):
-    """The images that are named, and no other words."""
-    unknown = next((word for word in words if word.startswith("--")), None)
-    if unknown is not None:
-        raise Refused(f"`{unknown}` isn't known; ./fractal study --help tells the words, ./fractal help the options.")
-    if not words:
-        raise Refused("it wants an IMAGE; ./fractal study --help tells more.")
-    if len(set(words)) < len(words):
+def study_of(words, grid):
+    """The study that the words ask for, its choices, the options that vary, and the other words."""
+    paths, values, seen = read_words(words, grid)
+    if len(set(paths)) < len(paths):
         raise Refused("an IMAGE stands twice.")
-    return words
-
-
-def study_of(images, values, seen, grid):
-    """The study of some images that the options ask for, its choices, and the options that vary."""
     seed = number_of(seen, "seed", 0, MOST_SEED, 0)
     rounds = number_of(seen, "rounds", 1, MOST_ROUNDS, MOST_ROUNDS)
     columns = columns_of(seen["columns"])
-    choices = [(path, cell) for path in images for cell in cells_of(grid, values, "choices")]
+    choices = [(path, cell) for path in paths for cell in cells_of(grid, values, "choices")]
     if len(choices) > MOST_RUNS:
         raise Refused(f"the grid has {len(choices):,} choices, and {MOST_RUNS:,} are the most.")
+    need_outputs([seen["csv"]], paths)
     calls = Calls(SECOND_PROGRAM if seen["program"] is None else pathlib.Path(seen["program"]))
     varying = [name for name in grid.options if len(values.get(name, [])) > 1]
-    return Study(images, seed, rounds, columns, calls), choices, varying
+    return Study({path: read_bytes(path) for path in paths}, seed, rounds, columns, calls), choices, varying, seen
 
 
 def main(words):
@@ -95,25 +92,7 @@ def main(words):
     if page is not None:
         return page_tables.main(page, rest)
     grid = Table()
-    values, seen, rest = read_options(words, grid)
-    paths = paths_of(rest)
-    need_outputs([seen["csv"]], paths)
-    return told({path: read_bytes(path) for path in paths}, values, seen, grid)
-
-
-def played(images, words):
-    """Plays images, which are given by their names, as the options among the words ask for."""
-    grid = Table()
-    values, seen, rest = read_options(words, grid)
-    if rest:
-        raise Refused(f"`{rest[0]}` isn't known; ./fractal study --help tells the words, ./fractal help the options.")
-    need_outputs([seen["csv"]], [])
-    return told(images, values, seen, grid)
-
-
-def told(images, values, seen, grid):
-    """Tells the table, and writes it as CSV where that is wanted. The status is 1 where no run came to an end."""
-    study, choices, varying = study_of(images, values, seen, grid)
+    study, choices, varying, seen = study_of(words, grid)
     jobs = number_of(seen, "jobs", 1, 1024, 1)
     study.need_images()
     rows = tell(study, choices, varying, jobs)

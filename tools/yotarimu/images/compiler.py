@@ -47,8 +47,7 @@ ADVICE = (
 
 def need_compiler(compiler):
     if not shutil.which(compiler):
-        raise Refused(f"{compiler} isn't in the path; it compiles C and the like (Debian's package {PACKAGES[compiler]} "
-                      "has it).")
+        raise Refused(f"{compiler} isn't in the path; it compiles C (Debian's package {PACKAGES[compiler]} has it).")
 
 
 def compiler_of(compiler, path):
