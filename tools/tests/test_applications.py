@@ -90,7 +90,7 @@ class ProblemsTest(unittest.TestCase):
 
 class WaysTest(unittest.TestCase):
     """Lengths of ways: 0 to 1 takes 4, 0 to 2 takes 1, 2 to 1 takes 2, and nothing leads to 3."""
-    ROADS = [[(1, 4), (2, 1)], [(0, 4), (2, 2)], [(0, 1), (1, 2)], []]
+    ROADS: list[list[tuple[int, int]]] = [[(1, 4), (2, 1)], [(0, 4), (2, 2)], [(0, 1), (1, 2)], []]
     RIGHT = [0, 3, 1, FAR]
     WRONG = ([0, 4, 1, FAR], [0, 2, 1, FAR], [0, 3, 1, 9], [0, FAR, FAR, FAR], [1, 4, 2, FAR], [0, 3, 1])
 

@@ -5,6 +5,7 @@ import pathlib
 import re
 import shutil
 import subprocess
+from typing import Optional
 
 from yotarimu.common.outcome import Refused
 from yotarimu.common.places import EXAMPLES_FOLDER
@@ -45,17 +46,18 @@ ADVICE = (
 )
 
 
-def need_compiler(compiler):
+def need_compiler(compiler: str) -> None:
+    """Refuses a compiler that isn't there."""
     if not shutil.which(compiler):
         raise Refused(f"{compiler} isn't in the path; it compiles C (Debian's package {PACKAGES[compiler]} has it).")
 
 
-def compiler_of(compiler, path):
+def compiler_of(compiler: str, path: pathlib.Path) -> str:
     """The compiler of a file, where sources in C are for the one that is named."""
     return CLANG if path.suffix == LLVM else compiler
 
 
-def compiler_words(compiler, path, target, is_library=False):
+def compiler_words(compiler: str, path: pathlib.Path, target: str, is_library: bool = False) -> list[str]:
     """The words that compile a file."""
     compiler = compiler_of(compiler, path)
     need_compiler(compiler)
@@ -66,14 +68,14 @@ def compiler_words(compiler, path, target, is_library=False):
             str(path)]
 
 
-def compiler_told(compiler):
+def compiler_told(compiler: str) -> str:
     """The compiler with its version, as in `gcc 12.2.0`."""
     said = subprocess.run([compiler, "--version"], capture_output=True, text=True, stdin=subprocess.DEVNULL).stdout
     found = re.search(r"\d+\.\d+[.\d]*(?=\s*$)", said.partition("\n")[0])
     return f"{compiler.rpartition('-')[2]} {found[0] if found else ''}".strip()
 
 
-def arithmetic():
+def arithmetic() -> list[str]:
     """The library of what RV32I has no instruction for: products, quotients, numbers of 64 bits and with a point."""
     if not shutil.which(GCC):
         return []
@@ -83,9 +85,9 @@ def arithmetic():
     return [str(path)] if "rv32i" in path.parts and path.is_file() else []
 
 
-def complaints(said):
+def complaints(said: str) -> Optional[str]:
     """What a compiler complains of, a sentence for each line of a source; None where it complains otherwise."""
-    sentences = {}
+    sentences: dict[str, str] = {}
     for found in re.finditer(r"(?m)^(.+?:\d+):\d+: (fatal error|error|warning): (.*)$", said):
         place = found[1] if not found[1].startswith(HEADER) else used_at(said, found) or found[1]
         sentences.setdefault(place, complaint(found[3], found[2]))
@@ -94,14 +96,16 @@ def complaints(said):
     return "\n".join(f"{place}: {sentence}" for place, sentence in sentences.items())
 
 
-def used_at(said, found):
+def used_at(said: str, found: re.Match[str]) -> Optional[str]:
     """Where a source uses what the header of C++ finds wrong: gcc tells that above, and clang below."""
     above = re.findall(r"(?m)^(.+?:\d+):\d+:\s+required from here$", said[:found.start()])
     below = re.findall(r"(?m)^(.+?:\d+):\d+: note: in instantiation of .* requested here$", said[found.end():])
-    return above[-1] if above else next((place for place in below if not place.startswith(HEADER)), None)
+    places: list[str] = [place for place in (*above[-1:], *below) if not place.startswith(HEADER)]
+    return places[0] if places else None
 
 
-def complaint(text, kind):
+def complaint(text: str, kind: str) -> str:
+    """What a compiler says, as a sentence with what usually helps."""
     text = re.sub(r" \[-W[^]]*\]$", "", text)
     if found := re.match(r"static(?:_assert| assertion) failed[^\"]*\"(.*)\"|static assertion failed: (.*)", text):
         return f"{found[1] or found[2]}."
@@ -109,6 +113,6 @@ def complaint(text, kind):
     return text + (f" ({advice})" if advice else " (a warning)" if kind == "warning" else "") + "."
 
 
-def where_from(name):
+def where_from(name: str) -> str:
     """Where a name comes from that compilers use for arithmetic, for a sentence on its lack."""
     return f" (it is libgcc's, of Debian's package {PACKAGES[GCC]})" if name.startswith("__") else ""

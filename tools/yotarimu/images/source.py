@@ -11,10 +11,13 @@ import shutil
 import signal
 import subprocess
 import tempfile
+from collections.abc import Mapping, Sequence
+from typing import NoReturn, Optional
 
 from yotarimu.common.files import read_bytes, read_written
 from yotarimu.common.outcome import Refused, note
 from yotarimu.images import compiler, elf
+from yotarimu.images.elf import Label
 from yotarimu.images.image import DATA, DATA_BYTES, TEXT, TEXT_WORDS
 
 PREFIXES = ("riscv64-linux-gnu-", "riscv64-unknown-elf-", "riscv32-unknown-elf-")
@@ -77,28 +80,29 @@ CALL_OPCODE, ENTRY_BYTES = 0xEF, 12
 class Source:
     """A source file: its path as it was given, and its lines."""
     path: pathlib.Path
-    lines: list
+    lines: list[str]
 
     @property
-    def name(self):
+    def name(self) -> str:
+        """The name of the file."""
         return self.path.name
 
     @property
-    def is_c(self):
+    def is_c(self) -> bool:
         """Whether this is C or C++."""
         return self.path.suffix in (".c", ".cpp")
 
     @property
-    def is_compiled(self):
+    def is_compiled(self) -> bool:
         """Whether a compiler made, or will make, functions of it."""
         return LANGUAGES[self.path.suffix].is_compiled or any(re.match(WRITTEN, text) for text in self.lines)
 
     @property
-    def mark(self):
+    def mark(self) -> str:
         """What begins a comment that describes the image."""
         return LANGUAGES[self.path.suffix].mark
 
-    def refuse_at(self, pattern, why):
+    def refuse_at(self, pattern: str, why: str) -> NoReturn:
         """Refuses the source, at its first line that has a pattern."""
         number = next((number for number, text in enumerate(self.lines, 1) if re.search(pattern, text)), None)
         raise Refused(f"{self.path}:{number}: {why}." if number else f"{self.path}: {why}.")
@@ -118,34 +122,34 @@ class Assembled:
     text: bytes
     initial: bytes
     size: int
-    labels: list
-    instructions: dict
+    labels: list[Label]
+    instructions: dict[int, Instruction]
     code_size: int
-    compiler: str = None
-    paths: dict = dataclasses.field(default_factory=dict)
+    compiler: Optional[str] = None
+    paths: dict[str, pathlib.Path] = dataclasses.field(default_factory=dict)
 
-    def named(self, name):
+    def named(self, name: str) -> list[Label]:
         """The labels of a name: more than one where several sources have their own."""
         return [label for label in self.labels if label.name == name]
 
-    def is_entry_of_c(self, address):
+    def is_entry_of_c(self, address: int) -> bool:
         """Whether the instructions stand here that TASK makes of a task of C."""
         place = address - TEXT
         return (self.text[place:place + 1] == bytes([CALL_OPCODE])
                 and self.text[place + 4:place + ENTRY_BYTES] == END_CALL)
 
-    def tasks_of_c(self):
+    def tasks_of_c(self) -> list[Label]:
         """The labels of the tasks that TASK made."""
         return [label for label in self.labels if label.is_function and label.section == ".text"
                 and label.size == ENTRY_BYTES and self.is_entry_of_c(label.address)]
 
-    def place(self, address):
+    def place(self, address: int) -> Optional[str]:
         """The path and the line of the source of an instruction; None where they aren't known."""
         found = self.instructions.get(address)
         return f"{self.paths.get(found.source, found.source)}:{found.line}" if found and found.line else None
 
 
-def sources_in(folder):
+def sources_in(folder: pathlib.Path) -> list[Source]:
     """The sources of a folder, by name."""
     paths = sorted(path for path in pathlib.Path(folder).iterdir() if path.suffix in SUFFIXES)
     if not paths:
@@ -157,11 +161,13 @@ def sources_in(folder):
     return [source_at(path) for path in paths]
 
 
-def source_at(path):
+def source_at(path: pathlib.Path) -> Source:
+    """The source of a file; an object is no text."""
     return Source(path, [] if path.suffix == OBJECT else read_written(path).split("\n"))
 
 
-def tool_prefix():
+def tool_prefix() -> str:
+    """What the names of the assembler and of the linker begin with."""
     for prefix in PREFIXES:
         if all(shutil.which(prefix + tool) for tool in TOOLS):
             return prefix
@@ -169,7 +175,7 @@ def tool_prefix():
                   f"{', '.join(PREFIXES)} are wanted (Debian's package binutils-riscv64-linux-gnu has them).")
 
 
-def run_tool(words, folder, names):
+def run_tool(words: Sequence[str], folder: str, names: Sequence[Source]) -> str:
     """Runs a tool; what it complains of is told with the sources' paths for the objects' names."""
     done = subprocess.run(words, cwd=folder, capture_output=True, text=True, errors="replace", stdin=subprocess.DEVNULL,
                           env={**os.environ, "LC_ALL": "C"}, preexec_fn=bound_files)
@@ -189,13 +195,13 @@ def run_tool(words, folder, names):
     raise Refused(compiler.complaints(said) or said or f"{words[0]} ended with status {done.returncode}.")
 
 
-def bound_files():
+def bound_files() -> None:
     """Bounds what a tool may write, before a huge section costs time and room on the disk."""
     resource.setrlimit(resource.RLIMIT_FSIZE, (MOST_OBJECT, MOST_OBJECT))
     resource.setrlimit(resource.RLIMIT_CORE, (0, 0))
 
 
-def refuse_size(sources):
+def refuse_size(sources: Sequence[Source]) -> NoReturn:
     """Refuses a section that no image can have, at the line that asks for the most."""
     lines = [(asked_for(text), source, number) for source in sources
              for number, text in enumerate(source.lines, 1)]
@@ -205,7 +211,7 @@ def refuse_size(sources):
                   f"bytes, and the data up to {DATA_BYTES:,}.")
 
 
-def asked_for(text):
+def asked_for(text: str) -> int:
     """The greatest number of a line that leaves room; 0 of other lines."""
     if not re.match(r"\s*(\S+:\s*)?\.(space|skip|zero|fill|org|balign|align|p2align|comm|lcomm)\b", text):
         return 0
@@ -215,7 +221,7 @@ def asked_for(text):
     return max((*products, *(int(word, 0) for word in re.findall(number, text))), default=0)
 
 
-def assemble(sources, by=compiler.GCC):
+def assemble(sources: Sequence[Source], by: str = compiler.GCC) -> Assembled:
     """Assembles or compiles the sources, C by the compiler that is named, and links them at the image's addresses."""
     prefix, is_compiled = tool_prefix(), any(source.is_compiled for source in sources)
     with tempfile.TemporaryDirectory() as folder:
@@ -245,7 +251,7 @@ def assemble(sources, by=compiler.GCC):
     return assembled
 
 
-def tell_entries(assembled, sources):
+def tell_entries(assembled: Assembled, sources: Sequence[Source]) -> None:
     """Gives the instructions of each entry that TASK made the line of that TASK, which no compiler tells."""
     for label in assembled.tasks_of_c():
         lines = ((source.name, number) for source in sources if source.is_c
@@ -257,7 +263,7 @@ def tell_entries(assembled, sources):
                 assembled.instructions[address] = dataclasses.replace(found, source=name, line=number)
 
 
-def object_of(source, target, prefix, by, sources):
+def object_of(source: Source, target: pathlib.Path, prefix: str, by: str, sources: Sequence[Source]) -> bytes:
     """The bytes of a source's object, which is made as the file `target`."""
     if source.path.suffix == OBJECT:
         made = read_bytes(source.path)
@@ -265,11 +271,11 @@ def object_of(source, target, prefix, by, sources):
             raise Refused(f"{source.path}: this is no object file of a RISC-V machine of 32 bits.")
         target.write_bytes(made)
         return made
-    run_tool(source_words(source, target, prefix, by), target.parent, sources)
+    run_tool(source_words(source, target, prefix, by), str(target.parent), sources)
     return target.read_bytes()
 
 
-def source_words(source, target, prefix, by):
+def source_words(source: Source, target: pathlib.Path, prefix: str, by: str) -> list[str]:
     """The words that make an object of a source."""
     path = source.path.absolute()
     if path.suffix != ASSEMBLY:
@@ -284,21 +290,21 @@ def source_words(source, target, prefix, by):
             *paths]
 
 
-def compilers_told(sources, by):
+def compilers_told(sources: Sequence[Source], by: str) -> Optional[str]:
     """The compilers of the sources, with their versions; None where none compiles."""
     used = {compiler.compiler_of(by, source.path): None for source in sources
             if source.path.suffix not in (ASSEMBLY, OBJECT)}
     return " and ".join(map(compiler.compiler_told, used)) or None
 
 
-def memory_library(folder, prefix, by, sources):
+def memory_library(folder: str, prefix: str, by: str, sources: Sequence[Source]) -> list[str]:
     """A library of what compilers call, of which the linker takes what is called."""
     run_tool(compiler.compiler_words(by, compiler.MEMORY, "memory.o", is_library=True), folder, sources)
     run_tool([prefix + "ar", "rc", "libmemory.a", "memory.o"], folder, sources)
     return ["libmemory.a"]
 
 
-def refuse_other_machine(source, data):
+def refuse_other_machine(source: Source, data: bytes) -> None:
     """Refuses an object that asks for more than RV32I, by its attribute of the architecture or by its flags."""
     found = re.search(rb"rv(32|64|128)[a-z0-9_.]*", elf.attributes(data))
     arch = found[0].decode("ascii") if found else "rv32i"
@@ -310,7 +316,7 @@ def refuse_other_machine(source, data):
                          f"this asks for {asked}, and the machine has RV32I alone")
 
 
-def refuse_other_instructions(assembled):
+def refuse_other_instructions(assembled: Assembled) -> None:
     """Refuses an instruction that isn't one of RV32I; words that the source gives as data aren't looked at."""
     for address, found in assembled.instructions.items():
         name = found.words.partition(" ")[0]
@@ -319,7 +325,7 @@ def refuse_other_instructions(assembled):
             raise Refused(f"{place}: `{found.words if name in UNKNOWN else name}` is no instruction of RV32I.")
 
 
-def section_names(source, data):
+def section_names(source: Source, data: bytes) -> list[str]:
     """The sections of an object that have bytes in the image; one that has no place there is refused."""
     sections = [it for it in elf.read_elf(data)[0] if it.size > 0]
     for it in sections:
@@ -338,15 +344,16 @@ def section_names(source, data):
     return names
 
 
-def is_part(name, place):
+def is_part(name: str, place: str) -> bool:
+    """Whether a section is one of those of a place."""
     return name == place or name.startswith(place + ".")
 
 
-def linker_script(contents, has_libraries):
+def linker_script(contents: Sequence[Sequence[str]], has_libraries: bool) -> str:
     """Where each section of each object goes: those of one source after those of the one before, at multiples of 4.
 
     What comes of libraries stands after all sources."""
-    def placed(output):
+    def placed(output: str) -> str:
         inputs = [f". = ALIGN(4); {number}.o(\"{name}\")" for place in PLACES[output]
                   for number, names in enumerate(contents) for name in names if is_part(name, place)]
         if has_libraries:
@@ -359,7 +366,7 @@ def linker_script(contents, has_libraries):
             " /DISCARD/ : { *(.riscv.attributes) *(.comment) *(.note .note.*) *(.eh_frame) } }\n")
 
 
-def instructions_in(listed):
+def instructions_in(listed: str) -> dict[int, Instruction]:
     """The instructions of a disassembly by address, with the source line that stands above each.
 
     Where a function of the library stands in place of its call, the line is that of the call."""
@@ -379,11 +386,13 @@ def instructions_in(listed):
     return instructions
 
 
-def is_library(path):
+def is_library(path: str) -> bool:
+    """Whether a source is one of the library's."""
     return os.path.dirname(os.path.normpath(path)) == str(compiler.LIBRARY)
 
 
-def joined(sections, labels, instructions):
+def joined(sections: Mapping[str, elf.Section], labels: Sequence[Label],
+           instructions: dict[int, Instruction]) -> Assembled:
     """The image's parts from the linked file's sections."""
     empty = elf.Section("", 0, True, 0, 0, b"")
     text, fixed, data, zeros = (sections.get(name, empty) for name in PLACES)
