@@ -5,6 +5,8 @@ import dataclasses
 import struct
 from typing import Mapping
 
+from yotarimu.common.data import Data
+
 
 @dataclasses.dataclass(frozen=True)
 class Place:
@@ -20,7 +22,7 @@ class Wrong(Exception):
 @dataclasses.dataclass(frozen=True)
 class Memory:
     """All bytes of the data, and where the variables stand."""
-    data: bytes
+    data: Data
     places: Mapping[str, Place]
 
     def bytes_of(self, name: str) -> bytes:

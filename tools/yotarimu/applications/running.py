@@ -44,9 +44,9 @@ def commits_of(report: bytes) -> int:
     return int(number) if number.isdigit() else 0
 
 
-def check(calls: Calls, made: Made, problem: Problem) -> str:
+def check(first: Calls, second: Calls, made: Made, problem: Problem) -> str:
     """Holds the memory that a run leaves against plain programs, and says what was found right."""
-    left = memory_left(calls, made.image)
+    left = memory_left(first, second, made.image)
     if left.end != "normal":
         raise Refused(f"the run ended otherwise: {left.end}.")
     try:

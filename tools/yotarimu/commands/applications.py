@@ -105,7 +105,7 @@ def check_all(words: list[str]) -> None:
     for case in cases:
         for compiler in asked.compilers:
             made, problem = made_elsewhere(case, compiler)
-            right = check(second, made, problem)
+            right = check(calls, second, made, problem)
             runs = [run(calls, made, [f"--workers={number}"]) for number in numbers]
             print(f"{case.told} by {compiler_told(compiler)}: {runs[0].commits:,} tasks; {right}. Reports with "
                   f"{', '.join(map(str, numbers))} workers are accepted.", flush=True)

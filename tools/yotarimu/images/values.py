@@ -6,6 +6,7 @@ import difflib
 import re
 from typing import Iterator, Mapping
 
+from yotarimu.common.data import Data
 from yotarimu.common.outcome import Refused
 from yotarimu.common.text import counted
 from yotarimu.images.image import DATA, Image
@@ -56,18 +57,19 @@ def likely(name: str, known: Mapping[str, tuple[int, int]]) -> str:
     return f"; {' or '.join(near)} may be meant" if near else ""
 
 
-def told(piece: Piece, data: bytes, is_hex: bool) -> Iterator[str]:
+def told(piece: Piece, data: Data, is_hex: bool) -> Iterator[str]:
     """The lines of a piece: the place of the first number of each, and the numbers."""
     address = DATA + piece.offset + piece.first * piece.width
     numbers, width = counted(piece.end - piece.first, "number"), counted(piece.width, "byte")
     yield f"{piece.name}: {numbers} of {width} from {address:08x} on"
     step = OF_A_LINE[piece.width]
     for place in range(piece.first, piece.end, step):
-        row = [number_at(data, piece, at) for at in range(place, min(place + step, piece.end))]
+        row = numbers_of(data, piece, place, min(place + step, piece.end))
         yield f"{place:8}: " + " ".join(f"{it:0{2 * piece.width}x}" if is_hex else str(it) for it in row)
 
 
-def number_at(data: bytes, piece: Piece, place: int) -> int:
-    """A number of a variable."""
-    start = piece.offset + place * piece.width
-    return int.from_bytes(data[start:start + piece.width], "little")
+def numbers_of(data: Data, piece: Piece, first: int, end: int) -> list[int]:
+    """Some numbers of a variable."""
+    width = piece.width
+    row = data[piece.offset + first * width:piece.offset + end * width]
+    return [int.from_bytes(row[at:at + width], "little") for at in range(0, len(row), width)]
