@@ -161,6 +161,7 @@ def values_have_names(place):
     place.stub(place.second_program, ZEROS.format(12, 3))
     answer = place.call("fractal values", str(image), "first")
     expect(answer.output.endswith(b"0: 0 0\n") and "otherwise: trap" in answer.errors, "what a run left", answer)
+    place.needs_program()
     place.needs_second_program()
     answer = place.call("fractal values", str(image), "first", "last")
     expect(answer.output.endswith(b"0: 5 6\nlast: 1 number of 4 bytes from 10000008 on\n       0: 0\n"), "both", answer)

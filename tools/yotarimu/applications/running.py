@@ -46,7 +46,7 @@ def commits_of(report: bytes) -> int:
 
 def check(first: Calls, second: Calls, made: Made, problem: Problem) -> str:
     """Holds the memory that a run leaves against plain programs, and says what was found right."""
-    left = memory_left(first, second, made.image)
+    left = memory_left(first.program, second, made.image)
     if left.end != "normal":
         raise Refused(f"the run ended otherwise: {left.end}.")
     try:

@@ -61,7 +61,7 @@ def kept(data: bytes) -> Left:
 
 def left_of(image: bytes, program: Optional[str], second: Optional[str]) -> Left:
     """The memory that a run of the image leaves; it is told where the run doesn't end normally."""
-    left = memory_left(Calls(pathlib.Path(program or PROGRAM)), Calls(pathlib.Path(second or SECOND_PROGRAM)), image)
+    left = memory_left(pathlib.Path(program or PROGRAM), Calls(pathlib.Path(second or SECOND_PROGRAM)), image)
     if left.end != "normal":
         note(f"the run ended otherwise: {left.end}.")
     return left

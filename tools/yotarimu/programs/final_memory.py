@@ -2,6 +2,7 @@
 from __future__ import annotations
 
 import dataclasses
+import pathlib
 import struct
 from typing import Dict
 
@@ -62,7 +63,7 @@ def size_of(image: bytes) -> int:
     return size
 
 
-def memory_left(first: Calls, second: Calls, image: bytes) -> Left:
+def memory_left(first: pathlib.Path, second: Calls, image: bytes) -> Left:
     """The memory that a run of an image leaves. A second program that has no word for that leaves it to the first."""
     status, data = second.call(list(LEAST), image)
     end = next((end for end, its_status in STATUSES.items() if its_status == status), None)
@@ -70,4 +71,4 @@ def memory_left(first: Calls, second: Calls, image: bytes) -> Left:
         return Left(data, len(data), end)
     if status != NO_WORD:
         raise Refused(f"`watch {' '.join(LEAST)}` ended with status {status}; ./fractal help tells what that means.")
-    return Left(Windows(first, image), size_of(image), "normal")
+    return Left(Windows(Calls(first), image), size_of(image), "normal")
