@@ -13,6 +13,8 @@ if TYPE_CHECKING:
 # Why a step stalls, by what its task asked for; and a split.
 STALLS = {"enqueue": "step, for a task queue", "end": "step, for the commit queue", "split": "split"}
 DATA_START = 0x10000000
+# What is counted of each task that committed.
+SPREADS = ("instructions", "loads", "stores", "lines read", "lines written", "children")
 
 
 @dataclasses.dataclass
@@ -38,8 +40,7 @@ class TaskFigures:
 
     def __init__(self, tiles: int, line: int, root: str) -> None:
         self.line = line
-        names = ("instructions", "loads", "stores", "lines read", "lines written", "children")
-        self.spreads = {name: Spread() for name in names}
+        self.spreads = {name: Spread() for name in SPREADS}
         self.domains: dict[tuple[int, str], DomainCounts] = {(1, root): DomainCounts(made=1)}
         self.entries: dict[int, EntryCounts] = collections.defaultdict(EntryCounts)
         self.accesses = [{"load": 0, "store": 0} for _ in range(tiles)]
