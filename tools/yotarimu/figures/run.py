@@ -2,11 +2,19 @@
 from __future__ import annotations
 
 import collections
+from collections.abc import Callable, Mapping
+from typing import Any, Optional
 
 from yotarimu.common.outcome import Refused
-from yotarimu.figures.parallelism import Parallelism
-from yotarimu.lines.reader import open_watched
-from yotarimu.lines.replay import DATA_START, NOT_EXECUTED
+from yotarimu.courses.schedules import round_of
+from yotarimu.figures.limits import Call, Deed, Limit, Limits, Manner, Point
+from yotarimu.figures.occupancy import Occupancy
+from yotarimu.figures.orders import Bounds
+from yotarimu.figures.tasks import TaskFigures
+from yotarimu.images.image import Image
+from yotarimu.lines.domains import ORDERED, root_timestamp
+from yotarimu.lines.reader import Watched, open_watched
+from yotarimu.lines.replay import DATA_START, NOT_EXECUTED, Access, Machine, Taken, Task, Told
 
 # Why a task was taken back: by what was asked for, or else by the event.
 CAUSES = {"load": "load", "store": "store", "end": "commit queue", "enqueue": "task queue", "split": "task queue",
@@ -15,141 +23,163 @@ CAUSES = {"load": "load", "store": "store", "end": "commit queue", "enqueue": "t
 SHARING = TRUE, LINE, ALIAS, CHILD, CASCADE = "true", "line", "alias", "child", "cascade"
 # A task's filter has so many bits for lines.
 FILTER_BITS = 1_024
-# The curve of the occupancy has at least so many points, where there are so many events, and fewer than twice as many.
-FEWEST_POINTS = 60
-PLACES = ("task queues", "cores", "commit queues", "blocks")
+# How far a run was read is told once in so many lines.
+LINES_BETWEEN = 2_000
+Progress = Callable[[int], None]
 
 
-class Occupancy:
-    """How many tasks were in all task queues, on cores, in commit queues and in blocks, after each event."""
-
-    def __init__(self):
-        self.events, self.step = 0, 1
-        self.sums, self.greatest = [0] * len(PLACES), [0] * len(PLACES)
-        self.curve = []
-
-    def note(self, machine):
-        counts = machine.queued, machine.running, machine.waiting, machine.spilled
-        self.events += 1
-        for place, count in enumerate(counts):
-            self.sums[place] += count
-            if count > self.greatest[place]:
-                self.greatest[place] = count
-        if self.events % self.step == 0:
-            self.curve.append((self.events, counts))
-            if len(self.curve) == 2 * FEWEST_POINTS:
-                self.curve, self.step = self.curve[1::2], 2 * self.step
-
-    def means(self):
-        return [total / self.events if self.events else 0.0 for total in self.sums]
-
-
-class Spread:
-    """Numbers that are counted by their values."""
-
-    def __init__(self):
-        self.counts = collections.Counter()
-
-    def mean(self):
-        total = sum(self.counts.values())
-        return sum(value * count for value, count in self.counts.items()) / total if total else 0.0
-
-    def most_of(self, tenths):
-        """The number at the place, from 0, of so many tenths of them all, in rising order."""
-        place = sum(self.counts.values()) * tenths // 10
-        for value in sorted(self.counts):
-            place -= self.counts[value]
-            if place < 0:
-                return value
-        return 0
+def acts_a_round(head: Mapping[str, Any]) -> Optional[int]:
+    """How many acts a round of a course has; None where it has no rounds."""
+    return len(round_of(head["tiles"], head["cores"])) if head["course"] == "lockstep" else None
 
 
 class Figures:
-    """The figures of a run. Lines are handed in one after another, and the last one at the end."""
+    """The figures of a run: plain numbers, which may be handed from one process to another."""
 
-    def __init__(self, head, is_fine_wanted=False):
-        self.head, self.end, self.text_lines = head, None, 0
+    def __init__(self, head: dict[str, Any]) -> None:
+        self.head, self.end, self.text_lines = head, "", 0
         self.executed = self.useful = self.left = self.refused = 0
-        self.wasted, self.taken_back, self.discarded = (collections.Counter() for _ in range(3))
-        self.replies = collections.Counter()
-        self.sharing, self.lines, self.addresses = (collections.Counter() for _ in range(3))
+        self.wasted, self.taken_back, self.discarded = (collections.Counter[str]() for _ in range(3))
+        self.replies: collections.Counter[tuple[str, str]] = collections.Counter()
+        self.sharing: collections.Counter[str] = collections.Counter()
+        self.lines, self.addresses = (collections.Counter[int]() for _ in range(2))
         self.commits = self.events = self.acts = self.spills = 0
-        self.instructions, self.loads, self.stores = Spread(), Spread(), Spread()
-        self.occupancy, self.parallelism = Occupancy(), Parallelism(is_fine_wanted)
+        self.occupancy = Occupancy(acts_a_round(head))
+        self.tasks = TaskFigures(head["tiles"], head["line"], head["root"])
+        # The limits by the order of the commits, and the bounds for any order.
+        self.limits: list[Limit] = []
+        self.bounds: dict[Manner, float] = {}
+        # How many steps the tasks made that committed, since their last dispatch.
+        self.useful_steps = 0
 
-    def note(self, told, machine):
-        """Takes a line, and the machine behind it."""
-        line = told.line
-        if not told.is_act():
-            return
-        self.acts = line["at"]
-        self.replies[line["do"], line["reply"]] += 1
-        if not told.is_made:
-            self.refused += line.get("leg", 0)
-            return
-        self.occupancy.note(machine)
-        if "leg" in line:
-            self.executed += line["leg"] + (line["asks"] not in NOT_EXECUTED)
-        if told.taken:
-            self.note_taken(told, line)
-        self.spills += len(told.spilled)
-        if told.committed is not None:
-            self.note_commit(told.committed)
-
-    def note_taken(self, told, line):
-        cause = CAUSES[line.get("asks", line["do"])]
-        self.taken_back[cause] += len(told.taken)
-        self.discarded[cause] += len(told.gone)
-        self.wasted[cause] += sum(taken.work for taken in told.taken)
-        if told.access is not None:
-            for taken in told.taken:
-                self.sharing[shared(taken, told.access, self.head["line"])] += 1
-            self.lines[line_of(told.access, self.head["line"])] += len(told.taken)
-            self.addresses[told.access.address] += len(told.taken)
-
-    def note_commit(self, task):
-        self.useful += task.work
-        stores = sum(access.is_store for access in task.accesses)
-        self.instructions.counts[task.work] += 1
-        self.loads.counts[len(task.accesses) - stores] += 1
-        self.stores.counts[stores] += 1
-        self.parallelism.commit(task)
-
-    def close(self, end, machine, name):
-        """Takes the last line. All work is useful, wasted or left: else the lines don't go together."""
-        self.end, self.events, self.commits = end["end"], machine.events, machine.commits
-        self.left = sum(task.work for task in machine.tasks.values())
-        if self.executed != self.useful + sum(self.wasted.values()) + self.left:
-            raise Refused(f"{name}: of {self.executed:,} instructions {self.useful:,} are of tasks that committed, "
-                          f"{sum(self.wasted.values()):,} of tasks that were taken back, and {self.left:,} are left.")
-
-    def rounds(self):
+    def rounds(self) -> Optional[int]:
         """How many rounds of a course in lockstep were begun; None of another course."""
-        if self.head["course"] != "lockstep":
+        acts = acts_a_round(self.head)
+        if acts is None:
             return None
-        acts_a_round = self.head["tiles"] * (self.head["cores"] + 3)
         # Acts that weren't asked for aren't told, so those of the last round may be missing.
-        return self.head["rounds"] if self.end == "open" else -(-self.acts // acts_a_round)
+        rounds: int = self.head["rounds"] if self.end == "open" else -(-self.acts // acts)
+        return rounds
 
-    def dispatches(self):
+    def dispatches(self) -> int:
         return self.replies["dispatch", "ok"]
 
-    def all_taken_back(self):
+    def all_taken_back(self) -> int:
         return sum(self.taken_back.values())
 
-    def all_wasted(self):
+    def all_wasted(self) -> int:
         return sum(self.wasted.values())
 
-    def by_access(self):
+    def by_access(self) -> int:
         """How many tasks loads and stores took back."""
         return sum(self.sharing.values())
 
 
-def line_of(access, size):
+class Summing:
+    """Sums up a run. Lines are handed in one after another, and the last one at the end."""
+
+    def __init__(self, head: dict[str, Any]) -> None:
+        self.figures, self.line, self.is_ordered = Figures(head), head["line"], head["root"] == ORDERED
+        self.limits, self.bounds = Limits(), Bounds()
+        # Those on cores that wait for room since their last step, and those that trapped.
+        self.stalled: set[Task] = set()
+        self.trapped: set[Task] = set()
+
+    def note(self, told: Told, machine: Machine) -> None:
+        """Takes a line, and the machine behind it."""
+        line, it = told.line, self.figures
+        if not told.is_act():
+            if line.get("do") == "place":
+                it.tasks.note_place(told)
+            return
+        it.acts = line["at"]
+        it.replies[line["do"], line["reply"]] += 1
+        if not told.is_made:
+            self.note_refused(told)
+            return
+        if "leg" in line:
+            self.note_step(told)
+        if told.taken:
+            self.note_taken(told)
+        it.spills += len(told.spilled)
+        if told.committed is not None:
+            self.note_commit(told.committed)
+        stalled, trapped = len(self.stalled), len(self.trapped)
+        it.occupancy.note_event(it.acts, (machine.queued, machine.running - stalled - trapped, stalled, trapped,
+                                          machine.waiting, machine.spilled))
+
+    def note_refused(self, told: Told) -> None:
+        line, it = told.line, self.figures
+        it.refused += line.get("leg", 0)
+        if line["reply"] == "stall":
+            word = line["do"]
+            it.tasks.note_stall(line.get("asks", word))
+            it.occupancy.count(it.acts, f"stalled {word}s")
+            if told.task is not None:
+                self.stalled.add(told.task)
+
+    def note_step(self, told: Told) -> None:
+        line, task = told.line, told.task
+        assert task is not None
+        self.figures.executed += line["leg"] + (line["asks"] not in NOT_EXECUTED)
+        self.stalled.discard(task)
+        if line["asks"] == "trap":
+            self.trapped.add(task)
+        if told.access is not None:
+            self.figures.tasks.note_access(task, told.access)
+
+    def note_taken(self, told: Told) -> None:
+        it, access = self.figures, told.access
+        cause = CAUSES[told.line.get("asks", told.line["do"])]
+        it.taken_back[cause] += len(told.taken)
+        it.discarded[cause] += len(told.gone)
+        it.occupancy.count(it.acts, "taken back", len(told.taken))
+        for taken in told.taken:
+            it.wasted[cause] += taken.work
+            it.tasks.note_taken(taken.task, taken.work)
+            self.stalled.discard(taken.task)
+            self.trapped.discard(taken.task)
+            if access is not None:
+                it.sharing[shared(taken, access, self.line)] += 1
+        if access is not None:
+            it.lines[line_of(access, self.line)] += len(told.taken)
+            it.addresses[access.address] += len(told.taken)
+
+    def note_commit(self, task: Task) -> None:
+        it = self.figures
+        it.useful += task.work
+        it.occupancy.count(it.acts, "commits")
+        it.tasks.note_commit(task)
+        deed = deed_of(task)
+        self.limits.commit(deed)
+        self.bounds.commit(deed, root_timestamp(task) if self.is_ordered else 0)
+
+    def close(self, end: dict[str, Any], machine: Machine, name: str) -> Figures:
+        """Takes the last line. All work is useful, wasted or left: else the lines don't go together."""
+        it = self.figures
+        it.end, it.events, it.commits = end["end"], machine.events, machine.commits
+        it.left = sum(task.work for task in machine.tasks.values())
+        it.occupancy.close(it.rounds())
+        it.limits, it.bounds, it.useful_steps = self.limits.told(), self.bounds.told(), self.limits.work[1]
+        if it.executed != it.useful + it.all_wasted() + it.left:
+            raise Refused(f"{name}: of {it.executed:,} instructions {it.useful:,} are of tasks that committed, "
+                          f"{it.all_wasted():,} of tasks that were taken back, and {it.left:,} are left.")
+        return it
+
+
+def deed_of(task: Task) -> Deed:
+    """A task that committed, as limits are told of it."""
+    points = [Point(access.is_store, range(access.address, access.address + access.bytes), (access.place, access.step))
+              for access in task.accesses]
+    calls = [Call(child, (child.made_at, child.made_step)) for child in task.children]
+    return Deed(task, (task.work, task.steps), points, calls)
+
+
+def line_of(access: Access, size: int) -> int:
     return (access.address - DATA_START) // size
 
 
-def shared(taken, access, size):
+def shared(taken: Taken, access: Access, size: int) -> str:
     """What a task that was taken back shares with the access that did it. A load meets the task's stores alone."""
     wanted, rank = line_of(access, size), len(SHARING)
     for own in taken.accesses:
@@ -166,16 +196,18 @@ def shared(taken, access, size):
     return CHILD if taken.is_gone else CASCADE
 
 
-def figures_of(watched, is_fine_wanted=False):
-    """The figures of a run, from its whole text."""
-    figures = Figures(watched.head, is_fine_wanted)
+def figures_of(watched: Watched, progress: Optional[Progress] = None) -> Figures:
+    """The figures of a run, from its whole text. How many acts were read is told now and then."""
+    summing = Summing(watched.head)
     for told in watched:
-        figures.note(told, watched.machine)
-    figures.close(watched.end, watched.machine, watched.name)
+        summing.note(told, watched.machine)
+        if progress is not None and watched.number % LINES_BETWEEN == 0:
+            progress(watched.machine.acts)
+    figures = summing.close(watched.end, watched.machine, watched.name)
     figures.text_lines = watched.number
     return figures
 
 
-def read_figures(path, is_fine_wanted=False):
-    with open_watched(path) as watched:
-        return figures_of(watched, is_fine_wanted)
+def read_figures(path: str, image: Optional[Image] = None) -> Figures:
+    with open_watched(path, image=image) as watched:
+        return figures_of(watched)

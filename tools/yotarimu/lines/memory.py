@@ -39,10 +39,9 @@ class Memory:
             raise Wrong(f"{old} are more than {count} bytes")
         for place in range(count):
             told, known = old >> 8 * place & 0xFF, self.byte(address + place)
-            if known is None:
-                self.bytes[address + place] = told
-            elif known != told:
+            if known not in (None, told):
                 raise Wrong(f"at {address + place:08x} it finds the byte {told}, and {known} stands there")
+            self.bytes[address + place] = told
 
     def write(self, address: int, count: int, value: int) -> None:
         for place in range(count):

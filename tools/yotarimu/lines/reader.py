@@ -27,11 +27,12 @@ from yotarimu.lines.replay import Machine, Told
 class Watched:
     """A text that is read, line by line. `is_cut_allowed` says whether it may break off before its end."""
 
-    def __init__(self, file, name, is_cut_allowed=False, keeps_memory=False):
+    def __init__(self, file, name, is_cut_allowed=False, image=None):
         self.file, self.name, self.is_cut_allowed = file, name, is_cut_allowed
         self.number, self.shapes, self.end = 0, Shapes(), None
         self.head = self.read_head()
-        self.machine = Machine(self.head, keeps_memory)
+        with self.place_told():
+            self.machine = Machine(self.head, image)
 
     def read_head(self):
         text = self.next_text()
@@ -94,9 +95,9 @@ def need_head(head):
 
 
 @contextlib.contextmanager
-def open_watched(path, is_cut_allowed=False, keeps_memory=False):
+def open_watched(path, is_cut_allowed=False, image=None):
     """Opens a text that the second program told; `-` is standard input."""
     if str(path) == "-" and sys.stdin is None:
         raise Refused("standard input is closed.")
     with contextlib.nullcontext(sys.stdin.buffer) if str(path) == "-" else open(path, "rb") as file:
-        yield Watched(file, path, is_cut_allowed, keeps_memory)
+        yield Watched(file, path, is_cut_allowed, image)

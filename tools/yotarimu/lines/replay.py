@@ -8,14 +8,16 @@ counting gives.
 from __future__ import annotations
 
 import hashlib
+import itertools
 from typing import NamedTuple
 
+from yotarimu.lines.domains import DispatchNumbers, Domain
 from yotarimu.lines.fields import EVENTS, Wrong
+from yotarimu.lines.legs import Legs
+from yotarimu.lines.memory import DATA_START, Memory
 
-DATA_START = 0x10000000
 IDLE, RUNNING, TRAPPED, FINISHED = "idle", "running", "trapped", "finished"
 SPILLED, COMMITTED, GONE = "spilled", "committed", "gone"
-DEEPER = {"same": 0, "sub": 1, "super": -1}
 # What takes tasks back: what a task asks for, or an event that isn't a step.
 TAKING_BACK = ("load", "store", "enqueue", "end", "dispatch", "split", "abort")
 # Requests that are no instruction of their own.
@@ -32,6 +34,7 @@ class Access(NamedTuple):
     value: int
     place: int
     event: int
+    step: int
 
 
 class Task:
@@ -39,24 +42,28 @@ class Task:
     that made it as long as that is uncommitted. `number` is the dispatch number that it was told with. `work` counts
     instructions since its dispatch, and `made_at` is the work of its creator at the call. `note` is for the caller."""
 
-    __slots__ = ("id", "tile", "core", "state", "creator", "index", "name", "depth", "entry", "timestamp", "arguments",
-                 "hint", "made_at", "number", "work", "pc", "accesses", "children", "subdomain", "emitted", "note")
+    __slots__ = ("id", "tile", "core", "state", "creator", "index", "name", "entry", "timestamp", "arguments",
+                 "hint", "domain", "made_at", "made_step", "number", "work", "steps", "pc", "accesses", "children",
+                 "subdomain", "emitted")
 
-    def __init__(self, line, creator, index, depth):
+    def __init__(self, line, creator, index, domain):
         self.id = line.get("new")
         self.tile = line["tile"] if creator is None else line["in"]
-        self.creator, self.index, self.depth = creator, index, depth
+        self.creator, self.index, self.domain = creator, index, domain
         self.name = (0, index) if creator is None else None
         self.entry, self.timestamp = line["entry"], line["ts"]
         self.arguments, self.hint = line["args"], line["hint"]
-        self.made_at = 0 if creator is None else creator.work
-        self.note = None
+        self.made_at, self.made_step = (0, 0) if creator is None else (creator.work, creator.steps)
         self.wait()
+
+    @property
+    def depth(self):
+        return self.domain.depth
 
     def wait(self):
         """It is idle, with nothing done."""
         self.state, self.core, self.number, self.pc = IDLE, None, None, self.entry
-        self.work, self.accesses, self.children, self.subdomain, self.emitted = 0, [], [], None, []
+        self.work, self.steps, self.accesses, self.children, self.subdomain, self.emitted = 0, 0, [], [], None, []
 
     def told_name(self):
         """Its name as in a report; of a task that has none, its place among the children of its creator."""
@@ -100,17 +107,23 @@ class Machine:
     committed; how many `queued`, `running`, `waiting` (finished) and `spilled` tasks there are. `memory` has the bytes
     of the data that were touched, by address, where they are kept, and is None else."""
 
-    def __init__(self, head, keeps_memory=False):
+    def __init__(self, head, image=None):
         self.head, tiles = head, range(head["tiles"])
+        self.root, self.numbers = Domain(head["root"]), DispatchNumbers()
+        self.memory = Memory(None if image is None else image.initial)
+        self.legs = None if image is None else Legs(image, head)
         self.tasks = {}
         self.queues, self.finished = [[] for _ in tiles], [[] for _ in tiles]
         self.cores = [[None] * head["cores"] for _ in tiles]
         self.blocks = [{} for _ in tiles]
         self.events = self.commits = self.acts = 0
         self.queued = self.running = self.waiting = self.spilled = 0
-        self.memory = {} if keeps_memory else None
         self.output = hashlib.sha256()
         self.placed = 0
+
+    def all_tasks(self):
+        """The uncommitted tasks, spilled ones too."""
+        return itertools.chain(self.tasks.values(), *(block.values() for block in self.blocks))
 
     # Lists of ids, and where tasks stand in them.
 
@@ -165,13 +178,15 @@ class Machine:
             self.place(told, line)
         else:
             self.act(told, line)
+        if self.legs is not None:
+            self.legs.note(told)
 
     def place(self, told, line):
         """A task of the image stands in a queue, or in a block."""
         if self.acts or line["at"] or line["name"][0] or self.placed == self.head["tasks"]:
             raise Wrong("no task of the image is placed here")
         tile = self.need_tile(line)
-        task = told.arrived = Task(line, None, line["name"][1], 1)
+        task = told.arrived = Task(line, None, line["name"][1], self.root)
         self.placed += 1
         if task.id is None:
             self.spill(task, tile)
@@ -222,10 +237,7 @@ class Machine:
         if line.get("aborted") != len(line["back"]) or len(back) < len(line["back"]) or not gone <= back:
             raise Wrong("how many tasks it takes back, and which, don't go together")
         told.taken = [self.taken_of(number, work, number in gone) for number, work in line["back"]]
-        if self.memory is not None:
-            stores = [access for taken in told.taken for access in taken.accesses if access.is_store]
-            for access in sorted(stores, key=event_of, reverse=True):
-                self.write(access.address, access.bytes, access.old)
+        self.memory.undo(access for taken in told.taken for access in taken.accesses)
         for taken in told.taken:
             if taken.is_gone:
                 self.leave(taken.task, GONE)
@@ -266,7 +278,10 @@ class Machine:
         need_below(core, self.head["cores"], "a core")
         if self.cores[task.tile][core] is not None:
             raise Wrong(f"core {core} of tile {task.tile} holds a task")
-        task.state, task.core, task.number = RUNNING, core, line["number"]
+        number = self.numbers.give(self.all_tasks())
+        if line["number"] != number:
+            raise Wrong(f"it gives the dispatch number {line['number']}, and {number} is the next")
+        task.state, task.core, task.number = RUNNING, core, number
         self.cores[task.tile][core] = task.id
         self.running += 1
 
@@ -278,6 +293,7 @@ class Machine:
             raise Wrong(f"task {task.id} runs on another core")
         task.pc = line["pc"]
         task.work += line["leg"] + (asks not in NOT_EXECUTED)
+        task.steps += 1
         if asks in REQUESTS:
             REQUESTS[asks](self, told, task, line)
 
@@ -287,23 +303,30 @@ class Machine:
         address, count, old = line["addr"], line["bytes"], line["old"]
         if count not in (1, 2, 4) or not 0 <= address - DATA_START <= self.head["data"] - count:
             raise Wrong(f"the data has no {count} bytes at {address}")
+        if address % count:
+            raise Wrong(f"{address} is no multiple of {count}")
+        self.memory.meet(address, count, old)
         value = line["value"] & (1 << 8 * count) - 1 if is_store else old
-        told.access = Access(is_store, address, count, old, value, task.work - 1, self.events)
+        told.access = Access(is_store, address, count, old, value, task.work - 1, self.events, task.steps - 1)
         task.accesses.append(told.access)
-        if self.memory is not None:
-            self.write(address, count, value)
-
-    def write(self, address, count, value):
-        for place in range(count):
-            self.memory[address + place] = value >> 8 * place & 0xFF
+        if is_store:
+            self.memory.write(address, count, value)
 
     def enqueue(self, told, task, line):
-        child = told.arrived = Task(line, task, len(task.children), task.depth + DEEPER[line["to"]])
+        child = told.arrived = Task(line, task, len(task.children), self.domain_of_child(task, line["to"]))
         self.arrive(child)
         task.children.append(child)
 
+    def domain_of_child(self, task, to):
+        domain = {"same": task.domain, "sub": task.subdomain, "super": task.domain.outer}[to]
+        if domain is None:
+            raise Wrong(f"task {task.id} has no {to}domain")
+        return domain
+
     def make_subdomain(self, _told, task, line):
-        task.subdomain = line["asks"]
+        if task.subdomain is not None:
+            raise Wrong(f"task {task.id} has a subdomain already")
+        task.subdomain = Domain(line["asks"], task)
 
     def emit(self, _told, task, line):
         if line["byte"] > 0xFF:
@@ -338,6 +361,7 @@ class Machine:
             raise Wrong("the task that commits has emitted other bytes")
         self.output.update(output.encode())
         self.leave(task, COMMITTED)
+        self.numbers.commit(task)
         self.commits += 1
         for child in task.children:
             child.name, child.creator = (self.commits, child.index), None
@@ -352,17 +376,17 @@ class Machine:
     # The whole.
 
     def compare(self, line):
-        """Holds a view against the machine. Dispatch numbers are taken from it, since they may have been given anew."""
+        """Holds a view against the machine."""
+        if line["next"] != self.numbers.next:
+            raise Wrong(f"the next dispatch number is {self.numbers.next}, and {line['next']} is told")
         if line["view"] != self.events or len(line["tiles"]) != self.head["tiles"]:
             raise Wrong("the view isn't that of the machine which the lines before it leave")
         for tile, told in enumerate(line["tiles"]):
             tasks = [self.tasks[number] for number in self.queues[tile]]
-            rows = [[task.id, task.state, task.timestamp] for task in tasks]
-            whole = [row[:3] for row in told["queue"]], told["cores"], told["finished"], told["block"]
+            rows = [[task.id, task.state, task.timestamp, task.number] for task in tasks]
+            whole = told["queue"], told["cores"], told["finished"], told["block"]
             if whole != (rows, self.cores[tile], self.finished[tile], len(self.blocks[tile])):
                 raise Wrong(f"in tile {tile} the view isn't what the lines before it leave")
-            for task, row in zip(tasks, told["queue"]):
-                task.number = row[3]
 
     def close(self, line):
         """Holds the last line against the machine."""
@@ -371,15 +395,12 @@ class Machine:
                         f"{self.commits} were told before it")
         if hashlib.sha256(line["output"].encode()).digest() != self.output.digest():
             raise Wrong("the output isn't that of the tasks which committed")
-
-    def word(self, address):
-        """The word at an address, where a byte of it was touched; those that weren't are told as 0."""
-        found = [self.memory.get(address + place) for place in range(4)]
-        return None if found == [None] * 4 else sum((byte or 0) << 8 * place for place, byte in enumerate(found))
-
-    def words(self):
-        """The words that were touched, by rising address."""
-        return [(address, self.word(address)) for address in sorted({address & ~3 for address in self.memory})]
+        if len(line["window"]) != self.head["window"][1]:
+            raise Wrong(f"the window has {self.head['window'][1]} words, and {len(line['window'])} are told")
+        # What is left is taken back before the window is told.
+        memory = self.memory.copy()
+        memory.undo(access for task in self.tasks.values() for access in task.accesses)
+        memory.need_window(DATA_START + self.head["window"][0], line["window"])
 
 
 MADE = {"dispatch": Machine.dispatch, "step": Machine.step, "abort": Machine.abort, "commit": Machine.commit,
@@ -387,10 +408,6 @@ MADE = {"dispatch": Machine.dispatch, "step": Machine.step, "abort": Machine.abo
 REQUESTS = {"load": Machine.load_or_store, "store": Machine.load_or_store, "enqueue": Machine.enqueue,
             "ordered": Machine.make_subdomain, "unordered": Machine.make_subdomain, "emit": Machine.emit,
             "end": Machine.finish, "trap": Machine.trap}
-
-
-def event_of(access):
-    return access.event
 
 
 def need_below(number, count, what):
