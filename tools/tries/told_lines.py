@@ -34,12 +34,12 @@ class Words:
 class Told:
     """Lines as the second program tells them. Loads and stores are of words, and each store is of 9 unless told."""
 
-    def __init__(self, timestamps: Sequence[int], tiles: Sequence[int], **settings: Any) -> None:
-        self.lines: List[Dict[str, Any]] = [{**HEAD, **settings, "tasks": len(tiles)}]
+    def __init__(self, timestamps: Sequence[int], where: Sequence[int], **settings: Any) -> None:
+        self.lines: List[Dict[str, Any]] = [{**HEAD, **settings, "tasks": len(where)}]
         self.acts = self.events = self.commits = 0
         self.memory = Words()
-        for place in sorted(range(len(tiles)), key=lambda place: tiles[place]):
-            self.lines.append({"at": 0, "do": "place", "tile": tiles[place], "new": place, "name": [0, place],
+        for place in sorted(range(len(where)), key=lambda place: where[place]):
+            self.lines.append({"at": 0, "do": "place", "tile": where[place], "new": place, "name": [0, place],
                                "entry": 65_536, "ts": timestamps[place], "args": [0, 0, 0], "hint": place})
 
     def act(self, word: str, change: Optional[Dict[str, Any]] = None, reply: str = "ok", **fields: Any) -> None:
