@@ -61,7 +61,7 @@ class Refusals(unittest.TestCase):
     def refuse(self, name: str, change: Callable[[list[Line]], None], line: int, part: str, by_image: bool) -> None:
         lines, image = worked(name)
         change(lines)
-        found = fault(lines, image) or ""
+        found = fault(lines, image if by_image else None) or ""
         with self.subTest(name=name, part=part):
             self.assertTrue(found.startswith(f"text:{line}: ") and part in found, found)
             if by_image:
