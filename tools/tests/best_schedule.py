@@ -11,7 +11,7 @@ import itertools
 from collections.abc import Iterator
 from typing import NamedTuple, Optional
 
-from yotarimu.figures.limits import Call, Deed, Manner, Point, Reading, Unit, Window
+from yotarimu.figures.limits import Call, CommittedTask, Manner, Point, Reading, Unit, Window
 
 State = tuple[int, ...]
 
@@ -43,9 +43,9 @@ class Text:
         stores = [Source(*place) for *place, mark in self.marks() if mark == name and place[0] < task]
         return stores[-1] if stores else None
 
-    def deeds(self) -> list[Deed]:
+    def tasks(self) -> list[CommittedTask]:
         """The text as limits are told of it."""
-        return [deed_of(number, task) for number, task in enumerate(self.written.split(" "))]
+        return [committed_task(number, task) for number, task in enumerate(self.written.split(" "))]
 
 
 def units_of(task: str, unit: Unit) -> list[str]:
@@ -54,7 +54,7 @@ def units_of(task: str, unit: Unit) -> list[str]:
     return [mark for mark in task if mark != "."] + (["."] if task.endswith(".") else [])
 
 
-def deed_of(number: int, task: str) -> Deed:
+def committed_task(number: int, task: str) -> CommittedTask:
     points, calls, steps = [], [], 0
     for place, mark in enumerate(task):
         if mark.isalpha():
@@ -62,7 +62,7 @@ def deed_of(number: int, task: str) -> Deed:
         elif mark.isdigit():
             calls.append(Call(int(mark) - 1, (place + 1, steps + 1)))
         steps += mark != "."
-    return Deed(number, (len(task), len(units_of(task, Unit.STEP))), points, calls)
+    return CommittedTask(number, (len(task), len(units_of(task, Unit.STEP))), points, calls)
 
 
 class Best:

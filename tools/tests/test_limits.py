@@ -23,8 +23,8 @@ COLUMNS = ((Manner.WHOLE, Unit.INSTRUCTION, UNBOUNDED), (Manner.RENAMED, Unit.IN
 
 def limits_of(text: Text) -> list[Limit]:
     limits = Limits(WINDOWS)
-    for deed in text.deeds():
-        limits.commit(deed)
+    for task in text.committed():
+        limits.commit(task)
     return limits.told()
 
 
@@ -75,8 +75,8 @@ class AnyOrders(unittest.TestCase):
                           if (limit.unit, limit.window) == (Unit.INSTRUCTION, UNBOUNDED)]
                 for order, text in zip(orders, texts):
                     bounds = Bounds()
-                    for task, deed in zip(order, text.deeds()):
-                        bounds.commit(deed, tree.epoch(task))
+                    for task, done in zip(order, text.committed()):
+                        bounds.commit(done, tree.epoch(task))
                     for manner, bound in bounds.by_manner.items():
                         with self.subTest(text=text.written, manner=manner):
                             self.assertLessEqual(
@@ -90,8 +90,8 @@ class AnyOrders(unittest.TestCase):
                                if (it.manner, it.window) == (Manner.RENAMED, UNBOUNDED))
                 self.assertEqual(renamed.time, time)
                 bounds = Bounds()
-                for deed in Text(order).deeds():
-                    bounds.commit(deed, 0)
+                for task in Text(order).committed():
+                    bounds.commit(task, 0)
                 self.assertEqual(bounds.told()[Manner.RENAMED], 2.0)
 
 

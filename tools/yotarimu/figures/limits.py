@@ -151,9 +151,9 @@ class Call(NamedTuple):
     made: Counts
 
 
-class Deed(NamedTuple):
-    """What a task did that committed. `task` is what the call that made it has as its child."""
-    task: Hashable
+class CommittedTask(NamedTuple):
+    """What a task did that committed. `key` is what the call that made it has as its child."""
+    key: Hashable
     work: Counts
     points: Sequence[Point]
     calls: Sequence[Call]
@@ -168,11 +168,11 @@ class WholePlans:
         # When the task is finished that stored a byte last.
         self.stores: dict[int, Times] = {}
 
-    def commit(self, deed: Deed) -> None:
-        starts, stores = self.gates.starts(self.origins.pop(deed.task, None)), self.stores
+    def commit(self, task: CommittedTask) -> None:
+        starts, stores = self.gates.starts(self.origins.pop(task.key, None)), self.stores
         own: set[int] = set()
         waited: Optional[Times] = None
-        for is_store, addresses, _ in deed.points:
+        for is_store, addresses, _ in task.points:
             if is_store:
                 own.update(addresses)
                 continue
@@ -180,11 +180,11 @@ class WholePlans:
                 ends = stores.get(address)
                 if ends is not None and ends is not waited and address not in own:
                     starts, waited = latest(starts, ends), ends
-        finish = [start + deed.work[0] for start in starts]
+        finish = [start + task.work[0] for start in starts]
         self.gates.end(finish)
         for address in own:
             stores[address] = finish
-        for call in deed.calls:
+        for call in task.calls:
             self.origins[call.child] = finish
 
 
@@ -199,11 +199,11 @@ class FinePlans:
         self.stores: dict[int, Times] = {}
         self.touches: dict[int, Times] = {}
 
-    def commit(self, deed: Deed) -> None:
+    def commit(self, task: CommittedTask) -> None:
         column, delay = self.column, self.unit.delay
-        shifts = self.gates.starts(self.origins.pop(deed.task, None))
-        calls, next_call = deed.calls, 0
-        for point in deed.points:
+        shifts = self.gates.starts(self.origins.pop(task.key, None))
+        calls, next_call = task.calls, 0
+        for point in task.points:
             place = point.before[column]
             while next_call < len(calls) and calls[next_call].made[column] <= place:
                 next_call = self.note_call(calls[next_call], shifts, next_call)
@@ -211,7 +211,7 @@ class FinePlans:
             self.note_access(point, [shift + place + delay for shift in shifts])
         while next_call < len(calls):
             next_call = self.note_call(calls[next_call], shifts, next_call)
-        work = deed.work[column]
+        work = task.work[column]
         self.gates.end([shift + work for shift in shifts])
 
     def note_call(self, call: Call, shifts: list[int], number: int) -> int:
@@ -272,12 +272,12 @@ class Limits:
         self.by_step = [FinePlans([UNBOUNDED], manner, Unit.STEP) for manner in FINE]
         self.work = [0, 0]
 
-    def commit(self, deed: Deed) -> None:
+    def commit(self, task: CommittedTask) -> None:
         """Takes the next task that commits."""
-        self.whole.commit(deed)
+        self.whole.commit(task)
         for plans in (*self.fine, *self.by_step):
-            plans.commit(deed)
-        self.work = [so_far + more for so_far, more in zip(self.work, deed.work)]
+            plans.commit(task)
+        self.work = [so_far + more for so_far, more in zip(self.work, task.work)]
 
     def told(self) -> list[Limit]:
         """Each limit, by whole tasks first, and by steps last."""

@@ -15,7 +15,7 @@ from __future__ import annotations
 from collections.abc import Hashable
 from typing import NamedTuple, Optional
 
-from yotarimu.figures.limits import Deed, Manner, Point
+from yotarimu.figures.limits import CommittedTask, Manner, Point
 
 
 class Chain:
@@ -53,7 +53,7 @@ def reaches(points: list[Point]) -> dict[int, Reach]:
 
 
 class AnyOrder:
-    """A bound for one kind of memory. Deeds come in the order of their commits, `epoch` is the timestamp in the root
+    """A bound for one kind of memory. Tasks that committed come in the order of their commits, `epoch` is the timestamp in the root
     domain of their outermost task, and always the same where that domain is unordered."""
 
     def __init__(self) -> None:
@@ -62,16 +62,16 @@ class AnyOrder:
         self.finish = 0
         self.epoch: Optional[int] = None
 
-    def commit(self, deed: Deed, epoch: int) -> None:
+    def commit(self, task: CommittedTask, epoch: int) -> None:
         raise NotImplementedError
 
     def time(self) -> int:
         """No schedule of any order takes less."""
         return max([self.finish, *(chain.time() for chain in self.chains.values())])
 
-    def note_calls(self, deed: Deed, shifts: list[tuple[int, int]]) -> None:
+    def note_calls(self, task: CommittedTask, shifts: list[tuple[int, int]]) -> None:
         """Notes when children may start, by the shifts of the task and the places from which they hold."""
-        for child, (made_at, _) in deed.calls:
+        for child, (made_at, _) in task.calls:
             self.origins[child] = made_at + max(shift for place, shift in shifts if place < made_at)
 
     def chain(self, address: int) -> Chain:
@@ -86,16 +86,16 @@ class RenamedMemory(AnyOrder):
 
     def __init__(self) -> None:
         super().__init__()
-        self.kept: list[tuple[Deed, dict[int, Reach]]] = []
+        self.kept: list[tuple[CommittedTask, dict[int, Reach]]] = []
         # Of each byte the earliest time behind a task's last store of it: in earlier epochs, and in this one.
         self.before: dict[int, int] = {}
         self.here: dict[int, int] = {}
 
-    def commit(self, deed: Deed, epoch: int) -> None:
+    def commit(self, task: CommittedTask, epoch: int) -> None:
         if epoch != self.epoch:
             self.end_epoch()
             self.epoch = epoch
-        reached = reaches(list(deed.points))
+        reached = reaches(list(task.points))
         for address, reach in reached.items():
             if reach.store is not None:
                 chain = self.chain(address)
@@ -104,9 +104,9 @@ class RenamedMemory(AnyOrder):
                 else:
                     chain.length += reach.store - reach.load + 1
         if self.before:
-            self.kept.append((deed, reached))
+            self.kept.append((task, reached))
         else:
-            self.place(deed, reached, {})
+            self.place(task, reached, {})
 
     def end_epoch(self) -> None:
         writers: dict[int, int] = {}
@@ -114,16 +114,16 @@ class RenamedMemory(AnyOrder):
             for address, reach in reached.items():
                 if reach.store is not None:
                     writers[address] = writers.get(address, 0) + 1
-        for deed, reached in self.kept:
-            self.place(deed, reached, writers)
+        for task, reached in self.kept:
+            self.place(task, reached, writers)
         self.kept = []
         self.before.update(self.here)
         self.here = {}
 
-    def place(self, deed: Deed, reached: dict[int, Reach], writers: dict[int, int]) -> None:
-        shift = self.origins.pop(deed.task, 0)
+    def place(self, task: CommittedTask, reached: dict[int, Reach], writers: dict[int, int]) -> None:
+        shift = self.origins.pop(task.key, 0)
         shifts, stored = [(-1, shift)], {}
-        for is_store, addresses, (place, _) in deed.points:
+        for is_store, addresses, (place, _) in task.points:
             for address in addresses:
                 if is_store:
                     stored[address] = shift + place + 1
@@ -132,8 +132,8 @@ class RenamedMemory(AnyOrder):
                     shifts.append((place, shift))
         for address, time in stored.items():
             self.here[address] = min(time, self.here.get(address, time))
-        self.note_calls(deed, shifts)
-        self.finish = max(self.finish, shift + deed.work[0])
+        self.note_calls(task, shifts)
+        self.finish = max(self.finish, shift + task.work[0])
 
     def waits(self, address: int, reach: Reach, writers: dict[int, int]) -> bool:
         """Whether a load of a byte has to wait for an earlier epoch: no other task of its own epoch stores it. What
@@ -172,10 +172,10 @@ class OneMemory(AnyOrder):
         self.stores: dict[int, Waits] = {}
         self.touches: dict[int, Waits] = {}
 
-    def commit(self, deed: Deed, epoch: int) -> None:
-        shift = self.origins.pop(deed.task, 0)
+    def commit(self, task: CommittedTask, epoch: int) -> None:
+        shift = self.origins.pop(task.key, 0)
         shifts = [(-1, shift)]
-        for point in deed.points:
+        for point in task.points:
             found = (self.touches if point.is_store else self.stores)
             times = [found[address].of_earlier(epoch) for address in point.addresses if address in found]
             place = point.before[0]
@@ -184,11 +184,11 @@ class OneMemory(AnyOrder):
                 shift = later
                 shifts.append((place, shift))
             self.note(point, epoch, shift + place + 1)
-        for address, reach in reaches(list(deed.points)).items():
+        for address, reach in reaches(list(task.points)).items():
             if reach.store is not None:
                 self.chain(address).length += reach.store - reach.first + 1
-        self.note_calls(deed, shifts)
-        self.finish = max(self.finish, shift + deed.work[0])
+        self.note_calls(task, shifts)
+        self.finish = max(self.finish, shift + task.work[0])
 
     def note(self, point: Point, epoch: int, time: int) -> None:
         for waits in (self.touches, self.stores) if point.is_store else (self.touches,):
@@ -203,10 +203,10 @@ class Bounds:
         self.by_manner: dict[Manner, AnyOrder] = {Manner.RENAMED: RenamedMemory(), Manner.ONE: OneMemory()}
         self.instructions = 0
 
-    def commit(self, deed: Deed, epoch: int) -> None:
-        self.instructions += deed.work[0]
+    def commit(self, task: CommittedTask, epoch: int) -> None:
+        self.instructions += task.work[0]
         for bound in self.by_manner.values():
-            bound.commit(deed, epoch)
+            bound.commit(task, epoch)
 
     def told(self) -> dict[Manner, float]:
         """Instructions at once, which no order exceeds; 0 where no task committed."""

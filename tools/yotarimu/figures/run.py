@@ -7,7 +7,7 @@ from typing import Any, Optional
 
 from yotarimu.common.outcome import Refused
 from yotarimu.courses.schedules import round_of
-from yotarimu.figures.limits import Call, Deed, Limit, Limits, Manner, Point
+from yotarimu.figures.limits import Call, CommittedTask, Limit, Limits, Manner, Point
 from yotarimu.figures.occupancy import Occupancy
 from yotarimu.figures.orders import Bounds
 from yotarimu.figures.tasks import TaskFigures
@@ -150,9 +150,9 @@ class Summing:
         it.useful += task.work
         it.occupancy.count(it.acts, "commits")
         it.tasks.note_commit(task)
-        deed = deed_of(task)
-        self.limits.commit(deed)
-        self.bounds.commit(deed, root_timestamp(task) if self.is_ordered else 0)
+        done = committed_task(task)
+        self.limits.commit(done)
+        self.bounds.commit(done, root_timestamp(task) if self.is_ordered else 0)
 
     def close(self, end: dict[str, Any], machine: Machine, name: str) -> Figures:
         """Takes the last line. All work is useful, wasted or left: else the lines don't go together."""
@@ -167,12 +167,12 @@ class Summing:
         return it
 
 
-def deed_of(task: Task) -> Deed:
+def committed_task(task: Task) -> CommittedTask:
     """A task that committed, as limits are told of it."""
     points = [Point(access.is_store, range(access.address, access.address + access.bytes), (access.place, access.step))
               for access in task.accesses]
     calls = [Call(child, (child.made_at, child.made_step)) for child in task.children]
-    return Deed(task, (task.work, task.steps), points, calls)
+    return CommittedTask(task, (task.work, task.steps), points, calls)
 
 
 def line_of(access: Access, size: int) -> int:
