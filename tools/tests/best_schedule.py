@@ -43,7 +43,7 @@ class Text:
         stores = [Source(*place) for *place, mark in self.marks() if mark == name and place[0] < task]
         return stores[-1] if stores else None
 
-    def tasks(self) -> list[CommittedTask]:
+    def committed(self) -> list[CommittedTask]:
         """The text as limits are told of it."""
         return [committed_task(number, task) for number, task in enumerate(self.written.split(" "))]
 
