@@ -9,8 +9,9 @@ from typing import Any, Callable, Optional
 from yotarimu.common.outcome import Refused
 from yotarimu.common.places import EXAMPLES_FOLDER
 from yotarimu.images.image import Image, read_image
-from yotarimu.lines.domains import DISPATCH_NUMBERS, DispatchNumbers, Domain
+from yotarimu.lines.dispatch_numbers import DISPATCH_NUMBERS, DispatchNumbers
 from yotarimu.lines.reader import Watched
+from yotarimu.lines.times import UNDISPATCHED, Domain, Time, root
 
 SCHEDULES = EXAMPLES_FOLDER / "schedules"
 # Texts worked out by hand, and the folders of their images.
@@ -77,7 +78,7 @@ class Refusals(unittest.TestCase):
                 ("by_hand", 21, "window", [7], 21, "2 words, and 1"),
                 ("rounds_by_hand", 11, "old", 0, 11, "finds the byte 0, and 7"),
                 ("domains_by_hand", 11, "next", 2, 11, "the next dispatch number is 1"),
-                ("domains_by_hand", 17, "to", "sub", 17, "no subdomain")):
+                ("domains_by_hand", 17, "to", "sub", 17, "a subdomain that isn't there")):
             self.refuse(name, changed(line, field, value), where, part, False)
 
     def test_what_the_image_holds_beside(self) -> None:
@@ -96,25 +97,26 @@ class Refusals(unittest.TestCase):
             self.refuse("by_hand", changed(line, field, value), line, part, True)
 
 
-class Maker:
-    """A task as a domain and the numbers see it."""
+class Numbered:
+    """A task as numbers see it."""
 
-    def __init__(self, domain: Domain, timestamp: int, number: Optional[int]) -> None:
-        self.domain, self.timestamp, self.number, self.depth = domain, timestamp, number, domain.depth
-        self.subdomain: Optional[Domain] = None
+    def __init__(self, domain: Domain, number: Optional[int], dispatch: float) -> None:
+        self.domain, self.number, self.dispatch = domain, number, dispatch
+
+    def time(self) -> Time:
+        return self.domain.time(0, self.dispatch)
 
 
 class Numbers(unittest.TestCase):
     def test_numbers_are_given_anew(self) -> None:
-        """With 7 on the path, 9 of a domain and 12 of a task in use, these become 0, 1 and 2, and 3 is the next."""
-        numbers, root = DispatchNumbers(), Domain("ordered")
-        done, owner = Maker(root, 1, 7), Maker(root, 2, 9)
-        numbers.commit(done)  # type: ignore[arg-type]
-        inner = Domain("unordered", owner)  # type: ignore[arg-type]
-        running, idle = Maker(inner, 0, 12), Maker(inner, 0, None)
-        numbers.next = DISPATCH_NUMBERS
+        """Dispatches 7 of the path, 9 of a maker of a domain and 12 of a task are in use: these become 0, 1 and 2, and
+        3 is given next."""
+        numbers = DispatchNumbers()
+        numbers.path, numbers.next = ((1, 7),), DISPATCH_NUMBERS
+        inner = root(True).inner(((2, 9),), False)
+        running, idle = Numbered(inner, 65_530, 12), Numbered(inner, None, UNDISPATCHED)
         self.assertEqual(numbers.give([running, idle]), 3)  # type: ignore[list-item]
-        self.assertEqual((numbers.last, inner.number, running.number, idle.number, numbers.next), (0, 1, 2, None, 4))
+        self.assertEqual((running.number, idle.number, numbers.next), (2, None, 4))
 
 
 if __name__ == "__main__":

@@ -12,7 +12,6 @@ from yotarimu.figures.occupancy import Occupancy
 from yotarimu.figures.orders import Bounds
 from yotarimu.figures.tasks import TaskFigures
 from yotarimu.images.image import Image
-from yotarimu.lines.domains import ORDERED, root_timestamp
 from yotarimu.lines.reader import Watched, open_watched
 from yotarimu.lines.replay import DATA_START, NOT_EXECUTED, Access, Machine, Taken, Task, Told
 
@@ -79,7 +78,7 @@ class Summing:
     """Sums up a run. Lines are handed in one after another, and the last one at the end."""
 
     def __init__(self, head: dict[str, Any]) -> None:
-        self.figures, self.line, self.is_ordered = Figures(head), head["line"], head["root"] == ORDERED
+        self.figures, self.line = Figures(head), head["line"]
         self.limits, self.bounds = Limits(), Bounds()
         # Those on cores that wait for room since their last step, and those that trapped.
         self.stalled: set[Task] = set()
@@ -152,7 +151,8 @@ class Summing:
         it.tasks.note_commit(task)
         done = committed_task(task)
         self.limits.commit(done)
-        self.bounds.commit(done, root_timestamp(task) if self.is_ordered else 0)
+        # In an unordered root domain each timestamp counts as 0.
+        self.bounds.commit(done, task.time()[0][0])
 
     def close(self, end: dict[str, Any], machine: Machine, name: str) -> Figures:
         """Takes the last line. All work is useful, wasted or left: else the lines don't go together."""

@@ -6,6 +6,7 @@ import dataclasses
 from typing import TYPE_CHECKING
 
 from yotarimu.figures.spread import Spread
+from yotarimu.lines.times import Time
 
 if TYPE_CHECKING:
     from yotarimu.lines.replay import Access, Task, Told
@@ -13,6 +14,7 @@ if TYPE_CHECKING:
 # Why a step stalls, by what its task asked for; and a split.
 STALLS = {"enqueue": "step, for a task queue", "end": "step, for the commit queue", "split": "split"}
 DATA_START = 0x10000000
+KINDS = ("unordered", "ordered")
 # What is counted of each task that committed.
 SPREADS = ("instructions", "loads", "stores", "lines read", "lines written", "children")
 
@@ -46,6 +48,8 @@ class TaskFigures:
         self.accesses = [{"load": 0, "store": 0} for _ in range(tiles)]
         self.stalls = {reason: 0 for reason in STALLS.values()}
         self.spilled_at_opening = 0
+        # The makers of the domains in which the last task committed that did, from the root down.
+        self.makers: list[Time] = []
 
     def note_place(self, told: Told) -> None:
         self.spilled_at_opening += "new" not in told.line
@@ -78,13 +82,15 @@ class TaskFigures:
         self.note_domain(task)
 
     def note_domain(self, task: Task) -> None:
-        own = self.counts_of(task.depth, task.domain.kind)
+        own = self.counts_of(task.depth, KINDS[task.domain.kinds[-1]])
         own.commits += 1
-        if not task.domain.has_commit:
-            task.domain.has_commit = True
+        # Tasks of one domain commit one after another, but for those of domains within it.
+        maker, depth = task.domain.maker, task.depth
+        if len(self.makers) < depth or self.makers[depth - 1] != maker:
             own.used += 1
+        self.makers[depth - 1:] = [maker]
         if task.subdomain is not None:
-            self.counts_of(task.depth + 1, task.subdomain.kind).made += 1
+            self.counts_of(depth + 1, task.subdomain).made += 1
 
     def counts_of(self, depth: int, kind: str) -> DomainCounts:
         return self.domains.setdefault((depth, kind), DomainCounts())

@@ -12,9 +12,9 @@ from yotarimu.images.image import DATA, STACK, Image
 from yotarimu.images.serial_machine import Machine as Serial
 from yotarimu.images.serial_machine import Run, Trapped, signed
 from yotarimu.lines.fields import Wrong
+from yotarimu.lines.times import Domain
 
 if TYPE_CHECKING:
-    from yotarimu.lines.domains import Domain
     from yotarimu.lines.replay import Task, Told
 
 CHILDREN = {1: "same", 2: "sub", 3: "super"}
@@ -49,12 +49,28 @@ class Scratch(Serial):
 
 
 @dataclasses.dataclass
+class Around:
+    """A domain as a call sees it: its depth and kind, the domain around it, and of its maker the timestamp."""
+    depth: int
+    is_ordered: bool
+    outer: Optional[Around]
+    floor: int
+
+
+def around(domain: Domain) -> Around:
+    """A domain of the lines as a call sees it. The maker of the root domain counts as having the timestamp 0."""
+    depth = len(domain.kinds)
+    outer = around(domain.outer()) if depth > 1 else None
+    return Around(depth, domain.kinds[-1], outer, domain.maker[-1][0] if domain.maker else 0)
+
+
+@dataclasses.dataclass
 class Start:
     """A task as the serial machine starts it."""
     entry: int
     timestamp: int
     arguments: tuple[int, ...]
-    domain: Domain
+    domain: Around
     turn: int = 0
 
 
@@ -62,7 +78,7 @@ class Core(Run):
     """The core of a dispatched task. An access to data or a call stops it, unless it is granted."""
 
     def __init__(self, scratch: Scratch, task: Task) -> None:
-        super().__init__(scratch, Start(task.entry, task.timestamp, tuple(task.arguments), task.domain))
+        super().__init__(scratch, Start(task.entry, task.timestamp, tuple(task.arguments), around(task.domain)))
         self.used, self.is_granted, self.found = 0, False, 0
 
     def leg(self, quantum: int, budget: int) -> dict[str, Any]:

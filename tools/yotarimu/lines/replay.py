@@ -11,12 +11,14 @@ import hashlib
 import itertools
 from typing import NamedTuple
 
-from yotarimu.lines.domains import DispatchNumbers, Domain
+from yotarimu.lines.dispatch_numbers import DispatchNumbers
 from yotarimu.lines.fields import EVENTS, Wrong
 from yotarimu.lines.legs import Legs
 from yotarimu.lines.memory import DATA_START, Memory
+from yotarimu.lines.times import UNDISPATCHED, Time, root
 
 IDLE, RUNNING, TRAPPED, FINISHED = "idle", "running", "trapped", "finished"
+ORDERED = "ordered"
 SPILLED, COMMITTED, GONE = "spilled", "committed", "gone"
 # What takes tasks back: what a task asks for, or an event that isn't a step.
 TAKING_BACK = ("load", "store", "enqueue", "end", "dispatch", "split", "abort")
@@ -26,7 +28,8 @@ NOT_EXECUTED = ("go", "trap")
 
 class Access(NamedTuple):
     """A load or a store of the data: where, the number that stood there before and the one that was stored, how many
-    instructions its task had executed before it, and the event that it was."""
+    instructions its task had executed before it, the event that it was, the address of its instruction, and how many steps
+    its task had made before it."""
     is_store: bool
     address: int
     bytes: int
@@ -34,16 +37,18 @@ class Access(NamedTuple):
     value: int
     place: int
     event: int
+    pc: int
     step: int
 
 
 class Task:
     """An uncommitted task. `name` is a pair, or None as long as its creator may be taken back; `creator` is the task
-    that made it as long as that is uncommitted. `number` is the dispatch number that it was told with. `work` counts
-    instructions since its dispatch, and `made_at` is the work of its creator at the call. `note` is for the caller."""
+    that made it as long as that is uncommitted. `number` is its dispatch number, and `dispatch` its place among all
+    dispatches so far, which no renumbering changes. `work` counts instructions since its dispatch, and `steps` steps;
+    `made_at` and `made_step` are how many of these its creator had made with the call."""
 
     __slots__ = ("id", "tile", "core", "state", "creator", "index", "name", "entry", "timestamp", "arguments",
-                 "hint", "domain", "made_at", "made_step", "number", "work", "steps", "pc", "accesses", "children",
+                 "hint", "domain", "made_at", "made_step", "number", "dispatch", "work", "steps", "pc", "accesses", "children",
                  "subdomain", "emitted")
 
     def __init__(self, line, creator, index, domain):
@@ -58,11 +63,26 @@ class Task:
 
     @property
     def depth(self):
-        return self.domain.depth
+        return len(self.domain.kinds)
+
+    def time(self):
+        """Its virtual time."""
+        return self.domain.time(self.timestamp, self.dispatch)
+
+    def domain_of_child(self, to):
+        """The domain of a child: its own, its subdomain or its superdomain."""
+        if to == "sub" and self.subdomain is None:
+            raise Wrong("it makes a child for a subdomain that isn't there")
+        if to == "super" and self.depth == 1:
+            raise Wrong("it makes a child for a superdomain that isn't there")
+        if to == "sub":
+            return self.domain.inner(self.time(), self.subdomain == ORDERED)
+        return self.domain.outer() if to == "super" else self.domain
 
     def wait(self):
         """It is idle, with nothing done."""
         self.state, self.core, self.number, self.pc = IDLE, None, None, self.entry
+        self.dispatch = UNDISPATCHED
         self.work, self.steps, self.accesses, self.children, self.subdomain, self.emitted = 0, 0, [], [], None, []
 
     def told_name(self):
@@ -77,6 +97,7 @@ class Task:
 class Taken(NamedTuple):
     """A task that was taken back, and what it had done and been before that."""
     task: Task
+    time: Time
     work: int
     accesses: list
     children: list
@@ -109,14 +130,14 @@ class Machine:
 
     def __init__(self, head, image=None):
         self.head, tiles = head, range(head["tiles"])
-        self.root, self.numbers = Domain(head["root"]), DispatchNumbers()
+        self.root, self.numbers = root(head["root"] == ORDERED), DispatchNumbers()
         self.memory = Memory(None if image is None else image.initial)
         self.legs = None if image is None else Legs(image, head)
         self.tasks = {}
         self.queues, self.finished = [[] for _ in tiles], [[] for _ in tiles]
         self.cores = [[None] * head["cores"] for _ in tiles]
         self.blocks = [{} for _ in tiles]
-        self.events = self.commits = self.acts = 0
+        self.events = self.commits = self.acts = self.dispatches = 0
         self.queued = self.running = self.waiting = self.spilled = 0
         self.output = hashlib.sha256()
         self.placed = 0
@@ -250,7 +271,7 @@ class Machine:
         task = self.task_at(number)
         if task.work != work:
             raise Wrong(f"task {number} executed {task.work} instructions, and not {work}")
-        return Taken(task, task.work, task.accesses, task.children, task.state, task.core, is_gone)
+        return Taken(task, task.time(), task.work, task.accesses, task.children, task.state, task.core, is_gone)
 
     def spill_by_name(self, number, creator, index):
         task = self.task_at(number)
@@ -282,6 +303,8 @@ class Machine:
         if line["number"] != number:
             raise Wrong(f"it gives the dispatch number {line['number']}, and {number} is the next")
         task.state, task.core, task.number = RUNNING, core, number
+        self.dispatches += 1
+        task.dispatch = self.dispatches
         self.cores[task.tile][core] = task.id
         self.running += 1
 
@@ -307,26 +330,21 @@ class Machine:
             raise Wrong(f"{address} is no multiple of {count}")
         self.memory.meet(address, count, old)
         value = line["value"] & (1 << 8 * count) - 1 if is_store else old
-        told.access = Access(is_store, address, count, old, value, task.work - 1, self.events, task.steps - 1)
+        told.access = Access(is_store, address, count, old, value, task.work - 1, self.events, line["pc"],
+                             task.steps - 1)
         task.accesses.append(told.access)
         if is_store:
             self.memory.write(address, count, value)
 
     def enqueue(self, told, task, line):
-        child = told.arrived = Task(line, task, len(task.children), self.domain_of_child(task, line["to"]))
+        child = told.arrived = Task(line, task, len(task.children), task.domain_of_child(line["to"]))
         self.arrive(child)
         task.children.append(child)
-
-    def domain_of_child(self, task, to):
-        domain = {"same": task.domain, "sub": task.subdomain, "super": task.domain.outer}[to]
-        if domain is None:
-            raise Wrong(f"task {task.id} has no {to}domain")
-        return domain
 
     def make_subdomain(self, _told, task, line):
         if task.subdomain is not None:
             raise Wrong(f"task {task.id} has a subdomain already")
-        task.subdomain = Domain(line["asks"], task)
+        task.subdomain = line["asks"]
 
     def emit(self, _told, task, line):
         if line["byte"] > 0xFF:
@@ -361,7 +379,7 @@ class Machine:
             raise Wrong("the task that commits has emitted other bytes")
         self.output.update(output.encode())
         self.leave(task, COMMITTED)
-        self.numbers.commit(task)
+        self.numbers.path = task.time()
         self.commits += 1
         for child in task.children:
             child.name, child.creator = (self.commits, child.index), None
