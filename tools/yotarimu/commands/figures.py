@@ -115,7 +115,7 @@ def main(words: list[str]) -> None:
     listing = NO_LISTING if request.listing is None else read_listing(read_written(request.listing), request.listing)
     runs = read_runs(request)
     if request.plot is not None and len({it.occupancy.over() for it in runs.values()}) > 1:
-        raise Refused("one plot has no place for both rounds and events: give --plot texts in lockstep, or none of them.")
+        raise Refused("one plot has no place for rounds and events: --plot takes texts in lockstep, or none of them.")
     files = files_of(request, runs)
     print_tables(runs, listing)
     write_whole(files)

@@ -6,8 +6,8 @@ instruction, or a step.
 
 - By whole tasks a task starts once those that it depends on have finished. A machine may do better.
 - By instructions, or by steps, a task stops where it has to wait, and what comes behind that comes later. What it did
-  before stays where it was. With renamed memory a load waits for the store whose number it loads, and nothing else does.
-  In one memory each access also waits for the accesses of earlier tasks that it would conflict with, by bytes.
+  before stays where it was. With renamed memory a load waits for the store whose number it loads, and nothing else
+  waits. In one memory each access also waits for the accesses of earlier tasks that it would conflict with, by bytes.
 """
 from __future__ import annotations
 

@@ -6,7 +6,8 @@ only that is counted which holds in all of them, as long as each task does what 
 - A task starts no sooner than its creator's call.
 - Where the root domain is ordered, an earlier timestamp there comes first; a whole such timestamp is an epoch. In one
   memory an access waits for those of earlier epochs that it would conflict with. With renamed memory a load waits for
-  the earliest of the stores of the last epoch that has some of its byte, unless another task of its own epoch stores it.
+  the earliest of the stores of the last epoch that has some of its byte, unless another task of its own epoch stores
+  that byte.
 - Tasks that load a byte and then store it follow one another, each up to its store: from the load, or in one memory
   from its first access of that byte. With renamed memory a task that only stores the byte may come between any two.
 """
@@ -53,7 +54,7 @@ def reaches(points: list[Point]) -> dict[int, Reach]:
 
 
 class AnyOrder:
-    """A bound for one kind of memory. Tasks that committed come in the order of their commits, `epoch` is the timestamp in the root
+    """A bound for one kind of memory. Tasks come in the order of their commits, `epoch` is the timestamp in the root
     domain of their outermost task, and always the same where that domain is unordered."""
 
     def __init__(self) -> None:

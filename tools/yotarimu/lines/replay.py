@@ -9,13 +9,13 @@ from __future__ import annotations
 
 import hashlib
 import itertools
-from typing import NamedTuple
+from typing import Iterator, NamedTuple
 
 from yotarimu.lines.dispatch_numbers import DispatchNumbers
 from yotarimu.lines.fields import EVENTS, Wrong
 from yotarimu.lines.legs import Legs
 from yotarimu.lines.memory import DATA_START, Memory
-from yotarimu.lines.times import UNDISPATCHED, Time, root
+from yotarimu.lines.times import UNDISPATCHED, Domain, Time, root
 
 IDLE, RUNNING, TRAPPED, FINISHED = "idle", "running", "trapped", "finished"
 ORDERED = "ordered"
@@ -28,8 +28,8 @@ NOT_EXECUTED = ("go", "trap")
 
 class Access(NamedTuple):
     """A load or a store of the data: where, the number that stood there before and the one that was stored, how many
-    instructions its task had executed before it, the event that it was, the address of its instruction, and how many steps
-    its task had made before it."""
+    instructions its task had executed before it, the event that it was, the address of its instruction, and how many
+    steps its task had made before it."""
     is_store: bool
     address: int
     bytes: int
@@ -48,8 +48,8 @@ class Task:
     `made_at` and `made_step` are how many of these its creator had made with the call."""
 
     __slots__ = ("id", "tile", "core", "state", "creator", "index", "name", "entry", "timestamp", "arguments",
-                 "hint", "domain", "made_at", "made_step", "number", "dispatch", "work", "steps", "pc", "accesses", "children",
-                 "subdomain", "emitted")
+                 "hint", "domain", "made_at", "made_step", "number", "dispatch", "work", "steps", "pc", "accesses",
+                 "children", "subdomain", "emitted")
 
     def __init__(self, line, creator, index, domain):
         self.id = line.get("new")
@@ -62,14 +62,14 @@ class Task:
         self.wait()
 
     @property
-    def depth(self):
+    def depth(self) -> int:
         return len(self.domain.kinds)
 
-    def time(self):
+    def time(self) -> Time:
         """Its virtual time."""
         return self.domain.time(self.timestamp, self.dispatch)
 
-    def domain_of_child(self, to):
+    def domain_of_child(self, to: str) -> Domain:
         """The domain of a child: its own, its subdomain or its superdomain."""
         if to == "sub" and self.subdomain is None:
             raise Wrong("it makes a child for a subdomain that isn't there")
@@ -142,7 +142,7 @@ class Machine:
         self.output = hashlib.sha256()
         self.placed = 0
 
-    def all_tasks(self):
+    def all_tasks(self) -> Iterator[Task]:
         """The uncommitted tasks, spilled ones too."""
         return itertools.chain(self.tasks.values(), *(block.values() for block in self.blocks))
 
