@@ -24,7 +24,7 @@ def shared_words():
     told.load(3, 1, 1, 3, 16_384)               # 4 of task 3: line 1,024
     told.act("commit", reply="empty", task=0)
     told.store(0, 0, 0, 4, 0, [[1, 5], [2, 1], [3, 4], [5, 0]], [5])    # 5 of task 0
-    told.step(0, 0, 0, 2, "go")                 # 7
+    told.step(0, 0, 0, 1, "unordered")          # 7
     told.dispatch(1, 0, 1, 4)
     told.store(1, 0, 1, 2, 32)                  # 3 of task 1
     told.load(1, 0, 1, 0, 48)                   # 4

@@ -1,7 +1,7 @@
 """The machine as the second program's lines leave it, made of the lines alone.
 
 `lines.reader` hands each line to `Machine.follow`. What is kept doesn't grow with the text: the uncommitted tasks, the
-words of memory that were touched where the caller asks for them, and nothing of a task once it has left. Each line is
+bytes of memory that were touched, and nothing of a task once it has left. Each line is
 held against the machine. One that can't follow is refused: a task that isn't there, work or a name that isn't what
 counting gives.
 """
@@ -15,6 +15,7 @@ from yotarimu.lines.dispatch_numbers import DispatchNumbers
 from yotarimu.lines.fields import EVENTS, Wrong
 from yotarimu.lines.legs import Legs
 from yotarimu.lines.memory import DATA_START, Memory
+from yotarimu.lines.rounds import Rounds
 from yotarimu.lines.times import UNDISPATCHED, Domain, Time, root
 
 IDLE, RUNNING, TRAPPED, FINISHED = "idle", "running", "trapped", "finished"
@@ -24,6 +25,8 @@ SPILLED, COMMITTED, GONE = "spilled", "committed", "gone"
 TAKING_BACK = ("load", "store", "enqueue", "end", "dispatch", "split", "abort")
 # Requests that are no instruction of their own.
 NOT_EXECUTED = ("go", "trap")
+# The cause of a trap where a task has executed all that it may.
+OVER_BUDGET = 17
 
 
 class Access(NamedTuple):
@@ -133,6 +136,9 @@ class Machine:
         self.root, self.numbers = root(head["root"] == ORDERED), DispatchNumbers()
         self.memory = Memory(None if image is None else image.initial)
         self.legs = None if image is None else Legs(image, head)
+        self.rounds = Rounds(head) if head["course"] == "lockstep" else None
+        # Those that trapped, with the cause.
+        self.traps: dict[Task, int] = {}
         self.tasks = {}
         self.queues, self.finished = [[] for _ in tiles], [[] for _ in tiles]
         self.cores = [[None] * head["cores"] for _ in tiles]
@@ -206,6 +212,8 @@ class Machine:
         """A task of the image stands in a queue, or in a block."""
         if self.acts or line["at"] or line["name"][0] or self.placed == self.head["tasks"]:
             raise Wrong("no task of the image is placed here")
+        if line["hint"] != line["name"][1]:
+            raise Wrong("the hint of an image's task is its place in the image")
         tile = self.need_tile(line)
         task = told.arrived = Task(line, None, line["name"][1], self.root)
         self.placed += 1
@@ -229,17 +237,44 @@ class Machine:
             raise Wrong("no task is told that takes this leg")
         if line["do"] == "take" and line["reply"] == "ok" and self.cores[line["tile"]][line["core"]] is None:
             raise Wrong(f"core {line['core']} of tile {line['tile']} holds no task")
+        if "leg" in line:
+            self.need_leg(told.task, line)
+        if line["reply"] in REFUSALS.get(line["do"], ()) and not REFUSALS[line["do"]][line["reply"]](self, line["tile"]):
+            raise Wrong(f"the tile has no reason to answer `{line['reply']}`")
         if told.is_made:
             self.events += 1
             self.force(told, line)
             MADE[line["do"]](self, told, line)
 
+    def need_leg(self, task, line):
+        """A leg of a whole quantum goes on, whatever stands next, and no other does. None goes beyond the budget."""
+        leg, asks = line["leg"], line["asks"]
+        if leg > self.head["quantum"] or (leg == self.head["quantum"]) != (asks == "go"):
+            raise Wrong(f"a leg of {leg} instructions doesn't stop so, as a quantum has {self.head['quantum']}")
+        left = self.head["budget"] - task.work - leg
+        if left < (asks not in NOT_EXECUTED) or asks == "trap" and (line["cause"] == OVER_BUDGET) != (left == 0):
+            raise Wrong(f"of {self.head['budget']} instructions that a task may execute {left} would be left")
+
+    def has_no_idle(self, tile):
+        return all(self.tasks[number].state is not IDLE for number in self.queues[tile])
+
+    def has_no_core(self, tile):
+        return None not in self.cores[tile] and not self.has_no_idle(tile)
+
+    def has_no_block(self, tile):
+        return not self.blocks[tile]
+
+    def has_no_room(self, tile):
+        return bool(self.blocks[tile]) and len(self.queues[tile]) == self.head["task_queue"]
+
     def count_act(self, line):
         if self.placed < self.head["tasks"]:
             raise Wrong(f"{self.placed} of {self.head['tasks']} tasks of the image are placed before the first act")
-        is_next = line["at"] > self.acts if self.head["course"] == "lockstep" else line["at"] == self.acts + 1
+        is_next = line["at"] == self.acts + 1 if self.rounds is None else line["at"] > self.acts
         if not is_next:
             raise Wrong(f"act {line['at']} can't follow on act {self.acts}")
+        if self.rounds is not None:
+            self.rounds.need(line)
         self.acts = line["at"]
 
     def force(self, told, line):
@@ -265,6 +300,7 @@ class Machine:
             else:
                 self.put_off(taken.task)
                 taken.task.wait()
+            self.traps.pop(taken.task, None)
         told.gone = [taken.task for taken in told.taken if taken.is_gone]
 
     def taken_of(self, number, work, is_gone):
@@ -353,12 +389,15 @@ class Machine:
 
     def finish(self, _told, task, _line):
         self.put_off(task)
+        if len(self.finished[task.tile]) == self.head["commit_queue"]:
+            raise Wrong(f"the commit queue of tile {task.tile} is full")
         task.state = FINISHED
         self.finished[task.tile].append(task.id)
         self.waiting += 1
 
-    def trap(self, _told, task, _line):
+    def trap(self, _told, task, line):
         task.state = TRAPPED
+        self.traps[task] = line["cause"]
 
     def split(self, told, line):
         task = told.arrived = self.blocks[line["tile"]].pop(tuple(line["name"]), None)
@@ -408,6 +447,7 @@ class Machine:
 
     def close(self, line):
         """Holds the last line against the machine."""
+        self.need_end(line)
         if (line["n"], line["journal"]) != (self.events, self.commits):
             raise Wrong(f"it tells {line['n']} events and {line['journal']} commits, and {self.events} and "
                         f"{self.commits} were told before it")
@@ -420,7 +460,23 @@ class Machine:
         memory.undo(access for task in self.tasks.values() for access in task.accesses)
         memory.need_window(DATA_START + self.head["window"][0], line["window"])
 
+    def need_end(self, line):
+        """Holds how a run ended against what is left."""
+        end, left = line["end"], len(self.tasks) + self.spilled
+        if (end == "normal") != (left == 0):
+            raise Wrong(f"the end is {end}, and {left} tasks are left")
+        if left and (end == "limit") != (self.commits == self.head["commits"]):
+            raise Wrong(f"the end is {end}, and {self.commits} of {self.head['commits']} tasks have committed")
+        if end == "trap":
+            found = [list(task.name or ()) for task, cause in self.traps.items()
+                     if (cause, task.pc) == (line["cause"], line["pc"])]
+            if line["name"] not in found:
+                raise Wrong("no task has trapped so")
 
+
+# Whether a tile may refuse so, by the event and the reply.
+REFUSALS = {"dispatch": {"empty": Machine.has_no_idle, "busy": Machine.has_no_core},
+            "split": {"empty": Machine.has_no_block, "stall": Machine.has_no_room}}
 MADE = {"dispatch": Machine.dispatch, "step": Machine.step, "abort": Machine.abort, "commit": Machine.commit,
         "coalesce": Machine.nothing_more, "split": Machine.split}
 REQUESTS = {"load": Machine.load_or_store, "store": Machine.load_or_store, "enqueue": Machine.enqueue,
