@@ -54,8 +54,8 @@ def figures_are_counted(place):
     wanted = {("instructions", "executed"): 27, ("instructions", "useful"): 10, ("instructions", "wasted"): 15,
               ("instructions", "left"): 2, ("instructions", "refused"): 6, ("commits", ""): 1, ("events", ""): 20,
               ("acts", ""): 22, ("rounds", ""): "", ("dispatches a commit", ""): 7, ("taken back", ""): 6,
-              ("taken back by cause", "store"): 6, ("taken back by cause", "load"): 0,
-              ("discarded by cause", "store"): 1, ("wasted by cause", "store"): 15,
+              ("taken back by event", "store"): 6, ("taken back by event", "load"): 0,
+              ("discarded by event", "store"): 1, ("wasted by event", "store"): 15,
               ("taken back by line", "0"): 4, ("taken back by line", "3"): 2,
               ("taken back by address", "10000000"): 4, ("taken back by address", "10000030"): 2,
               ("stores of a task", "mean"): 2, ("loads of a task", "90 %"): 0, ("replies to step", "stall"): 1,
@@ -65,11 +65,16 @@ def figures_are_counted(place):
               ("loads by tile", "1"): 4, ("stores by tile", "0"): 3, ("tasks by instructions", "10"): 1,
               ("commits by entry address", "00010000"): 1, ("wasted by entry address", "00010000"): 15,
               ("lines written of a task", "mean"): 2, ("steps", "useful"): 4}
-    wanted.update({("taken back by sharing", kind): count for kind, count in
-                   (("true", 2), ("line", 1), ("alias", 1), ("child", 1), ("cascade", 1))})
+    wanted.update({("taken back itself", edge): count for edge, count in (
+        ("met by the access: byte", 2), ("met by the access: line", 1), ("met by the access: alias", 1),
+        ("child of one", 1), ("touched what one wrote: byte", 1), ("touched what one wrote: line", 0))})
+    wanted.update({("taken back by root", root): count for root, count in (
+        ("access: byte", 4), ("access: line", 1), ("access: alias", 1), ("room: task queue", 0))})
+    wanted.update({("taken back by root, access: byte", "child of one"): 1, ("wasted by root", "access: byte"): 10,
+                   ("taken back by a line or a bit alone on the way", ""): 2})
     for key, value in wanted.items():
         expect(rows.get(key) == str(value), f"{value} as {key}", rows.get(key))
-    for line in ("| of these useful | 10 (37.0 %) |", "| shared: alias | 1 |", "| 0 | 4 | 10000000 | 4 |"):
+    for line in ("| of these useful | 10 (37.0 %) |", "| root: access: alias | 1 |", "| all | 4 | 1 | 1 | 6 |", "| 0 | 4 | 10000000 | 4 |"):
         expect(line in text, f"`{line}`", text)
     for part in ("running", "commit queues", "events"):
         expect(part in picture_in((place.root / "a plot.svg").read_bytes()), f"`{part}` in the plot")
@@ -204,8 +209,9 @@ def told_schedules_are_figured(place):
         expect(answer.output.endswith(b"}\n"), f"lines of {name}", answer)
         rows, _ = rows_of(place, answer.output)
         if name.endswith("/conflict"):
-            told = [rows[key] for key in (("commits", ""), ("taken back", ""), ("discarded by cause", "store"),
-                                          ("taken back by sharing", "true"), ("taken back by sharing", "child"))]
+            told = [rows[key] for key in (("commits", ""), ("taken back", ""), ("discarded by event", "store"),
+                                          ("taken back itself", "met by the access: byte"),
+                                          ("taken back itself", "child of one"))]
             expect(told == ["3", "2", "1", "1", "1"], "the reader, its child and the writer", rows)
 
 

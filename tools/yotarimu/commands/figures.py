@@ -83,7 +83,9 @@ def print_tables(runs: dict[str, Figures], listing: Listing) -> None:
     print(*tables.summary(runs), "", *tables.taken_back(runs), "", *tables.stalls(runs), sep="\n")
     for name, it in runs.items():
         of_run = f" of {name}" if len(runs) > 1 else ""
-        if it.lines:
+        if causes := tables.causes(it):
+            print("", f"What took tasks back themselves{of_run}, and what that goes back to:", "", *causes, sep="\n")
+        if it.taken_back.lines:
             print("", f"Where loads and stores took tasks back{of_run}:", "", *tables.places(it), sep="\n")
         print("", f"What the tasks{of_run} are like:", "", *tables.spreads(it), "", *tables.domains(it), "",
               *tables.entries(it, listing), "", *tables.accesses(it), sep="\n")

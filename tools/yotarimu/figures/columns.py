@@ -8,12 +8,11 @@ from typing import Optional
 from yotarimu.common.tables import plain_ratio, ratio
 from yotarimu.figures.limits import UNBOUNDED, WINDOWS, Manner, Reading, Unit, Window
 from yotarimu.figures.occupancy import PLACES
-from yotarimu.figures.run import SHARING, Figures
+from yotarimu.figures.run import Figures
 from yotarimu.figures.tables import counted
+from yotarimu.figures.taken_back import Edge, Root
 from yotarimu.figures.tasks import SPREADS
 
-# What makes room takes tasks back for these.
-ROOM = ("commit queue", "task queue", "core")
 Number = Callable[[Figures], float]
 Count = Callable[[Figures], Optional[int]]
 
@@ -43,8 +42,19 @@ def mean(head: str, number: Number) -> Column:
     return Column(head, lambda it, first: f"{number(it):.1f}", lambda it, first: f"{number(it):.6g}")
 
 
-def shared(kind: str) -> Column:
-    return count(kind, lambda it: it.sharing[kind])
+# Columns of tasks that were taken back: by what took each itself, and by what that goes back to.
+EDGES = {"byte": Edge.MET_BYTE, "line": Edge.MET_LINE, "alias": Edge.MET_ALIAS, "touched-byte": Edge.TOUCHED_BYTE,
+         "touched-line": Edge.TOUCHED_LINE, "touched-alias": Edge.TOUCHED_ALIAS, "child": Edge.CHILD}
+ROOTS = {"root-byte": Root.BYTE, "root-line": Root.LINE, "root-alias": Root.ALIAS,
+         "root-commit-queue": Root.COMMIT_QUEUE, "root-task-queue": Root.TASK_QUEUE, "root-core": Root.CORE}
+
+
+def itself(edge: Edge) -> Column:
+    return count(edge.value, lambda it: it.taken_back.by_edge(edge))
+
+
+def going_back_to(root: Root) -> Column:
+    return count(f"root: {root.value}", lambda it: it.taken_back.by_root(root))
 
 
 def spread(name: str, head: str) -> dict[str, Column]:
@@ -95,7 +105,7 @@ def fewer(it: Figures, first: Figures) -> float:
 
 
 def wasted(it: Figures) -> float:
-    return 100 * it.all_wasted() / it.executed if it.executed else 0.0
+    return 100 * it.taken_back.all_wasted() / it.executed if it.executed else 0.0
 
 
 COLUMNS = {
@@ -109,10 +119,12 @@ COLUMNS = {
     "useful": quotient("Useful instructions a round", lambda it: it.useful, lambda it: it.rounds()),
     "useful-steps": quotient("Useful steps a round", lambda it: it.useful_steps, lambda it: it.rounds()),
     "dispatches": quotient("Dispatches a commit", lambda it: it.dispatches(), lambda it: it.commits),
-    "taken": count("Taken back", lambda it: it.all_taken_back()),
-    "access": count("by loads and stores", lambda it: it.by_access()),
-    "room": count("for room", lambda it: sum(it.taken_back[cause] for cause in ROOM)),
-    **{kind: shared(kind) for kind in SHARING},
+    "taken": count("Taken back", lambda it: it.taken_back.all()),
+    "access": count("root: loads and stores", lambda it: it.taken_back.by_access()),
+    "room": count("root: room", lambda it: it.taken_back.by_room()),
+    **{name: itself(edge) for name, edge in EDGES.items()},
+    **{name: going_back_to(root) for name, root in ROOTS.items()},
+    "machine": count("a line or a bit alone on the way", lambda it: it.taken_back.by_machine),
     "wasted": Column("Wasted", lambda it, first: f"{wasted(it):.1f} %", lambda it, first: f"{wasted(it):.6g}"),
     **{key: column for name in SPREADS for key, column in spread(name, name.capitalize()).items()},
     "queued": place("task queues", "In task queues"),
@@ -132,7 +144,8 @@ COLUMNS = {
 }
 # The name of the column that tells how a run ended.
 END = "end"
-UNLESS_TOLD = ("rounds", "acts", "round", "thousand", "dispatches", "taken", "access", *SHARING, "wasted", "steps",
+UNLESS_TOLD = ("rounds", "acts", "round", "thousand", "dispatches", "taken", "access", "room", "root-byte", "root-line",
+               "root-alias", "child", "wasted", "steps",
                END)
 
 

@@ -10,18 +10,12 @@ from yotarimu.courses.schedules import round_of
 from yotarimu.figures.limits import Call, CommittedTask, Limit, Limits, Manner, Point
 from yotarimu.figures.occupancy import Occupancy
 from yotarimu.figures.orders import Bounds
+from yotarimu.figures.taken_back import TakenBack
 from yotarimu.figures.tasks import TaskFigures
 from yotarimu.images.image import Image
 from yotarimu.lines.reader import Watched, open_watched
-from yotarimu.lines.replay import DATA_START, NOT_EXECUTED, Access, Machine, Taken, Task, Told
+from yotarimu.lines.replay import NOT_EXECUTED, Machine, Task, Told
 
-# Why a task was taken back: by what was asked for, or else by the event.
-CAUSES = {"load": "load", "store": "store", "end": "commit queue", "enqueue": "task queue", "split": "task queue",
-          "dispatch": "core", "abort": "abort"}
-# What a task that a load or a store took back shares with it, the narrowest first.
-SHARING = TRUE, LINE, ALIAS, CHILD, CASCADE = "true", "line", "alias", "child", "cascade"
-# A task's filter has so many bits for lines.
-FILTER_BITS = 1_024
 # How far a run was read is told once in so many lines.
 LINES_BETWEEN = 2_000
 Progress = Callable[[int], None]
@@ -38,10 +32,8 @@ class Figures:
     def __init__(self, head: dict[str, Any]) -> None:
         self.head, self.end, self.text_lines = head, "", 0
         self.executed = self.useful = self.left = self.refused = 0
-        self.wasted, self.taken_back, self.discarded = (collections.Counter[str]() for _ in range(3))
+        self.taken_back = TakenBack(head["line"])
         self.replies: collections.Counter[tuple[str, str]] = collections.Counter()
-        self.sharing: collections.Counter[str] = collections.Counter()
-        self.lines, self.addresses = (collections.Counter[int]() for _ in range(2))
         self.commits = self.events = self.acts = self.spills = 0
         self.occupancy = Occupancy(acts_a_round(head))
         self.tasks = TaskFigures(head["tiles"], head["line"], head["root"])
@@ -63,22 +55,12 @@ class Figures:
     def dispatches(self) -> int:
         return self.replies["dispatch", "ok"]
 
-    def all_taken_back(self) -> int:
-        return sum(self.taken_back.values())
-
-    def all_wasted(self) -> int:
-        return sum(self.wasted.values())
-
-    def by_access(self) -> int:
-        """How many tasks loads and stores took back."""
-        return sum(self.sharing.values())
-
 
 class Summing:
     """Sums up a run. Lines are handed in one after another, and the last one at the end."""
 
     def __init__(self, head: dict[str, Any]) -> None:
-        self.figures, self.line = Figures(head), head["line"]
+        self.figures = Figures(head)
         self.limits, self.bounds = Limits(), Bounds()
         # Those on cores that wait for room since their last step, and those that trapped.
         self.stalled: set[Task] = set()
@@ -128,21 +110,13 @@ class Summing:
             self.figures.tasks.note_access(task, told.access)
 
     def note_taken(self, told: Told) -> None:
-        it, access = self.figures, told.access
-        cause = CAUSES[told.line.get("asks", told.line["do"])]
-        it.taken_back[cause] += len(told.taken)
-        it.discarded[cause] += len(told.gone)
+        it = self.figures
+        it.taken_back.note(told)
         it.occupancy.count(it.acts, "taken back", len(told.taken))
         for taken in told.taken:
-            it.wasted[cause] += taken.work
             it.tasks.note_taken(taken.task, taken.work)
             self.stalled.discard(taken.task)
             self.trapped.discard(taken.task)
-            if access is not None:
-                it.sharing[shared(taken, access, self.line)] += 1
-        if access is not None:
-            it.lines[line_of(access, self.line)] += len(told.taken)
-            it.addresses[access.address] += len(told.taken)
 
     def note_commit(self, task: Task) -> None:
         it = self.figures
@@ -161,9 +135,10 @@ class Summing:
         it.left = sum(task.work for task in machine.tasks.values())
         it.occupancy.close(it.rounds())
         it.limits, it.bounds, it.useful_steps = self.limits.told(), self.bounds.told(), self.limits.work[1]
-        if it.executed != it.useful + it.all_wasted() + it.left:
+        wasted = it.taken_back.all_wasted()
+        if it.executed != it.useful + wasted + it.left:
             raise Refused(f"{name}: of {it.executed:,} instructions {it.useful:,} are of tasks that committed, "
-                          f"{it.all_wasted():,} of tasks that were taken back, and {it.left:,} are left.")
+                          f"{wasted:,} of tasks that were taken back, and {it.left:,} are left.")
         return it
 
 
@@ -173,27 +148,6 @@ def committed_task(task: Task) -> CommittedTask:
               for access in task.accesses]
     calls = [Call(child, (child.made_at, child.made_step)) for child in task.children]
     return CommittedTask(task, (task.work, task.steps), points, calls)
-
-
-def line_of(access: Access, size: int) -> int:
-    return (access.address - DATA_START) // size
-
-
-def shared(taken: Taken, access: Access, size: int) -> str:
-    """What a task that was taken back shares with the access that did it. A load meets the task's stores alone."""
-    wanted, rank = line_of(access, size), len(SHARING)
-    for own in taken.accesses:
-        if access.is_store or own.is_store:
-            if own.address < access.address + access.bytes and access.address < own.address + own.bytes:
-                return TRUE
-            line = line_of(own, size)
-            if line == wanted:
-                rank = min(rank, SHARING.index(LINE))
-            elif (line - wanted) % FILTER_BITS == 0:
-                rank = min(rank, SHARING.index(ALIAS))
-    if rank < len(SHARING):
-        return SHARING[rank]
-    return CHILD if taken.is_gone else CASCADE
 
 
 def figures_of(watched: Watched, progress: Optional[Progress] = None) -> Figures:

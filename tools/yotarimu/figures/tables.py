@@ -7,14 +7,13 @@ from typing import Any, Optional
 from yotarimu.common.tables import plain_ratio, ratio, table
 from yotarimu.figures.limits import Limit, Manner, Unit
 from yotarimu.figures.occupancy import PLACES, RATES
-from yotarimu.figures.run import CAUSES, SHARING, Figures
+from yotarimu.figures.run import Figures
 from yotarimu.figures.spread import PERCENTS, Spread
+from yotarimu.figures.taken_back import EVENTS, Edge, Root
 from yotarimu.images.listing import NO_LISTING, Listing
 
 # So many lines, addresses and entry addresses are told in a table; the rows have them all.
 MOST_TOLD = 8
-# The causes, each once, in the order in which documents list them.
-CAUSE_NAMES = tuple(dict.fromkeys(CAUSES.values()))
 Runs = Mapping[str, Figures]
 Rows = Iterable[Sequence[str]]
 
@@ -31,7 +30,7 @@ def share(count: int, whole: int) -> str:
 ROWS: tuple[tuple[str, Callable[[Figures], str]], ...] = (
     ("Instructions executed", lambda it: counted(it.executed)),
     ("of these useful", lambda it: share(it.useful, it.executed)),
-    ("wasted", lambda it: share(it.all_wasted(), it.executed)),
+    ("wasted", lambda it: share(it.taken_back.all_wasted(), it.executed)),
     ("left", lambda it: share(it.left, it.executed)),
     ("Instructions of refused steps", lambda it: counted(it.refused)),
     ("Commits", lambda it: counted(it.commits)),
@@ -41,8 +40,8 @@ ROWS: tuple[tuple[str, Callable[[Figures], str]], ...] = (
     ("Useful instructions a round", lambda it: ratio(it.useful, it.rounds())),
     ("Useful steps a round", lambda it: ratio(it.useful_steps, it.rounds())),
     ("Dispatches a commit", lambda it: ratio(it.dispatches(), it.commits)),
-    ("Tasks taken back", lambda it: counted(it.all_taken_back())),
-    ("of these discarded", lambda it: counted(sum(it.discarded.values()))),
+    ("Tasks taken back", lambda it: counted(it.taken_back.all())),
+    ("of these discarded", lambda it: counted(sum(it.taken_back.discarded.values()))),
     ("Tasks spilled at the opening, later", lambda it: f"{it.tasks.spilled_at_opening:,}, {it.spills:,}"),
     ("End", lambda it: it.end),
 )
@@ -54,11 +53,23 @@ def summary(runs: Runs) -> list[str]:
 
 
 def taken_back(runs: Runs) -> list[str]:
-    """Tasks that were taken back by cause, and those of loads and stores by what they shared, a column a run."""
-    rows = [[f"by {cause}" if cause in ("load", "store", "abort") else f"for room: {cause}",
-             *(counted(it.taken_back[cause]) for it in runs.values())] for cause in CAUSE_NAMES]
-    rows += [[f"shared: {kind}", *(counted(it.sharing[kind]) for it in runs.values())] for kind in SHARING]
-    return table(["Taken back", *runs], rows)
+    """Tasks that were taken back, a column a run: by the event, by what took each itself, and by its root."""
+    found = {name: it.taken_back for name, it in runs.items()}
+    rows = [[f"by event: {event}", *(counted(it.tasks[event]) for it in found.values())] for event in EVENTS]
+    rows += [[f"itself: {edge.value}", *(counted(it.by_edge(edge)) for it in found.values())] for edge in Edge]
+    rows += [[f"root: {root.value}", *(counted(it.by_root(root)) for it in found.values())] for root in Root]
+    rows.append(["by a line or a bit alone on the way", *(counted(it.by_machine) for it in found.values())])
+    return table(["Taken back", *found], rows)
+
+
+def causes(it: Figures) -> list[str]:
+    """What took tasks themselves, against what that goes back to; no line where nothing was taken back."""
+    found = it.taken_back
+    roots = [root for root in Root if found.by_root(root)]
+    rows = [[edge.value, *(counted(found.causes[edge, root]) for root in roots), counted(found.by_edge(edge))]
+            for edge in Edge if found.by_edge(edge)]
+    rows.append(["all", *(counted(found.by_root(root)) for root in roots), counted(found.all())])
+    return table(["Itself", *(root.value for root in roots), "all"], rows) if roots else []
 
 
 def stalls(runs: Runs) -> list[str]:
@@ -75,8 +86,8 @@ def most_of(counts: Mapping[Any, int]) -> list[tuple[Any, int]]:
 
 def places(it: Figures) -> list[str]:
     """Where loads and stores took tasks back: the lines and the addresses where most were."""
-    lines = [[f"{line:,}", counted(count)] for line, count in most_of(it.lines)]
-    addresses = [[f"{address:08x}", counted(count)] for address, count in most_of(it.addresses)]
+    lines = [[f"{line:,}", counted(count)] for line, count in most_of(it.taken_back.lines)]
+    addresses = [[f"{address:08x}", counted(count)] for address, count in most_of(it.taken_back.addresses)]
     most = max(len(lines), len(addresses))
     pairs = zip(*(rows + [["", ""]] * (most - len(rows)) for rows in (lines, addresses)))
     return table(["Line", "taken back", "Address", "taken back"], ([*line, *address] for line, address in pairs))
@@ -167,7 +178,7 @@ def plain_rows(runs: Runs) -> Iterator[Sequence[object]]:
 def plain_counts(it: Figures) -> Plain:
     rounds = it.rounds()
     yield from (("instructions", "executed", it.executed), ("instructions", "useful", it.useful),
-                ("instructions", "wasted", it.all_wasted()), ("instructions", "left", it.left),
+                ("instructions", "wasted", it.taken_back.all_wasted()), ("instructions", "left", it.left),
                 ("instructions", "refused", it.refused), ("commits", "", it.commits), ("events", "", it.events),
                 ("acts", "", it.acts), ("rounds", "", "" if rounds is None else rounds),
                 ("commits a round", "", plain_ratio(it.commits, rounds)),
@@ -175,7 +186,7 @@ def plain_counts(it: Figures) -> Plain:
                 ("useful steps a round", "", plain_ratio(it.useful_steps, rounds)),
                 ("steps", "useful", it.useful_steps), ("dispatches", "", it.dispatches()),
                 ("dispatches a commit", "", plain_ratio(it.dispatches(), it.commits)),
-                ("taken back", "", it.all_taken_back()), ("spilled", "", it.spills),
+                ("taken back", "", it.taken_back.all()), ("spilled", "", it.spills),
                 ("spilled at the opening", "", it.tasks.spilled_at_opening), ("end", "", it.end))
     for (word, reply), count in sorted(it.replies.items()):
         yield f"replies to {word}", reply, count
@@ -212,15 +223,22 @@ def plain_tasks(it: Figures) -> Plain:
 
 
 def plain_taken(it: Figures) -> Plain:
-    for cause in CAUSE_NAMES:
-        yield "taken back by cause", cause, it.taken_back[cause]
-        yield "discarded by cause", cause, it.discarded[cause]
-        yield "wasted by cause", cause, it.wasted[cause]
-    for kind in SHARING:
-        yield "taken back by sharing", kind, it.sharing[kind]
-    for line, count in sorted(it.lines.items()):
+    found = it.taken_back
+    for event in EVENTS:
+        yield "taken back by event", event, found.tasks[event]
+        yield "discarded by event", event, found.discarded[event]
+        yield "wasted by event", event, found.wasted[event]
+    for edge in Edge:
+        yield "taken back itself", edge.value, found.by_edge(edge)
+    for root in Root:
+        yield "taken back by root", root.value, found.by_root(root)
+        yield "wasted by root", root.value, found.wasted_by_root[root]
+        for edge in Edge:
+            yield f"taken back by root, {root.value}", edge.value, found.causes[edge, root]
+    yield "taken back by a line or a bit alone on the way", "", found.by_machine
+    for line, count in sorted(found.lines.items()):
         yield "taken back by line", line, count
-    for address, count in sorted(it.addresses.items()):
+    for address, count in sorted(found.addresses.items()):
         yield "taken back by address", f"{address:08x}", count
 
 
