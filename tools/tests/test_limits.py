@@ -6,7 +6,7 @@ import re
 import unittest
 
 from yotarimu.common.places import HOME
-from yotarimu.figures.limits import UNBOUNDED, Limit, Limits, Manner, Reading, Unit, Window
+from yotarimu.figures.limits import UNBOUNDED, Cells, Limit, Limits, Manner, Reading, Unit, Window
 from yotarimu.figures.orders import Bounds
 
 from tests.best_schedule import Best, Text
@@ -22,7 +22,7 @@ COLUMNS = ((Manner.WHOLE, Unit.INSTRUCTION, UNBOUNDED), (Manner.RENAMED, Unit.IN
 
 
 def limits_of(text: Text) -> list[Limit]:
-    limits = Limits(WINDOWS)
+    limits = Limits(Cells(), WINDOWS)
     for task in text.committed():
         limits.commit(task)
     return limits.told()
@@ -74,7 +74,7 @@ class AnyOrders(unittest.TestCase):
                 limits = [limit for text in texts for limit in limits_of(text)
                           if (limit.unit, limit.window) == (Unit.INSTRUCTION, UNBOUNDED)]
                 for order, text in zip(orders, texts):
-                    bounds = Bounds()
+                    bounds = Bounds(Cells())
                     for task, done in zip(order, text.committed()):
                         bounds.commit(done, tree.epoch(task))
                     for manner, bound in bounds.by_manner.items():
@@ -89,7 +89,7 @@ class AnyOrders(unittest.TestCase):
                 renamed = next(it for it in limits_of(Text(order))
                                if (it.manner, it.window) == (Manner.RENAMED, UNBOUNDED))
                 self.assertEqual(renamed.time, time)
-                bounds = Bounds()
+                bounds = Bounds(Cells())
                 for task in Text(order).committed():
                     bounds.commit(task, 0)
                 self.assertEqual(bounds.told()[Manner.RENAMED], 2.0)

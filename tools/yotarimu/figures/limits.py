@@ -15,8 +15,8 @@ import collections
 import dataclasses
 import enum
 import heapq
-from collections.abc import Hashable, Iterable, Sequence
-from typing import NamedTuple, Optional
+from collections.abc import Callable, Hashable, Mapping, Sequence
+from typing import Any, NamedTuple, Optional
 
 
 class Manner(enum.Enum):
@@ -60,16 +60,20 @@ class Unit(enum.Enum):
 
 
 class Gate:
-    """Lets tasks start by a window, in order: `entry` is the earliest time for the next one, `leave` tells its end."""
+    """Lets tasks start by a window, in order. Once it is full, `entry` is the earliest time for the next one; `leave`
+    tells when that is finished."""
 
     def __init__(self, tasks: int) -> None:
-        self.tasks = tasks
+        self.missing = tasks
+        self.is_full = False
 
     def entry(self) -> int:
         raise NotImplementedError
 
     def leave(self, end: int) -> None:
-        raise NotImplementedError
+        if not self.is_full:
+            self.missing -= 1
+            self.is_full = not self.missing
 
 
 class OrderGate(Gate):
@@ -81,10 +85,12 @@ class OrderGate(Gate):
         self.last = 0
 
     def entry(self) -> int:
-        return self.ends.popleft() if len(self.ends) == self.tasks else 0
+        return self.ends.popleft()
 
     def leave(self, end: int) -> None:
-        self.last = max(self.last, end)
+        super().leave(end)
+        if end > self.last:
+            self.last = end
         self.ends.append(self.last)
 
 
@@ -96,20 +102,51 @@ class SlotGate(Gate):
         self.ends: list[int] = []
 
     def entry(self) -> int:
-        return heapq.heappop(self.ends) if len(self.ends) == self.tasks else 0
+        return heapq.heappop(self.ends)
 
     def leave(self, end: int) -> None:
+        super().leave(end)
         heapq.heappush(self.ends, end)
 
 
 GATES: dict[Reading, type[Gate]] = {Reading.ORDER: OrderGate, Reading.SLOTS: SlotGate}
-# Times, one for each plan.
+# Times, one for each plan. A list of them is replaced and never changed, so that marks may share it.
 Times = Sequence[int]
+# What tells a byte's cell from a word's.
+BYTES = 1 << 33
 
 
-def latest(some: Times, others: Times) -> list[int]:
-    """For each plan the later of two times."""
-    return [one if one > other else other for one, other in zip(some, others)]
+class Cells:
+    """What limits look at: the words of the data, and the bytes of those words of which some access touches less. Each
+    table that goes by cells is told here, and is split where a word is."""
+
+    def __init__(self) -> None:
+        self.split: set[int] = set()
+        self.tables: list[dict[int, Any]] = []
+        self.called: list[Callable[[int, tuple[int, ...]], None]] = []
+
+    def table(self) -> dict[int, Any]:
+        """A table by cells, whose values are never changed."""
+        self.tables.append({})
+        return self.tables[-1]
+
+    def of(self, address: int, count: int) -> tuple[int, ...]:
+        """The cells of an access at a multiple of its width."""
+        word = address & ~3
+        if word not in self.split:
+            if count == 4:
+                return (word,)
+            self.split_word(word)
+        return tuple(range(BYTES + address, BYTES + address + count))
+
+    def split_word(self, word: int) -> None:
+        self.split.add(word)
+        cells = tuple(range(BYTES + word, BYTES + word + 4))
+        for table in self.tables:
+            if word in table:
+                table.update(dict.fromkeys(cells, table.pop(word)))
+        for call in self.called:
+            call(word, cells)
 
 
 class Gates:
@@ -121,17 +158,19 @@ class Gates:
                       if window.tasks is not None]
         self.finish = [0] * self.count
 
-    def starts(self, origin: Optional[Times]) -> list[int]:
+    def starts(self, origin: Optional[Mark]) -> list[int]:
         """When the next task may start, by its creator and by the windows."""
-        starts = [0] * self.count if origin is None else list(origin)
+        starts = [0] * self.count if origin is None else [time + origin.behind for time in origin.times]
         for number, gate in self.gates:
-            starts[number] = max(starts[number], gate.entry())
+            if gate.is_full:
+                starts[number] = max(starts[number], gate.entry())
         return starts
 
     def end(self, ends: Times) -> None:
         for number, gate in self.gates:
             gate.leave(ends[number])
-        self.finish = latest(self.finish, ends)
+        if self.finish != ends:
+            self.finish = [one if one > other else other for one, other in zip(self.finish, ends)]
 
 
 # How many instructions, and how many steps.
@@ -139,9 +178,9 @@ Counts = tuple[int, int]
 
 
 class Point(NamedTuple):
-    """An access to data: its bytes, and how much its task had made before it."""
+    """An access to data: its cells, and how much its task had made before it."""
     is_store: bool
-    addresses: Iterable[int]
+    cells: Sequence[int]
     before: Counts
 
 
@@ -159,90 +198,110 @@ class CommittedTask(NamedTuple):
     calls: Sequence[Call]
 
 
+class Mark(NamedTuple):
+    """What others may wait for: for each plan the sum of a time and of `behind`; with the least and the latest time."""
+    times: Times
+    least: int
+    latest: int
+    behind: int
+
+
+def mark_of(times: Times) -> Mark:
+    return Mark(times, min(times), max(times), 0)
+
+
 class WholePlans:
     """Plans by whole tasks, one for each window."""
 
-    def __init__(self, windows: Sequence[Window]) -> None:
+    def __init__(self, windows: Sequence[Window], cells: Cells) -> None:
         self.gates = Gates(windows)
-        self.origins: dict[Hashable, Times] = {}
-        # When the task is finished that stored a byte last.
-        self.stores: dict[int, Times] = {}
+        self.origins: dict[Hashable, Mark] = {}
+        # When the task is finished that stored to a cell last.
+        self.stores: dict[int, Mark] = cells.table()
 
     def commit(self, task: CommittedTask) -> None:
         starts, stores = self.gates.starts(self.origins.pop(task.key, None)), self.stores
         own: set[int] = set()
-        waited: Optional[Times] = None
-        for is_store, addresses, _ in task.points:
+        waited: Optional[Mark] = None
+        for is_store, cells, _ in task.points:
             if is_store:
-                own.update(addresses)
+                own.update(cells)
                 continue
-            for address in addresses:
-                ends = stores.get(address)
-                if ends is not None and ends is not waited and address not in own:
-                    starts, waited = latest(starts, ends), ends
+            for cell in cells:
+                mark = stores.get(cell)
+                if mark is not None and mark is not waited and cell not in own:
+                    starts = [one if one > other else other for one, other in zip(starts, mark.times)]
+                    waited = mark
         finish = [start + task.work[0] for start in starts]
         self.gates.end(finish)
-        for address in own:
-            stores[address] = finish
-        for call in task.calls:
-            self.origins[call.child] = finish
+        if own or task.calls:
+            mark = mark_of(finish)
+            for cell in own:
+                stores[cell] = mark
+            for call in task.calls:
+                self.origins[call.child] = mark
 
 
 class FinePlans:
-    """Plans by instructions or by steps, one for each window. A task that waits is shifted from there on alone."""
+    """Plans by instructions or by steps, one for each window. A task that waits is shifted from there on alone: each of
+    its units comes at its place and the shift."""
 
-    def __init__(self, windows: Sequence[Window], manner: Manner, unit: Unit) -> None:
-        self.gates, self.unit, self.is_one_memory = Gates(windows), unit, manner is Manner.ONE
-        self.column = 0 if unit is Unit.INSTRUCTION else 1
-        self.origins: dict[Hashable, Times] = {}
-        # The earliest time for what waits for the last store of a byte, and for all accesses to it so far.
-        self.stores: dict[int, Times] = {}
-        self.touches: dict[int, Times] = {}
+    def __init__(self, windows: Sequence[Window], manner: Manner, unit: Unit, cells: Cells) -> None:
+        self.gates, self.is_one_memory = Gates(windows), manner is Manner.ONE
+        self.column, self.delay = 0 if unit is Unit.INSTRUCTION else 1, unit.delay
+        self.origins: dict[Hashable, Mark] = {}
+        # What waits for the last store to a cell, and in one memory for all accesses to it so far.
+        self.stores: dict[int, Mark] = cells.table()
+        self.touches: dict[int, Mark] = cells.table()
 
     def commit(self, task: CommittedTask) -> None:
-        column, delay = self.column, self.unit.delay
-        shifts = self.gates.starts(self.origins.pop(task.key, None))
-        calls, next_call = task.calls, 0
-        for point in task.points:
-            place = point.before[column]
-            while next_call < len(calls) and calls[next_call].made[column] <= place:
-                next_call = self.note_call(calls[next_call], shifts, next_call)
-            shifts = self.shifted(point, place, shifts)
-            self.note_access(point, [shift + place + delay for shift in shifts])
-        while next_call < len(calls):
-            next_call = self.note_call(calls[next_call], shifts, next_call)
+        column, delay, is_one_memory, calls = self.column, self.delay, self.is_one_memory, list(task.calls)
+        mark = mark_of(self.gates.starts(self.origins.pop(task.key, None)))
+        for is_store, cells, before in task.points:
+            place = before[column]
+            while calls and calls[0].made[column] <= place:
+                self.note_call(calls.pop(0), mark)
+            if is_one_memory or not is_store:
+                mark = self.shifted(self.touches if is_store else self.stores, cells, place, mark)
+            if is_store:
+                behind = Mark(mark.times, mark.least, mark.latest, place + delay)
+                for cell in cells:
+                    self.stores[cell] = behind
+                    if is_one_memory:
+                        self.touches[cell] = behind
+            elif is_one_memory:
+                self.note_load(cells, Mark(mark.times, mark.least, mark.latest, place + delay))
+        for call in calls:
+            self.note_call(call, mark)
         work = task.work[column]
-        self.gates.end([shift + work for shift in shifts])
+        self.gates.end([shift + work for shift in mark.times])
 
-    def note_call(self, call: Call, shifts: list[int], number: int) -> int:
+    def note_call(self, call: Call, mark: Mark) -> None:
         # A child may start in the unit behind the call, or within the same round.
-        behind = call.made[self.column] - 1 + self.unit.delay
-        self.origins[call.child] = [shift + behind for shift in shifts]
-        return number + 1
+        behind = call.made[self.column] - 1 + self.delay
+        self.origins[call.child] = Mark(mark.times, mark.least, mark.latest, behind)
 
-    def shifted(self, point: Point, place: int, shifts: list[int]) -> list[int]:
+    def shifted(self, waits_for: Mapping[int, Mark], cells: Sequence[int], place: int, mark: Mark) -> Mark:
         """The shifts behind an access: those before it, and as much more as it has to wait."""
-        if point.is_store and not self.is_one_memory:
-            return shifts
-        waits_for = self.touches if point.is_store else self.stores
-        waited: Optional[Times] = None
-        for address in point.addresses:
-            times = waits_for.get(address)
-            if times is not None and times is not waited:
-                shifts = [max(shift, time - place) for shift, time in zip(shifts, times)]
-                waited = times
-        return shifts
+        for cell in cells:
+            found = waits_for.get(cell)
+            if found is not None and found.latest + found.behind - place > mark.least:
+                ahead = found.behind - place
+                mark = mark_of([shift if shift > time + ahead else time + ahead
+                                for shift, time in zip(mark.times, found.times)])
+        return mark
 
-    def note_access(self, point: Point, behind: Times) -> None:
-        if point.is_store:
-            for address in point.addresses:
-                self.stores[address] = behind
-                if self.is_one_memory:
-                    self.touches[address] = behind
-        elif self.is_one_memory:
-            for address in point.addresses:
-                times = self.touches.get(address)
-                self.touches[address] = behind if times is None else latest(times, behind)
+    def note_load(self, cells: Sequence[int], behind: Mark) -> None:
+        """Notes for later stores that they come behind a load, too."""
+        touches = self.touches
+        for cell in cells:
+            found = touches.get(cell)
+            if found is None or found.latest + found.behind <= behind.least + behind.behind:
+                touches[cell] = behind
+            elif found.least + found.behind < behind.latest + behind.behind:
+                times = [max(one + found.behind, other + behind.behind)
+                         for one, other in zip(found.times, behind.times)]
+                touches[cell] = mark_of(times)
 
 
 class Limit(NamedTuple):
@@ -265,11 +324,11 @@ FINE = (Manner.RENAMED, Manner.ONE)
 class Limits:
     """All plans of a run. Steps are told without a window alone."""
 
-    def __init__(self, windows: Sequence[Window] = WINDOWS) -> None:
+    def __init__(self, cells: Cells, windows: Sequence[Window] = WINDOWS) -> None:
         self.windows = windows
-        self.whole = WholePlans(windows)
-        self.fine = [FinePlans(windows, manner, Unit.INSTRUCTION) for manner in FINE]
-        self.by_step = [FinePlans([UNBOUNDED], manner, Unit.STEP) for manner in FINE]
+        self.whole = WholePlans(windows, cells)
+        self.fine = [FinePlans(windows, manner, Unit.INSTRUCTION, cells) for manner in FINE]
+        self.by_step = [FinePlans([UNBOUNDED], manner, Unit.STEP, cells) for manner in FINE]
         self.work = [0, 0]
 
     def commit(self, task: CommittedTask) -> None:

@@ -13,201 +13,202 @@ only that is counted which holds in all of them, as long as each task does what 
 """
 from __future__ import annotations
 
-from collections.abc import Hashable
+import collections
+from collections.abc import Hashable, Iterable, Mapping
 from typing import NamedTuple, Optional
 
-from yotarimu.figures.limits import CommittedTask, Manner, Point
-
-
-class Chain:
-    """The tasks that follow one another on a byte: how long they take together, and how many may break the chain."""
-
-    __slots__ = ("length", "breaks")
-
-    def __init__(self) -> None:
-        self.length = self.breaks = 0
-
-    def time(self) -> int:
-        """Of so many pieces one is at least as long as their mean."""
-        return -(-self.length // (self.breaks + 1))
+from yotarimu.figures.limits import Cells, CommittedTask, Manner, Point
 
 
 class Reach(NamedTuple):
-    """What a task did with a byte: the place of the load that another task's store reaches, of the first access, and
-    of the last store; None where there is none."""
+    """What a task did with a cell: the place of the load that another task's store reaches, of the first access, and of
+    the last store; None where there is none."""
     load: Optional[int]
     first: int
     store: Optional[int]
 
 
-def reaches(points: list[Point]) -> dict[int, Reach]:
-    """What a task did, by byte."""
-    found: dict[int, Reach] = {}
-    for is_store, addresses, (place, _) in points:
-        for address in addresses:
-            old = found.get(address)
+Reaches = dict[int, Reach]
+
+
+def reaches_of(points: Iterable[Point]) -> Reaches:
+    """What a task did, by cell."""
+    found: Reaches = {}
+    for is_store, cells, (place, _) in points:
+        for cell in cells:
+            old = found.get(cell)
             if old is None:
-                found[address] = Reach(None, place, place) if is_store else Reach(place, place, None)
+                found[cell] = Reach(None, place, place) if is_store else Reach(place, place, None)
             elif is_store:
-                found[address] = old._replace(store=place)
+                found[cell] = Reach(old.load, old.first, place)
     return found
+
+
+# The tasks that follow one another on a cell: how long they take together, and how many may break the chain.
+Chain = tuple[int, int]
+NO_CHAIN = (0, 0)
+
+
+def time_of(chain: Chain) -> int:
+    """Of so many pieces one is at least as long as their mean."""
+    length, breaks = chain
+    return -(-length // (breaks + 1))
 
 
 class AnyOrder:
     """A bound for one kind of memory. Tasks come in the order of their commits, `epoch` is the timestamp in the root
     domain of their outermost task, and always the same where that domain is unordered."""
 
-    def __init__(self) -> None:
+    def __init__(self, cells: Cells) -> None:
         self.origins: dict[Hashable, int] = {}
-        self.chains: dict[int, Chain] = {}
+        self.chains: dict[int, Chain] = cells.table()
         self.finish = 0
-        self.epoch: Optional[int] = None
 
-    def commit(self, task: CommittedTask, epoch: int) -> None:
+    def commit(self, task: CommittedTask, epoch: int, reaches: Reaches) -> None:
         raise NotImplementedError
 
     def time(self) -> int:
         """No schedule of any order takes less."""
-        return max([self.finish, *(chain.time() for chain in self.chains.values())])
+        return max([self.finish, *map(time_of, self.chains.values())])
 
     def note_calls(self, task: CommittedTask, shifts: list[tuple[int, int]]) -> None:
         """Notes when children may start, by the shifts of the task and the places from which they hold."""
         for child, (made_at, _) in task.calls:
             self.origins[child] = made_at + max(shift for place, shift in shifts if place < made_at)
 
-    def chain(self, address: int) -> Chain:
-        found = self.chains.get(address)
-        if found is None:
-            found = self.chains[address] = Chain()
-        return found
+    def note_end(self, task: CommittedTask, shifts: list[tuple[int, int]]) -> None:
+        self.note_calls(task, shifts)
+        self.finish = max(self.finish, shifts[-1][1] + task.work[0])
 
 
 class RenamedMemory(AnyOrder):
     """With renamed memory. The tasks of an epoch are kept up to its end, but for the first epoch with a store."""
 
-    def __init__(self) -> None:
-        super().__init__()
-        self.kept: list[tuple[CommittedTask, dict[int, Reach]]] = []
-        # Of each byte the earliest time behind a task's last store of it: in earlier epochs, and in this one.
-        self.before: dict[int, int] = {}
-        self.here: dict[int, int] = {}
+    def __init__(self, cells: Cells) -> None:
+        super().__init__(cells)
+        self.epoch: Optional[int] = None
+        self.kept: list[tuple[CommittedTask, Reaches]] = []
+        # Of each cell the earliest time behind a task's last store to it: in earlier epochs, and in this one.
+        self.before: dict[int, int] = cells.table()
+        self.here: dict[int, int] = cells.table()
+        cells.called.append(self.split)
 
-    def commit(self, task: CommittedTask, epoch: int) -> None:
+    def split(self, word: int, cells: tuple[int, ...]) -> None:
+        """Goes on with the bytes of a word in the tasks that are kept."""
+        for place, (task, reaches) in enumerate(self.kept):
+            if word in reaches:
+                points = [point._replace(cells=cells) if word in point.cells else point for point in task.points]
+                self.kept[place] = task._replace(points=points), reaches_of(points)
+
+    def commit(self, task: CommittedTask, epoch: int, reaches: Reaches) -> None:
         if epoch != self.epoch:
             self.end_epoch()
             self.epoch = epoch
-        reached = reaches(list(task.points))
-        for address, reach in reached.items():
+        for cell, reach in reaches.items():
             if reach.store is not None:
-                chain = self.chain(address)
-                if reach.load is None:
-                    chain.breaks += 1
-                else:
-                    chain.length += reach.store - reach.load + 1
+                length, breaks = self.chains.get(cell, NO_CHAIN)
+                more = (0, 1) if reach.load is None else (reach.store - reach.load + 1, 0)
+                self.chains[cell] = length + more[0], breaks + more[1]
         if self.before:
-            self.kept.append((task, reached))
+            self.kept.append((task, reaches))
         else:
-            self.place(task, reached, {})
+            self.place(task, reaches, {})
 
     def end_epoch(self) -> None:
-        writers: dict[int, int] = {}
-        for _, reached in self.kept:
-            for address, reach in reached.items():
-                if reach.store is not None:
-                    writers[address] = writers.get(address, 0) + 1
-        for task, reached in self.kept:
-            self.place(task, reached, writers)
+        writers: collections.Counter[int] = collections.Counter()
+        for _, reaches in self.kept:
+            writers.update(cell for cell, reach in reaches.items() if reach.store is not None)
+        for task, reaches in self.kept:
+            self.place(task, reaches, writers)
         self.kept = []
         self.before.update(self.here)
-        self.here = {}
+        self.here.clear()
 
-    def place(self, task: CommittedTask, reached: dict[int, Reach], writers: dict[int, int]) -> None:
-        shift = self.origins.pop(task.key, 0)
+    def place(self, task: CommittedTask, reaches: Reaches, writers: Mapping[int, int]) -> None:
+        shift, before = self.origins.pop(task.key, 0), self.before
         shifts, stored = [(-1, shift)], {}
-        for is_store, addresses, (place, _) in task.points:
-            for address in addresses:
+        for is_store, cells, (place, _) in task.points:
+            for cell in cells:
                 if is_store:
-                    stored[address] = shift + place + 1
-                elif self.waits(address, reached[address], writers) and self.before[address] - place > shift:
-                    shift = self.before[address] - place
+                    stored[cell] = shift + place + 1
+                elif before.get(cell, 0) - place > shift and self.waits(cell, reaches[cell], writers):
+                    shift = before[cell] - place
                     shifts.append((place, shift))
-        for address, time in stored.items():
-            self.here[address] = min(time, self.here.get(address, time))
-        self.note_calls(task, shifts)
-        self.finish = max(self.finish, shift + task.work[0])
-
-    def waits(self, address: int, reach: Reach, writers: dict[int, int]) -> bool:
-        """Whether a load of a byte has to wait for an earlier epoch: no other task of its own epoch stores it. What
-        the task loads behind a store of its own comes later than this anyway, or doesn't wait."""
-        others = writers.get(address, 0) - (reach.store is not None)
-        return reach.load is not None and others == 0 and address in self.before
+        for cell, time in stored.items():
+            self.here[cell] = min(time, self.here.get(cell, time))
+        self.note_end(task, shifts)
 
     def time(self) -> int:
         self.end_epoch()
         return super().time()
 
+    def waits(self, cell: int, reach: Reach, writers: Mapping[int, int]) -> bool:
+        """Whether a load has to wait for an earlier epoch: no other task of its own epoch stores to the cell. What the
+        task loads behind a store of its own comes later than this anyway, or doesn't wait."""
+        return reach.load is not None and writers.get(cell, 0) == (reach.store is not None)
 
-class Waits:
-    """The times behind the accesses to a byte: those of earlier epochs, and those of the last epoch that has some."""
 
-    __slots__ = ("epoch", "before", "here")
-
-    def __init__(self) -> None:
-        self.epoch: Optional[int] = None
-        self.before = self.here = 0
-
-    def of_earlier(self, epoch: int) -> int:
-        return self.before if epoch == self.epoch else max(self.before, self.here)
-
-    def note(self, epoch: int, time: int) -> None:
-        if epoch != self.epoch:
-            self.before, self.here, self.epoch = max(self.before, self.here), 0, epoch
-        self.here = max(self.here, time)
+# The times behind the accesses to a cell: the last epoch that has some, those of earlier ones, and those of this one.
+Waits = tuple[int, int, int]
 
 
 class OneMemory(AnyOrder):
     """In one memory."""
 
-    def __init__(self) -> None:
-        super().__init__()
-        self.stores: dict[int, Waits] = {}
-        self.touches: dict[int, Waits] = {}
+    def __init__(self, cells: Cells) -> None:
+        super().__init__(cells)
+        self.stores: dict[int, Waits] = cells.table()
+        self.touches: dict[int, Waits] = cells.table()
 
-    def commit(self, task: CommittedTask, epoch: int) -> None:
+    def commit(self, task: CommittedTask, epoch: int, reaches: Reaches) -> None:
         shift = self.origins.pop(task.key, 0)
         shifts = [(-1, shift)]
-        for point in task.points:
-            found = (self.touches if point.is_store else self.stores)
-            times = [found[address].of_earlier(epoch) for address in point.addresses if address in found]
-            place = point.before[0]
-            later = max(times, default=0) - place
-            if later > shift:
-                shift = later
-                shifts.append((place, shift))
-            self.note(point, epoch, shift + place + 1)
-        for address, reach in reaches(list(task.points)).items():
+        for is_store, cells, (place, _) in task.points:
+            for cell in cells:
+                later = earliest((self.touches if is_store else self.stores).get(cell), epoch) - place
+                if later > shift:
+                    shift = later
+                    shifts.append((place, shift))
+            behind = shift + place + 1
+            for cell in cells:
+                self.touches[cell] = with_time(self.touches.get(cell), epoch, behind)
+                if is_store:
+                    self.stores[cell] = with_time(self.stores.get(cell), epoch, behind)
+        for cell, reach in reaches.items():
             if reach.store is not None:
-                self.chain(address).length += reach.store - reach.first + 1
-        self.note_calls(task, shifts)
-        self.finish = max(self.finish, shift + task.work[0])
+                self.chains[cell] = self.chains.get(cell, NO_CHAIN)[0] + reach.store - reach.first + 1, 0
+        self.note_end(task, shifts)
 
-    def note(self, point: Point, epoch: int, time: int) -> None:
-        for waits in (self.touches, self.stores) if point.is_store else (self.touches,):
-            for address in point.addresses:
-                waits.setdefault(address, Waits()).note(epoch, time)
+
+def earliest(waits: Optional[Waits], epoch: int) -> int:
+    """The earliest time for what waits for all accesses of earlier epochs."""
+    if waits is None:
+        return 0
+    last, before, here = waits
+    return before if last == epoch else here
+
+
+def with_time(waits: Optional[Waits], epoch: int, time: int) -> Waits:
+    if waits is None:
+        return epoch, 0, time
+    last, before, here = waits
+    if last != epoch:
+        return epoch, here, max(here, time)
+    return (epoch, before, time) if time > here else waits
 
 
 class Bounds:
     """The bounds of a run for both kinds of memory, by instructions and without a window."""
 
-    def __init__(self) -> None:
-        self.by_manner: dict[Manner, AnyOrder] = {Manner.RENAMED: RenamedMemory(), Manner.ONE: OneMemory()}
+    def __init__(self, cells: Cells) -> None:
+        self.by_manner: dict[Manner, AnyOrder] = {Manner.RENAMED: RenamedMemory(cells), Manner.ONE: OneMemory(cells)}
         self.instructions = 0
 
     def commit(self, task: CommittedTask, epoch: int) -> None:
         self.instructions += task.work[0]
+        reaches = reaches_of(task.points)
         for bound in self.by_manner.values():
-            bound.commit(task, epoch)
+            bound.commit(task, epoch, reaches)
 
     def told(self) -> dict[Manner, float]:
         """Instructions at once, which no order exceeds; 0 where no task committed."""

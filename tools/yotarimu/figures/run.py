@@ -7,7 +7,7 @@ from typing import Any, Optional
 
 from yotarimu.common.outcome import Refused
 from yotarimu.courses.schedules import round_of
-from yotarimu.figures.limits import Call, CommittedTask, Limit, Limits, Manner, Point
+from yotarimu.figures.limits import Call, Cells, CommittedTask, Limit, Limits, Manner, Point
 from yotarimu.figures.occupancy import Occupancy
 from yotarimu.figures.orders import Bounds
 from yotarimu.figures.taken_back import TakenBack
@@ -61,7 +61,8 @@ class Summing:
 
     def __init__(self, head: dict[str, Any]) -> None:
         self.figures = Figures(head)
-        self.limits, self.bounds = Limits(), Bounds()
+        self.cells = Cells()
+        self.limits, self.bounds = Limits(self.cells), Bounds(self.cells)
         # Those on cores that wait for room since their last step, and those that trapped.
         self.stalled: set[Task] = set()
         self.trapped: set[Task] = set()
@@ -123,7 +124,7 @@ class Summing:
         it.useful += task.work
         it.occupancy.count(it.acts, "commits")
         it.tasks.note_commit(task)
-        done = committed_task(task)
+        done = committed_task(task, self.cells)
         self.limits.commit(done)
         # In an unordered root domain each timestamp counts as 0.
         self.bounds.commit(done, task.time()[0][0])
@@ -142,9 +143,12 @@ class Summing:
         return it
 
 
-def committed_task(task: Task) -> CommittedTask:
+def committed_task(task: Task, cells: Cells) -> CommittedTask:
     """A task that committed, as limits are told of it."""
-    points = [Point(access.is_store, range(access.address, access.address + access.bytes), (access.place, access.step))
+    # A word may be split by any of its accesses, so all are looked at first.
+    for access in task.accesses:
+        cells.of(access.address, access.bytes)
+    points = [Point(access.is_store, cells.of(access.address, access.bytes), (access.place, access.step))
               for access in task.accesses]
     calls = [Call(child, (child.made_at, child.made_step)) for child in task.children]
     return CommittedTask(task, (task.work, task.steps), points, calls)
