@@ -12,11 +12,12 @@ instruction, or a step.
 from __future__ import annotations
 
 import collections
+import copy
 import dataclasses
 import enum
 import heapq
 from collections.abc import Callable, Hashable, Mapping, Sequence
-from typing import Any, NamedTuple, Optional
+from typing import Any, NamedTuple, Optional, Union
 
 
 class Manner(enum.Enum):
@@ -59,58 +60,42 @@ class Unit(enum.Enum):
         return self.value
 
 
-class Gate:
-    """Lets tasks start by a window, in order. Once it is full, `entry` is the earliest time for the next one; `leave`
-    tells when that is finished."""
+class OrderGate:
+    """Lets tasks start by a window, in order. For each task of the window it keeps the time at which all tasks up to
+    that one have finished. Once it is full, `entry` is the earliest time for the next task."""
 
     def __init__(self, tasks: int) -> None:
-        self.missing = tasks
-        self.is_full = False
-
-    def entry(self) -> int:
-        raise NotImplementedError
-
-    def leave(self, end: int) -> None:
-        if not self.is_full:
-            self.missing -= 1
-            self.is_full = not self.missing
-
-
-class OrderGate(Gate):
-    """For each task of the window it keeps the time at which all tasks up to that one have finished."""
-
-    def __init__(self, tasks: int) -> None:
-        super().__init__(tasks)
+        self.tasks, self.last = tasks, 0
         self.ends: collections.deque[int] = collections.deque()
-        self.last = 0
 
     def entry(self) -> int:
         return self.ends.popleft()
 
     def leave(self, end: int) -> None:
-        super().leave(end)
         if end > self.last:
             self.last = end
         self.ends.append(self.last)
 
 
-class SlotGate(Gate):
-    """It keeps the times at which the slots get free, as a heap."""
+class SlotGate:
+    """The same by slots: it keeps the times at which these get free, as a heap."""
 
     def __init__(self, tasks: int) -> None:
-        super().__init__(tasks)
+        self.tasks = tasks
         self.ends: list[int] = []
 
     def entry(self) -> int:
         return heapq.heappop(self.ends)
 
     def leave(self, end: int) -> None:
-        super().leave(end)
         heapq.heappush(self.ends, end)
 
 
-GATES: dict[Reading, type[Gate]] = {Reading.ORDER: OrderGate, Reading.SLOTS: SlotGate}
-# Times, one for each plan. A list of them is replaced and never changed, so that marks may share it.
+Gate = Union[OrderGate, SlotGate]
+
+
+GATES: dict[Reading, Callable[[int], Gate]] = {Reading.ORDER: OrderGate, Reading.SLOTS: SlotGate}
+# Times, one for each plan.
 Times = Sequence[int]
 # What tells a byte's cell from a word's.
 BYTES = 1 << 33
@@ -160,9 +145,9 @@ class Gates:
 
     def starts(self, origin: Optional[Mark]) -> list[int]:
         """When the next task may start, by its creator and by the windows."""
-        starts = [0] * self.count if origin is None else [time + origin.behind for time in origin.times]
+        starts = [0] * self.count if origin is None else [time + origin[1] for time in origin[0].times]
         for number, gate in self.gates:
-            if gate.is_full:
+            if len(gate.ends) == gate.tasks:
                 starts[number] = max(starts[number], gate.entry())
         return starts
 
@@ -198,16 +183,19 @@ class CommittedTask(NamedTuple):
     calls: Sequence[Call]
 
 
-class Mark(NamedTuple):
-    """What others may wait for: for each plan the sum of a time and of `behind`; with the least and the latest time."""
+class Shifts(NamedTuple):
+    """Times, one for each plan, with the least and the latest of them. Marks share them, so they are never changed."""
     times: Times
     least: int
     latest: int
-    behind: int
 
 
-def mark_of(times: Times) -> Mark:
-    return Mark(times, min(times), max(times), 0)
+# What others may wait for: for each plan the sum of its time and of the number.
+Mark = tuple[Shifts, int]
+
+
+def shifts_of(times: Times) -> Shifts:
+    return Shifts(times, min(times), max(times))
 
 
 class WholePlans:
@@ -217,27 +205,27 @@ class WholePlans:
         self.gates = Gates(windows)
         self.origins: dict[Hashable, Mark] = {}
         # When the task is finished that stored to a cell last.
-        self.stores: dict[int, Mark] = cells.table()
+        self.stores: dict[int, Times] = cells.table()
 
     def commit(self, task: CommittedTask) -> None:
         starts, stores = self.gates.starts(self.origins.pop(task.key, None)), self.stores
         own: set[int] = set()
-        waited: Optional[Mark] = None
+        waited: Optional[Times] = None
         for is_store, cells, _ in task.points:
             if is_store:
                 own.update(cells)
                 continue
             for cell in cells:
-                mark = stores.get(cell)
-                if mark is not None and mark is not waited and cell not in own:
-                    starts = [one if one > other else other for one, other in zip(starts, mark.times)]
-                    waited = mark
+                ends = stores.get(cell)
+                if ends is not None and ends is not waited and cell not in own:
+                    starts = [one if one > other else other for one, other in zip(starts, ends)]
+                    waited = ends
         finish = [start + task.work[0] for start in starts]
         self.gates.end(finish)
-        if own or task.calls:
-            mark = mark_of(finish)
-            for cell in own:
-                stores[cell] = mark
+        for cell in own:
+            stores[cell] = finish
+        if task.calls:
+            mark = shifts_of(finish), 0
             for call in task.calls:
                 self.origins[call.child] = mark
 
@@ -246,62 +234,101 @@ class FinePlans:
     """Plans by instructions or by steps, one for each window. A task that waits is shifted from there on alone: each of
     its units comes at its place and the shift."""
 
-    def __init__(self, windows: Sequence[Window], manner: Manner, unit: Unit, cells: Cells) -> None:
-        self.gates, self.is_one_memory = Gates(windows), manner is Manner.ONE
+    def __init__(self, windows: Sequence[Window], unit: Unit, cells: Cells) -> None:
+        self.gates, self.is_one_memory = Gates(windows), False
         self.column, self.delay = 0 if unit is Unit.INSTRUCTION else 1, unit.delay
         self.origins: dict[Hashable, Mark] = {}
         # What waits for the last store to a cell, and in one memory for all accesses to it so far.
         self.stores: dict[int, Mark] = cells.table()
         self.touches: dict[int, Mark] = cells.table()
 
+    def in_one_memory(self, cells: Cells) -> FinePlans:
+        """The same plans as they stand, which go on in one memory."""
+        plans = copy.copy(self)
+        plans.is_one_memory, plans.gates, plans.origins = True, copy.deepcopy(self.gates), dict(self.origins)
+        plans.stores, plans.touches = cells.table(), cells.table()
+        plans.stores.update(self.stores)
+        plans.touches.update(self.touches)
+        return plans
+
+    def holds_a_store_back(self, task: CommittedTask) -> bool:
+        """Whether in one memory a store of the next task might have to wait, so that memories make a difference. What
+        its loads wait for can only make its stores later."""
+        origin = self.origins.get(task.key)
+        start = 0 if origin is None else origin[0].least + origin[1]
+        touches = self.touches
+        for is_store, cells, before in task.points:
+            if is_store:
+                for cell in cells:
+                    found = touches.get(cell)
+                    if found is not None and found[0].latest + found[1] > start + before[self.column]:
+                        return True
+        return False
+
     def commit(self, task: CommittedTask) -> None:
-        column, delay, is_one_memory, calls = self.column, self.delay, self.is_one_memory, list(task.calls)
-        mark = mark_of(self.gates.starts(self.origins.pop(task.key, None)))
+        column, delay, calls = self.column, self.delay, list(task.calls)
+        shifts = shifts_of(self.gates.starts(self.origins.pop(task.key, None)))
         for is_store, cells, before in task.points:
             place = before[column]
             while calls and calls[0].made[column] <= place:
-                self.note_call(calls.pop(0), mark)
-            if is_one_memory or not is_store:
-                mark = self.shifted(self.touches if is_store else self.stores, cells, place, mark)
+                self.note_call(calls.pop(0), shifts)
+            if not is_store:
+                shifts = self.shifted(self.stores, cells, place, shifts)
+            elif self.is_one_memory:
+                shifts = self.shifted(self.touches, cells, place, shifts)
+            behind = shifts, place + delay
             if is_store:
-                behind = Mark(mark.times, mark.least, mark.latest, place + delay)
                 for cell in cells:
                     self.stores[cell] = behind
-                    if is_one_memory:
-                        self.touches[cell] = behind
-            elif is_one_memory:
-                self.note_load(cells, Mark(mark.times, mark.least, mark.latest, place + delay))
+            self.note_touch(cells, behind)
         for call in calls:
-            self.note_call(call, mark)
+            self.note_call(call, shifts)
         work = task.work[column]
-        self.gates.end([shift + work for shift in mark.times])
+        self.gates.end([shift + work for shift in shifts.times])
 
-    def note_call(self, call: Call, mark: Mark) -> None:
+    def note_call(self, call: Call, shifts: Shifts) -> None:
         # A child may start in the unit behind the call, or within the same round.
-        behind = call.made[self.column] - 1 + self.delay
-        self.origins[call.child] = Mark(mark.times, mark.least, mark.latest, behind)
+        self.origins[call.child] = shifts, call.made[self.column] - 1 + self.delay
 
-    def shifted(self, waits_for: Mapping[int, Mark], cells: Sequence[int], place: int, mark: Mark) -> Mark:
+    def shifted(self, waits_for: Mapping[int, Mark], cells: Sequence[int], place: int, shifts: Shifts) -> Shifts:
         """The shifts behind an access: those before it, and as much more as it has to wait."""
         for cell in cells:
             found = waits_for.get(cell)
-            if found is not None and found.latest + found.behind - place > mark.least:
-                ahead = found.behind - place
-                mark = mark_of([shift if shift > time + ahead else time + ahead
-                                for shift, time in zip(mark.times, found.times)])
-        return mark
+            if found is not None and found[0].latest + found[1] - place > shifts.least:
+                ahead = found[1] - place
+                shifts = shifts_of([shift if shift > time + ahead else time + ahead
+                                    for shift, time in zip(shifts.times, found[0].times)])
+        return shifts
 
-    def note_load(self, cells: Sequence[int], behind: Mark) -> None:
-        """Notes for later stores that they come behind a load, too."""
-        touches = self.touches
+    def note_touch(self, cells: Sequence[int], behind: Mark) -> None:
+        """Notes for later stores that in one memory they come behind an access, too."""
+        touches, (shifts, more) = self.touches, behind
         for cell in cells:
             found = touches.get(cell)
-            if found is None or found.latest + found.behind <= behind.least + behind.behind:
+            if found is None or found[0].latest + found[1] <= shifts.least + more:
                 touches[cell] = behind
-            elif found.least + found.behind < behind.latest + behind.behind:
-                times = [max(one + found.behind, other + behind.behind)
-                         for one, other in zip(found.times, behind.times)]
-                touches[cell] = mark_of(times)
+            elif found[0].least + found[1] < shifts.latest + more:
+                times = [max(one + found[1], other + more) for one, other in zip(found[0].times, shifts.times)]
+                touches[cell] = shifts_of(times), 0
+
+
+class FineLimits:
+    """Plans for both kinds of memory. They are the same plans up to the first store that might have to wait."""
+
+    def __init__(self, windows: Sequence[Window], unit: Unit, cells: Cells) -> None:
+        self.cells, self.renamed = cells, FinePlans(windows, unit, cells)
+        self.one: Optional[FinePlans] = None
+
+    def commit(self, task: CommittedTask) -> None:
+        if self.one is None and self.renamed.holds_a_store_back(task):
+            self.one = self.renamed.in_one_memory(self.cells)
+        self.renamed.commit(task)
+        if self.one is not None:
+            self.one.commit(task)
+
+    def finish(self, manner: Manner) -> Times:
+        plans = self.one if manner is Manner.ONE and self.one is not None else self.renamed
+        return plans.gates.finish
 
 
 class Limit(NamedTuple):
@@ -327,21 +354,20 @@ class Limits:
     def __init__(self, cells: Cells, windows: Sequence[Window] = WINDOWS) -> None:
         self.windows = windows
         self.whole = WholePlans(windows, cells)
-        self.fine = [FinePlans(windows, manner, Unit.INSTRUCTION, cells) for manner in FINE]
-        self.by_step = [FinePlans([UNBOUNDED], manner, Unit.STEP, cells) for manner in FINE]
+        self.fine = FineLimits(windows, Unit.INSTRUCTION, cells)
+        self.by_step = FineLimits([UNBOUNDED], Unit.STEP, cells)
         self.work = [0, 0]
 
     def commit(self, task: CommittedTask) -> None:
         """Takes the next task that commits."""
-        self.whole.commit(task)
-        for plans in (*self.fine, *self.by_step):
+        for plans in (self.whole, self.fine, self.by_step):
             plans.commit(task)
         self.work = [so_far + more for so_far, more in zip(self.work, task.work)]
 
     def told(self) -> list[Limit]:
         """Each limit, by whole tasks first, and by steps last."""
-        pairs = [(Manner.WHOLE, self.whole.gates), *((manner, it.gates) for manner, it in zip(FINE, self.fine))]
+        pairs = [(Manner.WHOLE, self.whole.gates.finish), *((manner, self.fine.finish(manner)) for manner in FINE)]
         limits = [Limit(manner, Unit.INSTRUCTION, window, self.work[0], time)
-                  for manner, gates in pairs for window, time in zip(self.windows, gates.finish)]
-        return limits + [Limit(manner, Unit.STEP, UNBOUNDED, self.work[1], it.gates.finish[0])
-                         for manner, it in zip(FINE, self.by_step)]
+                  for manner, finish in pairs for window, time in zip(self.windows, finish)]
+        return limits + [Limit(manner, Unit.STEP, UNBOUNDED, self.work[1], self.by_step.finish(manner)[0])
+                         for manner in FINE]

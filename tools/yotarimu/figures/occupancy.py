@@ -28,10 +28,9 @@ class Curve:
 
     def note(self, values: Sequence[float]) -> None:
         self.moments += 1
-        for place, value in enumerate(values):
-            self.sums[place] += value
-            self.group[place] += value
+        self.group = [total + value for total, value in zip(self.group, values)]
         if self.moments % self.step == 0:
+            self.sums = [total + value for total, value in zip(self.sums, self.group)]
             self.points.append((self.moments, [total / self.step for total in self.group]))
             self.group = [0.0] * len(self.group)
             if len(self.points) == 2 * FEWEST_POINTS:
@@ -44,7 +43,7 @@ class Curve:
         self.step *= 2
 
     def means(self) -> list[float]:
-        return [total / self.moments if self.moments else 0.0 for total in self.sums]
+        return [(total + more) / self.moments if self.moments else 0.0 for total, more in zip(self.sums, self.group)]
 
 
 class Occupancy:
@@ -58,22 +57,20 @@ class Occupancy:
         # The round that goes on, how many events it had, their sums, and what the last one left.
         self.round = self.events = 0
         self.within = [0] * len(PLACES)
-        self.last = [0] * len(PLACES)
+        self.last: Sequence[int] = (0,) * len(PLACES)
         self.counted = [0] * len(RATES)
 
     def note_event(self, act: int, counts: Sequence[int]) -> None:
         """Takes what an event left, by places."""
-        for place, count in enumerate(counts):
-            if count > self.greatest[place]:
-                self.greatest[place] = count
         if self.acts_a_round is None:
             self.curve.note(counts)
-            return
-        self.go_to(act)
-        self.events += 1
-        self.last = list(counts)
-        for place, count in enumerate(counts):
-            self.within[place] += count
+        else:
+            self.go_to(act)
+            self.events += 1
+            self.within = [total + count for total, count in zip(self.within, counts)]
+        if counts != self.last:
+            self.greatest = [one if one > other else other for one, other in zip(self.greatest, counts)]
+            self.last = counts
 
     def count(self, act: int, rate: str, number: int = 1) -> None:
         """Counts what happened at an act."""

@@ -74,7 +74,7 @@ class AnyOrder:
     def note_calls(self, task: CommittedTask, shifts: list[tuple[int, int]]) -> None:
         """Notes when children may start, by the shifts of the task and the places from which they hold."""
         for child, (made_at, _) in task.calls:
-            self.origins[child] = made_at + max(shift for place, shift in shifts if place < made_at)
+            self.origins[child] = made_at + next(shift for place, shift in reversed(shifts) if place < made_at)
 
     def note_end(self, task: CommittedTask, shifts: list[tuple[int, int]]) -> None:
         self.note_calls(task, shifts)

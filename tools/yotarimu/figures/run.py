@@ -2,7 +2,9 @@
 from __future__ import annotations
 
 import collections
-from collections.abc import Callable, Mapping
+import contextlib
+import gc
+from collections.abc import Callable, Iterator, Mapping
 from typing import Any, Optional
 
 from yotarimu.common.outcome import Refused
@@ -145,22 +147,42 @@ class Summing:
 
 def committed_task(task: Task, cells: Cells) -> CommittedTask:
     """A task that committed, as limits are told of it."""
-    # A word may be split by any of its accesses, so all are looked at first.
-    for access in task.accesses:
-        cells.of(access.address, access.bytes)
-    points = [Point(access.is_store, cells.of(access.address, access.bytes), (access.place, access.step))
-              for access in task.accesses]
+    before = len(cells.split)
+    points = points_of(task, cells)
+    if len(cells.split) > before:
+        # A word was split behind the first access to it.
+        points = points_of(task, cells)
     calls = [Call(child, (child.made_at, child.made_step)) for child in task.children]
     return CommittedTask(task, (task.work, task.steps), points, calls)
+
+
+def points_of(task: Task, cells: Cells) -> list[Point]:
+    return [Point(access.is_store, cells.of(access.address, access.bytes), (access.place, access.step))
+            for access in task.accesses]
+
+
+@contextlib.contextmanager
+def no_search_for_cycles() -> Iterator[None]:
+    """Python doesn't look for objects that only hold each other. A text makes none, and many others that it would look
+    at again and again."""
+    was_enabled = gc.isenabled()
+    gc.disable()
+    try:
+        yield
+    finally:
+        if was_enabled:
+            gc.enable()
 
 
 def figures_of(watched: Watched, progress: Optional[Progress] = None) -> Figures:
     """The figures of a run, from its whole text. How many acts were read is told now and then."""
     summing = Summing(watched.head)
-    for told in watched:
-        summing.note(told, watched.machine)
-        if progress is not None and watched.number % LINES_BETWEEN == 0:
-            progress(watched.machine.acts)
+    with no_search_for_cycles():
+        for told in watched:
+            summing.note(told, watched.machine)
+            if progress is not None and watched.number % LINES_BETWEEN == 0:
+                progress(watched.machine.acts)
+    assert watched.end is not None
     figures = summing.close(watched.end, watched.machine, watched.name)
     figures.text_lines = watched.number
     return figures
