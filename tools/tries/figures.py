@@ -74,7 +74,8 @@ def figures_are_counted(place):
                    ("taken back by a line or a bit alone on the way", ""): 2})
     for key, value in wanted.items():
         expect(rows.get(key) == str(value), f"{value} as {key}", rows.get(key))
-    for line in ("| of these useful | 10 (37.0 %) |", "| root: access: alias | 1 |", "| all | 4 | 1 | 1 | 6 |", "| 0 | 4 | 10000000 | 4 |"):
+    for line in ("| of these useful | 10 (37.0 %) |", "| root: access: alias | 1 |", "| all | 4 | 1 | 1 | 6 |",
+                 "| 0 | 4 | 10000000 | 4 |"):
         expect(line in text, f"`{line}`", text)
     for part in ("running", "commit queues", "events"):
         expect(part in picture_in((place.root / "a plot.svg").read_bytes()), f"`{part}` in the plot")

@@ -239,7 +239,8 @@ class Machine:
             raise Wrong(f"core {line['core']} of tile {line['tile']} holds no task")
         if "leg" in line:
             self.need_leg(told.task, line)
-        if line["reply"] in REFUSALS.get(line["do"], ()) and not REFUSALS[line["do"]][line["reply"]](self, line["tile"]):
+        reasons = REFUSALS.get(line["do"], {})
+        if line["reply"] in reasons and not reasons[line["reply"]](self, line["tile"]):
             raise Wrong(f"the tile has no reason to answer `{line['reply']}`")
         if told.is_made:
             self.events += 1
