@@ -2,7 +2,6 @@
 from __future__ import annotations
 
 import csv
-import json
 import os
 
 from yotarimu.programs.examples import SCHEDULES
@@ -10,60 +9,7 @@ from yotarimu.programs.examples import SCHEDULES
 from tries.others import picture_in
 from tries.place import expect, one_sentence_each
 from tries.schedules import written
-
-DATA = 0x10000000
-HEAD = {"watch": 1, "course": "steps", "tiles": 2, "cores": 2, "task_queue": 256, "commit_queue": 64, "line": 16,
-        "quantum": 64, "commits": 1_000_000, "budget": 65_536, "phase": 1_000_000, "root": "ordered", "text": 20,
-        "data": 32_768, "window": [0, 0], "tasks": 1}
-
-
-class Told:
-    """Lines as the second program tells them, put together one after another."""
-
-    def __init__(self, timestamps, tiles, **settings):
-        self.lines = [{**HEAD, **settings, "tasks": len(tiles)}]
-        self.acts = self.events = self.commits = 0
-        for place in sorted(range(len(tiles)), key=lambda place: tiles[place]):
-            self.lines.append({"at": 0, "do": "place", "tile": tiles[place], "new": place, "name": [0, place],
-                               "entry": 65_536, "ts": timestamps[place], "args": [0, 0, 0], "hint": place})
-
-    def act(self, word, change=None, reply="ok", **fields):
-        """An act: what stands before its reply, and what its event changed."""
-        self.acts += 1
-        self.events += reply == "ok" and word != "take"
-        self.lines.append({"at": self.acts, "do": word, **fields, "reply": reply, "n": self.events, **(change or {})})
-
-    def dispatch(self, task, tile, core, number):
-        self.act("dispatch", {"core": core, "number": number}, tile=tile, task=task)
-
-    def step(self, task, tile, core, leg, asks, change=None, reply="ok", **more):
-        self.act("step", change, reply, tile=tile, core=core, task=task, leg=leg, pc=65_540, asks=asks, **more)
-
-    def load(self, task, tile, core, leg, offset, old=0):
-        self.step(task, tile, core, leg, "load", {"old": old}, addr=DATA + offset, bytes=4)
-
-    def store(self, task, tile, core, leg, offset, back=(), gone=()):
-        change = {"aborted": len(back), "back": back, "gone": gone, "old": 0}
-        change = {name: value for name, value in change.items() if value or name == "old"}
-        self.step(task, tile, core, leg, "store", change, addr=DATA + offset, bytes=4, value=9)
-
-    def enqueue(self, task, tile, core, leg, new, reply="ok"):
-        self.step(task, tile, core, leg, "enqueue", {"new": new, "in": tile} if reply == "ok" else None, reply,
-                  to="same", entry=65_536, ts=9, args=[0, 0, 0], hint=0)
-
-    def finish(self, task, tile, core, leg):
-        self.step(task, tile, core, leg, "end")
-
-    def commit(self, task, name, timestamp):
-        self.commits += 1
-        self.act("commit", {"name": name, "depth": 1, "ts": timestamp}, task=task)
-
-    def end(self, end="open"):
-        self.lines.append({"end": end, "n": self.events, "journal": self.commits, "output": "", "window": []})
-        return self.text()
-
-    def text(self):
-        return b"".join(json.dumps(line, separators=(",", ":")).encode() + b"\n" for line in self.lines)
+from tries.told_lines import Told
 
 
 def shared_words():
@@ -78,12 +24,12 @@ def shared_words():
     told.load(3, 1, 1, 3, 16_384)               # 4 of task 3: line 1,024
     told.act("commit", reply="empty", task=0)
     told.store(0, 0, 0, 4, 0, [[1, 5], [2, 1], [3, 4], [5, 0]], [5])    # 5 of task 0
-    told.step(0, 0, 0, 2, "go")                 # 7
+    told.step(0, 0, 0, 1, "unordered")          # 7
     told.dispatch(1, 0, 1, 4)
     told.store(1, 0, 1, 2, 32)                  # 3 of task 1
     told.load(1, 0, 1, 0, 48)                   # 4
     told.dispatch(2, 1, 0, 5)
-    told.load(2, 1, 0, 0, 32, 9)                # 1 of task 2: what task 1 wrote
+    told.load(2, 1, 0, 0, 32)                   # 1 of task 2: what task 1 wrote
     told.dispatch(3, 1, 1, 6)
     told.load(3, 1, 1, 1, 4)                    # 2 of task 3, which is left
     told.store(0, 0, 0, 1, 48, [[1, 4], [2, 1]])    # 9 of task 0
@@ -108,20 +54,30 @@ def figures_are_counted(place):
     wanted = {("instructions", "executed"): 27, ("instructions", "useful"): 10, ("instructions", "wasted"): 15,
               ("instructions", "left"): 2, ("instructions", "refused"): 6, ("commits", ""): 1, ("events", ""): 20,
               ("acts", ""): 22, ("rounds", ""): "", ("dispatches a commit", ""): 7, ("taken back", ""): 6,
-              ("taken back by cause", "store"): 6, ("taken back by cause", "load"): 0,
-              ("discarded by cause", "store"): 1, ("wasted by cause", "store"): 15,
+              ("taken back by event", "store"): 6, ("taken back by event", "load"): 0,
+              ("discarded by event", "store"): 1, ("wasted by event", "store"): 15,
               ("taken back by line", "0"): 4, ("taken back by line", "3"): 2,
               ("taken back by address", "10000000"): 4, ("taken back by address", "10000030"): 2,
               ("stores of a task", "mean"): 2, ("loads of a task", "90 %"): 0, ("replies to step", "stall"): 1,
-              ("occupancy greatest", "task queues"): 6, ("occupancy greatest", "cores"): 4,
-              ("occupancy greatest", "commit queues"): 1, ("occupancy of cores", "4"): 4}
-    wanted.update({("taken back by sharing", kind): count for kind, count in
-                   (("true", 2), ("line", 1), ("alias", 1), ("child", 1), ("cascade", 1))})
+              ("occupancy greatest", "task queues"): 6, ("occupancy greatest", "running"): 4,
+              ("occupancy greatest", "commit queues"): 1, ("curve of running over events", "4"): 4,
+              ("stalled", "step, for a task queue"): 1, ("occupancy greatest", "stalled"): 1,
+              ("loads by tile", "1"): 4, ("stores by tile", "0"): 3, ("tasks by instructions", "10"): 1,
+              ("commits by entry address", "00010000"): 1, ("wasted by entry address", "00010000"): 15,
+              ("lines written of a task", "mean"): 2, ("steps", "useful"): 4}
+    wanted.update({("taken back itself", edge): count for edge, count in (
+        ("met by the access: byte", 2), ("met by the access: line", 1), ("met by the access: alias", 1),
+        ("child of one", 1), ("touched what one wrote: byte", 1), ("touched what one wrote: line", 0))})
+    wanted.update({("taken back by root", root): count for root, count in (
+        ("access: byte", 4), ("access: line", 1), ("access: alias", 1), ("room: task queue", 0))})
+    wanted.update({("taken back by root, access: byte", "child of one"): 1, ("wasted by root", "access: byte"): 10,
+                   ("taken back by a line or a bit alone on the way", ""): 2})
     for key, value in wanted.items():
         expect(rows.get(key) == str(value), f"{value} as {key}", rows.get(key))
-    for line in ("| of these useful | 10 (37.0 %) |", "| shared: alias | 1 |", "| 0 | 4 | 10000000 | 4 |"):
+    for line in ("| of these useful | 10 (37.0 %) |", "| root: access: alias | 1 |", "| all | 4 | 1 | 1 | 6 |",
+                 "| 0 | 4 | 10000000 | 4 |"):
         expect(line in text, f"`{line}`", text)
-    for part in ("cores", "commit queues", "events"):
+    for part in ("running", "commit queues", "events"):
         expect(part in picture_in((place.root / "a plot.svg").read_bytes()), f"`{part}` in the plot")
 
 
@@ -137,36 +93,6 @@ def work_is_summed_up(place):
         rows, _ = rows_of(place, told.end())
         executed, *parts = (int(rows["instructions", of]) for of in ("executed", "useful", "wasted", "left"))
         expect(executed == sum(parts), "a sum", (count, executed, parts))
-
-
-def limits_are_counted(place):
-    """limits of parallelism counted by hand: by creators and stores, by whole tasks and finely, and by windows"""
-    told = Told([1], [0])
-    told.dispatch(0, 0, 0, 0)
-    told.enqueue(0, 0, 0, 0, 1)                 # task 0 has 10 instructions, and makes its children behind 1 and 2
-    told.enqueue(0, 0, 0, 0, 2)
-    told.finish(0, 0, 0, 7)
-    told.commit(0, [0, 0], 1)
-    told.dispatch(1, 0, 0, 1)
-    told.store(1, 0, 0, 3, 0)                   # task 1 has 5, and stores behind 3
-    told.finish(1, 0, 0, 0)
-    told.commit(1, [1, 0], 9)
-    told.dispatch(2, 0, 0, 2)
-    told.load(2, 0, 0, 1, 0, 9)                 # task 2 has 5, and loads that behind 1
-    told.finish(2, 0, 0, 2)
-    told.commit(2, [1, 1], 9)
-    rows, _ = rows_of(place, told.end("normal"), "--fine")
-    for manner, value in (("by whole tasks", "1"), ("finely", "2")):
-        for window in ("64", "1024", "without bound"):
-            expect(rows[f"parallelism {manner}", window] == value, f"{value} {manner}", rows)
-    told = Told([1] * 100, [0] * 100)
-    for task in range(100):
-        told.dispatch(task, 0, 0, task)
-        told.finish(task, 0, 0, 0)
-        told.commit(task, [0, task], 1)
-    rows, _ = rows_of(place, told.end("normal"))
-    limits = [rows["parallelism by whole tasks", window] for window in ("64", "1024", "without bound")]
-    expect(limits == ["50", "100", "100"], "a window of 64 that is met once", limits)
 
 
 def runs_stand_side_by_side(place):
@@ -284,10 +210,11 @@ def told_schedules_are_figured(place):
         expect(answer.output.endswith(b"}\n"), f"lines of {name}", answer)
         rows, _ = rows_of(place, answer.output)
         if name.endswith("/conflict"):
-            told = [rows[key] for key in (("commits", ""), ("taken back", ""), ("discarded by cause", "store"),
-                                          ("taken back by sharing", "true"), ("taken back by sharing", "child"))]
+            told = [rows[key] for key in (("commits", ""), ("taken back", ""), ("discarded by event", "store"),
+                                          ("taken back itself", "met by the access: byte"),
+                                          ("taken back itself", "child of one"))]
             expect(told == ["3", "2", "1", "1", "1"], "the reader, its child and the writer", rows)
 
 
-TRIES = (figures_are_counted, work_is_summed_up, limits_are_counted, runs_stand_side_by_side, other_lines_are_refused,
+TRIES = (figures_are_counted, work_is_summed_up, runs_stand_side_by_side, other_lines_are_refused,
          odd_acts_are_refused, no_text_is_lost, told_schedules_are_figured)

@@ -13,6 +13,8 @@ from yotarimu.pictures.page import Passed
 from yotarimu.programs.examples import SCHEDULES
 
 from tries.place import LeftOut, expect, one_sentence_each
+from tries.schedules import written
+from tries.told_lines import Told
 
 BROWSERS = ("chromium", "chromium-browser", "google-chrome")
 # The browser ends once the page has been at work for so long, by the page's own clock.
@@ -134,13 +136,13 @@ def standing(machine, passed):
              for tile in range(machine.head["tiles"])]
     counts = [machine.queued - machine.running - machine.waiting, machine.running, machine.waiting, machine.spilled,
               passed.useful, passed.wasted]
-    return [machine.acts, machine.events, tiles, counts, machine.commits], dict(machine.memory)
+    return [machine.acts, machine.events, tiles, counts, machine.commits], dict(machine.memory.bytes)
 
 
 def standings(lines):
     """The same behind the opening and behind each act of a text."""
     found, passed = [], Passed()
-    with open_watched(lines, keeps_memory=True) as watched:
+    with open_watched(lines) as watched:
         for told in watched:
             passed.follow(told)
             if not told.is_act():
@@ -211,6 +213,32 @@ def runs_are_shown(place):
         walked(place, shown(place, lines, "--from", str(ats[first])), lines, first)
 
 
+def children_spilled_before_the_page_count(place):
+    """a page that begins behind spilled children of a task that makes more names all of them as the reader does"""
+    told, queued = Told([0], [0], tiles=1, cores=1, task_queue=4), {}
+    told.dispatch(0, 0, 0, 0)
+    for child in range(10):
+        change = {"spilled": [[task, 1, index] for task, index in sorted(queued.items())]} if len(queued) == 3 else {}
+        queued = {} if change else queued
+        queued[len(queued) + 1] = child
+        told.enqueue(0, 0, 0, 1, len(queued), **change)
+    told.finish(0, 0, 0, 1)
+    told.commit(0, [0, 0], 0)
+    lines = written(place, "lines", told.end())
+    names = {label_of(task) for task in all_tasks(lines)}
+    expect(names == {f"1.{child}" for child in range(10)}, "ten children", names)
+    for first in range(12):
+        walked(place, shown(place, lines, "--from", str(first)), lines, first)
+
+
+def all_tasks(lines):
+    """The uncommitted tasks that a text leaves."""
+    with open_watched(lines) as watched:
+        for _ in watched:
+            pass
+        return list(watched.machine.all_tasks())
+
+
 def long_runs_want_a_range(place):
     """above 50,000 acts a page wants a range, and a text that was cut is shown where that is asked for"""
     lines, _ = stored(place)
@@ -258,4 +286,5 @@ def other_texts_are_refused(place):
     place.is_clean()
 
 
-TRIES = (stored_lines_are_shown, runs_are_shown, long_runs_want_a_range, other_texts_are_refused)
+TRIES = (stored_lines_are_shown, runs_are_shown, children_spilled_before_the_page_count, long_runs_want_a_range,
+         other_texts_are_refused)

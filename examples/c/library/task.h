@@ -10,42 +10,73 @@
 #define TASK_H
 #include <stdint.h>
 
-/* Where the private stack of each task begins, in an image of version 2. */
-#define STACK_START 0x20000000u
-
 /* An entry is three instructions: a call of the body, and call 0, which ends the task. */
 struct task_code { uint32_t word; };
 typedef const struct task_code task_entry[3];
 
 #define TASK(name, ...)                                                                                               \
-    _Static_assert(COUNT_OF(__VA_ARGS__) <= 4, "a task has three arguments and its timestamp, and no more");          \
-    _Static_assert(ARE_WORDS(__VA_ARGS__), "a parameter of a task has 32 bits: it is a number or a pointer to data"); \
+    TASK_ASSERT(TASK_COUNT(__VA_ARGS__) <= 4, "a task has three arguments and its timestamp, and no more");           \
+    TASK_ASSERT(TASK_ARE_WORDS(__VA_ARGS__),                                                                          \
+                "a parameter of a task has 32 bits: it is a number or a pointer to data");                            \
     extern task_entry name;                                                                                           \
     __asm__(".pushsection .text.task." #name ",\"ax\",@progbits\n.balign 4\n.globl " #name "\n.type " #name           \
             ",@function\n" #name ":\n jal ra, " #name "_body\n li a7, 0\n ecall\n.size " #name ", . - " #name         \
             "\n.popsection");                                                                                         \
-    __attribute__((used)) static void name##_body(__VA_ARGS__);                                                       \
+    __attribute__((used)) static void name##_body(__VA_ARGS__) __asm__(#name "_body");                                \
     static void name##_body(__VA_ARGS__)
 
 /* A child. What isn't given is 0: enqueue(visit, length, node, .hint = node) gives a timestamp, one argument and a
    hint. A pointer to data is given as at(pointer). */
-#define enqueue(entry, ...)       ENQUEUE(1, entry, __VA_ARGS__) /* to the own domain */
-#define enqueue_sub(entry, ...)   ENQUEUE(2, entry, __VA_ARGS__) /* to the subdomain */
-#define enqueue_super(entry, ...) ENQUEUE(3, entry, __VA_ARGS__) /* to the superdomain */
-struct child { uint32_t ts, a, b, c, hint; };
+#define enqueue(entry, ...)       TASK_ENQUEUE(1, entry, __VA_ARGS__) /* to the own domain */
+#define enqueue_sub(entry, ...)   TASK_ENQUEUE(2, entry, __VA_ARGS__) /* to the subdomain */
+#define enqueue_super(entry, ...) TASK_ENQUEUE(3, entry, __VA_ARGS__) /* to the superdomain */
+struct task_child { uint32_t ts, a, b, c, hint; };
+
+/* Parts the places from `place` up to `end` among at most 16 tasks `entry`, and is 1; where there are at most 16 places
+   it does nothing, and is 0. So a task whose arguments are a range makes a tree, in which no task waits long for its
+   creator and none has more children than it may:
+
+       TASK(feed, uint32_t place, uint32_t end)
+       {
+           if (spread(feed, place, place, end))
+               return;
+           for (; place < end; place++)
+               enqueue(visit, place, place);
+       }
+
+   `place` is a variable, from which `place / 16` is the hint of each part. `ts` is the timestamp of a part, and may be
+   told by the part's first place. */
+#define spread(entry, ts, place, end)                                                                                 \
+    ({                                                                                                                \
+        const uint32_t task_end_ = (end), task_is_parted_ = task_end_ - (place) > TASK_PARTS;                         \
+        if (task_is_parted_) {                                                                                        \
+            uint32_t task_part_ = TASK_PARTS;                                                                         \
+            while ((task_end_ - (place) - 1) / TASK_PARTS >= task_part_)                                              \
+                task_part_ *= TASK_PARTS;                                                                             \
+            for (;; (place) += task_part_) {                                                                          \
+                const uint32_t task_is_last_ = task_end_ - (place) <= task_part_;                                     \
+                enqueue(entry, (ts), (place), task_is_last_ ? task_end_ : (place) + task_part_,                       \
+                        .hint = (place) / TASK_PARTS);                                                                \
+                if (task_is_last_)                                                                                    \
+                    break;                                                                                            \
+            }                                                                                                         \
+        }                                                                                                             \
+        task_is_parted_;                                                                                              \
+    })
+#define TASK_PARTS 16u
 
 /* Makes the task's subdomain. */
-#define make_subdomain(kind) CALL_WITH(4, kind)
+#define make_subdomain(kind) TASK_CALL(4, kind)
 enum domain_kind { UNORDERED, ORDERED };
 
 /* Emits a byte. */
-#define emit(byte) CALL_WITH(5, byte)
+#define emit(byte) TASK_CALL(5, byte)
 
 /* Ends the task, from any depth of calls. */
 #define end_task()                                                                                                    \
     do {                                                                                                              \
-        register uint32_t call_ __asm__("a7") = 0;                                                                    \
-        __asm__ volatile("ecall" : : "r"(call_) : "memory");                                                          \
+        register uint32_t task_call_ __asm__("a7") = 0;                                                               \
+        __asm__ volatile("ecall" : : "r"(task_call_) : "memory");                                                     \
         __builtin_unreachable();                                                                                      \
     } while (0)
 
@@ -61,65 +92,131 @@ enum domain_kind { UNORDERED, ORDERED };
 /* A pointer as an argument of a child. One to a local is trap 8: the child would see its own stack there. */
 #define at(pointer)                                                                                                   \
     ({                                                                                                                \
-        const volatile void *pointer_ = (pointer);                                                                    \
-        require((uint32_t)pointer_ < STACK_START);                                                                    \
-        (uint32_t)pointer_;                                                                                           \
+        const volatile void *task_pointer_ = (pointer);                                                               \
+        require((uint32_t)task_pointer_ < TASK_STACK);                                                                \
+        (uint32_t)task_pointer_;                                                                                      \
     })
+/* Where the private stack of each task begins, in an image of version 2. */
+#define TASK_STACK 0x20000000u
 
-/* ---- What the names above are made of. All are macros, so that a trap is told at the line that uses them.
+/* ---- What the names above are made of: their names begin with TASK_ or task_. All are macros, so that a trap is told
+   at the line that uses them.
 
    A call of the machine changes no register, and nobody sees the task's memory before the task has ended. So a call has
    inputs alone, and values stay in registers across it. Arguments come before the registers are set, since a product
    or a quotient in one of them is a call of a function. */
-#define ENQUEUE(call, entry, ...)                                                                                     \
+#define TASK_ENQUEUE(call, entry, ...)                                                                                \
     do {                                                                                                              \
-        _Static_assert(IS_ENTRY(entry), "only a task can be enqueued: TASK(name, ..) makes one");                     \
-        const struct task_code *entry_ = (entry);                                                                     \
-        struct child child_ = {__VA_ARGS__};                                                                          \
-        register uint32_t call_ __asm__("a7") = call;                                                                 \
-        register const struct task_code *a0_ __asm__("a0") = entry_;                                                  \
-        register uint32_t a1_ __asm__("a1") = child_.ts, a2_ __asm__("a2") = child_.a;                                \
-        register uint32_t a3_ __asm__("a3") = child_.b, a4_ __asm__("a4") = child_.c;                                 \
-        register uint32_t a5_ __asm__("a5") = child_.hint;                                                            \
-        __asm__ volatile("ecall" : : "r"(call_), "r"(a0_), "r"(a1_), "r"(a2_), "r"(a3_), "r"(a4_), "r"(a5_));         \
+        TASK_ASSERT(TASK_IS_ENTRY(entry), "only a task can be enqueued: TASK(name, ..) makes one");                   \
+        const struct task_code *task_entry_ = (entry);                                                                \
+        struct task_child task_child_ = TASK_CHILD(__VA_ARGS__);                                                      \
+        register uint32_t task_call_ __asm__("a7") = call;                                                            \
+        register const struct task_code *task_a0_ __asm__("a0") = task_entry_;                                        \
+        register uint32_t task_a1_ __asm__("a1") = task_child_.ts, task_a2_ __asm__("a2") = task_child_.a;            \
+        register uint32_t task_a3_ __asm__("a3") = task_child_.b, task_a4_ __asm__("a4") = task_child_.c;             \
+        register uint32_t task_a5_ __asm__("a5") = task_child_.hint;                                                  \
+        __asm__ volatile("ecall" : : "r"(task_call_), "r"(task_a0_), "r"(task_a1_), "r"(task_a2_), "r"(task_a3_),     \
+                         "r"(task_a4_), "r"(task_a5_));                                                               \
     } while (0)
 
-#define CALL_WITH(call, value)                                                                                        \
+#define TASK_CALL(call, value)                                                                                        \
     do {                                                                                                              \
-        uint32_t value_ = (value);                                                                                    \
-        register uint32_t call_ __asm__("a7") = call;                                                                 \
-        register uint32_t a0_ __asm__("a0") = value_;                                                                 \
-        __asm__ volatile("ecall" : : "r"(call_), "r"(a0_));                                                           \
+        uint32_t task_value_ = (value);                                                                               \
+        register uint32_t task_call_ __asm__("a7") = call;                                                            \
+        register uint32_t task_a0_ __asm__("a0") = task_value_;                                                       \
+        __asm__ volatile("ecall" : : "r"(task_call_), "r"(task_a0_));                                                 \
     } while (0)
 
-#define IS_ENTRY(entry) _Generic((entry), const struct task_code *: 1, default: 0)
+#define TASK_COUNT(...) TASK_NINTH(, ##__VA_ARGS__, 7, 6, 5, 4, 3, 2, 1, 0)
+#define TASK_NINTH(a, b, c, d, e, f, g, h, ninth, ...) ninth
 
-#define COUNT_OF(...) NINTH(, ##__VA_ARGS__, 7, 6, 5, 4, 3, 2, 1, 0)
-#define NINTH(a, b, c, d, e, f, g, h, ninth, ...) ninth
+#ifndef __cplusplus
+#define TASK_ASSERT          _Static_assert
+#define TASK_CHILD(...)      {__VA_ARGS__}
+#define TASK_IS_ENTRY(entry) _Generic((entry), const struct task_code *: 1, default: 0)
 
 /* A compiler takes a parameter of fewer bits as it comes, and splits a longer one over two arguments. */
-#define ARE_WORDS(...) NINTH(, ##__VA_ARGS__, MANY, MANY, MANY, WORDS_4, WORDS_3, WORDS_2, IS_WORD, NONE)(__VA_ARGS__)
-#define NONE()              1
-#define WORDS_2(a, b)       (IS_WORD(a) && IS_WORD(b))
-#define WORDS_3(a, b, c)    (WORDS_2(a, b) && IS_WORD(c))
-#define WORDS_4(a, b, c, d) (WORDS_3(a, b, c) && IS_WORD(d))
-#define MANY(...)           1
-#define IS_WORD(parameter)                                                                                            \
-    _Generic((void (*)(parameter))0, NO_WORD(_Bool), NO_WORD(char), NO_WORD(signed char), NO_WORD(unsigned char),     \
-             NO_WORD(short), NO_WORD(unsigned short), NO_WORD(long long), NO_WORD(unsigned long long),                \
-             NO_WORD(float), NO_WORD(double), NO_WORD(long double), default: 1)
-#define NO_WORD(type) void (*)(type): 0
+#define TASK_ARE_WORDS(...)                                                                                           \
+    TASK_NINTH(, ##__VA_ARGS__, TASK_MANY, TASK_MANY, TASK_MANY, TASK_WORDS_4, TASK_WORDS_3, TASK_WORDS_2,            \
+               TASK_IS_WORD, TASK_NONE)(__VA_ARGS__)
+#define TASK_NONE()              1
+#define TASK_WORDS_2(a, b)       (TASK_IS_WORD(a) && TASK_IS_WORD(b))
+#define TASK_WORDS_3(a, b, c)    (TASK_WORDS_2(a, b) && TASK_IS_WORD(c))
+#define TASK_WORDS_4(a, b, c, d) (TASK_WORDS_3(a, b, c) && TASK_IS_WORD(d))
+#define TASK_MANY(...)           1
+#define TASK_IS_WORD(parameter)                                                                                       \
+    _Generic((void (*)(parameter))0, TASK_NO_WORD(_Bool), TASK_NO_WORD(char), TASK_NO_WORD(signed char),              \
+             TASK_NO_WORD(unsigned char), TASK_NO_WORD(short), TASK_NO_WORD(unsigned short), TASK_NO_WORD(long long), \
+             TASK_NO_WORD(unsigned long long), TASK_NO_WORD(float), TASK_NO_WORD(double), TASK_NO_WORD(long double),  \
+             default: 1)
+#define TASK_NO_WORD(type) void (*)(type): 0
+#else
+
+/* ---- The same in C++, which has neither _Generic nor a list of values in which only the last is named. */
+#define TASK_ASSERT          static_assert
+#define TASK_ARE_WORDS(...)  decltype(task_words_of((void (*)(__VA_ARGS__))nullptr))::are_words
+#define TASK_IS_ENTRY(entry) task_is_entry<decltype(&*(entry))>::value
+
+template <typename T> struct task_is_word { static constexpr bool value = __is_enum(T) && sizeof(T) == 4; };
+template <typename T> struct task_is_word<T *> { static constexpr bool value = true; };
+template <> struct task_is_word<int> { static constexpr bool value = true; };
+template <> struct task_is_word<unsigned> { static constexpr bool value = true; };
+template <> struct task_is_word<long> { static constexpr bool value = true; };
+template <> struct task_is_word<unsigned long> { static constexpr bool value = true; };
+template <bool... are> struct task_all { static constexpr bool are_words = (are && ...); };
+template <typename... T> task_all<task_is_word<T>::value...> task_words_of(void (*)(T...));
+
+template <typename T> struct task_is_entry { static constexpr bool value = false; };
+template <> struct task_is_entry<const task_code *> { static constexpr bool value = true; };
+
+template <typename T> struct task_is_pointer { static constexpr bool value = false; };
+template <typename T> struct task_is_pointer<T *> { static constexpr bool value = true; };
+template <typename T> struct task_is_fraction { static constexpr bool value = false; };
+template <> struct task_is_fraction<float> { static constexpr bool value = true; };
+
+/* A word that a child is given. */
+struct task_word {
+    uint32_t value;
+    constexpr task_word() : value(0) {}
+    template <typename T> constexpr task_word(T given) : value((uint32_t)given)
+    {
+        static_assert(!task_is_pointer<T>::value, "a pointer is given as at(pointer)");
+        static_assert(sizeof(T) <= 4 && !task_is_fraction<T>::value, "a child is given numbers of 32 bits");
+    }
+};
+
+/* One of the words in a call of `enqueue`: by its place, or a hint by its name. */
+struct task_piece { task_word value = {}, hint = {}; };
+
+static constexpr task_child task_child_of(task_piece ts = {}, task_piece a = {}, task_piece b = {}, task_piece c = {},
+                                          task_piece hint = {})
+{
+    return {ts.value.value, a.value.value, b.value.value, c.value.value,
+            hint.value.value | ts.hint.value | a.hint.value | b.hint.value | c.hint.value | hint.hint.value};
+}
+
+#define TASK_CHILD(...)                                                                                               \
+    task_child_of(TASK_NINTH(, ##__VA_ARGS__, TASK_MANY, TASK_MANY, TASK_PIECES_5, TASK_PIECES_4, TASK_PIECES_3,      \
+                             TASK_PIECES_2, TASK_PIECE, TASK_NONE)(__VA_ARGS__))
+#define TASK_NONE()
+#define TASK_PIECE(a)                {a}
+#define TASK_PIECES_2(a, b)          {a}, {b}
+#define TASK_PIECES_3(a, b, c)       {a}, {b}, {c}
+#define TASK_PIECES_4(a, b, c, d)    {a}, {b}, {c}, {d}
+#define TASK_PIECES_5(a, b, c, d, e) {a}, {b}, {c}, {d}, {e}
+#define TASK_MANY(...)               {__VA_ARGS__}, "a child has a timestamp, three arguments and a hint, and no more"
+#endif
 
 /* ---- Emits a text up to its zero, a number in decimal, and one in eight hexadecimal digits. */
-#define ALWAYS_INLINE static inline __attribute__((always_inline))
+#define TASK_INLINE static inline __attribute__((always_inline))
 
-ALWAYS_INLINE void emit_text(const char *text)
+TASK_INLINE void emit_text(const char *text)
 {
     while (*text)
         emit((unsigned char)*text++);
 }
 
-ALWAYS_INLINE void emit_number(uint32_t number)
+TASK_INLINE void emit_number(uint32_t number)
 {
     /* A quotient would cost more than counting. */
     static const uint32_t powers[10] = {1000000000, 100000000, 10000000, 1000000, 100000, 10000, 1000, 100, 10, 1};
@@ -134,7 +231,7 @@ ALWAYS_INLINE void emit_number(uint32_t number)
     }
 }
 
-ALWAYS_INLINE void emit_hex(uint32_t number)
+TASK_INLINE void emit_hex(uint32_t number)
 {
     for (int shift = 28; shift >= 0; shift -= 4)
         emit("0123456789abcdef"[number >> shift & 15]);

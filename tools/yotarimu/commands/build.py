@@ -4,15 +4,17 @@ usage: ./fractal build [--clang] FOLDER...
        ./fractal build [--clang] --all     all of the project's examples and schedules
 
 A FOLDER is a path, or the name of one of the project's examples or schedules. Its sources are linked in the order of
-their names: *.s, RV32I in the syntax of GNU as, and *.c, tasks in C that include task.h (docs/guest/C.md). C is
-compiled by gcc, or by clang after --clang. The folder gets image.bin and listing. Comments of the sources describe the
-image; in C they begin with //:
+their names: *.s, RV32I in the syntax of GNU as; *.c and *.cpp, tasks that include task.h (docs/guest/C.md), compiled by
+gcc, or by clang after --clang; *.ll, by clang; and *.o. The folder gets image.bin and listing. Comments of the sources
+describe the image; in C they begin with //:
 
     # image: root ordered           or unordered; ordered unless told
     # image: data BYTES             the data size; else that of the sections of data
+    # image: data LABEL FILE        what stands from a label on: bytes, or numbers where the name ends in .csv
     # image: window LABEL [WORDS]   the words that the report tells, else none; a variable of C knows its size
     # image: task LABEL [ts N] [args A [B [C]]]
-    # image: version 1              or 2; 2 where a source is C, else 1
+    # image: tasks FILE             a row for each task, as docs/guest/TASKS.md says
+    # image: version 1              or 2; 2 where a compiler made a source, else 1
 
 Numbers are decimal, or hexadecimal after 0x. An argument may be a label, for its address. There is at least one line on
 a task. The text has the sections .text and .rodata, the data .data and .sdata, and after them .bss and .sbss, which

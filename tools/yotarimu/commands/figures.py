@@ -1,67 +1,123 @@
 """Sums up runs that `./fractal watch` told: which work was wasted, what took tasks back, and how far a run is parallel.
 
-usage: ./fractal figures LINES... [--fine] [--csv FILE] [--plot FILE]
+usage: ./fractal figures LINES... [--image IMAGE] [--listing LISTING] [--csv FILE] [--plot FILE] [--log AXES]
+                         [--histogram NAME,FILE]
 
 Each LINES is a whole text that `./fractal watch` wrote; - is standard input. docs/machine/FIGURES.md says what each
-figure is. With --fine the limits of parallelism are also told instruction by instruction, and not by whole tasks alone.
-With --csv the same numbers go to FILE as CSV, a row for each figure, with all lines, all addresses and the curves; with
---plot a plot (SVG) of how many tasks are in task queues, on cores, in commit queues and in blocks over events.
+figure is, and what of a text is held against the lines before it.
+
+  --image IMAGE          the image of the run: each leg is replayed on its text, and each byte of its data is known
+  --listing LISTING      that of the image, as ./fractal build wrote it: entry addresses are told by their labels
+  --csv FILE             the same numbers as CSV, a row for each figure, with all lines, addresses, values and curves
+  --plot FILE            a plot (SVG) of how many tasks are where, over rounds in lockstep and else over events
+  --log AXES             the plot's axes that are logarithmic: x, y or xy; none unless told
+  --histogram NAME,FILE  a histogram (SVG) of what tasks have that committed: {names}
 """
 from __future__ import annotations
 
 import csv
+import dataclasses
 import io
 import time
+from typing import Optional
 
-from yotarimu.common.files import encoded, need_outputs, write_whole
+from yotarimu.common.files import encoded, need_outputs, read_bytes, read_written, write_whole
 from yotarimu.common.outcome import Refused, is_at_terminal, say
 from yotarimu.common.words import need_words, take_option
 from yotarimu.figures import tables
-from yotarimu.figures.run import read_figures
-from yotarimu.pictures import plot
+from yotarimu.figures.run import Figures, read_figures
+from yotarimu.figures.tasks import SPREADS
+from yotarimu.images.image import read_image
+from yotarimu.images.listing import NO_LISTING, Listing, read_listing
+from yotarimu.pictures import histogram, plot
+
+__doc__ = __doc__.replace("{names}", ", ".join(SPREADS))
 
 
-def read_words(words):
-    """The LINES, whether limits are wanted finely, and the paths for CSV and a plot."""
-    plot_path, words = take_option(words, "--plot")
-    csv_path, words = take_option(words, "--csv")
-    names = [word for word in words if word != "--fine"]
-    need_words(names, max(1, len(names)), "figures", "LINES, one text or more")
+@dataclasses.dataclass
+class Request:
+    """What the words ask for."""
+    names: list[str]
+    image: Optional[str] = None
+    listing: Optional[str] = None
+    csv: Optional[str] = None
+    plot: Optional[str] = None
+    axes: str = ""
+    histogram: Optional[str] = None
+    histogram_of: str = ""
+
+
+def read_words(words: list[str]) -> Request:
+    """The request that the words are."""
+    found = {}
+    for name in ("image", "listing", "csv", "plot", "log", "histogram"):
+        found[name], words = take_option(words, f"--{name}")
+    names = need_words(words, max(1, len(words)), "figures", "LINES, one text or more")
     if len(set(names)) < len(names):
         raise Refused("a text of LINES stands twice.")
-    need_outputs((csv_path, plot_path), names)
-    return names, "--fine" in words, csv_path, plot_path
+    if found["log"] is not None and (found["log"] not in plot.AXES or found["plot"] is None):
+        raise Refused(f"--log takes {', '.join(plot.AXES)} beside --plot, and not `{found['log']}`.")
+    request = Request(names, found["image"], found["listing"], found["csv"], found["plot"], found["log"] or "")
+    if found["histogram"] is not None:
+        request.histogram_of, comma, path = found["histogram"].partition(",")
+        if request.histogram_of not in SPREADS or not path or len(names) > 1:
+            raise Refused(f"--histogram takes NAME,FILE beside one text, with a NAME of {', '.join(SPREADS)}, and not "
+                          f"`{found['histogram']}`.")
+        request.histogram = path
+    need_outputs((request.csv, request.plot, request.histogram), (*names, request.image, request.listing))
+    return request
 
 
-def read_runs(names, is_fine_wanted):
+def read_runs(request: Request) -> dict[str, Figures]:
     """The figures of each text; a terminal is told how long reading took."""
     start = time.monotonic()
-    runs = {name: read_figures(name, is_fine_wanted) for name in names}
+    image = None if request.image is None else read_image(read_bytes(request.image), request.image)
+    runs = {name: read_figures(name, image) for name in request.names}
     if is_at_terminal():
         lines, seconds = sum(it.text_lines for it in runs.values()), time.monotonic() - start
         say("figures", f"{lines:,} lines in {seconds:.1f} s, {lines / seconds:,.0f} a second.")
     return runs
 
 
-def print_tables(runs):
-    print(*tables.summary(runs), "", *tables.taken_back(runs), sep="\n")
+def print_tables(runs: dict[str, Figures], listing: Listing) -> None:
+    print(*tables.summary(runs), "", *tables.taken_back(runs), "", *tables.stalls(runs), sep="\n")
     for name, it in runs.items():
         of_run = f" of {name}" if len(runs) > 1 else ""
-        print("", f"How many tasks were where{of_run}, after each event:", "", *tables.occupancy(it), sep="\n")
-        if it.lines:
+        if causes := tables.causes(it):
+            print("", f"What took tasks back themselves{of_run}, and what that goes back to:", "", *causes, sep="\n")
+        if it.taken_back.lines:
             print("", f"Where loads and stores took tasks back{of_run}:", "", *tables.places(it), sep="\n")
+        print("", f"What the tasks{of_run} are like:", "", *tables.spreads(it), "", *tables.domains(it), "",
+              *tables.entries(it, listing), "", *tables.accesses(it), sep="\n")
+        print("", f"How many tasks were where{of_run}:", "", *tables.occupancy(it), sep="\n")
+        if rates := tables.rates(it):
+            print("", *rates, sep="\n")
     print("", *tables.parallelism(runs), sep="\n")
 
 
-def main(words):
-    names, is_fine_wanted, csv_path, plot_path = read_words(words)
-    runs = read_runs(names, is_fine_wanted)
-    print_tables(runs)
+def files_of(request: Request, runs: dict[str, Figures]) -> dict[str, bytes]:
+    """The files that are asked for."""
     files = {}
-    if plot_path is not None:
-        files[plot_path] = encoded(plot.drawn(tables.curves(runs), "events", "tasks"))
-    if csv_path is not None:
+    first = runs[request.names[0]]
+    if request.plot is not None:
+        picture = plot.drawn(tables.curves(runs), first.occupancy.over(), "tasks", request.axes)
+        files[request.plot] = encoded(picture)
+    if request.histogram is not None:
+        bars = list(first.tasks.spreads[request.histogram_of].bars())
+        files[request.histogram] = encoded(histogram.drawn(bars, f"{request.histogram_of} of a task", "tasks"))
+    if request.csv is not None:
         text = io.StringIO()
         csv.writer(text, lineterminator="\n").writerows(tables.plain_rows(runs))
-        files[csv_path] = encoded(text.getvalue())
+        files[request.csv] = encoded(text.getvalue())
+    return files
+
+
+def main(words: list[str]) -> None:
+    request = read_words(words)
+    listing = NO_LISTING if request.listing is None else read_listing(read_written(request.listing), request.listing)
+    runs = read_runs(request)
+    if request.plot is not None and len({it.occupancy.over() for it in runs.values()}) > 1:
+        raise Refused("one plot has no place for rounds and events: --plot takes texts in lockstep, or none of them.")
+    files = files_of(request, runs)
+    print_tables(runs, listing)
     write_whole(files)

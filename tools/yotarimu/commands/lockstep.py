@@ -1,9 +1,14 @@
 """Writes the script of a lockstep schedule, which `./fractal steps` and `trace` play on any image, to standard output.
 
 usage: ./fractal lockstep TILES CORES ROUNDS [--seed N] > SCRIPT
+       ./fractal lockstep --of LINES > SCRIPT
 
 In each round tile after tile dispatches a task, and each of its CORES cores steps; then there is a commit for each of
-the TILES tiles, and each tile splits. With --seed the acts of each round are in random order, the same for the same N.
+the TILES tiles, and each tile splits. With --seed each round shuffles the acts of the round before, as `./fractal watch
+lockstep` does with that seed: docs/guest/FORMATS.md has the draw. The seed 0, and none, leaves them in that order.
+
+With --of the script has the acts that LINES tell of a run in lockstep or for the least task: `steps` makes the very
+same run of them, on the same image and with the same settings.
 
     ./fractal lockstep 4 2 500 > script
     cat IMAGE script | ./fractal steps --tiles 4 --cores 2 > said
@@ -11,9 +16,12 @@ the TILES tiles, and each tile splits. With --seed the acts of each round are in
 """
 from __future__ import annotations
 
+from typing import Any
+
 from yotarimu.common.outcome import Refused
 from yotarimu.common.words import need_number, need_words, take_option
-from yotarimu.courses.schedules import MOST_CORES, MOST_TILES, lockstep, script_text
+from yotarimu.courses.schedules import MOST_CORES, MOST_TILES, NUMBERS, Act, lockstep, script_text
+from yotarimu.lines.reader import open_watched
 
 MOST_ROUNDS = 1_000_000
 MOST_SEED = 2 ** 32 - 1
@@ -21,13 +29,39 @@ MOST_SEED = 2 ** 32 - 1
 MOST_BYTES = 67_108_864
 
 
-def main(words):
+def acts_of(path: str) -> list[Act]:
+    """The acts that a text tells."""
+    with open_watched(path) as watched:
+        if watched.head["course"] == "steps":
+            raise Refused(f"{path}: this run was made of a script, so it has one.")
+        return [act_of(told.line) for told in watched if told.is_act()]
+
+
+def act_of(line: dict[str, Any]) -> Act:
+    """The act that makes what a line tells."""
+    word = line["do"]
+    return Act(word, *(line[name] for name in ("tile", "core")[:NUMBERS[word]]))
+
+
+def script_of(path: str) -> str:
+    text = script_text(acts_of(path))
+    if len(text) > MOST_BYTES:
+        raise Refused(f"{path}: its acts are more than {MOST_BYTES:,} bytes, the most that the program reads.")
+    return text
+
+
+def main(words: list[str]) -> None:
+    path, words = take_option(words, "--of")
+    if path is not None:
+        need_words(words, 0, "lockstep", "nothing beside --of LINES")
+        print(script_of(path), end="")
+        return
     seed, words = take_option(words, "--seed")
     tiles, cores, rounds = need_words(words, 3, "lockstep", "TILES, CORES and ROUNDS")
     tiles = need_number("TILES", tiles, 1, MOST_TILES)
     cores = need_number("CORES", cores, 1, MOST_CORES)
     rounds = need_number("ROUNDS", rounds, 1, MOST_ROUNDS)
-    seed = None if seed is None else need_number("--seed", seed, 0, MOST_SEED)
+    seed = 0 if seed is None else need_number("--seed", seed, 0, MOST_SEED)
     if rounds * len(script_text(lockstep(tiles, cores, 1))) > MOST_BYTES:
         raise Refused(f"{rounds} rounds are more than {MOST_BYTES} bytes, the most that the program reads.")
     for act in lockstep(tiles, cores, rounds, seed):

@@ -1,20 +1,31 @@
 """Plays images in lockstep up to the end of their runs, once for each choice of options, and tells in a table where
 tasks were taken back, and what came of it.
 
-usage: ./fractal study IMAGE... [--OPTION VALUES]... [--columns NAMES] [--rounds N] [--seed N] [--csv FILE] [--jobs N]
-                      [--program FILE]
+usage: ./fractal study IMAGE... [--OPTION VALUES]... [WORDS]
+       ./fractal study --join CSV... [--csv FILE] [--plot COLUMN,OPTION,FILE] [--log AXES]
        ./fractal study --page PAGE [--write]
 
 OPTION is one of the program's, as `./fractal help` lists them. VALUES are numbers with commas between, or FROM..TO, or
 FROM..TO..STEP; the table has a line for each image and each choice of one value an option, which comes as soon as it is
-known. Each is played by `./fractal watch lockstep`, in random order within a round with --seed, for at most --rounds
-rounds (1,000,000 unless told). --csv writes all columns to FILE as CSV, in plain numbers. --jobs tells how many choices
-are played at once (1 unless told), and --program a built second program in place of the one of this clone.
+known, in the order of the choices. Each is played by `./fractal watch lockstep`. Further words:
 
-NAMES are columns, with commas between:
+  --seed N                   the acts of a round are shuffled by this seed; 0 unless told, which shuffles nothing
+  --rounds N                 so many rounds at most; 1,000,000 unless told
+  --columns NAMES            columns of the table, with commas between
+  --csv FILE                 all columns as CSV, a number each. Where the study is ended early, FILE has the rows that
+                             were known by then
+  --jobs N                   so many choices are played at once, in processes; 1 unless told
+  --shard K/N                only each N-th choice, from the K-th on
+  --plot COLUMN,OPTION,FILE  a plot (SVG) of a column against an option, a line for each choice of the rest
+  --log AXES                 the plot's axes that are logarithmic: x, y or xy; none unless told
+  --program FILE             a built second program in place of the one of this clone
+  --join                     joins the CSV of shards 1 to N, given in this order, or takes that of a whole study
+
+NAMES are:
 {columns}
 
 A run without an end is a line that says so, with its numbers up to there. The status is 1 where no run came to an end.
+A shard doesn't tell `fewer`, which is held against the first row of all; the join does.
 
 With --page the commands of a page such as docs/machine/STUDY.md are called, one after another, and each table that
 stands behind some is held against what they tell; with --write it is replaced. The status is 1 where one differs.
@@ -22,83 +33,123 @@ stands behind some is held against what they tell; with --write it is replaced. 
 from __future__ import annotations
 
 import pathlib
+from collections.abc import Mapping, Sequence
+from typing import Optional
 
 from yotarimu.common.files import need_outputs, read_bytes, write_whole
 from yotarimu.common.outcome import Refused, say
 from yotarimu.common.words import need_number, take_option
 from yotarimu.courses import page_tables
-from yotarimu.courses.grid import MOST_RUNS, cells_of, values_of
-from yotarimu.courses.study import Study, csv_text, tell
-from yotarimu.figures.columns import COLUMNS, UNLESS_TOLD
+from yotarimu.courses.grid import MOST_RUNS, cells_of, picture_of, shard_of, values_of
+from yotarimu.courses.shards import joined
+from yotarimu.courses.study import Choice, Played, Study, csv_of, rows_in, tell
+from yotarimu.figures.columns import COLUMNS, END, UNLESS_TOLD
 from yotarimu.programs.calls import Calls
 from yotarimu.programs.program import SECOND_PROGRAM
 from yotarimu.programs.table import Table
 
-MOST_ROUNDS = 1_000_000
+MOST_ROUNDS, MOST_JOBS = 1_000_000, 1_024
 MOST_SEED = 2 ** 32 - 1
-__doc__ = __doc__.replace("{columns}", "\n".join(f"  {name:<11}{it.head}" for name, it in COLUMNS.items()))
-OWN_OPTIONS = ("seed", "jobs", "program", "rounds", "csv", "columns")
+__doc__ = __doc__.replace("{columns}", "\n".join(f"  {name:<19}{it.head}" for name, it in COLUMNS.items()))
+OWN_OPTIONS = ("seed", "jobs", "program", "rounds", "csv", "columns", "shard", "plot", "log")
+HELP = "./fractal study --help tells the words, ./fractal help the options."
 
 
-def read_words(words, grid):
-    """The images, the options' values and the other words."""
-    values, seen = {}, {}
-    for name in OWN_OPTIONS:
-        seen[name], words = take_option(words, f"--{name}")
-    for name, option in grid.options.items():
-        text, words = take_option(words, f"--{name}")
-        if text is not None:
-            values[name] = values_of(option, text)
+def taken(words: Sequence[str], names: Sequence[str]) -> tuple[dict[str, Optional[str]], list[str]]:
+    """The values of options, and the other words, none of which is an option."""
+    found: dict[str, Optional[str]] = {}
+    rest = list(words)
+    for name in names:
+        found[name], rest = take_option(rest, f"--{name}")
+    return found, rest
+
+
+def need_paths(words: Sequence[str], what: str) -> list[str]:
     unknown = next((word for word in words if word.startswith("--")), None)
     if unknown is not None:
-        raise Refused(f"`{unknown}` isn't known; ./fractal study --help tells the words, ./fractal help the options.")
+        raise Refused(f"`{unknown}` isn't known; {HELP}")
     if not words:
-        raise Refused("it wants an IMAGE; ./fractal study --help tells more.")
-    return words, values, seen
+        raise Refused(f"it wants {what}; ./fractal study --help tells more.")
+    if len(set(words)) < len(words):
+        raise Refused(f"{what} stands twice.")
+    return list(words)
 
 
-def number_of(seen, name, least, most, default):
-    return default if seen[name] is None else need_number(f"--{name}", seen[name], least, most)
+def number_of(seen: Mapping[str, Optional[str]], name: str, least: int, most: int, default: int) -> int:
+    text = seen[name]
+    return default if text is None else need_number(f"--{name}", text, least, most)
 
 
-def columns_of(text):
+def columns_of(text: Optional[str]) -> list[str]:
     """The names of the columns that are wanted."""
     names = list(UNLESS_TOLD) if text is None else text.split(",")
-    unknown = next((name for name in names if name not in COLUMNS and name != "end"), None)
+    unknown = next((name for name in names if name not in COLUMNS and name != END), None)
     if unknown is not None:
-        raise Refused(f"--columns takes {', '.join(COLUMNS)} and end, and not `{unknown}`.")
+        raise Refused(f"--columns takes {', '.join(COLUMNS)} and {END}, and not `{unknown}`.")
     return names
 
 
-def study_of(words, grid):
-    """The study that the words ask for, its choices, the options that vary, and the other words."""
-    paths, values, seen = read_words(words, grid)
-    if len(set(paths)) < len(paths):
-        raise Refused("an IMAGE stands twice.")
-    seed = number_of(seen, "seed", 0, MOST_SEED, 0)
-    rounds = number_of(seen, "rounds", 1, MOST_ROUNDS, MOST_ROUNDS)
-    columns = columns_of(seen["columns"])
-    choices = [(path, cell) for path in paths for cell in cells_of(grid, values, "choices")]
-    if len(choices) > MOST_RUNS:
-        raise Refused(f"the grid has {len(choices):,} choices, and {MOST_RUNS:,} are the most.")
-    need_outputs([seen["csv"]], paths)
+def study_of(words: Sequence[str], grid: Table) -> tuple[Played, list[str], dict[str, Optional[str]]]:
+    """The study that the words ask for, the options that vary, and the values of the other words."""
+    seen, rest = taken(words, OWN_OPTIONS)
+    texts, rest = taken(rest, list(grid.options))
+    paths = need_paths(rest, "an IMAGE")
+    values = {name: values_of(grid.options[name], text) for name, text in texts.items() if text is not None}
+    cells = [(path, cell) for path in paths for cell in cells_of(grid, values, "choices")]
+    if len(cells) > MOST_RUNS:
+        raise Refused(f"the grid has {len(cells):,} choices, and {MOST_RUNS:,} are the most.")
+    choices = [Choice(number, *cell) for number, cell in enumerate(cells, 1)]
+    shard = shard_of(seen["shard"])
+    if not shard.of(choices):
+        raise Refused(f"shard {shard.number} has nothing to do, as there are {len(choices)} choices.")
     calls = Calls(SECOND_PROGRAM if seen["program"] is None else pathlib.Path(seen["program"]))
-    varying = [name for name in grid.options if len(values.get(name, [])) > 1]
-    return Study({path: read_bytes(path) for path in paths}, seed, rounds, columns, calls), choices, varying, seen
+    study = Study({path: read_bytes(path) for path in paths}, number_of(seen, "seed", 0, MOST_SEED, 0),
+                  number_of(seen, "rounds", 1, MOST_ROUNDS, MOST_ROUNDS), columns_of(seen["columns"]), calls, shard)
+    return Played(study, choices), [name for name in grid.options if len(values.get(name, [])) > 1], seen
 
 
-def main(words):
-    page, rest = take_option(words, "--page")
-    if page is not None:
-        return page_tables.main(page, rest)
+def play(words: Sequence[str]) -> int:
     grid = Table()
-    study, choices, varying, seen = study_of(words, grid)
-    jobs = number_of(seen, "jobs", 1, 1024, 1)
-    study.need_images()
-    rows = tell(study, choices, varying, jobs)
-    if seen["csv"] is not None:
-        write_whole({seen["csv"]: csv_text(grid, rows)})
-    if all(row.end.startswith("none") for _, row, _ in rows):
+    played, varying, seen = study_of(words, grid)
+    picture, path = picture_of(seen["plot"], seen["log"], COLUMNS, grid.options), seen["csv"]
+    need_outputs([path, picture and picture.path], list(played.study.images))
+    jobs = number_of(seen, "jobs", 1, MOST_JOBS, 1)
+    played.study.need_images()
+    try:
+        tell(played, varying, jobs)
+    finally:
+        if path is not None and played.rows:
+            write_whole({path: csv_of(played.cells(list(grid.options)))})
+            if len(played.rows) < len(played.choices):
+                say("study", f"{path} has {len(played.rows)} of {len(played.choices)} rows.")
+    if picture is not None:
+        write_whole({picture.path: picture.drawn(rows_in(played.cells(list(grid.options))), "this study")})
+    if all(row.end.startswith("none") for row in played.rows.values()):
         say("study", "no run came to an end.")
         return 1
     return 0
+
+
+def join(words: Sequence[str]) -> int:
+    """Joins what shards wrote."""
+    seen, rest = taken([word for word in words if word != "--join"], ("csv", "plot", "log"))
+    paths = need_paths(rest, "a CSV")
+    picture = picture_of(seen["plot"], seen["log"], COLUMNS, Table().options)
+    need_outputs([seen["csv"], picture and picture.path], paths)
+    cells = joined(paths)
+    files = {}
+    if picture is not None:
+        files[picture.path] = picture.drawn(rows_in(cells), ", ".join(paths))
+    if seen["csv"] is not None:
+        files[seen["csv"]] = csv_of(cells)
+    if not files:
+        print(csv_of(cells).decode(), end="")
+    write_whole(files)
+    return 0
+
+
+def main(words: list[str]) -> int:
+    page, rest = take_option(words, "--page")
+    if page is not None:
+        return page_tables.main(page, rest)
+    return join(words) if "--join" in words else play(words)

@@ -1,5 +1,8 @@
 """Runs an image, or a generated load, over a grid of options, and writes one row of CSV a run.
 
+Without --workers a run makes one event after another for the least task, so nothing is taken back. What comes of
+tasks that run ahead is what ./fractal study tells.
+
 usage: ./fractal sweep IMAGE [--OPTION VALUES]... [WORDS]
        ./fractal sweep --load KIND,SEED,SIZE [--OPTION VALUES]... [WORDS]
        ./fractal sweep --rows CSV [--plot COLUMN,OPTION,FILE]
@@ -10,6 +13,7 @@ FROM..TO..STEP; the grid has a run for each choice of one value an option. Furth
   --jobs N                   so many runs at once; 1 unless told
   --csv FILE                 the rows go to this file, which is there whole or not at all; else to standard output
   --plot COLUMN,OPTION,FILE  a plot (SVG) of a column of numbers against an option, a line for each choice of the rest
+  --log AXES                 the plot's axes that are logarithmic: x, y or xy; none unless told
   --check                    hands each report back to `check`, with the image, and tells its status in the column
                              check; where host threads ran the reports of one image may differ, and each is checked
   --shard K/N                only each N-th run, from the K-th on; the files of shards 1 to N are joined by `cat`
@@ -25,12 +29,11 @@ from __future__ import annotations
 
 import pathlib
 
-from yotarimu.common.files import encoded, need_outputs, write_whole
+from yotarimu.common.files import need_outputs, write_whole
 from yotarimu.common.outcome import Refused
-from yotarimu.common.words import need_number, number_in
-from yotarimu.courses.grid import MOST_RUNS, values_of
-from yotarimu.courses.sweep import NUMBERS, Request, failed, read_rows, series_of, written_rows
-from yotarimu.pictures import plot
+from yotarimu.common.words import need_number
+from yotarimu.courses.grid import picture_of, shard_of, values_of
+from yotarimu.courses.sweep import NUMBERS, Request, failed, read_rows, written_rows
 from yotarimu.programs.calls import built
 from yotarimu.programs.table import Table
 
@@ -75,28 +78,13 @@ def read_option(request, table, name, value):
     elif name == "shard":
         request.shard = shard_of(value)
     elif name == "plot":
-        request.plot = plot_of(table, value)
+        request.plot = value
+    elif name == "log":
+        request.axes = value
     elif name == "load":
         request.load = load_of(table, value)
     else:
         raise Refused(f"`--{name}` isn't known; ./fractal sweep --help tells the words, ./fractal help the options.")
-
-
-def shard_of(text):
-    part, slash, count = text.partition("/")
-    total = number_in(count, 1, MOST_RUNS)
-    place = number_in(part, 1, total) if total else None
-    if not slash or place is None:
-        raise Refused(f"--shard takes K/N with K from 1 to N, and not `{text}`.")
-    return place, total
-
-
-def plot_of(table, text):
-    column, option, path = (text.split(",", 2) + [None, None])[:3]
-    if column not in NUMBERS or option not in table.options or not path:
-        raise Refused(f"--plot takes COLUMN,OPTION,FILE with a column of {', '.join(NUMBERS)} and an option of "
-                      f"{', '.join(table.options)}, and not `{text}`.")
-    return column, option, path
 
 
 def load_of(table, text):
@@ -111,15 +99,13 @@ def load_of(table, text):
 def main(words):
     table = Table()
     request = read_words(words, table)
-    need_outputs((request.csv, request.plot and request.plot[2]), (request.image, request.rows, request.program))
+    picture = picture_of(request.plot, request.axes, NUMBERS, table.options)
+    need_outputs((request.csv, picture and picture.path), (request.image, request.rows, request.program))
     if request.rows is None:
         built(request.program)
     rows = written_rows(request, table) if request.rows is None else read_rows(request.rows)
-    if request.plot:
-        column, option, path = request.plot
-        series = series_of(rows, table, column, option, request.rows or "this sweep")
-        picture = plot.drawn(series, f"--{option}", column)
-        write_whole({path: encoded(picture)})
+    if picture is not None:
+        write_whole({picture.path: picture.drawn(rows, request.rows or "this sweep")})
     if request.rows is None and rows and all(map(failed, rows)):
         first = f"with status {rows[0]['status']}" if rows[0]["commits"] == "" else "whose report was refused"
         raise Refused(f"each of {len(rows)} runs failed, the first {first}.")

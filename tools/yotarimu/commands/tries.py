@@ -14,11 +14,13 @@ import time
 from yotarimu.common.outcome import Refused
 
 from tries import (
-    build, c_tasks, figures, interrupts, launcher, others, packages, pages, resume, schedules, watch, words)
+    applications, build, c_tasks, contents, figures, interrupts, launcher, lockstep, others, packages, pages, resume,
+    schedules, studies, watch, words)
 from tries.place import Failed, LeftOut, Place
 
-TRIES = (*launcher.TRIES, *words.TRIES, *packages.TRIES, *build.TRIES, *c_tasks.TRIES, *others.TRIES,
-         *resume.TRIES, *schedules.TRIES, *watch.TRIES, *figures.TRIES, *pages.TRIES, *interrupts.TRIES)
+TRIES = (*launcher.TRIES, *words.TRIES, *packages.TRIES, *build.TRIES, *c_tasks.TRIES, *contents.TRIES,
+         *applications.TRIES, *others.TRIES, *resume.TRIES, *schedules.TRIES, *lockstep.TRIES, *studies.TRIES,
+         *watch.TRIES, *figures.TRIES, *pages.TRIES, *interrupts.TRIES)
 OK, FAILED, LEFT_OUT = "ok", "FAILED", "left"
 
 

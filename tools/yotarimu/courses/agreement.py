@@ -9,12 +9,14 @@ import subprocess
 from yotarimu.common.files import read_text
 from yotarimu.common.outcome import Refused
 from yotarimu.common.places import EXAMPLES_FOLDER
-from yotarimu.programs.examples import SCHEDULES, words_of
+from yotarimu.programs.examples import SCHEDULES, watched_words_of
 from yotarimu.programs.program import SECOND_PROGRAM, STATUSES, end_of
 from yotarimu.reports.report import read_report
 
 # What `steps` says of an event that `advance` made, where a line has the reply to that event.
 MADE = ("moved", "committed")
+# The course that has a script behind its image.
+STEPS = "steps"
 
 
 def replies_said(said, name):
@@ -57,8 +59,10 @@ def retold_fault(name):
     what was worked out by hand."""
     folder = EXAMPLES_FOLDER / name
     said = read_text(folder / "said")
-    given = (folder / "image.bin").read_bytes() + (folder / "script").read_bytes()
-    made = subprocess.run([SECOND_PROGRAM, *words_of(name)], input=given, stdout=subprocess.PIPE, check=False)
+    words, given = watched_words_of(name), (folder / "image.bin").read_bytes()
+    if STEPS in words:
+        given += (folder / "script").read_bytes()
+    made = subprocess.run([SECOND_PROGRAM, *words], input=given, stdout=subprocess.PIPE, check=False)
     if fault := worked_fault(folder, made.stdout):
         return fault
     lines = lines_in(made.stdout)

@@ -1,14 +1,23 @@
 """A grid of options: each choice of one value an option."""
 from __future__ import annotations
 
+import dataclasses
 import itertools
 import math
+from collections.abc import Collection, Mapping, Sequence
+from typing import Optional, TypeVar
 
+from yotarimu.common.files import encoded
 from yotarimu.common.outcome import Refused
 from yotarimu.common.words import number_in
+from yotarimu.pictures import plot
 
 MOST_RUNS = 100_000
 MOST_VALUE = 2 ** 32 - 1
+LEAST_PLOTTED, MOST_PLOTTED = 1e-9, 1e15
+# What rows have beside options that tells them apart.
+INPUTS = ("input", "image")
+Run = TypeVar("Run")
 
 
 def values_of(option, text):
@@ -41,3 +50,81 @@ def cells_of(table, values, what="runs"):
         raise Refused(f"the grid has {count:,} {what}, and {MOST_RUNS:,} are the most.")
     lists = [values.get(name, [option.default]) for name, option in table.options.items()]
     return [dict(zip(table.options, choice)) for choice in itertools.product(*lists)]
+
+
+@dataclasses.dataclass(frozen=True)
+class Shard:
+    """Each run of so many, from one on."""
+    number: int = 1
+    count: int = 1
+
+    def of(self, runs: Sequence[Run]) -> Sequence[Run]:
+        """Those of all runs that are of this shard."""
+        return runs[self.number - 1::self.count]
+
+
+def shard_of(text: Optional[str]) -> Shard:
+    """The shard that K/N means; the whole where nothing is told."""
+    if text is None:
+        return Shard()
+    part, slash, count = text.partition("/")
+    total = number_in(count, 1, MOST_RUNS)
+    place = number_in(part, 1, total) if total else None
+    if not slash or place is None or total is None:
+        raise Refused(f"--shard takes K/N with K from 1 to N, and not `{text}`.")
+    return Shard(place, total)
+
+
+@dataclasses.dataclass(frozen=True)
+class Picture:
+    """A plot that is asked for: a column against an option, and which of the axes are logarithmic."""
+    column: str
+    option: str
+    path: str
+    axes: str
+
+    def drawn(self, rows: Sequence[Mapping[str, str]], origin: str) -> bytes:
+        series = series_of(rows, self.column, self.option, origin)
+        return encoded(plot.drawn(series, f"--{self.option}", self.column, self.axes))
+
+
+def picture_of(text: Optional[str], axes: Optional[str], columns: Collection[str],
+               options: Collection[str]) -> Optional[Picture]:
+    """The plot that COLUMN,OPTION,FILE and the letters of logarithmic axes mean; None where none is asked for."""
+    if axes is not None and (axes not in plot.AXES or text is None):
+        raise Refused(f"--log takes {', '.join(plot.AXES)} beside --plot, and not `{axes}`.")
+    if text is None:
+        return None
+    column, option, path = (text.split(",", 2) + ["", ""])[:3]
+    if column not in columns or option not in options or not path:
+        raise Refused(f"--plot takes COLUMN,OPTION,FILE with a column of {', '.join(columns)} and an option of "
+                      f"{', '.join(options)}, and not `{text}`.")
+    return Picture(column, option, path, axes or "")
+
+
+def series_of(rows: Sequence[Mapping[str, str]], column: str, option: str,
+              origin: str) -> dict[str, list[tuple[float, float]]]:
+    """The points of the rows that have the column, by the choice of all that varies beside the option."""
+    if not rows or any(column not in row or f"--{option}" not in row for row in rows):
+        raise Refused(f"the rows of {origin} have no columns {column} and --{option}.")
+    names = [name for name in rows[0] if name in INPUTS or name.startswith("--") and name != f"--{option}"]
+    varying = [name for name in names if len({row.get(name) for row in rows}) > 1]
+    series: dict[str, list[tuple[float, float]]] = {}
+    try:
+        for row in rows:
+            if row[column] != "":
+                choice = ", ".join(f"{name} {row.get(name)}" for name in varying)
+                series.setdefault(choice, []).append((plotted(row[f"--{option}"]), plotted(row[column])))
+    except ValueError:
+        raise Refused(f"a row of {origin} has no number that can be plotted under {column} or --{option}.") from None
+    if not series:
+        raise Refused(f"no row of {origin} has a number under {column}, so there is nothing to plot.")
+    return series
+
+
+def plotted(text: str) -> float:
+    """The number that a text is, of a size for which a picture has ticks."""
+    number = float(text)
+    if number and not LEAST_PLOTTED <= abs(number) <= MOST_PLOTTED:
+        raise ValueError
+    return number

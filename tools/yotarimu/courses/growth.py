@@ -51,7 +51,7 @@ class Playing:
     def __init__(self, schedule, acts, first):
         self.acts, self.lines, self.replies, self.sentences = acts, schedule.lines_of(acts), [], []
         self.schedule, self.entries, self.output, self.last = schedule, [], b"", None
-        watched = Watched(io.BytesIO(self.lines), "the second program", keeps_memory=True)
+        watched = Watched(io.BytesIO(self.lines), "the second program")
         for told in watched:
             if told.is_act():
                 self.note(told, watched.machine, len(self.replies) >= first)

@@ -4,7 +4,6 @@ from __future__ import annotations
 import collections
 import dataclasses
 import itertools
-import random
 import re
 
 from yotarimu.common.outcome import Refused
@@ -125,12 +124,29 @@ def read_trace(text, name):
     raise Refused(f"{name}: this is no trace: after {len(taps)} taps it has something else.")
 
 
-def lockstep(tiles, cores, rounds, seed=None):
-    """The acts of so many rounds; with a seed, those of a round are in random order."""
-    acts = round_of(tiles, cores)
-    chance = None if seed is None else random.Random(seed)
+def lockstep(tiles, cores, rounds, seed=0):
+    """The acts of so many rounds, each shuffled by the seed; 0 shuffles nothing."""
+    acts, shuffle = round_of(tiles, cores), Shuffle(seed)
     for _ in range(rounds):
-        yield from acts if chance is None else shuffled(acts, chance)
+        acts = shuffle.shuffled(acts)
+        yield from acts
+
+
+class Shuffle:
+    """The order of rounds by a seed, as docs/guest/FORMATS.md has it for the second program."""
+
+    def __init__(self, seed):
+        self.seed, self.x = seed, seed
+
+    def shuffled(self, acts):
+        """The acts of the next round, where these are those of the round before."""
+        acts = list(acts)
+        if self.seed:
+            for last in reversed(range(len(acts))):
+                self.x = (1_664_525 * self.x + 1_013_904_223) % 2 ** 32
+                place = self.x * (last + 1) // 2 ** 32
+                acts[last], acts[place] = acts[place], acts[last]
+        return acts
 
 
 def round_of(tiles, cores):
@@ -155,15 +171,6 @@ def acts_a_round(acts):
         if some != whole and (len(some) < len(whole) or collections.Counter(some) != counts):
             return None
     return len(whole)
-
-
-def shuffled(acts, chance):
-    """The acts in random order. A generator's `random` alone gives the same numbers in all versions of Python."""
-    acts = list(acts)
-    for last in range(len(acts) - 1, 0, -1):
-        place = int(chance.random() * (last + 1))
-        acts[last], acts[place] = acts[place], acts[last]
-    return acts
 
 
 def script_text(acts):

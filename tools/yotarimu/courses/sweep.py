@@ -13,7 +13,7 @@ import time
 from yotarimu.common.files import encoded, read_bytes, read_written, write_whole
 from yotarimu.common.outcome import Refused, is_at_terminal
 from yotarimu.common.progress import show_progress
-from yotarimu.courses.grid import cells_of
+from yotarimu.courses.grid import Shard, cells_of
 from yotarimu.programs.calls import Calls
 from yotarimu.programs.program import PROGRAM
 
@@ -70,7 +70,6 @@ def digest(data):
 
 RESULTS = ("status", "commits", "seconds", "output", "window", "check")
 NUMBERS = ("status", "commits", "seconds", "check")
-LEAST_PLOTTED, MOST_PLOTTED = 1e-9, 1e15
 
 
 @dataclasses.dataclass
@@ -80,10 +79,11 @@ class Request:
     load: list = None
     rows: str = None
     csv: str = None
-    plot: list = None
+    plot: str = None
+    axes: str = None
     program: pathlib.Path = PROGRAM
     jobs: int = 1
-    shard: tuple = (1, 1)
+    shard: Shard = Shard()
     wants_check: bool = False
     values: dict = dataclasses.field(default_factory=dict)
 
@@ -95,13 +95,12 @@ def header(table):
 def swept(request, table):
     """The rows of the runs that are asked for, each as it comes, in the order of the grid."""
     cells = cells_of(table, request.values)
-    place, total = request.shard
     command = ["load", *request.load] if request.load else ["run"]
     data = read_bytes(request.image) if request.image is not None else b""
     is_apart = request.csv or not sys.stdout.isatty()
     runner = Runner(request.program, command, data, request.wants_check, is_at_terminal() and is_apart)
     name = request.image if request.image is not None else " ".join(command)
-    for cell, result in runner.run_all(cells[place - 1::total], request.jobs):
+    for cell, result in runner.run_all(request.shard.of(cells), request.jobs):
         yield [name, *cell.values(), *(result[column] for column in RESULTS)]
 
 
@@ -113,7 +112,7 @@ def written_rows(request, table):
     sink = csv.writer(file, lineterminator="\n")
     try:
         for row in swept(request, table):
-            if not rows and request.shard[0] == 1:
+            if not rows and request.shard.number == 1:
                 sink.writerow(header(table))
             sink.writerow(row)
             file.flush()
@@ -141,30 +140,3 @@ def read_rows(path):
     if any(None in row or None in row.values() for row in rows):
         raise Refused(f"{path}: its rows haven't as many columns as its first line.")
     return rows
-
-
-def series_of(rows, table, column, option, origin):
-    """The points of the rows that have the column, by the choice of all that varies beside the option."""
-    if any(column not in row or f"--{option}" not in row for row in rows):
-        raise Refused(f"the rows of {origin} have no columns {column} and --{option}.")
-    names = [name for name in header(table) if name == "input" or name.startswith("--") and name != f"--{option}"]
-    varying = [name for name in names if len({row.get(name) for row in rows}) > 1]
-    series = {}
-    try:
-        for row in rows:
-            if row[column] != "":
-                choice = ", ".join(f"{name} {row.get(name)}" for name in varying)
-                series.setdefault(choice, []).append((plotted(row[f"--{option}"]), plotted(row[column])))
-    except ValueError:
-        raise Refused(f"a row of {origin} has no number that can be plotted under {column} or --{option}.") from None
-    if not series:
-        raise Refused(f"no row of {origin} has a number under {column}, so there is nothing to plot.")
-    return series
-
-
-def plotted(text):
-    """The number that a text is, of a size for which a picture has ticks."""
-    number = float(text)
-    if number and not LEAST_PLOTTED <= abs(number) <= MOST_PLOTTED:
-        raise ValueError
-    return number

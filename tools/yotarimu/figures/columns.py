@@ -1,110 +1,172 @@
-"""What comes of an image that is played in lockstep with some options: its figures as columns of a table."""
+"""What comes of an image that is played in lockstep with some options: its figures as columns, a number each."""
 from __future__ import annotations
 
 import dataclasses
+from collections.abc import Callable, Sequence
+from typing import Optional
 
 from yotarimu.common.tables import plain_ratio, ratio
-from yotarimu.figures.run import SHARING
+from yotarimu.figures.limits import UNBOUNDED, WINDOWS, Manner, Reading, Unit, Window
+from yotarimu.figures.occupancy import PLACES
+from yotarimu.figures.run import Figures
 from yotarimu.figures.tables import counted
+from yotarimu.figures.taken_back import Edge, Root
+from yotarimu.figures.tasks import SPREADS
 
-# What makes room takes tasks back for these.
-ROOM = ("commit queue", "task queue", "core")
+Number = Callable[[Figures], float]
+Count = Callable[[Figures], Optional[int]]
 
 
 @dataclasses.dataclass(frozen=True)
 class Column:
-    """A column: its head, the cell for people, and the plain one for CSV. Both are told of a run and of the first."""
+    """A column: its head, the cell for people, and the plain one for CSV. Both are told of a run and of the first; a
+    column that is held against the first has no number where that isn't known."""
     head: str
-    told: callable
-    plain: callable
+    told: Callable[[Figures, Figures], str]
+    plain: Callable[[Figures, Figures], object]
+    is_against_first: bool = False
 
 
-def count(head, number):
+def count(head: str, number: Count) -> Column:
     """A column of whole numbers."""
     return Column(head, lambda it, first: counted(number(it)), lambda it, first: number(it))
 
 
-def quotient(head, number, whole, factor=1):
+def quotient(head: str, number: Count, whole: Count, factor: int = 1) -> Column:
     """A column of a number for each of another."""
-    return Column(head, lambda it, first: ratio(factor * number(it), whole(it)),
-                  lambda it, first: plain_ratio(factor * number(it), whole(it)))
+    return Column(head, lambda it, first: ratio(factor * (number(it) or 0), whole(it) or 0),
+                  lambda it, first: plain_ratio(factor * (number(it) or 0), whole(it) or 0))
 
 
-def mean(head, number):
+def mean(head: str, number: Number) -> Column:
     return Column(head, lambda it, first: f"{number(it):.1f}", lambda it, first: f"{number(it):.6g}")
 
 
-def shared(kind):
-    return count(kind, lambda it: it.sharing[kind])
+# Columns of tasks that were taken back: by what took each itself, and by what that goes back to.
+EDGES = {"byte": Edge.MET_BYTE, "line": Edge.MET_LINE, "alias": Edge.MET_ALIAS, "touched-byte": Edge.TOUCHED_BYTE,
+         "touched-line": Edge.TOUCHED_LINE, "touched-alias": Edge.TOUCHED_ALIAS, "child": Edge.CHILD}
+ROOTS = {"root-byte": Root.BYTE, "root-line": Root.LINE, "root-alias": Root.ALIAS,
+         "root-commit-queue": Root.COMMIT_QUEUE, "root-task-queue": Root.TASK_QUEUE, "root-core": Root.CORE}
 
 
-def limits(head, is_fine):
-    """The parallelism for each window."""
-    def told(it):
-        return [value for _, fine, value in it.parallelism.limits() if fine == is_fine]
-    return Column(head, lambda it, first: ", ".join(f"{value:.1f}" for value in told(it)),
-                  lambda it, first: " ".join(f"{value:.6g}" for value in told(it)))
+def itself(edge: Edge) -> Column:
+    return count(edge.value, lambda it: it.taken_back.by_edge(edge))
 
 
-def fewer(it, first):
-    return first.rounds() / it.rounds() if it.rounds() else 0.0
+def going_back_to(root: Root) -> Column:
+    return count(f"root: {root.value}", lambda it: it.taken_back.by_root(root))
 
 
-def wasted(it):
-    return 100 * it.all_wasted() / it.executed if it.executed else 0.0
+def spread(name: str, head: str) -> dict[str, Column]:
+    """The mean of what tasks have, and what nine of ten don't exceed."""
+    return {name.replace(" ", "-"): mean(head, lambda it: it.tasks.spreads[name].mean()),
+            f"{name.replace(' ', '-')}-90": count(f"{head}, 90 %", lambda it: it.tasks.spreads[name].percentile(90))}
+
+
+def place(name: str, head: str) -> Column:
+    return mean(head, lambda it: it.occupancy.curve.means()[PLACES.index(name)])
+
+
+def limit(manner: Manner, unit: Unit, window: Window) -> Number:
+    """One of the limits of a run."""
+    def told(it: Figures) -> float:
+        return next(limit.at_once for limit in it.limits if (limit.manner, limit.unit, limit.window)
+                    == (manner, unit, window))
+    return told
+
+
+MANNERS = {"whole": Manner.WHOLE, "renamed": Manner.RENAMED, "one": Manner.ONE}
+BOUNDS = {"any-renamed": Manner.RENAMED, "any-one": Manner.ONE}
+
+
+def limits() -> dict[str, Column]:
+    """The limits by instructions for each manner and window, those by steps, and the bounds for any order."""
+    columns = {}
+    for name, manner in MANNERS.items():
+        for window in WINDOWS:
+            slots = "-slots" if window.reading is Reading.SLOTS else ""
+            key = name if window.tasks is None else f"{name}-{window.tasks}{slots}"
+            head = manner.value if window.tasks is None else f"{manner.value}, {window}"
+            columns[key] = mean(head, limit(manner, Unit.INSTRUCTION, window))
+        if manner is not Manner.WHOLE:
+            columns[f"{name}-steps"] = mean(f"steps, {manner.value}", limit(manner, Unit.STEP, UNBOUNDED))
+    for name, manner in BOUNDS.items():
+        columns[name] = bound(manner)
+    return columns
+
+
+def bound(manner: Manner) -> Column:
+    return mean(f"any order, {manner.value}, at most", lambda it: it.bounds[manner])
+
+
+def fewer(it: Figures, first: Figures) -> float:
+    rounds, others = it.rounds(), first.rounds()
+    return others / rounds if rounds and others else 0.0
+
+
+def wasted(it: Figures) -> float:
+    return 100 * it.taken_back.all_wasted() / it.executed if it.executed else 0.0
 
 
 COLUMNS = {
     "commits": count("Commits", lambda it: it.commits),
     "rounds": count("Rounds", lambda it: it.rounds()),
     "fewer": Column("as many times less", lambda it, first: f"{fewer(it, first):.1f}",
-                    lambda it, first: f"{fewer(it, first):.6g}"),
+                    lambda it, first: f"{fewer(it, first):.6g}", True),
     "acts": count("Acts", lambda it: it.acts),
     "round": quotient("Commits a round", lambda it: it.commits, lambda it: it.rounds()),
     "thousand": quotient("Commits in 1,000 acts", lambda it: it.commits, lambda it: it.acts, 1_000),
+    "useful": quotient("Useful instructions a round", lambda it: it.useful, lambda it: it.rounds()),
+    "useful-steps": quotient("Useful steps a round", lambda it: it.useful_steps, lambda it: it.rounds()),
     "dispatches": quotient("Dispatches a commit", lambda it: it.dispatches(), lambda it: it.commits),
-    "taken": count("Taken back", lambda it: it.all_taken_back()),
-    "access": count("by loads and stores", lambda it: it.by_access()),
-    "room": count("for room", lambda it: sum(it.taken_back[cause] for cause in ROOM)),
-    **{kind: shared(kind) for kind in SHARING},
+    "taken": count("Taken back", lambda it: it.taken_back.all()),
+    "access": count("root: loads and stores", lambda it: it.taken_back.by_access()),
+    "room": count("root: room", lambda it: it.taken_back.by_room()),
+    **{name: itself(edge) for name, edge in EDGES.items()},
+    **{name: going_back_to(root) for name, root in ROOTS.items()},
+    "machine": count("a line or a bit alone on the way", lambda it: it.taken_back.by_machine),
     "wasted": Column("Wasted", lambda it, first: f"{wasted(it):.1f} %", lambda it, first: f"{wasted(it):.6g}"),
-    "length": Column("Instructions: mean, 90 %",
-                     lambda it, first: f"{it.instructions.mean():.1f}, {it.instructions.most_of(9):,}",
-                     lambda it, first: f"{it.instructions.mean():.6g} {it.instructions.most_of(9)}"),
-    "loads": mean("Loads", lambda it: it.loads.mean()),
-    "stores": mean("Stores", lambda it: it.stores.mean()),
-    "queued": mean("In task queues", lambda it: it.occupancy.means()[0]),
-    "running": mean("On cores", lambda it: it.occupancy.means()[1]),
-    "finished": mean("In commit queues", lambda it: it.occupancy.means()[2]),
-    "blocks": mean("In blocks", lambda it: it.occupancy.means()[3]),
+    **{key: column for name in SPREADS for key, column in spread(name, name.capitalize()).items()},
+    "queued": place("task queues", "In task queues"),
+    "running": place("running", "Running"),
+    "stalled": place("stalled", "Stalled"),
+    "trapped": place("trapped", "Trapped"),
+    "finished": place("commit queues", "In commit queues"),
+    "blocks": place("blocks", "In blocks"),
     "spilled": count("Spilled", lambda it: it.spills),
+    "opening": count("Spilled at the opening", lambda it: it.tasks.spilled_at_opening),
     "steps": count("Stalled steps", lambda it: it.replies["step", "stall"]),
-    "limits": limits("Parallelism: windows of 64, 1,024, and none", False),
-    "fine": limits("finely", True),
+    "splits": count("Stalled splits", lambda it: it.replies["split", "stall"]),
+    "depth": count("Depth", lambda it: max(it.tasks.depths())),
+    "domains": count("Subdomains made", lambda it: sum(counts.made for (depth, _), counts in it.tasks.domains.items()
+                                                       if depth > 1)),
+    **limits(),
 }
-END = "End"
-UNLESS_TOLD = ("rounds", "acts", "round", "thousand", "dispatches", "taken", "access", *SHARING, "wasted", "steps",
-               "end")
+# The name of the column that tells how a run ended.
+END = "end"
+UNLESS_TOLD = ("rounds", "acts", "round", "thousand", "dispatches", "taken", "access", "room", "root-byte", "root-line",
+               "root-alias", "child", "wasted", "steps",
+               END)
 
 
 @dataclasses.dataclass
 class Row:
     """What came of a choice: its figures, or why there are none."""
     end: str
-    figures: object = None
+    figures: Optional[Figures] = None
 
-    def cells(self, names, first, is_plain):
+    def cells(self, names: Sequence[str], first: Optional[Figures], is_plain: bool) -> list[object]:
         """The cells of some columns, where `first` has the figures that others are held against."""
         return [self.cell(name, first, is_plain) for name in names]
 
-    def cell(self, name, first, is_plain):
-        if name == "end":
+    def cell(self, name: str, first: Optional[Figures], is_plain: bool) -> object:
+        if name == END:
             return self.end
-        if self.figures is None:
-            return "" if is_plain else "-"
         column = COLUMNS[name]
+        if self.figures is None or column.is_against_first and first is None:
+            return "" if is_plain else "-"
         return (column.plain if is_plain else column.told)(self.figures, first or self.figures)
 
 
-def heads(names):
-    return [END if name == "end" else COLUMNS[name].head for name in names]
+def heads(names: Sequence[str]) -> list[str]:
+    return ["End" if name == END else COLUMNS[name].head for name in names]

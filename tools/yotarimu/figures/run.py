@@ -2,180 +2,192 @@
 from __future__ import annotations
 
 import collections
+import contextlib
+import gc
+from collections.abc import Callable, Iterator, Mapping
+from typing import Any, Optional
 
 from yotarimu.common.outcome import Refused
-from yotarimu.figures.parallelism import Parallelism
-from yotarimu.lines.reader import open_watched
-from yotarimu.lines.replay import DATA_START, NOT_EXECUTED
+from yotarimu.courses.schedules import round_of
+from yotarimu.figures.limits import Call, Cells, CommittedTask, Limit, Limits, Manner, Point
+from yotarimu.figures.occupancy import Occupancy
+from yotarimu.figures.orders import Bounds
+from yotarimu.figures.taken_back import TakenBack
+from yotarimu.figures.tasks import TaskFigures
+from yotarimu.images.image import Image
+from yotarimu.lines.reader import Watched, open_watched
+from yotarimu.lines.replay import NOT_EXECUTED, Machine, Task, Told
 
-# Why a task was taken back: by what was asked for, or else by the event.
-CAUSES = {"load": "load", "store": "store", "end": "commit queue", "enqueue": "task queue", "split": "task queue",
-          "dispatch": "core", "abort": "abort"}
-# What a task that a load or a store took back shares with it, the narrowest first.
-SHARING = TRUE, LINE, ALIAS, CHILD, CASCADE = "true", "line", "alias", "child", "cascade"
-# A task's filter has so many bits for lines.
-FILTER_BITS = 1_024
-# The curve of the occupancy has at least so many points, where there are so many events, and fewer than twice as many.
-FEWEST_POINTS = 60
-PLACES = ("task queues", "cores", "commit queues", "blocks")
-
-
-class Occupancy:
-    """How many tasks were in all task queues, on cores, in commit queues and in blocks, after each event."""
-
-    def __init__(self):
-        self.events, self.step = 0, 1
-        self.sums, self.greatest = [0] * len(PLACES), [0] * len(PLACES)
-        self.curve = []
-
-    def note(self, machine):
-        counts = machine.queued, machine.running, machine.waiting, machine.spilled
-        self.events += 1
-        for place, count in enumerate(counts):
-            self.sums[place] += count
-            if count > self.greatest[place]:
-                self.greatest[place] = count
-        if self.events % self.step == 0:
-            self.curve.append((self.events, counts))
-            if len(self.curve) == 2 * FEWEST_POINTS:
-                self.curve, self.step = self.curve[1::2], 2 * self.step
-
-    def means(self):
-        return [total / self.events if self.events else 0.0 for total in self.sums]
+# How far a run was read is told once in so many lines.
+LINES_BETWEEN = 2_000
+Progress = Callable[[int], None]
 
 
-class Spread:
-    """Numbers that are counted by their values."""
-
-    def __init__(self):
-        self.counts = collections.Counter()
-
-    def mean(self):
-        total = sum(self.counts.values())
-        return sum(value * count for value, count in self.counts.items()) / total if total else 0.0
-
-    def most_of(self, tenths):
-        """The number at the place, from 0, of so many tenths of them all, in rising order."""
-        place = sum(self.counts.values()) * tenths // 10
-        for value in sorted(self.counts):
-            place -= self.counts[value]
-            if place < 0:
-                return value
-        return 0
+def acts_a_round(head: Mapping[str, Any]) -> Optional[int]:
+    """How many acts a round of a course has; None where it has no rounds."""
+    return len(round_of(head["tiles"], head["cores"])) if head["course"] == "lockstep" else None
 
 
 class Figures:
-    """The figures of a run. Lines are handed in one after another, and the last one at the end."""
+    """The figures of a run: plain numbers, which may be handed from one process to another."""
 
-    def __init__(self, head, is_fine_wanted=False):
-        self.head, self.end, self.text_lines = head, None, 0
+    def __init__(self, head: dict[str, Any]) -> None:
+        self.head, self.end, self.text_lines = head, "", 0
         self.executed = self.useful = self.left = self.refused = 0
-        self.wasted, self.taken_back, self.discarded = (collections.Counter() for _ in range(3))
-        self.replies = collections.Counter()
-        self.sharing, self.lines, self.addresses = (collections.Counter() for _ in range(3))
+        self.taken_back = TakenBack(head["line"])
+        self.replies: collections.Counter[tuple[str, str]] = collections.Counter()
         self.commits = self.events = self.acts = self.spills = 0
-        self.instructions, self.loads, self.stores = Spread(), Spread(), Spread()
-        self.occupancy, self.parallelism = Occupancy(), Parallelism(is_fine_wanted)
+        self.occupancy = Occupancy(acts_a_round(head))
+        self.tasks = TaskFigures(head["tiles"], head["line"], head["root"])
+        # The limits by the order of the commits, and the bounds for any order.
+        self.limits: list[Limit] = []
+        self.bounds: dict[Manner, float] = {}
+        # How many steps the tasks made that committed, since their last dispatch.
+        self.useful_steps = 0
 
-    def note(self, told, machine):
-        """Takes a line, and the machine behind it."""
-        line = told.line
-        if not told.is_act():
-            return
-        self.acts = line["at"]
-        self.replies[line["do"], line["reply"]] += 1
-        if not told.is_made:
-            self.refused += line.get("leg", 0)
-            return
-        self.occupancy.note(machine)
-        if "leg" in line:
-            self.executed += line["leg"] + (line["asks"] not in NOT_EXECUTED)
-        if told.taken:
-            self.note_taken(told, line)
-        self.spills += len(told.spilled)
-        if told.committed is not None:
-            self.note_commit(told.committed)
-
-    def note_taken(self, told, line):
-        cause = CAUSES[line.get("asks", line["do"])]
-        self.taken_back[cause] += len(told.taken)
-        self.discarded[cause] += len(told.gone)
-        self.wasted[cause] += sum(taken.work for taken in told.taken)
-        if told.access is not None:
-            for taken in told.taken:
-                self.sharing[shared(taken, told.access, self.head["line"])] += 1
-            self.lines[line_of(told.access, self.head["line"])] += len(told.taken)
-            self.addresses[told.access.address] += len(told.taken)
-
-    def note_commit(self, task):
-        self.useful += task.work
-        stores = sum(access.is_store for access in task.accesses)
-        self.instructions.counts[task.work] += 1
-        self.loads.counts[len(task.accesses) - stores] += 1
-        self.stores.counts[stores] += 1
-        self.parallelism.commit(task)
-
-    def close(self, end, machine, name):
-        """Takes the last line. All work is useful, wasted or left: else the lines don't go together."""
-        self.end, self.events, self.commits = end["end"], machine.events, machine.commits
-        self.left = sum(task.work for task in machine.tasks.values())
-        if self.executed != self.useful + sum(self.wasted.values()) + self.left:
-            raise Refused(f"{name}: of {self.executed:,} instructions {self.useful:,} are of tasks that committed, "
-                          f"{sum(self.wasted.values()):,} of tasks that were taken back, and {self.left:,} are left.")
-
-    def rounds(self):
+    def rounds(self) -> Optional[int]:
         """How many rounds of a course in lockstep were begun; None of another course."""
-        if self.head["course"] != "lockstep":
+        acts = acts_a_round(self.head)
+        if acts is None:
             return None
-        acts_a_round = self.head["tiles"] * (self.head["cores"] + 3)
         # Acts that weren't asked for aren't told, so those of the last round may be missing.
-        return self.head["rounds"] if self.end == "open" else -(-self.acts // acts_a_round)
+        rounds: int = self.head["rounds"] if self.end == "open" else -(-self.acts // acts)
+        return rounds
 
-    def dispatches(self):
+    def dispatches(self) -> int:
         return self.replies["dispatch", "ok"]
 
-    def all_taken_back(self):
-        return sum(self.taken_back.values())
 
-    def all_wasted(self):
-        return sum(self.wasted.values())
+class Summing:
+    """Sums up a run. Lines are handed in one after another, and the last one at the end."""
 
-    def by_access(self):
-        """How many tasks loads and stores took back."""
-        return sum(self.sharing.values())
+    def __init__(self, head: dict[str, Any]) -> None:
+        self.figures = Figures(head)
+        self.cells = Cells()
+        self.limits, self.bounds = Limits(self.cells), Bounds(self.cells)
+        # Those on cores that wait for room since their last step, and those that trapped.
+        self.stalled: set[Task] = set()
+        self.trapped: set[Task] = set()
+
+    def note(self, told: Told, machine: Machine) -> None:
+        """Takes a line, and the machine behind it."""
+        line, it = told.line, self.figures
+        if not told.is_act():
+            if line.get("do") == "place":
+                it.tasks.note_place(told)
+            return
+        it.acts = line["at"]
+        it.replies[line["do"], line["reply"]] += 1
+        if not told.is_made:
+            self.note_refused(told)
+            return
+        if "leg" in line:
+            self.note_step(told)
+        if told.taken:
+            self.note_taken(told)
+        it.spills += len(told.spilled)
+        if told.committed is not None:
+            self.note_commit(told.committed)
+        stalled, trapped = len(self.stalled), len(self.trapped)
+        it.occupancy.note_event(it.acts, (machine.queued, machine.running - stalled - trapped, stalled, trapped,
+                                          machine.waiting, machine.spilled))
+
+    def note_refused(self, told: Told) -> None:
+        line, it = told.line, self.figures
+        it.refused += line.get("leg", 0)
+        if line["reply"] == "stall":
+            word = line["do"]
+            it.tasks.note_stall(line.get("asks", word))
+            it.occupancy.count(it.acts, f"stalled {word}s")
+            if told.task is not None:
+                self.stalled.add(told.task)
+
+    def note_step(self, told: Told) -> None:
+        line, task = told.line, told.task
+        assert task is not None
+        self.figures.executed += line["leg"] + (line["asks"] not in NOT_EXECUTED)
+        self.stalled.discard(task)
+        if line["asks"] == "trap":
+            self.trapped.add(task)
+        if told.access is not None:
+            self.figures.tasks.note_access(task, told.access)
+
+    def note_taken(self, told: Told) -> None:
+        it = self.figures
+        it.taken_back.note(told)
+        it.occupancy.count(it.acts, "taken back", len(told.taken))
+        for taken in told.taken:
+            it.tasks.note_taken(taken.task, taken.work)
+            self.stalled.discard(taken.task)
+            self.trapped.discard(taken.task)
+
+    def note_commit(self, task: Task) -> None:
+        it = self.figures
+        it.useful += task.work
+        it.occupancy.count(it.acts, "commits")
+        it.tasks.note_commit(task)
+        done = committed_task(task, self.cells)
+        self.limits.commit(done)
+        # In an unordered root domain each timestamp counts as 0.
+        self.bounds.commit(done, task.time()[0][0])
+
+    def close(self, end: dict[str, Any], machine: Machine, name: str) -> Figures:
+        """Takes the last line. All work is useful, wasted or left: else the lines don't go together."""
+        it = self.figures
+        it.end, it.events, it.commits = end["end"], machine.events, machine.commits
+        it.left = sum(task.work for task in machine.tasks.values())
+        it.occupancy.close(it.rounds())
+        it.limits, it.bounds, it.useful_steps = self.limits.told(), self.bounds.told(), self.limits.work[1]
+        wasted = it.taken_back.all_wasted()
+        if it.executed != it.useful + wasted + it.left:
+            raise Refused(f"{name}: of {it.executed:,} instructions {it.useful:,} are of tasks that committed, "
+                          f"{wasted:,} of tasks that were taken back, and {it.left:,} are left.")
+        return it
 
 
-def line_of(access, size):
-    return (access.address - DATA_START) // size
+def committed_task(task: Task, cells: Cells) -> CommittedTask:
+    """A task that committed, as limits are told of it."""
+    before = len(cells.split)
+    points = points_of(task, cells)
+    if len(cells.split) > before:
+        # A word was split behind the first access to it.
+        points = points_of(task, cells)
+    calls = [Call(child, (child.made_at, child.made_step)) for child in task.children]
+    return CommittedTask(task, (task.work, task.steps), points, calls)
 
 
-def shared(taken, access, size):
-    """What a task that was taken back shares with the access that did it. A load meets the task's stores alone."""
-    wanted, rank = line_of(access, size), len(SHARING)
-    for own in taken.accesses:
-        if access.is_store or own.is_store:
-            if own.address < access.address + access.bytes and access.address < own.address + own.bytes:
-                return TRUE
-            line = line_of(own, size)
-            if line == wanted:
-                rank = min(rank, SHARING.index(LINE))
-            elif (line - wanted) % FILTER_BITS == 0:
-                rank = min(rank, SHARING.index(ALIAS))
-    if rank < len(SHARING):
-        return SHARING[rank]
-    return CHILD if taken.is_gone else CASCADE
+def points_of(task: Task, cells: Cells) -> list[Point]:
+    return [Point(access.is_store, cells.of(access.address, access.bytes), (access.place, access.step))
+            for access in task.accesses]
 
 
-def figures_of(watched, is_fine_wanted=False):
-    """The figures of a run, from its whole text."""
-    figures = Figures(watched.head, is_fine_wanted)
-    for told in watched:
-        figures.note(told, watched.machine)
-    figures.close(watched.end, watched.machine, watched.name)
+@contextlib.contextmanager
+def no_search_for_cycles() -> Iterator[None]:
+    """Python doesn't look for objects that only hold each other. A text makes none, and many others that it would look
+    at again and again."""
+    was_enabled = gc.isenabled()
+    gc.disable()
+    try:
+        yield
+    finally:
+        if was_enabled:
+            gc.enable()
+
+
+def figures_of(watched: Watched, progress: Optional[Progress] = None) -> Figures:
+    """The figures of a run, from its whole text. How many acts were read is told now and then."""
+    summing = Summing(watched.head)
+    with no_search_for_cycles():
+        for told in watched:
+            summing.note(told, watched.machine)
+            if progress is not None and watched.number % LINES_BETWEEN == 0:
+                progress(watched.machine.acts)
+    assert watched.end is not None
+    figures = summing.close(watched.end, watched.machine, watched.name)
     figures.text_lines = watched.number
     return figures
 
 
-def read_figures(path, is_fine_wanted=False):
-    with open_watched(path) as watched:
-        return figures_of(watched, is_fine_wanted)
+def read_figures(path: str, image: Optional[Image] = None) -> Figures:
+    with open_watched(path, image=image) as watched:
+        return figures_of(watched)

@@ -1,151 +1,267 @@
 """Figures of runs as tables in Markdown, as rows of CSV, and as curves."""
 from __future__ import annotations
 
+from collections.abc import Callable, Iterable, Iterator, Mapping, Sequence
+from typing import Any, Optional
+
 from yotarimu.common.tables import plain_ratio, ratio, table
-from yotarimu.figures.run import CAUSES, PLACES, SHARING
+from yotarimu.figures.limits import Limit, Manner, Unit
+from yotarimu.figures.occupancy import PLACES, RATES
+from yotarimu.figures.run import Figures
+from yotarimu.figures.spread import PERCENTS, Spread
+from yotarimu.figures.taken_back import EVENTS, Edge, Root
+from yotarimu.images.listing import NO_LISTING, Listing
 
-# So many lines and addresses are told in a table; the rows have them all.
+# So many lines, addresses and entry addresses are told in a table; the rows have them all.
 MOST_TOLD = 8
-# The causes, each once, in the order in which documents list them.
-CAUSE_NAMES = tuple(dict.fromkeys(CAUSES.values()))
+Runs = Mapping[str, Figures]
+Rows = Iterable[Sequence[str]]
 
 
-def counted(number):
+def counted(number: Optional[int]) -> str:
     return "-" if number is None else f"{number:,}"
 
 
-def share(count, whole):
+def share(count: int, whole: int) -> str:
     """A count with its share of the whole."""
     return f"{count:,} ({100 * count / whole:.1f} %)" if whole else f"{count:,}"
 
 
-def spread(numbers):
-    return f"{numbers.mean():.2f}, {numbers.most_of(9):,}"
-
-
-ROWS = (
+ROWS: tuple[tuple[str, Callable[[Figures], str]], ...] = (
     ("Instructions executed", lambda it: counted(it.executed)),
     ("of these useful", lambda it: share(it.useful, it.executed)),
-    ("wasted", lambda it: share(it.all_wasted(), it.executed)),
+    ("wasted", lambda it: share(it.taken_back.all_wasted(), it.executed)),
     ("left", lambda it: share(it.left, it.executed)),
     ("Instructions of refused steps", lambda it: counted(it.refused)),
     ("Commits", lambda it: counted(it.commits)),
     ("Events", lambda it: counted(it.events)),
     ("Rounds", lambda it: counted(it.rounds())),
     ("Commits a round", lambda it: ratio(it.commits, it.rounds())),
+    ("Useful instructions a round", lambda it: ratio(it.useful, it.rounds())),
+    ("Useful steps a round", lambda it: ratio(it.useful_steps, it.rounds())),
     ("Dispatches a commit", lambda it: ratio(it.dispatches(), it.commits)),
-    ("Instructions of a task: mean, 90 %", lambda it: spread(it.instructions)),
-    ("Loads of a task: mean, 90 %", lambda it: spread(it.loads)),
-    ("Stores of a task: mean, 90 %", lambda it: spread(it.stores)),
-    ("Tasks taken back", lambda it: counted(it.all_taken_back())),
-    ("of these discarded", lambda it: counted(sum(it.discarded.values()))),
-    ("Tasks spilled", lambda it: counted(it.spills)),
-    ("Stalled steps, splits", lambda it: f"{it.replies['step', 'stall']:,}, {it.replies['split', 'stall']:,}"),
+    ("Tasks taken back", lambda it: counted(it.taken_back.all())),
+    ("of these discarded", lambda it: counted(sum(it.taken_back.discarded.values()))),
+    ("Tasks spilled at the opening, later", lambda it: f"{it.tasks.spilled_at_opening:,}, {it.spills:,}"),
     ("End", lambda it: it.end),
 )
 
 
-def summary(runs):
+def summary(runs: Runs) -> list[str]:
     """The figures of a dictionary by name, a column each."""
     return table(["", *runs], ([name, *(cell(it) for it in runs.values())] for name, cell in ROWS))
 
 
-def taken_back(runs):
-    """Tasks that were taken back by cause, and those of loads and stores by what they shared, a column a run."""
-    rows = [[f"by {cause}" if cause in ("load", "store", "abort") else f"for room: {cause}",
-             *(counted(it.taken_back[cause]) for it in runs.values())] for cause in CAUSE_NAMES]
-    rows += [[f"shared: {kind}", *(counted(it.sharing[kind]) for it in runs.values())] for kind in SHARING]
-    return table(["Taken back", *runs], rows)
+def taken_back(runs: Runs) -> list[str]:
+    """Tasks that were taken back, a column a run: by the event, by what took each itself, and by its root."""
+    found = {name: it.taken_back for name, it in runs.items()}
+    rows = [[f"by event: {event}", *(counted(it.tasks[event]) for it in found.values())] for event in EVENTS]
+    rows += [[f"itself: {edge.value}", *(counted(it.by_edge(edge)) for it in found.values())] for edge in Edge]
+    rows += [[f"root: {root.value}", *(counted(it.by_root(root)) for it in found.values())] for root in Root]
+    rows.append(["by a line or a bit alone on the way", *(counted(it.by_machine) for it in found.values())])
+    return table(["Taken back", *found], rows)
 
 
-def places(it):
+def causes(it: Figures) -> list[str]:
+    """What took tasks themselves, against what that goes back to; no line where nothing was taken back."""
+    found = it.taken_back
+    roots = [root for root in Root if found.by_root(root)]
+    rows = [[edge.value, *(counted(found.causes[edge, root]) for root in roots), counted(found.by_edge(edge))]
+            for edge in Edge if found.by_edge(edge)]
+    rows.append(["all", *(counted(found.by_root(root)) for root in roots), counted(found.all())])
+    return table(["Itself", *(root.value for root in roots), "all"], rows) if roots else []
+
+
+def stalls(runs: Runs) -> list[str]:
+    """Steps and splits that stalled, by why, a column a run."""
+    reasons = next(iter(runs.values())).tasks.stalls
+    return table(["Stalled", *runs],
+                 ([reason, *(counted(it.tasks.stalls[reason]) for it in runs.values())] for reason in reasons))
+
+
+def most_of(counts: Mapping[Any, int]) -> list[tuple[Any, int]]:
+    """The greatest counts, and of equal ones those that come first."""
+    return sorted(counts.items(), key=lambda pair: (-pair[1], pair[0]))[:MOST_TOLD]
+
+
+def places(it: Figures) -> list[str]:
     """Where loads and stores took tasks back: the lines and the addresses where most were."""
-    def told(counts, name):
-        most = sorted(counts.items(), key=lambda pair: (-pair[1], pair[0]))[:MOST_TOLD]
-        return [[name(place), counted(count)] for place, count in most] + [["", ""]] * (MOST_TOLD - len(most))
-
-    pairs = zip(told(it.lines, lambda line: f"{line:,}"), told(it.addresses, lambda address: f"{address:08x}"))
-    rows = [[*line, *address] for line, address in pairs if line[0] or address[0]]
-    return table(["Line", "taken back", "Address", "taken back"], rows)
+    lines = [[f"{line:,}", counted(count)] for line, count in most_of(it.taken_back.lines)]
+    addresses = [[f"{address:08x}", counted(count)] for address, count in most_of(it.taken_back.addresses)]
+    most = max(len(lines), len(addresses))
+    pairs = zip(*(rows + [["", ""]] * (most - len(rows)) for rows in (lines, addresses)))
+    return table(["Line", "taken back", "Address", "taken back"], ([*line, *address] for line, address in pairs))
 
 
-def occupancy(it):
-    """How many tasks were where, after each event."""
-    room = (it.head["tiles"] * it.head["task_queue"], it.head["tiles"] * it.head["cores"],
-            it.head["tiles"] * it.head["commit_queue"], None)
-    rows = [[name, counted(most), f"{mean:.1f}", counted(greatest)] for name, most, mean, greatest in
-            zip(PLACES, room, it.occupancy.means(), it.occupancy.greatest)]
-    return table(["Tasks in", "room", "mean", "greatest"], rows)
+def spreads(it: Figures) -> list[str]:
+    """What a task has that committed: the mean, percentiles and the greatest."""
+    heads = ["Of a task", "mean", *(f"{percent} %" for percent in PERCENTS), "greatest"]
+    return table(heads, ([name, f"{spread.mean():.2f}", *(counted(spread.percentile(it)) for it in PERCENTS),
+                          counted(spread.greatest())] for name, spread in it.tasks.spreads.items()))
 
 
-def window_told(window):
-    return "without bound" if window is None else f"{window:,}"
+def domains(it: Figures) -> list[str]:
+    """Domains by depth and kind."""
+    rows = [[str(depth), kind, counted(counts.made), counted(counts.used), counted(counts.commits)]
+            for (depth, kind), counts in sorted(it.tasks.domains.items())]
+    return table(["Depth", "Domains", "made", "with a commit", "Tasks that committed"], rows)
 
 
-def parallelism(runs):
+def entries(it: Figures, listing: Listing = NO_LISTING) -> list[str]:
+    """Work by the address at which tasks begin, the most first."""
+    most = most_of({address: counts.useful + counts.wasted for address, counts in it.tasks.entries.items()})
+    rows = []
+    for address, _ in most:
+        counts = it.tasks.entries[address]
+        rows.append([listing.labelled(address), counted(counts.commits), counted(counts.useful),
+                     counted(counts.taken_back), counted(counts.wasted)])
+    return table(["Tasks that begin at", "committed", "useful instructions", "taken back", "wasted"], rows)
+
+
+def accesses(it: Figures) -> list[str]:
+    """Loads and stores that were made, by tile."""
+    return table(["Tile", "loads", "stores"], ([str(tile), counted(counts["load"]), counted(counts["store"])]
+                                              for tile, counts in enumerate(it.tasks.accesses)))
+
+
+def occupancy(it: Figures) -> list[str]:
+    """How many tasks were where."""
+    room = {"task queues": it.head["tiles"] * it.head["task_queue"], "running": it.head["tiles"] * it.head["cores"],
+            "commit queues": it.head["tiles"] * it.head["commit_queue"]}
+    means, greatest = it.occupancy.curve.means(), it.occupancy.greatest
+    rows = [[name, counted(room.get(name)), f"{means[place]:.1f}", counted(greatest[place])]
+            for place, name in enumerate(PLACES)]
+    return table(["Tasks", "room", f"mean over {it.occupancy.over()}", "greatest"], rows)
+
+
+def rates(it: Figures) -> list[str]:
+    """What happens in a round, on the mean; no line where there are none."""
+    if it.rounds() is None:
+        return []
+    return table(["In a round", "mean"],
+                 ([name, f"{mean:.2f}"] for name, mean in zip(RATES, it.occupancy.rates.means())))
+
+
+# How limits are named: those of the order of the commits, and bounds for any order.
+UNITS = {Unit.INSTRUCTION: "Instructions", Unit.STEP: "Steps"}
+ANY_ORDER = "Instructions at once in any order, at most"
+
+
+def limit_name(limit: Limit) -> str:
+    return f"{UNITS[limit.unit]} at once, {limit.manner.value}"
+
+
+def parallelism(runs: Runs) -> list[str]:
     """The limits of parallelism, a column a run."""
-    columns = [it.parallelism.limits() for it in runs.values()]
-    rows = [[f"{'finely' if is_fine else 'by whole tasks'}, window {window_told(window)}",
-             *(f"{limits[place][2]:.1f}" for limits in columns)]
-            for place, (window, is_fine, _) in enumerate(columns[0])]
-    return table(["Parallelism", *runs], rows)
+    columns = [it.limits for it in runs.values()]
+    rows = [[limit_name(limit), str(limit.window), *(f"{limits[place].at_once:.1f}" for limits in columns)]
+            for place, limit in enumerate(columns[0])]
+    for manner in (Manner.RENAMED, Manner.ONE):
+        rows.append([f"{ANY_ORDER}, {manner.value}", "without bound",
+                     *(f"{it.bounds[manner]:.1f}" for it in runs.values())])
+    return table(["Parallelism", "window", *runs], rows)
 
 
 CSV_COLUMNS = ("lines", "figure", "of", "value")
+Plain = Iterator[tuple[str, object, object]]
 
 
-def plain_rows(runs):
+def plain_rows(runs: Runs) -> Iterator[Sequence[object]]:
     """Each figure of a dictionary by name as a row, in plain numbers, under their head."""
     yield CSV_COLUMNS
     for name, it in runs.items():
-        for figure, of, value in plain_figures(it):
-            yield name, figure, of, value
+        for parts in (plain_counts, plain_tasks, plain_taken, plain_occupancy, plain_limits):
+            for row in parts(it):
+                yield (name, *row)
 
 
-def plain_figures(it):
-    yield from plain_counts(it)
-    for name, numbers in (("instructions", it.instructions), ("loads", it.loads), ("stores", it.stores)):
-        yield f"{name} of a task", "mean", f"{numbers.mean():.6g}"
-        yield f"{name} of a task", "90 %", numbers.most_of(9)
-    for cause in CAUSE_NAMES:
-        yield "taken back by cause", cause, it.taken_back[cause]
-        yield "discarded by cause", cause, it.discarded[cause]
-        yield "wasted by cause", cause, it.wasted[cause]
-    for kind in SHARING:
-        yield "taken back by sharing", kind, it.sharing[kind]
-    for line, count in sorted(it.lines.items()):
-        yield "taken back by line", line, count
-    for address, count in sorted(it.addresses.items()):
-        yield "taken back by address", f"{address:08x}", count
-    for (word, reply), count in sorted(it.replies.items()):
-        yield f"replies to {word}", reply, count
-    yield from plain_occupancy(it)
-    for window, is_fine, limit in it.parallelism.limits():
-        yield f"parallelism {'finely' if is_fine else 'by whole tasks'}", window or "without bound", f"{limit:.6g}"
-
-
-def plain_counts(it):
+def plain_counts(it: Figures) -> Plain:
     rounds = it.rounds()
     yield from (("instructions", "executed", it.executed), ("instructions", "useful", it.useful),
-                ("instructions", "wasted", it.all_wasted()), ("instructions", "left", it.left),
+                ("instructions", "wasted", it.taken_back.all_wasted()), ("instructions", "left", it.left),
                 ("instructions", "refused", it.refused), ("commits", "", it.commits), ("events", "", it.events),
                 ("acts", "", it.acts), ("rounds", "", "" if rounds is None else rounds),
-                ("commits a round", "", plain_ratio(it.commits, rounds)), ("dispatches", "", it.dispatches()),
+                ("commits a round", "", plain_ratio(it.commits, rounds)),
+                ("useful instructions a round", "", plain_ratio(it.useful, rounds)),
+                ("useful steps a round", "", plain_ratio(it.useful_steps, rounds)),
+                ("steps", "useful", it.useful_steps), ("dispatches", "", it.dispatches()),
                 ("dispatches a commit", "", plain_ratio(it.dispatches(), it.commits)),
-                ("taken back", "", it.all_taken_back()), ("spilled", "", it.spills), ("end", "", it.end))
+                ("taken back", "", it.taken_back.all()), ("spilled", "", it.spills),
+                ("spilled at the opening", "", it.tasks.spilled_at_opening), ("end", "", it.end))
+    for (word, reply), count in sorted(it.replies.items()):
+        yield f"replies to {word}", reply, count
+    for reason, count in it.tasks.stalls.items():
+        yield "stalled", reason, count
 
 
-def plain_occupancy(it):
+def plain_spread(name: str, spread: Spread) -> Plain:
+    yield f"{name} of a task", "mean", f"{spread.mean():.6g}"
+    for percent in PERCENTS:
+        yield f"{name} of a task", f"{percent} %", spread.percentile(percent)
+    yield f"{name} of a task", "greatest", spread.greatest()
+    for value, count in sorted(spread.counts.items()):
+        yield f"tasks by {name}", value, count
+
+
+def plain_tasks(it: Figures) -> Plain:
+    for name, spread in it.tasks.spreads.items():
+        yield from plain_spread(name, spread)
+    for depth, count in it.tasks.depths().items():
+        yield "commits by depth", depth, count
+    for (depth, kind), counts in sorted(it.tasks.domains.items()):
+        yield f"{kind} domains made", depth, counts.made
+        yield f"{kind} domains with a commit", depth, counts.used
+        yield f"commits in {kind} domains", depth, counts.commits
+    for address, entry in sorted(it.tasks.entries.items()):
+        yield "commits by entry address", f"{address:08x}", entry.commits
+        yield "useful by entry address", f"{address:08x}", entry.useful
+        yield "taken back by entry address", f"{address:08x}", entry.taken_back
+        yield "wasted by entry address", f"{address:08x}", entry.wasted
+    for tile, accesses_there in enumerate(it.tasks.accesses):
+        yield "loads by tile", tile, accesses_there["load"]
+        yield "stores by tile", tile, accesses_there["store"]
+
+
+def plain_taken(it: Figures) -> Plain:
+    found = it.taken_back
+    for event in EVENTS:
+        yield "taken back by event", event, found.tasks[event]
+        yield "discarded by event", event, found.discarded[event]
+        yield "wasted by event", event, found.wasted[event]
+    for edge in Edge:
+        yield "taken back itself", edge.value, found.by_edge(edge)
+    for root in Root:
+        yield "taken back by root", root.value, found.by_root(root)
+        yield "wasted by root", root.value, found.wasted_by_root[root]
+        for edge in Edge:
+            yield f"taken back by root, {root.value}", edge.value, found.causes[edge, root]
+    yield "taken back by a line or a bit alone on the way", "", found.by_machine
+    for line, count in sorted(found.lines.items()):
+        yield "taken back by line", line, count
+    for address, count in sorted(found.addresses.items()):
+        yield "taken back by address", f"{address:08x}", count
+
+
+def plain_occupancy(it: Figures) -> Plain:
     for place, name in enumerate(PLACES):
-        yield "occupancy mean", name, f"{it.occupancy.means()[place]:.6g}"
+        yield "occupancy mean", name, f"{it.occupancy.curve.means()[place]:.6g}"
         yield "occupancy greatest", name, it.occupancy.greatest[place]
-    for event, counts in it.occupancy.curve:
-        for name, count in zip(PLACES, counts):
-            yield f"occupancy of {name}", event, count
+    if it.rounds() is not None:
+        for name, mean in zip(RATES, it.occupancy.rates.means()):
+            yield f"{name} in a round", "mean", f"{mean:.6g}"
+    for name, points in it.occupancy.series():
+        for moment, value in points:
+            yield f"curve of {name} over {it.occupancy.over()}", moment, f"{value:.6g}"
 
 
-def curves(runs):
-    """The occupancy over events, a series a place, for each run of a dictionary by name."""
-    return {f"{name}: {place}" if len(runs) > 1 else place: [(event, counts[number]) for event, counts in
-                                                             it.occupancy.curve] or [(0, 0)]
-            for name, it in runs.items() for number, place in enumerate(PLACES)}
+def plain_limits(it: Figures) -> Plain:
+    for limit in it.limits:
+        yield f"{limit_name(limit).lower()}", limit.window, f"{limit.at_once:.6g}"
+    for manner, bound in it.bounds.items():
+        yield f"{ANY_ORDER}, {manner.value}".lower(), "without bound", f"{bound:.6g}"
+
+
+def curves(runs: Runs) -> dict[str, list[tuple[int, float]]]:
+    """How many tasks were where, a series a place, for each run of a dictionary by name."""
+    return {f"{name}: {place}" if len(runs) > 1 else place: points or [(0, 0)]
+            for name, it in runs.items() for place, points in it.occupancy.series() if place in PLACES}

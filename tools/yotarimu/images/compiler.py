@@ -1,25 +1,35 @@
-"""Sources in C: which compiler makes objects of them, by which options, and what it complains of."""
+"""Sources in C, C++ and LLVM's language: which compiler makes objects of them, by which options, and its complaints."""
 from __future__ import annotations
 
 import pathlib
 import re
 import shutil
 import subprocess
+from typing import Optional
 
 from yotarimu.common.outcome import Refused
 from yotarimu.common.places import EXAMPLES_FOLDER
 
 # What a source includes, and what compilers call although no source does.
 LIBRARY = EXAMPLES_FOLDER / "c" / "library"
+HEADER = "task.h:"
 MEMORY = LIBRARY / "memory.c"
 PACKAGES = {"riscv64-unknown-elf-gcc": "gcc-riscv64-unknown-elf", "clang": "clang"}
 GCC, CLANG = PACKAGES
 MACHINE = ("-march=rv32i", "-mabi=ilp32")
 # Nothing is started before a task, and no register points to small data, as each task would have to set it. What is
 # surely a mistake is refused: it would be a mere warning else.
-OPTIONS = ("-std=gnu17", "-O2", "-gdwarf-4", "-ffreestanding", "-fno-pic", "-fno-common", "-msmall-data-limit=0",
-           "-fno-asynchronous-unwind-tables", "-Wall", "-Werror=implicit-function-declaration", "-Werror=implicit-int",
-           "-Werror=int-conversion", "-Werror=incompatible-pointer-types")
+OPTIONS = ("-O2", "-gdwarf-4", "-ffreestanding", "-fno-pic", "-fno-common", "-msmall-data-limit=0",
+           "-fno-asynchronous-unwind-tables", "-Wall")
+# By the end of a source's name. C++ has nothing here that would want a library.
+OF_LANGUAGE = {
+    ".c": ("-std=gnu17", "-Werror=implicit-function-declaration", "-Werror=implicit-int", "-Werror=int-conversion",
+           "-Werror=incompatible-pointer-types"),
+    ".cpp": ("-std=gnu++20", "-fno-exceptions", "-fno-rtti", "-fno-threadsafe-statics"),
+}
+# What LLVM has made of a source before is compiled by clang alone.
+LLVM = ".ll"
+OF_LLVM = ("--target=riscv32", "-O2", "-fno-pic", "-Wno-override-module")
 # A macro's fault is told where it is used. A task's parameter may have no name.
 OWN_OPTIONS = {GCC: ("-mstrict-align", "-ftrack-macro-expansion=0"),
                CLANG: ("--target=riscv32", "-Wno-unknown-warning-option", "-Wno-c2x-extensions")}
@@ -32,30 +42,40 @@ ADVICE = (
     (r"no such file.*|'std\w+\.h' file not found", "there is no C library"),
     (r"return type defaults|type specifier missing", "TASK needs the line #include \"task.h\""),
     (r"called object .* is not a function", "a task is enqueued"),
+    (r"task_child_of|task_piece|excess elements", "a child has a timestamp, three arguments and a hint"),
 )
 
 
-def need_compiler(compiler):
+def need_compiler(compiler: str) -> None:
+    """Refuses a compiler that isn't there."""
     if not shutil.which(compiler):
         raise Refused(f"{compiler} isn't in the path; it compiles C (Debian's package {PACKAGES[compiler]} has it).")
 
 
-def compiler_words(compiler, path, target, is_library=False):
-    """The words that compile a file of C."""
+def compiler_of(compiler: str, path: pathlib.Path) -> str:
+    """The compiler of a file, where sources in C are for the one that is named."""
+    return CLANG if path.suffix == LLVM else compiler
+
+
+def compiler_words(compiler: str, path: pathlib.Path, target: str, is_library: bool = False) -> list[str]:
+    """The words that compile a file."""
+    compiler = compiler_of(compiler, path)
     need_compiler(compiler)
-    own = OWN_OPTIONS[compiler] + (AS_WRITTEN[compiler] if is_library else ())
+    if path.suffix == LLVM:
+        return [compiler, *MACHINE, *OF_LLVM, "-c", "-o", target, str(path)]
+    own = OF_LANGUAGE[path.suffix] + OWN_OPTIONS[compiler] + (AS_WRITTEN[compiler] if is_library else ())
     return [compiler, *MACHINE, *OPTIONS, *own, "-I", str(LIBRARY), "-I", str(path.parent), "-c", "-o", target,
             str(path)]
 
 
-def compiler_told(compiler):
+def compiler_told(compiler: str) -> str:
     """The compiler with its version, as in `gcc 12.2.0`."""
     said = subprocess.run([compiler, "--version"], capture_output=True, text=True, stdin=subprocess.DEVNULL).stdout
     found = re.search(r"\d+\.\d+[.\d]*(?=\s*$)", said.partition("\n")[0])
     return f"{compiler.rpartition('-')[2]} {found[0] if found else ''}".strip()
 
 
-def arithmetic():
+def arithmetic() -> list[str]:
     """The library of what RV32I has no instruction for: products, quotients, numbers of 64 bits and with a point."""
     if not shutil.which(GCC):
         return []
@@ -65,24 +85,34 @@ def arithmetic():
     return [str(path)] if "rv32i" in path.parts and path.is_file() else []
 
 
-def complaints(said):
+def complaints(said: str) -> Optional[str]:
     """What a compiler complains of, a sentence for each line of a source; None where it complains otherwise."""
-    sentences = {}
-    for place, kind, text in re.findall(r"(?m)^(.+?:\d+):\d+: (fatal error|error|warning): (.*)$", said):
-        sentences.setdefault(place, complaint(text, kind))
+    sentences: dict[str, str] = {}
+    for found in re.finditer(r"(?m)^(.+?:\d+):\d+: (fatal error|error|warning): (.*)$", said):
+        place = found[1] if not found[1].startswith(HEADER) else used_at(said, found) or found[1]
+        sentences.setdefault(place, complaint(found[3], found[2]))
     if not sentences:
         return None
     return "\n".join(f"{place}: {sentence}" for place, sentence in sentences.items())
 
 
-def complaint(text, kind):
+def used_at(said: str, found: re.Match[str]) -> Optional[str]:
+    """Where a source uses what the header of C++ finds wrong: gcc tells that above, and clang below."""
+    above = re.findall(r"(?m)^(.+?:\d+):\d+:\s+required from here$", said[:found.start()])
+    below = re.findall(r"(?m)^(.+?:\d+):\d+: note: in instantiation of .* requested here$", said[found.end():])
+    places: list[str] = [place for place in (*above[-1:], *below) if not place.startswith(HEADER)]
+    return places[0] if places else None
+
+
+def complaint(text: str, kind: str) -> str:
+    """What a compiler says, as a sentence with what usually helps."""
     text = re.sub(r" \[-W[^]]*\]$", "", text)
-    if found := re.match(r"(?:static assertion failed|static_assert failed)[^\"]*\"(.*)\"", text):
-        return f"{found[1]}."
+    if found := re.match(r"static(?:_assert| assertion) failed[^\"]*\"(.*)\"|static assertion failed: (.*)", text):
+        return f"{found[1] or found[2]}."
     advice = next((sentence for pattern, sentence in ADVICE if re.search(pattern, text, re.IGNORECASE)), None)
     return text + (f" ({advice})" if advice else " (a warning)" if kind == "warning" else "") + "."
 
 
-def where_from(name):
+def where_from(name: str) -> str:
     """Where a name comes from that compilers use for arithmetic, for a sentence on its lack."""
     return f" (it is libgcc's, of Debian's package {PACKAGES[GCC]})" if name.startswith("__") else ""

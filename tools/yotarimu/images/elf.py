@@ -3,6 +3,7 @@ from __future__ import annotations
 
 import dataclasses
 import struct
+from collections.abc import Iterator, Sequence
 
 BITS = 1
 NO_BITS = 8
@@ -10,12 +11,18 @@ SYMBOLS = 2
 IS_ALLOCATED = 2
 SECTION = struct.Struct("<10I")
 SYMBOL = struct.Struct("<3I2BH")
+Row = tuple[int, ...]
+# Files of 32 bits, little-endian; objects that are to be linked; the machine RISC-V.
+MAGIC, TO_LINK, RISC_V = b"\x7fELF\x01\x01", 1, 243
+HEADER_BYTES = 52
+LOCAL = 0
 # Kinds of symbols: the last two name no place of the program.
 FUNCTION, SECTION_NAME, FILE_NAME = 2, 3, 4
 
 
 @dataclasses.dataclass
 class Section:
+    """A section, with its bytes where the file has them."""
     name: str
     kind: int
     is_allocated: bool
@@ -26,14 +33,17 @@ class Section:
 
 @dataclasses.dataclass
 class Label:
+    """A name of a place: its address, and what stands there."""
     name: str
     address: int
     section: str
     size: int = 0
     is_function: bool = False
+    # Whether other sources don't see it.
+    is_local: bool = False
 
 
-def read_elf(data):
+def read_elf(data: bytes) -> tuple[list[Section], list[Label]]:
     """The sections and the labels of an ELF file's bytes."""
     table, = struct.unpack_from("<I", data, 32)
     step, count, names_at = struct.unpack_from("<3H", data, 46)
@@ -44,29 +54,39 @@ def read_elf(data):
     return sections, [label for row in rows if row[1] == SYMBOLS for label in labels(data, rows, row, sections)]
 
 
-def flags(data):
+def is_object(data: bytes) -> bool:
+    """Whether bytes are an object file of a RISC-V machine of 32 bits."""
+    return (len(data) >= HEADER_BYTES and data.startswith(MAGIC)
+            and struct.unpack_from("<2H", data, 16) == (TO_LINK, RISC_V))
+
+
+def flags(data: bytes) -> int:
     """What the file asks of the machine."""
-    return struct.unpack_from("<I", data, 36)[0]
+    asked: int = struct.unpack_from("<I", data, 36)[0]
+    return asked
 
 
-def attributes(data):
+def attributes(data: bytes) -> bytes:
     """The attributes of the file, which tell its architecture; empty where it has none."""
     return next((it.data for it in read_elf(data)[0] if it.name == ".riscv.attributes"), b"")
 
 
-def content(data, row):
+def content(data: bytes, row: Row) -> bytes:
+    """The bytes of a section."""
     return b"" if row[1] == NO_BITS else data[row[4]:row[4] + row[5]]
 
 
-def text_at(names, place):
+def text_at(names: bytes, place: int) -> str:
+    """The text from a place up to its zero."""
     return names[place:names.index(b"\0", place)].decode("utf-8", "replace")
 
 
-def labels(data, rows, row, sections):
+def labels(data: bytes, rows: Sequence[Row], row: Row, sections: Sequence[Section]) -> Iterator[Label]:
+    """The labels of a section that has them."""
     names = content(data, rows[row[6]])
     for name_at, value, size, info, _other, section in SYMBOL.iter_unpack(content(data, row)):
         name = text_at(names, name_at)
         is_place = info & 15 not in (SECTION_NAME, FILE_NAME) and 0 < section < len(sections)
         # The assembler's own local labels, and its marks of what is code, begin so.
         if is_place and name and not name.startswith((".L", "$")):
-            yield Label(name, value, sections[section].name, size, info & 15 == FUNCTION)
+            yield Label(name, value, sections[section].name, size, info & 15 == FUNCTION, info >> 4 == LOCAL)

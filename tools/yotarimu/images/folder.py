@@ -1,14 +1,17 @@
 """From a folder of sources to its image and its listing."""
 from __future__ import annotations
 
+import pathlib
+
 from yotarimu.common.files import write_whole
-from yotarimu.images.image import image_bytes
+from yotarimu.images.description import described
+from yotarimu.images.image import Image, image_bytes
 from yotarimu.images.listing import listing_text
-from yotarimu.images.source import assemble, described, sources_in
+from yotarimu.images.source import Assembled, assemble, sources_in
 from yotarimu.images.stack import check_stack
 
 
-def build(folder, compiler):
+def build(folder: pathlib.Path, compiler: str) -> tuple[Image, Assembled]:
     """Writes the image and the listing of a folder's sources, and hands out the image with what it was made of."""
     sources = sources_in(folder)
     assembled = assemble(sources, compiler)

@@ -106,19 +106,24 @@ def instruction_line(listing, address, word):
 
 
 def data_lines(assembled, start, data, title):
-    """Bytes in rows of at most 16 that begin at each label."""
+    """Bytes in rows of at most 16 that begin at each label; of bytes beyond those that are shown the labels alone."""
     if not data:
         return []
     lines = ["", f"{title}: {len(data)} bytes"]
-    data = data[:MOST_BYTES]
-    stops = sorted({label.address - start for label in assembled.labels} | {len(data)})
+    shown = data[:MOST_BYTES]
+    labelled = sorted({label.address - start for label in assembled.labels
+                       if start <= label.address < start + len(data)})
+    stops = [stop for stop in labelled if stop < len(shown)] + [len(shown)]
     place = 0
-    while place < len(data):
-        end = min([place + 16] + [stop for stop in stops if stop > place])
-        row = data[place:end]
+    while place < len(shown):
+        stop = stops[bisect.bisect_right(stops, place)]
+        end = min(place + 16, stop)
+        row = shown[place:end]
         lines += label_lines(assembled, start + place)
         lines.append(f"{start + place:08x}  {row.hex(' '):<47}  {printable(row)}".rstrip())
         place = end
+    for beyond in labelled[len(stops) - 1:]:
+        lines += label_lines(assembled, start + beyond)
     return lines
 
 

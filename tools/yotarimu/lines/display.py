@@ -69,7 +69,7 @@ class Standing:
     # ---- what all tiles share
 
     def word_lines(self, size):
-        words = self.machine.words()
+        words = self.machine.memory.words()
         if not words:
             yield "memory: no word was touched"
             return

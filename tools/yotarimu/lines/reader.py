@@ -23,15 +23,26 @@ from yotarimu.courses.schedules import MOST_CORES, MOST_TILES
 from yotarimu.lines.fields import Shapes, Wrong
 from yotarimu.lines.replay import Machine, Told
 
+# The values that the numbers of a head may have: docs/guest/FORMATS.md.
+RANGES = {
+    "rounds": range(1, 1_000_001), "seed": range(1 << 32), "tiles": range(1, MOST_TILES + 1),
+    "cores": range(1, MOST_CORES + 1), "task_queue": range(4, 257), "commit_queue": range(1, 65),
+    "line": (4, 8, 16, 32, 64), "quantum": range(1, 1_025), "commits": range(1, 1_000_001),
+    "budget": range(1, 65_537), "phase": range(1, 1_000_001), "text": range(65_537), "data": range(16_777_217),
+    "tasks": range(1, 65_537),
+}
+MOST_WINDOW = 4_096
+
 
 class Watched:
     """A text that is read, line by line. `is_cut_allowed` says whether it may break off before its end."""
 
-    def __init__(self, file, name, is_cut_allowed=False, keeps_memory=False):
+    def __init__(self, file, name, is_cut_allowed=False, image=None):
         self.file, self.name, self.is_cut_allowed = file, name, is_cut_allowed
         self.number, self.shapes, self.end = 0, Shapes(), None
         self.head = self.read_head()
-        self.machine = Machine(self.head, keeps_memory)
+        with self.place_told():
+            self.machine = Machine(self.head, image)
 
     def read_head(self):
         text = self.next_text()
@@ -88,15 +99,18 @@ def need_head(head):
         raise Wrong("the first line isn't the head of what the second program tells")
     if head["watch"] != 1:
         raise Wrong(f"these are lines of version {head['watch']}, and 1 is known")
-    if not (1 <= head["tiles"] <= MOST_TILES and 1 <= head["cores"] <= MOST_CORES and head["line"]
-            and head["tasks"]):
-        raise Wrong("no machine has these settings")
+    odd = next((name for name, values in RANGES.items() if name in head and head[name] not in values), None)
+    if odd is not None:
+        raise Wrong(f"no machine has {head[odd]} as `{odd}`")
+    offset, words = head["window"]
+    if offset % 4 or words > MOST_WINDOW or offset + 4 * words > head["data"]:
+        raise Wrong(f"the data has no window of {words} words from {offset} on")
 
 
 @contextlib.contextmanager
-def open_watched(path, is_cut_allowed=False, keeps_memory=False):
+def open_watched(path, is_cut_allowed=False, image=None):
     """Opens a text that the second program told; `-` is standard input."""
     if str(path) == "-" and sys.stdin is None:
         raise Refused("standard input is closed.")
     with contextlib.nullcontext(sys.stdin.buffer) if str(path) == "-" else open(path, "rb") as file:
-        yield Watched(file, path, is_cut_allowed, keeps_memory)
+        yield Watched(file, path, is_cut_allowed, image)

@@ -1,30 +1,38 @@
 """The machine as the second program's lines leave it, made of the lines alone.
 
 `lines.reader` hands each line to `Machine.follow`. What is kept doesn't grow with the text: the uncommitted tasks, the
-words of memory that were touched where the caller asks for them, and nothing of a task once it has left. Each line is
+bytes of memory that were touched, and nothing of a task once it has left. Each line is
 held against the machine. One that can't follow is refused: a task that isn't there, work or a name that isn't what
 counting gives.
 """
 from __future__ import annotations
 
 import hashlib
-from typing import NamedTuple
+import itertools
+from typing import Iterator, NamedTuple
 
+from yotarimu.lines.dispatch_numbers import DispatchNumbers
 from yotarimu.lines.fields import EVENTS, Wrong
+from yotarimu.lines.legs import Legs
+from yotarimu.lines.memory import DATA_START, Memory
+from yotarimu.lines.rounds import Rounds
+from yotarimu.lines.times import UNDISPATCHED, Domain, Time, root
 
-DATA_START = 0x10000000
 IDLE, RUNNING, TRAPPED, FINISHED = "idle", "running", "trapped", "finished"
+ORDERED = "ordered"
 SPILLED, COMMITTED, GONE = "spilled", "committed", "gone"
-DEEPER = {"same": 0, "sub": 1, "super": -1}
 # What takes tasks back: what a task asks for, or an event that isn't a step.
 TAKING_BACK = ("load", "store", "enqueue", "end", "dispatch", "split", "abort")
 # Requests that are no instruction of their own.
 NOT_EXECUTED = ("go", "trap")
+# The cause of a trap where a task has executed all that it may.
+OVER_BUDGET = 17
 
 
 class Access(NamedTuple):
     """A load or a store of the data: where, the number that stood there before and the one that was stored, how many
-    instructions its task had executed before it, and the event that it was."""
+    instructions its task had executed before it, the event that it was, the address of its instruction, and how many
+    steps its task had made before it."""
     is_store: bool
     address: int
     bytes: int
@@ -32,31 +40,53 @@ class Access(NamedTuple):
     value: int
     place: int
     event: int
+    pc: int
+    step: int
 
 
 class Task:
     """An uncommitted task. `name` is a pair, or None as long as its creator may be taken back; `creator` is the task
-    that made it as long as that is uncommitted. `number` is the dispatch number that it was told with. `work` counts
-    instructions since its dispatch, and `made_at` is the work of its creator at the call. `note` is for the caller."""
+    that made it as long as that is uncommitted. `number` is its dispatch number, and `dispatch` its place among all
+    dispatches so far, which no renumbering changes. `work` counts instructions since its dispatch, and `steps` steps;
+    `made_at` and `made_step` are how many of these its creator had made with the call."""
 
-    __slots__ = ("id", "tile", "core", "state", "creator", "index", "name", "depth", "entry", "timestamp", "arguments",
-                 "hint", "made_at", "number", "work", "pc", "accesses", "children", "subdomain", "emitted", "note")
+    __slots__ = ("id", "tile", "core", "state", "creator", "index", "name", "entry", "timestamp", "arguments",
+                 "hint", "domain", "made_at", "made_step", "number", "dispatch", "work", "steps", "pc", "accesses",
+                 "children", "subdomain", "emitted")
 
-    def __init__(self, line, creator, index, depth):
+    def __init__(self, line, creator, index, domain):
         self.id = line.get("new")
         self.tile = line["tile"] if creator is None else line["in"]
-        self.creator, self.index, self.depth = creator, index, depth
+        self.creator, self.index, self.domain = creator, index, domain
         self.name = (0, index) if creator is None else None
         self.entry, self.timestamp = line["entry"], line["ts"]
         self.arguments, self.hint = line["args"], line["hint"]
-        self.made_at = 0 if creator is None else creator.work
-        self.note = None
+        self.made_at, self.made_step = (0, 0) if creator is None else (creator.work, creator.steps)
         self.wait()
+
+    @property
+    def depth(self) -> int:
+        return len(self.domain.kinds)
+
+    def time(self) -> Time:
+        """Its virtual time."""
+        return self.domain.time(self.timestamp, self.dispatch)
+
+    def domain_of_child(self, to: str) -> Domain:
+        """The domain of a child: its own, its subdomain or its superdomain."""
+        if to == "sub" and self.subdomain is None:
+            raise Wrong("it makes a child for a subdomain that isn't there")
+        if to == "super" and self.depth == 1:
+            raise Wrong("it makes a child for a superdomain that isn't there")
+        if to == "sub":
+            return self.domain.inner(self.time(), self.subdomain == ORDERED)
+        return self.domain.outer() if to == "super" else self.domain
 
     def wait(self):
         """It is idle, with nothing done."""
         self.state, self.core, self.number, self.pc = IDLE, None, None, self.entry
-        self.work, self.accesses, self.children, self.subdomain, self.emitted = 0, [], [], None, []
+        self.dispatch = UNDISPATCHED
+        self.work, self.steps, self.accesses, self.children, self.subdomain, self.emitted = 0, 0, [], [], None, []
 
     def told_name(self):
         """Its name as in a report; of a task that has none, its place among the children of its creator."""
@@ -70,6 +100,7 @@ class Task:
 class Taken(NamedTuple):
     """A task that was taken back, and what it had done and been before that."""
     task: Task
+    time: Time
     work: int
     accesses: list
     children: list
@@ -100,17 +131,26 @@ class Machine:
     committed; how many `queued`, `running`, `waiting` (finished) and `spilled` tasks there are. `memory` has the bytes
     of the data that were touched, by address, where they are kept, and is None else."""
 
-    def __init__(self, head, keeps_memory=False):
+    def __init__(self, head, image=None):
         self.head, tiles = head, range(head["tiles"])
+        self.root, self.numbers = root(head["root"] == ORDERED), DispatchNumbers()
+        self.memory = Memory(None if image is None else image.initial)
+        self.legs = None if image is None else Legs(image, head)
+        self.rounds = Rounds(head) if head["course"] == "lockstep" else None
+        # Those that trapped, with the cause.
+        self.traps: dict[Task, int] = {}
         self.tasks = {}
         self.queues, self.finished = [[] for _ in tiles], [[] for _ in tiles]
         self.cores = [[None] * head["cores"] for _ in tiles]
         self.blocks = [{} for _ in tiles]
-        self.events = self.commits = self.acts = 0
+        self.events = self.commits = self.acts = self.dispatches = 0
         self.queued = self.running = self.waiting = self.spilled = 0
-        self.memory = {} if keeps_memory else None
         self.output = hashlib.sha256()
         self.placed = 0
+
+    def all_tasks(self) -> Iterator[Task]:
+        """The uncommitted tasks, spilled ones too."""
+        return itertools.chain(self.tasks.values(), *(block.values() for block in self.blocks))
 
     # Lists of ids, and where tasks stand in them.
 
@@ -165,13 +205,17 @@ class Machine:
             self.place(told, line)
         else:
             self.act(told, line)
+        if self.legs is not None:
+            self.legs.note(told)
 
     def place(self, told, line):
         """A task of the image stands in a queue, or in a block."""
         if self.acts or line["at"] or line["name"][0] or self.placed == self.head["tasks"]:
             raise Wrong("no task of the image is placed here")
+        if line["hint"] != line["name"][1]:
+            raise Wrong("the hint of an image's task is its place in the image")
         tile = self.need_tile(line)
-        task = told.arrived = Task(line, None, line["name"][1], 1)
+        task = told.arrived = Task(line, None, line["name"][1], self.root)
         self.placed += 1
         if task.id is None:
             self.spill(task, tile)
@@ -193,17 +237,45 @@ class Machine:
             raise Wrong("no task is told that takes this leg")
         if line["do"] == "take" and line["reply"] == "ok" and self.cores[line["tile"]][line["core"]] is None:
             raise Wrong(f"core {line['core']} of tile {line['tile']} holds no task")
+        if "leg" in line:
+            self.need_leg(told.task, line)
+        reasons = REFUSALS.get(line["do"], {})
+        if line["reply"] in reasons and not reasons[line["reply"]](self, line["tile"]):
+            raise Wrong(f"the tile has no reason to answer `{line['reply']}`")
         if told.is_made:
             self.events += 1
             self.force(told, line)
             MADE[line["do"]](self, told, line)
 
+    def need_leg(self, task, line):
+        """A leg of a whole quantum goes on, whatever stands next, and no other does. None goes beyond the budget."""
+        leg, asks = line["leg"], line["asks"]
+        if leg > self.head["quantum"] or (leg == self.head["quantum"]) != (asks == "go"):
+            raise Wrong(f"a leg of {leg} instructions doesn't stop so, as a quantum has {self.head['quantum']}")
+        left = self.head["budget"] - task.work - leg
+        if left < (asks not in NOT_EXECUTED) or asks == "trap" and (line["cause"] == OVER_BUDGET) != (left == 0):
+            raise Wrong(f"of {self.head['budget']} instructions that a task may execute {left} would be left")
+
+    def has_no_idle(self, tile):
+        return all(self.tasks[number].state is not IDLE for number in self.queues[tile])
+
+    def has_no_core(self, tile):
+        return None not in self.cores[tile] and not self.has_no_idle(tile)
+
+    def has_no_block(self, tile):
+        return not self.blocks[tile]
+
+    def has_no_room(self, tile):
+        return bool(self.blocks[tile]) and len(self.queues[tile]) == self.head["task_queue"]
+
     def count_act(self, line):
         if self.placed < self.head["tasks"]:
             raise Wrong(f"{self.placed} of {self.head['tasks']} tasks of the image are placed before the first act")
-        is_next = line["at"] > self.acts if self.head["course"] == "lockstep" else line["at"] == self.acts + 1
+        is_next = line["at"] == self.acts + 1 if self.rounds is None else line["at"] > self.acts
         if not is_next:
             raise Wrong(f"act {line['at']} can't follow on act {self.acts}")
+        if self.rounds is not None:
+            self.rounds.need(line)
         self.acts = line["at"]
 
     def force(self, told, line):
@@ -222,23 +294,21 @@ class Machine:
         if line.get("aborted") != len(line["back"]) or len(back) < len(line["back"]) or not gone <= back:
             raise Wrong("how many tasks it takes back, and which, don't go together")
         told.taken = [self.taken_of(number, work, number in gone) for number, work in line["back"]]
-        if self.memory is not None:
-            stores = [access for taken in told.taken for access in taken.accesses if access.is_store]
-            for access in sorted(stores, key=event_of, reverse=True):
-                self.write(access.address, access.bytes, access.old)
+        self.memory.undo(access for taken in told.taken for access in taken.accesses)
         for taken in told.taken:
             if taken.is_gone:
                 self.leave(taken.task, GONE)
             else:
                 self.put_off(taken.task)
                 taken.task.wait()
+            self.traps.pop(taken.task, None)
         told.gone = [taken.task for taken in told.taken if taken.is_gone]
 
     def taken_of(self, number, work, is_gone):
         task = self.task_at(number)
         if task.work != work:
             raise Wrong(f"task {number} executed {task.work} instructions, and not {work}")
-        return Taken(task, task.work, task.accesses, task.children, task.state, task.core, is_gone)
+        return Taken(task, task.time(), task.work, task.accesses, task.children, task.state, task.core, is_gone)
 
     def spill_by_name(self, number, creator, index):
         task = self.task_at(number)
@@ -266,7 +336,12 @@ class Machine:
         need_below(core, self.head["cores"], "a core")
         if self.cores[task.tile][core] is not None:
             raise Wrong(f"core {core} of tile {task.tile} holds a task")
-        task.state, task.core, task.number = RUNNING, core, line["number"]
+        number = self.numbers.give(self.all_tasks())
+        if line["number"] != number:
+            raise Wrong(f"it gives the dispatch number {line['number']}, and {number} is the next")
+        task.state, task.core, task.number = RUNNING, core, number
+        self.dispatches += 1
+        task.dispatch = self.dispatches
         self.cores[task.tile][core] = task.id
         self.running += 1
 
@@ -278,6 +353,7 @@ class Machine:
             raise Wrong(f"task {task.id} runs on another core")
         task.pc = line["pc"]
         task.work += line["leg"] + (asks not in NOT_EXECUTED)
+        task.steps += 1
         if asks in REQUESTS:
             REQUESTS[asks](self, told, task, line)
 
@@ -287,22 +363,24 @@ class Machine:
         address, count, old = line["addr"], line["bytes"], line["old"]
         if count not in (1, 2, 4) or not 0 <= address - DATA_START <= self.head["data"] - count:
             raise Wrong(f"the data has no {count} bytes at {address}")
+        if address % count:
+            raise Wrong(f"{address} is no multiple of {count}")
+        self.memory.meet(address, count, old)
         value = line["value"] & (1 << 8 * count) - 1 if is_store else old
-        told.access = Access(is_store, address, count, old, value, task.work - 1, self.events)
+        told.access = Access(is_store, address, count, old, value, task.work - 1, self.events, line["pc"],
+                             task.steps - 1)
         task.accesses.append(told.access)
-        if self.memory is not None:
-            self.write(address, count, value)
-
-    def write(self, address, count, value):
-        for place in range(count):
-            self.memory[address + place] = value >> 8 * place & 0xFF
+        if is_store:
+            self.memory.write(address, count, value)
 
     def enqueue(self, told, task, line):
-        child = told.arrived = Task(line, task, len(task.children), task.depth + DEEPER[line["to"]])
+        child = told.arrived = Task(line, task, len(task.children), task.domain_of_child(line["to"]))
         self.arrive(child)
         task.children.append(child)
 
     def make_subdomain(self, _told, task, line):
+        if task.subdomain is not None:
+            raise Wrong(f"task {task.id} has a subdomain already")
         task.subdomain = line["asks"]
 
     def emit(self, _told, task, line):
@@ -312,12 +390,15 @@ class Machine:
 
     def finish(self, _told, task, _line):
         self.put_off(task)
+        if len(self.finished[task.tile]) == self.head["commit_queue"]:
+            raise Wrong(f"the commit queue of tile {task.tile} is full")
         task.state = FINISHED
         self.finished[task.tile].append(task.id)
         self.waiting += 1
 
-    def trap(self, _told, task, _line):
+    def trap(self, _told, task, line):
         task.state = TRAPPED
+        self.traps[task] = line["cause"]
 
     def split(self, told, line):
         task = told.arrived = self.blocks[line["tile"]].pop(tuple(line["name"]), None)
@@ -338,6 +419,7 @@ class Machine:
             raise Wrong("the task that commits has emitted other bytes")
         self.output.update(output.encode())
         self.leave(task, COMMITTED)
+        self.numbers.path = task.time()
         self.commits += 1
         for child in task.children:
             child.name, child.creator = (self.commits, child.index), None
@@ -352,45 +434,55 @@ class Machine:
     # The whole.
 
     def compare(self, line):
-        """Holds a view against the machine. Dispatch numbers are taken from it, since they may have been given anew."""
+        """Holds a view against the machine."""
+        if line["next"] != self.numbers.next:
+            raise Wrong(f"the next dispatch number is {self.numbers.next}, and {line['next']} is told")
         if line["view"] != self.events or len(line["tiles"]) != self.head["tiles"]:
             raise Wrong("the view isn't that of the machine which the lines before it leave")
         for tile, told in enumerate(line["tiles"]):
             tasks = [self.tasks[number] for number in self.queues[tile]]
-            rows = [[task.id, task.state, task.timestamp] for task in tasks]
-            whole = [row[:3] for row in told["queue"]], told["cores"], told["finished"], told["block"]
+            rows = [[task.id, task.state, task.timestamp, task.number] for task in tasks]
+            whole = told["queue"], told["cores"], told["finished"], told["block"]
             if whole != (rows, self.cores[tile], self.finished[tile], len(self.blocks[tile])):
                 raise Wrong(f"in tile {tile} the view isn't what the lines before it leave")
-            for task, row in zip(tasks, told["queue"]):
-                task.number = row[3]
 
     def close(self, line):
         """Holds the last line against the machine."""
+        self.need_end(line)
         if (line["n"], line["journal"]) != (self.events, self.commits):
             raise Wrong(f"it tells {line['n']} events and {line['journal']} commits, and {self.events} and "
                         f"{self.commits} were told before it")
         if hashlib.sha256(line["output"].encode()).digest() != self.output.digest():
             raise Wrong("the output isn't that of the tasks which committed")
+        if len(line["window"]) != self.head["window"][1]:
+            raise Wrong(f"the window has {self.head['window'][1]} words, and {len(line['window'])} are told")
+        # What is left is taken back before the window is told.
+        memory = self.memory.copy()
+        memory.undo(access for task in self.tasks.values() for access in task.accesses)
+        memory.need_window(DATA_START + self.head["window"][0], line["window"])
 
-    def word(self, address):
-        """The word at an address, where a byte of it was touched; those that weren't are told as 0."""
-        found = [self.memory.get(address + place) for place in range(4)]
-        return None if found == [None] * 4 else sum((byte or 0) << 8 * place for place, byte in enumerate(found))
+    def need_end(self, line):
+        """Holds how a run ended against what is left."""
+        end, left = line["end"], len(self.tasks) + self.spilled
+        if (end == "normal") != (left == 0):
+            raise Wrong(f"the end is {end}, and {left} tasks are left")
+        if left and (end == "limit") != (self.commits == self.head["commits"]):
+            raise Wrong(f"the end is {end}, and {self.commits} of {self.head['commits']} tasks have committed")
+        if end == "trap":
+            found = [list(task.name or ()) for task, cause in self.traps.items()
+                     if (cause, task.pc) == (line["cause"], line["pc"])]
+            if line["name"] not in found:
+                raise Wrong("no task has trapped so")
 
-    def words(self):
-        """The words that were touched, by rising address."""
-        return [(address, self.word(address)) for address in sorted({address & ~3 for address in self.memory})]
 
-
+# Whether a tile may refuse so, by the event and the reply.
+REFUSALS = {"dispatch": {"empty": Machine.has_no_idle, "busy": Machine.has_no_core},
+            "split": {"empty": Machine.has_no_block, "stall": Machine.has_no_room}}
 MADE = {"dispatch": Machine.dispatch, "step": Machine.step, "abort": Machine.abort, "commit": Machine.commit,
         "coalesce": Machine.nothing_more, "split": Machine.split}
 REQUESTS = {"load": Machine.load_or_store, "store": Machine.load_or_store, "enqueue": Machine.enqueue,
             "ordered": Machine.make_subdomain, "unordered": Machine.make_subdomain, "emit": Machine.emit,
             "end": Machine.finish, "trap": Machine.trap}
-
-
-def event_of(access):
-    return access.event
 
 
 def need_below(number, count, what):

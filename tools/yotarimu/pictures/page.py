@@ -101,6 +101,7 @@ def task_of(task):
     return {"id": task.id, "tile": task.tile, "state": task.state, "core": task.core, "name": task.name,
             "creator": task.creator.id if task.name is None else None, "index": task.index, "ts": task.timestamp,
             "entry": task.entry, "pc": task.pc, "number": task.number, "work": task.work,
+            "made": len(task.children),
             "children": [child.id for child in task.children if child.creator is task and child.id is not None]}
 
 
@@ -110,7 +111,8 @@ def store_of(access):
 
 def words_of(machine):
     """The words that were touched, by rising address, each with its bytes; those that nobody touched are None."""
-    return [[address, [machine.memory.get(address + place) for place in range(4)]] for address, _ in machine.words()]
+    memory = machine.memory
+    return [[address, [memory.byte(address + place) for place in range(4)]] for address, _ in memory.words()]
 
 
 # ---- the listing
@@ -140,7 +142,7 @@ def row_address(line):
 
 def page_of(path, listing_path, first=0, last=float("inf"), is_cut_allowed=False):
     """The page of a text's acts: those behind the act `first`, up to the act `last`."""
-    with open_watched(path, is_cut_allowed, keeps_memory=True) as watched:
+    with open_watched(path, is_cut_allowed) as watched:
         listing, rows = read_rows(listing_path, watched.head)
         excerpt = Excerpt(path, watched.head, first, last)
         for told in watched:

@@ -2,24 +2,28 @@
 from __future__ import annotations
 
 import math
+from collections.abc import Iterable, Mapping, Sequence
 from xml.sax.saxutils import escape
 
+from yotarimu.common.outcome import Refused
 from yotarimu.common.text import without_controls
 from yotarimu.pictures.tree import COLOURS
 
 WIDTH, HEIGHT = 860, 460
 LEFT, RIGHT, TOP, BOTTOM = 80, 230, 20, 60
-# From this ratio of the greatest to the least value on, an axis is logarithmic.
-LOGARITHMIC = 50
+# The axes of a plot, by the letters with which a logarithmic one is asked for.
+AXES = ("x", "y", "xy")
 MOST_NAMES = 18
 
 
 class Axis:
     """Values from the least to the greatest on a stretch of the picture."""
 
-    def __init__(self, values, start, end):
+    def __init__(self, values: Sequence[float], start: float, end: float, is_logarithmic: bool = False) -> None:
         least, most = min(values), max(values)
-        self.is_logarithmic = least > 0 and most / least >= LOGARITHMIC
+        if is_logarithmic and least <= 0:
+            raise Refused(f"a logarithmic axis has no place for {number(least)}.")
+        self.is_logarithmic = is_logarithmic
         self.start, self.end = start, end
         self.ticks = decades(least, most) if self.is_logarithmic else steps(least, most)
         self.least, self.most = self.scaled(min(least, self.ticks[0])), self.scaled(max(most, self.ticks[-1]))
@@ -47,24 +51,30 @@ def steps(least, most):
     return [place * step for place in range(first, last + 1)]
 
 
-def drawn(series, x_name, y_name):
-    """The plot of a dictionary from names to lists of points."""
+def drawn(series: Mapping[str, Sequence[tuple[float, float]]], x_name: str, y_name: str, logarithmic: str = "") -> str:
+    """The plot of a dictionary from names to lists of points, with linear axes but for those that are named."""
     points = [point for list_of in series.values() for point in list_of]
-    x_axis = Axis([x for x, _ in points], LEFT, WIDTH - RIGHT)
-    y_axis = Axis([y for _, y in points], HEIGHT - BOTTOM, TOP)
-    parts = [f'<svg xmlns="http://www.w3.org/2000/svg" width="{WIDTH}" height="{HEIGHT}" '
-             f'viewBox="0 0 {WIDTH} {HEIGHT}" font-family="sans-serif" font-size="12">',
-             f'<rect width="{WIDTH}" height="{HEIGHT}" fill="white"/>', *grid(x_axis, y_axis)]
-    middle = (TOP + HEIGHT - BOTTOM) / 2
-    parts.append(text((LEFT + WIDTH - RIGHT) / 2, HEIGHT - 14, x_name + scale(x_axis), "middle"))
-    parts.append(f'<g transform="rotate(-90 16 {middle})">{text(16, middle, y_name + scale(y_axis), "middle")}</g>')
+    x_axis = Axis([x for x, _ in points], LEFT, WIDTH - RIGHT, "x" in logarithmic)
+    y_axis = Axis([y for _, y in points], HEIGHT - BOTTOM, TOP, "y" in logarithmic)
+    parts: list[str] = []
     for place, (name, list_of) in enumerate(series.items()):
         parts += line(list_of, x_axis, y_axis, COLOURS[place % len(COLOURS)])
         if name and place < MOST_NAMES:
             parts += legend(name, place)
     if len(series) > MOST_NAMES:
         parts.append(text(WIDTH - RIGHT + 20, TOP + 20 * MOST_NAMES + 12, f"and {len(series) - MOST_NAMES} more"))
-    return "\n".join([*parts, "</svg>"]) + "\n"
+    return framed(x_axis, y_axis, x_name, y_name, parts)
+
+
+def framed(x_axis: Axis, y_axis: Axis, x_name: str, y_name: str, parts: Iterable[str]) -> str:
+    """A picture with two axes, and these parts within."""
+    middle = (TOP + HEIGHT - BOTTOM) / 2
+    frame = [f'<svg xmlns="http://www.w3.org/2000/svg" width="{WIDTH}" height="{HEIGHT}" '
+             f'viewBox="0 0 {WIDTH} {HEIGHT}" font-family="sans-serif" font-size="12">',
+             f'<rect width="{WIDTH}" height="{HEIGHT}" fill="white"/>', *grid(x_axis, y_axis),
+             text((LEFT + WIDTH - RIGHT) / 2, HEIGHT - 14, x_name + scale(x_axis), "middle"),
+             f'<g transform="rotate(-90 16 {middle})">{text(16, middle, y_name + scale(y_axis), "middle")}</g>']
+    return "\n".join([*frame, *parts, "</svg>"]) + "\n"
 
 
 def scale(axis):

@@ -9,12 +9,22 @@ EXAMPLES = ("hello", "fork_join", "pipeline", "reduction", "nested", "trap", "re
     f"c/{name}" for name in ("shortest_paths", "breadth_first", "tree_of_sums", "quicksort", "bank"))
 SCHEDULES = tuple(f"schedules/{name}" for name in (
     "conflict", "by_hand", "stale_leg", "kept_trap", "commit_queue", "commit_wait", "stall", "four_cores", "two_lines",
-    "two_lines_apart", "one_word"))
+    "two_lines_apart", "one_word", "domains_by_hand", "rounds_by_hand"))
 
 
 def words_of(schedule):
     """The words with which the program plays a schedule."""
-    path = EXAMPLES_FOLDER / schedule / "words"
+    return words_in(EXAMPLES_FOLDER / schedule / "words")
+
+
+def watched_words_of(schedule):
+    """The words with which the second program tells a schedule: those of the first one, unless it has its own."""
+    path = EXAMPLES_FOLDER / schedule / "watch_words"
+    return words_in(path) if path.exists() else words_of(schedule)
+
+
+def words_in(path):
+    """The words of a call that a file has."""
     words = read_text(path).split()
     if not words or not all(word.isascii() and word.isprintable() for word in words):
         raise Refused(f"{path}: these are no words of a call, as `steps --tiles 2` is one.")

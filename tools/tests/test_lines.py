@@ -1,0 +1,123 @@
+"""Lines of the second program: what is held of them, and the texts that were worked out by hand."""
+from __future__ import annotations
+
+import io
+import json
+import unittest
+from typing import Any, Callable, Optional
+
+from yotarimu.common.outcome import Refused
+from yotarimu.common.places import EXAMPLES_FOLDER
+from yotarimu.images.image import Image, read_image
+from yotarimu.lines.dispatch_numbers import DISPATCH_NUMBERS, DispatchNumbers
+from yotarimu.lines.reader import Watched
+from yotarimu.lines.times import UNDISPATCHED, Domain, Time, root
+
+SCHEDULES = EXAMPLES_FOLDER / "schedules"
+# Texts worked out by hand, and the folders of their images.
+WORKED = {"by_hand": "by_hand", "domains_by_hand": "domains_by_hand", "rounds_by_hand": "by_hand"}
+Line = dict[str, Any]
+
+
+def worked(name: str) -> tuple[list[Line], Image]:
+    path = SCHEDULES / WORKED[name] / "image.bin"
+    lines = [json.loads(line) for line in (SCHEDULES / name / "worked").read_text().splitlines()]
+    return lines, read_image(path.read_bytes(), str(path))
+
+
+def fault(lines: list[Line], image: Optional[Image] = None) -> Optional[str]:
+    """Why a text is refused; None where it isn't."""
+    text = "".join(json.dumps(line, separators=(",", ":")) + "\n" for line in lines)
+    try:
+        for _ in Watched(io.BytesIO(text.encode()), "text", image=image):
+            pass
+    except Refused as refused:
+        return str(refused)
+    return None
+
+
+class WorkedTexts(unittest.TestCase):
+    def test_the_image_has_each_leg(self) -> None:
+        for name in WORKED:
+            lines, image = worked(name)
+            with self.subTest(name=name):
+                self.assertIsNone(fault(lines, image))
+
+    def test_other_images_are_refused(self) -> None:
+        lines, _ = worked("by_hand")
+        _, image = worked("domains_by_hand")
+        self.assertIn("text:1: `text` is 16", fault(lines, image) or "")
+
+
+def changed(number: int, field: str, value: Any) -> Callable[[list[Line]], None]:
+    def change(lines: list[Line]) -> None:
+        assert field in lines[number - 1]
+        lines[number - 1][field] = value
+    return change
+
+
+class Refusals(unittest.TestCase):
+    """One change of a text that was worked out by hand, the line that is refused for it, and a part of why."""
+
+    def refuse(self, name: str, change: Callable[[list[Line]], None], line: int, part: str, by_image: bool) -> None:
+        lines, image = worked(name)
+        change(lines)
+        found = fault(lines, image if by_image else None) or ""
+        with self.subTest(name=name, part=part):
+            self.assertTrue(found.startswith(f"text:{line}: ") and part in found, found)
+            if by_image:
+                self.assertNotIn(f"text:{line}: ", fault(lines) or "")
+
+    def test_what_is_held_without_the_image(self) -> None:
+        for name, line, field, value, where, part in (
+                ("by_hand", 13, "old", 8, 13, "finds the byte 8, and 7"),
+                ("by_hand", 9, "value", 6, 13, "finds the byte 7, and 6"),
+                ("by_hand", 5, "addr", 0x10000001, 5, "no multiple of 4"),
+                ("by_hand", 8, "number", 2, 8, "1 is the next"),
+                ("by_hand", 21, "window", [7, 9], 21, "word 1 of the window is 9"),
+                ("by_hand", 21, "window", [7], 21, "2 words, and 1"),
+                ("rounds_by_hand", 11, "old", 0, 11, "finds the byte 0, and 7"),
+                ("domains_by_hand", 11, "next", 2, 11, "the next dispatch number is 1"),
+                ("domains_by_hand", 17, "to", "sub", 17, "a subdomain that isn't there")):
+            self.refuse(name, changed(line, field, value), where, part, False)
+
+    def test_what_the_image_holds_beside(self) -> None:
+        for name, line, field, value, part in (
+                ("by_hand", 5, "leg", 2, "`leg` is 2, and by the image's text it is 1"),
+                ("by_hand", 5, "pc", 65_544, "`pc` is 65544"), ("by_hand", 6, "value", 2, "`value` is 2"),
+                ("domains_by_hand", 16, "byte", 73, "`byte` is 73"), ("domains_by_hand", 9, "hint", 1, "`hint` is 1"),
+                ("domains_by_hand", 22, "cause", 7, "`cause` is 7"),
+                ("domains_by_hand", 15, "old", 3, "finds the byte 3, and 2")):
+            self.refuse(name, changed(line, field, value), line, part, True)
+
+    def test_the_head_and_the_tasks_are_those_of_the_image(self) -> None:
+        for line, field, value, part in ((1, "data", 12, "`data` is 12"), (1, "window", [0, 1], "`window`"),
+                                         (1, "root", "unordered", "`root`"), (3, "ts", 3, "another one"),
+                                         (2, "entry", 65_540, "another one"), (2, "args", [1, 0, 0], "another one")):
+            self.refuse("by_hand", changed(line, field, value), line, part, True)
+
+
+class Numbered:
+    """A task as numbers see it."""
+
+    def __init__(self, domain: Domain, number: Optional[int], dispatch: float) -> None:
+        self.domain, self.number, self.dispatch = domain, number, dispatch
+
+    def time(self) -> Time:
+        return self.domain.time(0, self.dispatch)
+
+
+class Numbers(unittest.TestCase):
+    def test_numbers_are_given_anew(self) -> None:
+        """Dispatches 7 of the path, 9 of a maker of a domain and 12 of a task are in use: these become 0, 1 and 2, and
+        3 is given next."""
+        numbers = DispatchNumbers()
+        numbers.path, numbers.next = ((1, 7),), DISPATCH_NUMBERS
+        inner = root(True).inner(((2, 9),), False)
+        running, idle = Numbered(inner, 65_530, 12), Numbered(inner, None, UNDISPATCHED)
+        self.assertEqual(numbers.give([running, idle]), 3)  # type: ignore[list-item]
+        self.assertEqual((running.number, idle.number, numbers.next), (2, None, 4))
+
+
+if __name__ == "__main__":
+    unittest.main()

@@ -1,0 +1,76 @@
+"""Tries of rounds in lockstep: one shuffle for scripts and for the second program, and the script of a run."""
+from __future__ import annotations
+
+import json
+from typing import Any, Dict, List
+
+from tries.place import Place, expect, one_sentence_each
+from tries.schedules import written
+
+# Small queues, so that tasks are spilled and steps stall.
+SETTINGS = ("--tiles", "3", "--cores", "2", "--task-queue", "8", "--commit-queue", "2", "--phase", "2")
+ROUNDS = 4_000
+Line = Dict[str, Any]
+
+
+def told(place: Place, image: bytes, *words: str) -> List[Line]:
+    """What the second program tells, without the head."""
+    answer = place.call("fractal", "watch", *words, *SETTINGS, stdin=image)
+    return [json.loads(line) for line in answer.output.splitlines()][1:]
+
+
+def without_passed(lines: List[Line]) -> List[Line]:
+    """The lines without where each act stood, and without acts that a round passes over."""
+    kept = []
+    for line in lines:
+        is_step = line.get("do") == "step"
+        if "reply" not in line or line["reply"] == "ok" or is_step and line["reply"] == "stall":
+            kept.append({name: value for name, value in line.items() if name != "at"})
+    return kept
+
+
+def one_shuffle(place: Place) -> None:
+    """`watch lockstep` makes the acts of the script that `lockstep` writes for that seed, in its order and no other"""
+    place.needs_second_program()
+    for kind, size in (("nest", "12"), ("walk", "60")):
+        image = place.call("fractal generate", kind, "7", size).output
+        runs = []
+        for seed in ("0", "7", "4294967295"):
+            script = place.call("fractal lockstep", "3", "2", str(ROUNDS), "--seed", seed).output
+            rounds = told(place, image, "lockstep", str(ROUNDS), seed)
+            steps = told(place, image + script, "steps")
+            runs.append(without_passed(rounds))
+            expect(rounds[-1]["end"] == "normal" and any(line.get("reply") == "stall" for line in rounds),
+                   "a run with stalls up to its end", rounds[-1])
+            expect(runs[-1] == without_passed(steps), f"the same lines of {kind} by {seed}")
+        expect(runs[0] != runs[1] != runs[2], "another run for each seed")
+        plain = place.call("fractal lockstep", "3", "2", "9").output
+        expect(place.call("fractal lockstep", "3", "2", "9", "--seed", "0").output == plain, "0 shuffles nothing")
+
+
+def runs_have_scripts(place: Place) -> None:
+    """the script of a run in lockstep or for the least task makes the very same run; that of a script is refused"""
+    place.needs_second_program()
+    image = place.call("fractal generate", "nest", "7", "12").output
+    for course in (("lockstep", str(ROUNDS), "0"), ("lockstep", str(ROUNDS), "7"), ("least",)):
+        answer = place.call("fractal", "watch", *course, *SETTINGS, stdin=image)
+        lines = written(place, "lines", answer.output)
+        script = place.call("fractal lockstep", "--of", lines).output
+        again = told(place, image + script, "steps")
+        first = [json.loads(line) for line in answer.output.splitlines()][1:]
+        expect(len(script.splitlines()) == sum("reply" in line for line in first), "an act for each line")
+        for one, other in zip(first, again):
+            expect({**one, "at": 0} == {**other, "at": 0}, f"the same line of {course}", (one, other))
+        expect(len(first) == len(again), f"as many lines of {course}", (len(first), len(again)))
+    steps = written(place, "steps", place.call("fractal", "watch", "steps", stdin=image).output)
+    cut = written(place, "cut", (place.root / "lines").read_bytes()[:-1])
+    one_sentence_each([
+        (place.call("fractal lockstep", "--of", steps), ["steps: this run was made of a script"]),
+        (place.call("fractal lockstep", "--of", cut), ["no newline"]),
+        (place.call("fractal lockstep", "--of", "nowhere"), ["nowhere", "no such file"]),
+        (place.call("fractal lockstep", "--of", steps, "2"), ["--of LINES"]),
+        (place.call("fractal lockstep", "--of"), ["a value is missing"]),
+    ])
+
+
+TRIES = (one_shuffle, runs_have_scripts)

@@ -1,0 +1,55 @@
+"""Runs of an application's image, and what they leave."""
+from __future__ import annotations
+
+import dataclasses
+import time
+from typing import Sequence
+
+from yotarimu.applications.application import Problem
+from yotarimu.applications.making import Made
+from yotarimu.applications.memory import Memory, Wrong
+from yotarimu.common.outcome import Refused
+from yotarimu.programs.calls import Calls
+from yotarimu.programs.comparison import said
+from yotarimu.programs.final_memory import memory_left
+
+
+@dataclasses.dataclass(frozen=True)
+class Run:
+    """A run that ended normally: how many tasks committed, and how long it took and its check."""
+    commits: int
+    seconds: float
+    check_seconds: float
+
+
+def run(calls: Calls, made: Made, options: Sequence[str]) -> Run:
+    """Runs an image, and has its report checked."""
+    start = time.monotonic()
+    report = said(calls, ["run", *options], made.image)
+    seconds = time.monotonic() - start
+    end = report[report.rfind(b"\nend "):].strip().decode("ascii", "replace")
+    if end != "end normal":
+        raise Refused(f"the run ended otherwise: `{end}`.")
+    start = time.monotonic()
+    commits = commits_of(report)
+    judged = said(calls, ["check", *options], made.image + report)
+    if judged != b"check ok %d\n" % commits:
+        raise Refused(f"the report is refused: {judged.decode('ascii', 'replace').strip()}.")
+    return Run(commits, seconds, time.monotonic() - start)
+
+
+def commits_of(report: bytes) -> int:
+    """How many tasks took their turns: the number of the last line on one."""
+    number = report[:report.rfind(b"\noutput ")].rpartition(b"\n")[2].partition(b" ")[0]
+    return int(number) if number.isdigit() else 0
+
+
+def check(first: Calls, second: Calls, made: Made, problem: Problem) -> str:
+    """Holds the memory that a run leaves against plain programs, and says what was found right."""
+    left = memory_left(first.program, second, made.image)
+    if left.end != "normal":
+        raise Refused(f"the run ended otherwise: {left.end}.")
+    try:
+        return problem.check(Memory(left.data, made.places))
+    except Wrong as wrong:
+        raise Refused(f"what the run left is wrong: {wrong}.") from None

@@ -1,0 +1,164 @@
+"""Makes the programs of the folder applications/ with their input, runs them, and holds what they leave against plain
+programs.
+
+usage: ./fractal applications list
+       ./fractal applications make NAME [FOLDER] [--size SIZE] [--seed N] [--clang]
+       ./fractal applications run NAME [--size SIZE] [--seed N] [--clang] [--OPTION VALUE]...
+       ./fractal applications check [NAME]... [--size SIZES] [--seed N] [--clang | --both] [--workers NUMBERS]
+       ./fractal applications table [NAME]... [--size SIZE] [--seed N] [--clang] [FURTHER]...
+
+`list` tells the names, what the size of each counts, and which sizes there are. SIZE is small, medium, large or a
+number; it is small unless told. --seed makes other input (1 unless told), --clang compiles by clang in place of gcc.
+
+`make` writes the sources and their input, image.bin and listing to FOLDER, which is NAME-SIZE unless told. It must be
+empty or not be there. `run` makes them elsewhere, runs the image with the program's options, and has the report
+checked.
+
+`check` takes all that there are where none is named. SIZES are sizes with commas between, and --both compiles by gcc
+and then by clang. It holds the memory that the run leaves against what a plain program finds. Then it runs the image
+with each of the NUMBERS of workers (0 unless told), and has each report checked.
+
+`table` plays them in lockstep, and tells what `./fractal study` tells. FURTHER are words of that: options of the
+program, --columns, --rounds, --csv and --jobs.
+
+--program FILE names a built program in place of the one of this clone, and --second-program FILE a built second
+program."""
+from __future__ import annotations
+
+import contextlib
+import dataclasses
+import os
+import pathlib
+import tempfile
+from typing import Callable, Iterator, Mapping, Optional, Sequence
+
+from yotarimu.applications.application import Problem
+from yotarimu.applications.catalogue import APPLICATIONS
+from yotarimu.applications.making import IMAGE, Case, Made, make, need_tools, whole_folder
+from yotarimu.applications.running import check, run
+from yotarimu.applications.words import Words, cases_of, program_options, read_words
+from yotarimu.commands import study
+from yotarimu.common.outcome import Refused
+from yotarimu.common.tables import table
+from yotarimu.common.words import take_option
+from yotarimu.courses.grid import values_of
+from yotarimu.images.compiler import compiler_told
+from yotarimu.programs.calls import Calls
+from yotarimu.programs.program import PROGRAM, SECOND_PROGRAM
+from yotarimu.programs.table import Table
+
+HELP = "./fractal applications --help tells more"
+
+
+def main(words: Sequence[str]) -> Optional[int]:
+    """Does what the first word asks for."""
+    if not words or words[0] not in DOES:
+        told = f", and not `{words[0]}`" if words else ""
+        raise Refused(f"it wants one of {', '.join(DOES)}{told}; {HELP}.")
+    return DOES[words[0]](list(words[1:]))
+
+
+def list_all(words: list[str]) -> None:
+    """Tells each application with its sizes."""
+    if words:
+        raise Refused("`list` takes no further words.")
+    rows = [(it.name, it.size_told, f"{it.size_range[0]:,} to {it.size_range[-1]:,}",
+             *(f"{size:,}" for size in it.sizes.values())) for it in APPLICATIONS.values()]
+    print(*table(("Name", "The size counts", "From, to", "small", "medium", "large"), rows), sep="\n")
+
+
+def make_one(words: list[str]) -> None:
+    """Writes an application with its input to a folder."""
+    asked = read_words(words)
+    need_no_more(asked)
+    if not 1 <= len(asked.names) <= 2:
+        raise Refused(f"`make` takes a NAME and a FOLDER; {HELP}.")
+    case = one_case(dataclasses.replace(asked, names=asked.names[:1]), "make")
+    folder = pathlib.Path(asked.names[1] if len(asked.names) > 1 else f"{asked.names[0]}-{asked.size}")
+    need_tools(asked.compilers[0])
+    with whole_folder(folder) as inside:
+        make(case, case.problem(), asked.compilers[0], inside)
+    print(folder / IMAGE)
+
+
+def run_one(words: list[str]) -> None:
+    """Runs an application, with options of the program."""
+    asked = read_words(words)
+    case = one_case(asked, "run")
+    options, rest = program_options(asked.rest, Table())
+    need_no_more(dataclasses.replace(asked, rest=rest))
+    calls = Calls(asked.program or PROGRAM)
+    made, _ = made_elsewhere(case, asked.compilers[0])
+    told = run(calls, made, options)
+    print(f"{case.told}: {told.commits:,} tasks took their turns in {told.seconds:.1f} s; `check` accepts the report, "
+          f"in {told.check_seconds:.1f} s.")
+
+
+def check_all(words: list[str]) -> None:
+    """Checks what each application leaves, and its reports with workers."""
+    asked = read_words(words)
+    workers, rest = take_option(asked.rest, "--workers")
+    numbers = values_of(Table().options["workers"], "0" if workers is None else workers)
+    need_no_more(dataclasses.replace(asked, rest=rest))
+    cases = cases_of(asked)
+    calls, second = Calls(asked.program or PROGRAM), Calls(asked.second_program or SECOND_PROGRAM)
+    for case in cases:
+        for compiler in asked.compilers:
+            made, problem = made_elsewhere(case, compiler)
+            right = check(calls, second, made, problem)
+            runs = [run(calls, made, [f"--workers={number}"]) for number in numbers]
+            print(f"{case.told} by {compiler_told(compiler)}: {runs[0].commits:,} tasks; {right}. Reports with "
+                  f"{', '.join(map(str, numbers))} workers are accepted.", flush=True)
+
+
+def table_of_all(words: list[str]) -> Optional[int]:
+    """Plays each application in lockstep, and tells its figures: a study of images that are named as they are."""
+    asked = read_words(words)
+    path, rest = take_option(asked.rest, "--csv")
+    if "," in asked.size or len(asked.compilers) > 1 or any(word.startswith("--plot") for word in rest):
+        raise Refused(f"`table` takes one size and one compiler, and draws no plot; {HELP}.")
+    second = Calls(asked.second_program or SECOND_PROGRAM)
+    further = [*rest, f"--program={second.program}", *([] if path is None else [f"--csv={os.path.abspath(path)}"])]
+    with tempfile.TemporaryDirectory() as folder:
+        names = [case.application.name for case in cases_of(asked)]
+        for case in cases_of(asked):
+            made, _ = made_elsewhere(case, asked.compilers[0])
+            pathlib.Path(folder, case.application.name).write_bytes(made.image)
+        with entered(folder):
+            return study.main([*names, *further])
+
+
+@contextlib.contextmanager
+def entered(folder: str) -> Iterator[None]:
+    """A folder as the one that names of files are sought in."""
+    before = os.getcwd()
+    os.chdir(folder)
+    try:
+        yield
+    finally:
+        os.chdir(before)
+
+
+def made_elsewhere(case: Case, compiler: str) -> tuple[Made, Problem]:
+    """An application that is built in a folder of its own, which isn't kept, and its problem."""
+    need_tools(compiler)
+    problem = case.problem()
+    with tempfile.TemporaryDirectory() as folder:
+        return make(case, problem, compiler, pathlib.Path(folder)), problem
+
+
+def one_case(asked: Words, word: str) -> Case:
+    """The case that a call is about."""
+    if len(asked.names) != 1 or "," in asked.size or len(asked.compilers) > 1:
+        raise Refused(f"`{word}` takes one NAME, one size and one compiler; {HELP}.")
+    return cases_of(asked)[0]
+
+
+def need_no_more(asked: Words) -> None:
+    """Holds that no option is left."""
+    if asked.rest:
+        raise Refused(f"`{asked.rest[0]}` isn't known; {HELP}.")
+
+
+DOES: Mapping[str, Callable[[list[str]], Optional[int]]] = {
+    "list": list_all, "make": make_one, "run": run_one, "check": check_all, "table": table_of_all}

@@ -1,0 +1,89 @@
+"""Work that several processes share: what came of each item as it comes, news in between, and nothing left behind."""
+from __future__ import annotations
+
+import multiprocessing
+import multiprocessing.connection
+import signal
+import sys
+from collections.abc import Callable, Iterator, Sequence
+from typing import Any, NamedTuple
+
+from yotarimu.common.outcome import Refused, Stopped
+
+# Each process begins with what this one knows.
+CONTEXT = multiprocessing.get_context("fork")
+Tell = Callable[[Any], None]
+Connection = multiprocessing.connection.Connection
+
+
+class Told(NamedTuple):
+    """What a process tells of the item at a place: news of it, or at last its result, or why there is none."""
+    place: int
+    is_last: bool
+    what: Any
+
+
+class Crew:
+    """So many processes at once, each for one item: `work` takes the item, and a function to tell news by."""
+
+    def __init__(self, work: Callable[[Any, Tell], Any], jobs: int) -> None:
+        self.work, self.jobs = work, jobs
+        self.running: dict[Connection, tuple[int, Any]] = {}
+
+    def each(self, items: Sequence[Any]) -> Iterator[Told]:
+        """What is told of the items, as it comes. When it is left early, by an interrupt too, all processes are
+        ended. What an item is refused for is raised."""
+        waiting = list(enumerate(items))[::-1]
+        try:
+            while waiting or self.running:
+                while waiting and len(self.running) < self.jobs:
+                    self.start(*waiting.pop())
+                for connection in multiprocessing.connection.wait(list(self.running)):
+                    yield self.told(connection)  # type: ignore[arg-type]
+        finally:
+            self.end()
+
+    def start(self, place: int, item: Any) -> None:
+        mine, theirs = CONTEXT.Pipe(duplex=False)
+        process = CONTEXT.Process(target=do, args=(self.work, item, theirs, [mine, *self.running]))
+        process.start()
+        theirs.close()
+        self.running[mine] = place, process
+
+    def told(self, connection: Connection) -> Told:
+        place, process = self.running[connection]
+        try:
+            is_last, what = connection.recv()
+        except EOFError:
+            process.join()
+            raise Refused(f"a process ended with status {process.exitcode}, and told nothing.") from None
+        if is_last:
+            del self.running[connection]
+            connection.close()
+            process.join()
+        if isinstance(what, Refused):
+            raise what
+        return Told(place, is_last, what)
+
+    def end(self) -> None:
+        for _, process in self.running.values():
+            process.terminate()
+        for connection, (_, process) in self.running.items():
+            process.join()
+            connection.close()
+        self.running.clear()
+
+
+def do(work: Callable[[Any, Tell], Any], item: Any, connection: Connection, others: list[Connection]) -> None:
+    """What a process does. Who started it is interrupted too, and then asks for its end."""
+    for other in others:
+        other.close()
+    signal.signal(signal.SIGINT, signal.SIG_IGN)
+    signal.signal(signal.SIGHUP, signal.SIG_IGN)
+    try:
+        try:
+            connection.send((True, work(item, lambda news: connection.send((False, news)))))
+        except (Refused, MemoryError) as refused:
+            connection.send((True, refused if isinstance(refused, Refused) else Refused("out of memory.")))
+    except (Stopped, BrokenPipeError):
+        sys.exit(1)

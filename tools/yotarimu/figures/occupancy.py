@@ -1,0 +1,110 @@
+"""How many tasks are where, and what happens in a round: means, the greatest, and curves.
+
+In lockstep the moments are rounds, since a round is what stands for time there: in it each core makes at most one step.
+Of a round that counts which its events left, on the mean; a round without an event has what the one before it left. In
+other courses the moments are events.
+"""
+from __future__ import annotations
+
+from collections.abc import Iterator, Sequence
+from typing import Optional
+
+# The tasks of a machine: those in task queues are all of them but those in blocks.
+PLACES = ("task queues", "running", "stalled", "trapped", "commit queues", "blocks")
+# What is counted by the round.
+RATES = ("commits", "taken back", "stalled steps", "stalled splits")
+# A curve has at least so many points, where there are so many moments, and fewer than twice as many.
+FEWEST_POINTS = 60
+
+
+class Curve:
+    """Numbers over moments: their means over all, and points of a curve, each the mean over as many moments."""
+
+    def __init__(self, count: int) -> None:
+        self.moments, self.step = 0, 1
+        self.sums = [0.0] * count
+        self.group = [0.0] * count
+        self.points: list[tuple[int, list[float]]] = []
+
+    def note(self, values: Sequence[float]) -> None:
+        self.moments += 1
+        self.group = [total + value for total, value in zip(self.group, values)]
+        if self.moments % self.step == 0:
+            self.sums = [total + value for total, value in zip(self.sums, self.group)]
+            self.points.append((self.moments, [total / self.step for total in self.group]))
+            self.group = [0.0] * len(self.group)
+            if len(self.points) == 2 * FEWEST_POINTS:
+                self.halve()
+
+    def halve(self) -> None:
+        pairs = zip(self.points[::2], self.points[1::2])
+        self.points = [(moment, [(one + other) / 2 for one, other in zip(first, second)])
+                       for (_, first), (moment, second) in pairs]
+        self.step *= 2
+
+    def means(self) -> list[float]:
+        return [(total + more) / self.moments if self.moments else 0.0 for total, more in zip(self.sums, self.group)]
+
+
+class Occupancy:
+    """How many tasks were where, by places, over rounds of so many acts, or over events where that is None; and over
+    rounds what was counted in each."""
+
+    def __init__(self, acts_a_round: Optional[int]) -> None:
+        self.acts_a_round = acts_a_round
+        self.curve, self.rates = Curve(len(PLACES)), Curve(len(RATES))
+        self.greatest = [0] * len(PLACES)
+        # The round that goes on, how many events it had, their sums, and what the last one left.
+        self.round = self.events = 0
+        self.within = [0] * len(PLACES)
+        self.last: Sequence[int] = (0,) * len(PLACES)
+        self.counted = [0] * len(RATES)
+
+    def note_event(self, act: int, counts: Sequence[int]) -> None:
+        """Takes what an event left, by places."""
+        if self.acts_a_round is None:
+            self.curve.note(counts)
+        else:
+            self.go_to(act)
+            self.events += 1
+            self.within = [total + count for total, count in zip(self.within, counts)]
+        if counts != self.last:
+            self.greatest = [one if one > other else other for one, other in zip(self.greatest, counts)]
+            self.last = counts
+
+    def count(self, act: int, rate: str, number: int = 1) -> None:
+        """Counts what happened at an act."""
+        if self.acts_a_round is not None:
+            self.go_to(act)
+            self.counted[RATES.index(rate)] += number
+
+    def go_to(self, act: int) -> None:
+        """Ends all rounds before that of an act."""
+        assert self.acts_a_round is not None
+        self.end_rounds((act - 1) // self.acts_a_round)
+
+    def end_rounds(self, rounds: int) -> None:
+        while self.round < rounds:
+            means = [total / self.events for total in self.within] if self.events else [*map(float, self.last)]
+            self.curve.note(means)
+            self.rates.note(self.counted)
+            self.round += 1
+            self.events, self.within, self.counted = 0, [0] * len(PLACES), [0] * len(RATES)
+
+    def close(self, rounds: Optional[int]) -> None:
+        """Ends the last round of so many."""
+        if rounds is not None:
+            self.end_rounds(rounds)
+
+    def over(self) -> str:
+        """What the moments are."""
+        return "events" if self.acts_a_round is None else "rounds"
+
+    def series(self) -> Iterator[tuple[str, list[tuple[int, float]]]]:
+        """The curves by name."""
+        curves: list[tuple[Sequence[str], Curve]] = [(PLACES, self.curve)]
+        if self.acts_a_round is not None:
+            curves.append((RATES, self.rates))
+        for names, curve in curves:
+            for place, name in enumerate(names):
+                yield name, [(moment, values[place]) for moment, values in curve.points]

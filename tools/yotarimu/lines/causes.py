@@ -1,0 +1,268 @@
+"""Why tasks were taken back: of each one what took it, and what that goes back to.
+
+An event takes a set of tasks back. Where it is a load or a store, those are taken whose accesses meet it; else one task
+is, which stands where an earlier one needs room, or which a script asked for. All others go with a member of the set:
+they are its children, or touched what it wrote. So each has a cause of its own, and behind it a way of causes that ends
+at the event: the root.
+
+Accesses meet where they share a byte, or only the line, or only the bit that a filter has for both lines. Filters tell
+no more than bits, so they take tasks back for each of these. Of several ways the one counts whose widest step shares
+the most: a task of which a way by bytes and children tells would have been taken back by any filter and any line.
+
+The lines are enough for it: `causes_of` takes what the reader found of an event.
+"""
+from __future__ import annotations
+
+import dataclasses
+import enum
+from typing import Callable, Iterable, Iterator, Optional
+
+from yotarimu.images.image import DATA
+from yotarimu.images.listing import NO_LISTING, Listing
+from yotarimu.lines.replay import Access, Taken, Task, Told
+from yotarimu.lines.times import Time
+
+# A task's filter has so many bits for lines.
+FILTER_BITS = 1_024
+
+
+class Sharing(enum.IntEnum):
+    """What two accesses share, the narrowest first."""
+    TRUE = 0
+    LINE = 1
+    ALIAS = 2
+
+    @property
+    def word(self) -> str:
+        return self.name.lower()
+
+
+class Kind(enum.Enum):
+    """What took a task back."""
+    ACCESS = "access"
+    ROOM = "room"
+    ABORT = "abort"
+    CHILD = "child"
+    TOUCHED = "touched"
+
+
+# Of an event that takes tasks back, by what its task asks for or by itself: the word of its root.
+ROOTS = {"load": "load", "store": "store", "end": "commit queue", "enqueue": "task queue", "split": "task queue",
+         "dispatch": "core", "abort": "abort"}
+ROOM_TOLD = {
+    "commit queue": "{who} ends, and the commit queue is full",
+    "task queue": "{who} needs room in a full task queue",
+    "core": "{who} is dispatched, and each core holds a task",
+}
+
+
+@dataclasses.dataclass(frozen=True)
+class Meeting:
+    """An access of a task that was taken back, the access that it meets, and what both share."""
+    own: Access
+    other: Access
+    sharing: Sharing
+
+
+@dataclasses.dataclass(frozen=True)
+class Cause:
+    """Why one task was taken back. `by` is the task behind it: the one that asked for the event, or the member of the
+    set that this one goes with; None where no task asked. `sharing` is the widest of its whole way, `before` the cause
+    of the member that it goes with, and `event` the word of the root."""
+    taken: Taken
+    kind: Kind
+    by: Optional[Task]
+    meeting: Optional[Meeting]
+    sharing: Sharing
+    before: Optional[Cause]
+    event: str
+
+    @property
+    def task(self) -> Task:
+        return self.taken.task
+
+    @property
+    def root(self) -> Cause:
+        """The cause at the end of its way, which is the event's own."""
+        cause = self
+        while cause.before is not None:
+            cause = cause.before
+        return cause
+
+    @property
+    def is_false(self) -> bool:
+        """Whether it comes of a line or a bit that is shared, on its way at least once."""
+        return self.sharing is not Sharing.TRUE
+
+
+def root_word(told: Told) -> str:
+    """The word for the root of what an event took back."""
+    return ROOTS[told.line.get("asks", told.line["do"])]
+
+
+def causes_of(told: Told, line_size: int) -> list[Cause]:
+    """The cause of each task that an event took back, the least task first."""
+    found = Cascade(told, line_size)
+    return [found.take(taken) for taken in sorted(told.taken, key=time_of)]
+
+
+def time_of(taken: Taken) -> Time:
+    return taken.time
+
+
+class Cascade:
+    """The causes found so far of one event. Members come in the order of their times, since each goes with a lesser
+    one; of each byte, line and bit that members wrote the best store is kept."""
+
+    def __init__(self, told: Told, line_size: int) -> None:
+        self.told, self.line_size, self.event = told, line_size, root_word(told)
+        self.causes: dict[int, Cause] = {}
+        self.written: tuple[dict[int, tuple[Cause, Access]], ...] = ({}, {}, {})
+
+    def take(self, taken: Taken) -> Cause:
+        """Finds the cause of the next member."""
+        cause = min(self.ways(taken), key=lambda it: it.sharing)
+        self.causes[id(taken.task)] = cause
+        for access in taken.accesses:
+            if access.is_store:
+                self.keep(cause, access)
+        return cause
+
+    def ways(self, taken: Taken) -> list[Cause]:
+        """All that takes a member back, first of all what the event itself does."""
+        ways = [way for way in (self.by_event(taken), self.by_creator(taken), self.by_touch(taken)) if way]
+        # Of a filter of another kind no line tells which bits it has in common.
+        kind = Kind.ACCESS if self.told.access else Kind.TOUCHED
+        return ways or [Cause(taken, kind, self.told.task, None, Sharing.ALIAS, None, self.event)]
+
+    def by_event(self, taken: Taken) -> Optional[Cause]:
+        if self.told.access is not None:
+            meeting = self.met(taken.accesses, self.told.access)
+            by = self.told.task
+            if meeting is None:
+                return None
+            return Cause(taken, Kind.ACCESS, by, meeting, meeting.sharing, None, self.event)
+        if self.causes:
+            return None
+        # The least member is the one that stood there; all others are later, and go with it.
+        if self.event in ROOM_TOLD:
+            return Cause(taken, Kind.ROOM, self.told.task, None, Sharing.TRUE, None, self.event)
+        return Cause(taken, Kind.ABORT, None, None, Sharing.TRUE, None, self.event)
+
+    def met(self, accesses: Iterable[Access], other: Access) -> Optional[Meeting]:
+        """The access that shares the most with another one, the first of several. A load meets stores alone."""
+        best: Optional[Meeting] = None
+        for own in accesses:
+            if own.is_store or other.is_store:
+                sharing = shared(own, other, self.line_size)
+                if sharing is Sharing.TRUE:
+                    return Meeting(own, other, sharing)
+                if sharing is not None and (best is None or sharing < best.sharing):
+                    best = Meeting(own, other, sharing)
+        return best
+
+    def by_creator(self, taken: Taken) -> Optional[Cause]:
+        before = self.causes.get(id(taken.task.creator)) if taken.is_gone else None
+        if before is None:
+            return None
+        return Cause(taken, Kind.CHILD, before.task, None, before.sharing, before, self.event)
+
+    def by_touch(self, taken: Taken) -> Optional[Cause]:
+        """It touched what another member wrote: the way that shares the most, the first of several."""
+        best: Optional[Cause] = None
+        for own in taken.accesses:
+            for sharing, places in self.places(own):
+                for before, other in filter(None, map(self.written[sharing].get, places)):
+                    widest = max(sharing, before.sharing)
+                    if best is None or widest < best.sharing:
+                        meeting = Meeting(own, other, sharing)
+                        best = Cause(taken, Kind.TOUCHED, before.task, meeting, widest, before, self.event)
+            if best is not None and best.sharing is Sharing.TRUE:
+                break
+        return best
+
+    def keep(self, cause: Cause, access: Access) -> None:
+        for sharing, places in self.places(access):
+            kept = self.written[sharing]
+            for place in places:
+                if place not in kept or cause.sharing < kept[place][0].sharing:
+                    kept[place] = cause, access
+
+    def places(self, access: Access) -> Iterator[tuple[Sharing, Iterable[int]]]:
+        """The bytes, the line and the bit of an access."""
+        line = line_of(access, self.line_size)
+        yield Sharing.TRUE, range(access.address, access.address + access.bytes)
+        yield Sharing.LINE, (line,)
+        yield Sharing.ALIAS, (line % FILTER_BITS,)
+
+
+def line_of(access: Access, line_size: int) -> int:
+    return (access.address - DATA) // line_size
+
+
+def shared(one: Access, other: Access, line_size: int) -> Optional[Sharing]:
+    """What two accesses share; None where it isn't even a bit."""
+    if one.address < other.address + other.bytes and other.address < one.address + one.bytes:
+        return Sharing.TRUE
+    distance = line_of(one, line_size) - line_of(other, line_size)
+    if distance == 0:
+        return Sharing.LINE
+    return Sharing.ALIAS if distance % FILTER_BITS == 0 else None
+
+
+# ---- in words
+
+
+class Telling:
+    """How causes are said: by the names of tasks, the labels and source lines of a listing, and the bytes of a line."""
+
+    def __init__(self, named: Callable[[Task], str], line_size: int, listing: Listing = NO_LISTING) -> None:
+        self.named, self.line_size, self.listing = named, line_size, listing
+
+    def sentence(self, cause: Cause) -> str:
+        """Why a task was taken back, as what is said of it behind its name."""
+        if cause.kind is Kind.CHILD:
+            return f"{self.name_behind(cause)}, which made it, was taken back"
+        if cause.kind is Kind.ABORT:
+            return "the script asked for it"
+        if cause.kind is Kind.ROOM:
+            return ROOM_TOLD[cause.event].format(who=self.name_behind(cause))
+        if cause.meeting is None:
+            return "a filter says that it touched what it may not have"
+        return self.meeting_told(cause, cause.meeting)
+
+    def meeting_told(self, cause: Cause, meeting: Meeting) -> str:
+        own, other, sharing = meeting.own, meeting.other, meeting.sharing
+        by = self.name_behind(cause)
+        place = "there" if sharing is Sharing.TRUE else f"at {self.listing.labelled(other.address)}"
+        if cause.kind is Kind.ACCESS:
+            did = f"{by} {'stores' if other.is_store else 'loads'} {place}{self.spot(other)}"
+        else:
+            did = f"{by}, which was taken back, had stored {place}{self.spot(other)}"
+        return f"{self.did(own)}, and {did}{self.sharing_told(meeting)}"
+
+    def did(self, own: Access) -> str:
+        """What a task did by an access of its own."""
+        label = self.listing.labelled(own.address)
+        return (f"it stored {own.value} to {label}{self.spot(own)}" if own.is_store
+                else f"it loaded {own.old} from {label}{self.spot(own)}")
+
+    def sharing_told(self, meeting: Meeting) -> str:
+        if meeting.sharing is Sharing.TRUE:
+            return ""
+        if meeting.sharing is Sharing.LINE:
+            return f"; they share the line of {self.line_size} bytes and no byte"
+        lines = " and ".join(f"{line_of(access, self.line_size):,}" for access in (meeting.own, meeting.other))
+        return f"; they share a bit of the filter and no byte, since it has one for the lines {lines}"
+
+    def spot(self, access: Access) -> str:
+        """Where in the source an access stands, if that is known."""
+        place = self.listing.place(access.pc)
+        if place is None:
+            return f" at {self.listing.labelled(access.pc)}" if self.listing is not NO_LISTING else ""
+        where, _, text = place.partition(": ")
+        return f" at {where} (`{text}`)" if text else f" at {where}"
+
+    def name_behind(self, cause: Cause) -> str:
+        """The task behind a cause; where none is, a splitter asked."""
+        return self.named(cause.by) if cause.by is not None else "the splitter of the tile"

@@ -1,0 +1,195 @@
+"""Legs, replayed on the image: which plain instructions a task executes, where it stops, and what it asks for there.
+
+An image's text is read as RV32I by `yotarimu.images.serial_machine`. Each task that was dispatched has a core here. A
+leg that a line tells has to be the one that this core runs; then what it asked for is done, unless it was refused.
+"""
+from __future__ import annotations
+
+import dataclasses
+from typing import TYPE_CHECKING, Any, Optional
+
+from yotarimu.images.image import DATA, STACK, Image
+from yotarimu.images.serial_machine import Machine as Serial
+from yotarimu.images.serial_machine import Run, Trapped, signed
+from yotarimu.lines.fields import Wrong
+from yotarimu.lines.times import Domain
+
+if TYPE_CHECKING:
+    from yotarimu.lines.replay import Task, Told
+
+CHILDREN = {1: "same", 2: "sub", 3: "super"}
+FETCH, BUDGET = 1, 17
+# The fields of a line that tell a leg, in their order.
+FIELDS = ("leg", "pc", "asks", "addr", "bytes", "value", "to", "entry", "ts", "args", "hint", "byte", "cause")
+
+
+class Stops(Exception):
+    """A leg stops before an instruction that others can see: what the line has to say of it."""
+
+    def __init__(self, **fields: Any) -> None:
+        super().__init__(fields)
+        self.fields = fields
+
+
+class Nothing:
+    """It takes what calls emit, and keeps nothing."""
+
+    def append(self, byte: int) -> None:
+        """The lines have the bytes."""
+
+
+class Scratch(Serial):
+    """A serial machine that calls and stores may change, since nobody reads it: the lines have what comes of them."""
+
+    def __init__(self, image: Image) -> None:
+        self.image, self.memory, self.output, self.steps = image, bytearray(image.size), Nothing(), 0
+
+    def add(self, *_child: Any) -> None:
+        """The lines have the child."""
+
+
+@dataclasses.dataclass
+class Around:
+    """A domain as a call sees it: its depth and kind, the domain around it, and of its maker the timestamp."""
+    depth: int
+    is_ordered: bool
+    outer: Optional[Around]
+    floor: int
+
+
+def around(domain: Domain) -> Around:
+    """A domain of the lines as a call sees it. The maker of the root domain counts as having the timestamp 0."""
+    depth = len(domain.kinds)
+    outer = around(domain.outer()) if depth > 1 else None
+    return Around(depth, domain.kinds[-1], outer, domain.maker[-1][0] if domain.maker else 0)
+
+
+@dataclasses.dataclass
+class Start:
+    """A task as the serial machine starts it."""
+    entry: int
+    timestamp: int
+    arguments: tuple[int, ...]
+    domain: Around
+    turn: int = 0
+
+
+class Core(Run):
+    """The core of a dispatched task. An access to data or a call stops it, unless it is granted."""
+
+    def __init__(self, scratch: Scratch, task: Task) -> None:
+        super().__init__(scratch, Start(task.entry, task.timestamp, tuple(task.arguments), around(task.domain)))
+        self.used, self.is_granted, self.found = 0, False, 0
+
+    def leg(self, quantum: int, budget: int) -> dict[str, Any]:
+        """Runs a leg, and gives the fields of the line that tell it."""
+        count, asked = 0, {"asks": "go"}
+        while count < quantum:
+            try:
+                if self.used + count == budget:
+                    raise Trapped(BUDGET)
+                word = self.machine.image.word(self.pc)
+                if word is None or self.pc % 4:
+                    raise Trapped(FETCH)
+                self.step(word)
+            except Stops as stops:
+                asked = stops.fields
+                break
+            except Trapped as trapped:
+                asked = {"asks": "trap", "cause": trapped.cause}
+                break
+            count += 1
+        self.used += count
+        return {"leg": count, "pc": self.pc, **asked}
+
+    def grant(self, found: int) -> None:
+        """Executes the instruction at which the core stopped; a load finds this number."""
+        self.is_granted, self.found = True, found
+        self.step(self.machine.image.word(self.pc))
+        self.is_granted = False
+        self.used += 1
+
+    def load(self, kind: int, address: int) -> int:
+        value: int = super().load(kind, address)
+        if not DATA <= address < STACK:
+            return value
+        width = 1 << (kind & 3)
+        if not self.is_granted:
+            raise Stops(asks="load", addr=address, bytes=width)
+        return self.found if kind & 4 else signed(self.found, 8 * width)
+
+    def store(self, width: int, address: int, value: int) -> None:
+        super().store(width, address, value)
+        if DATA <= address < STACK and not self.is_granted:
+            raise Stops(asks="store", addr=address, bytes=width, value=value)
+
+    def call(self) -> None:
+        before = self.inner, self.children, self.emitted, self.is_over
+        super().call()
+        if not self.is_granted:
+            self.inner, self.children, self.emitted, self.is_over = before
+            raise Stops(**self.request())
+
+    def request(self) -> dict[str, Any]:
+        """What a call asks for that doesn't trap."""
+        number, registers = self.registers[17], self.registers
+        if number == 0:
+            return {"asks": "end"}
+        if number == 4:
+            return {"asks": "ordered" if registers[10] else "unordered"}
+        if number == 5:
+            return {"asks": "emit", "byte": registers[10] & 0xFF}
+        domain = {1: self.task.domain, 2: self.inner, 3: self.task.domain.outer}[number]
+        return {"asks": "enqueue", "to": CHILDREN[number], "entry": registers[10],
+                "ts": registers[11] if domain.is_ordered else 0, "args": list(registers[12:15]), "hint": registers[15]}
+
+
+class Legs:
+    """The cores of all dispatched tasks of a run, as far as its lines were read."""
+
+    def __init__(self, image: Image, head: dict[str, Any]) -> None:
+        self.image, self.head, self.scratch = image, head, Scratch(image)
+        self.cores: dict[Task, Core] = {}
+        own = {"root": "ordered" if image.is_ordered else "unordered", "text": len(image.text) // 4,
+               "data": image.size, "window": [image.window_offset, image.window_words], "tasks": len(image.tasks)}
+        for name, value in own.items():
+            if head[name] != value:
+                raise Wrong(f"`{name}` is {head[name]}, and of the image it is {value}")
+
+    def note(self, told: Told) -> None:
+        """Takes a line, once the machine has done what it tells."""
+        line = told.line
+        if line.get("do") == "place":
+            self.need_initial(line)
+        for taken in told.taken:
+            self.cores.pop(taken.task, None)
+        if told.committed is not None:
+            self.cores.pop(told.committed, None)
+        if "leg" in line and told.task is not None:
+            self.need_leg(told.task, line)
+
+    def need_initial(self, line: dict[str, Any]) -> None:
+        place = line["name"][1]
+        if place >= len(self.image.tasks):
+            raise Wrong(f"the image has no task {place}")
+        task = self.image.tasks[place]
+        timestamp = task.timestamp if self.image.is_ordered else 0
+        if [line["entry"], line["ts"], line["args"]] != [task.entry, timestamp, list(task.arguments)]:
+            raise Wrong(f"the image's task {place} is another one")
+
+    def need_leg(self, task: Task, line: dict[str, Any]) -> None:
+        core = self.cores.get(task)
+        if core is None:
+            core = self.cores[task] = Core(self.scratch, task)
+        before = core.pc, list(core.registers), bytes(core.stack), core.used
+        wanted = core.leg(self.head["quantum"], self.head["budget"])
+        told = {name: line[name] for name in FIELDS if name in line}
+        if told != wanted:
+            name = next(it for it in FIELDS if told.get(it) != wanted.get(it))
+            raise Wrong(f"`{name}` is {told.get(name, 'missing')}, and by the image's text it is "
+                        f"{wanted.get(name, 'missing')}")
+        if line["reply"] != "ok":
+            core.pc, core.registers, core.used = before[0], before[1], before[3]
+            core.stack[:] = before[2]
+        elif line["asks"] not in ("go", "trap"):
+            core.grant(line.get("old", 0))
