@@ -1,16 +1,16 @@
 -- That a course in rounds gets on, and that it is what a script of its acts does.
-use Rattle.std.specs.Prelude.{◌≡◌, ◌+◌, ◌*◌, ◌≤◌, ℕ, true, false, List, length, map}
+use Rattle.std.specs.Prelude.{◌≡◌, ◌+◌, ◌*◌, ◌≤◌, ℕ, false, List, length, map}
 use Rattle.guest_image.specs.ImageValue.{ImageValue}
 use Rattle.spec_law.specs.Sound.{Sound}
-use Rattle.spec_state.specs.declared.settings.Settings.{Settings}
 use Rattle.event_def.specs.Advancing.{HasRest}
 use Rattle.event_def.specs.Book.{BookView}
-use Rattle.step_script.specs.declared.act.Act.{Act}
+use Rattle.event_def.specs.End.{IsOver}
+use Rattle.step_script.specs.declared.act.Act.TheVariants as acts
 use Rattle.step_script.specs.Playing.{PlayState, Plays}
-use Rattle.watch_text.specs.Moments.{Moment}
+use Rattle.watch_text.specs.Moments.{IsMoment, Moment}
 use Rattle.watch_play.specs.Courses.{OfRounds, Stage}
 use Rattle.watch_play.specs.Replies.{said_by}
-use Rattle.watch_play.specs.Stories.{StoryLeads}
+use Rattle.watch_play.specs.Stories.{StoryLeads, commits_of}
 
 -- a story in rounds on the machine of an opening that is sound and wasn't stopped
 pub record IsLockstep {N : Type 0} (image : ImageValue) (rounds seed barren : ℕ) (opening : BookView) (count : ℕ)
@@ -19,16 +19,20 @@ pub record IsLockstep {N : Type 0} (image : ImageValue) (rounds seed barren : �
   pub going : opening.stopped ≡ false
   pub leads : StoryLeads image (OfRounds rounds seed barren opening.view.settings) opening count stage moments last
 
--- where the least task is brought on, more acts of that lead nearer to its commit or the end: so many are told in a row,
--- with what is left of its way they are no more than the budget and 4
+-- so many moments in a row brought the least task on, while the run went on, and none of them committed
+pub data IsBroughtOn {N : Type 0} (image : ImageValue) (first : PlayState) : ℕ → PlayState → Type 0 where
+  not_yet : IsBroughtOn image first 0 first
+  once_more : (n : ℕ) (mid new : PlayState) (m : Moment N) → IsBroughtOn {N} image first n mid
+      → (IsOver mid.book.view → ⊥) → IsMoment image m mid new → m.act ≡ acts.Advance
+      → commits_of new ≡ commits_of first → IsBroughtOn image first (n + 1) new
+
+-- from a sound book, whatever queues are full, they are no more than the budget and 4, with what is left of the way to
+-- the next commit or the end
 abbrev pub ForcedGetsOn : Type 0 → Type 0
 ForcedGetsOn N =
-    (image : ImageValue) (rounds seed barren : ℕ) (opening : BookView) (count more : ℕ) (at stage : Stage)
-    (front moments : List (Moment N)) (before last : PlayState) (left : ℕ)
-    → IsLockstep image rounds seed barren opening count at front before
-    → IsLockstep image rounds seed barren opening (count + more) stage moments last
-    → at.forced ≡ true → stage ≡ at → length moments ≡ length front + more
-    → HasRest last.book.view left → more + left ≤ opening.view.settings.budget + 4
+    (image : ImageValue) (first last : PlayState) (count left : ℕ) → Sound image first.book.view
+    → first.book.stopped ≡ false → IsBroughtOn {N} image first count last → HasRest last.book.view left
+    → count + left ≤ first.book.view.settings.budget + 4
 
 -- no more rounds came than so many for each commit and as many again: so a story of enough rounds ends before they do,
 -- or reaches its limit of commits
