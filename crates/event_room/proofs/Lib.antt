@@ -1,1 +1,2 @@
-mod Victims
+pub mod Victims
+pub mod Proved

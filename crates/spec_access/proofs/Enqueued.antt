@@ -19,13 +19,15 @@ use Rattle.task_desc.specs.Calls.{allowed_at, allowed_sub}
 use Rattle.task_request.specs.declared.request.Request.TheVariants.{Enqueue}
 use Rattle.spec_state.specs.declared.task.Creator.TheVariants.{Live}
 use Rattle.spec_state.specs.declared.task.Task.{Task}
+use Rattle.spec_state.specs.declared.task.TaskId.{TaskId}
 use Rattle.spec_state.specs.View.{View, task_at, queued_last}
 use Rattle.spec_state.specs.Tasks.{depth_of, sub_bit, child_domain, child_kinds, child_descriptor, own_level}
 use Rattle.spec_state.specs.Tasks.{idle_task, context_of}
 use Rattle.spec_state.specs.Stored.{IsWellFormed}
 use Rattle.spec_state.specs.Opening.{Adds}
-use Rattle.spec_state.specs.Changes.{Keeps, Enqueues, task_past_leg}
+use Rattle.spec_state.specs.Changes.{Keeps, task_past_leg}
 use Rattle.spec_access.specs.Asking.{Asks}
+use Rattle.spec_access.specs.Telling.{EnqueuesTold}
 use Rattle.spec_access.proofs.Asking.{asked_allowed}
 
 -- a child of the subdomain is allowed only where one was made
@@ -99,27 +101,31 @@ child_formed size commits version tile index creator child spawn id formed made 
       turn = λ turn at same. absurd (cc (same));
     })
 
--- the task goes on with one child more, and then the child comes to be
+-- the task goes on with one child more, and then the child comes to be and is told
 pub enqueued : (old mid new : View) (id child : ℕ) (task made : Task) (leg : LegValue) (spawn : Spawn) (tile : ℕ)
+    (arrived : Option TaskId)
     → task_at old id ≡ Some task
     → Keeps id (record (task_past_leg task leg) { spawns = task.spawns ++ spawn ∷ [] }) old mid
     → Adds child made mid new
     → made ≡ idle_task old.version (child_descriptor task spawn) (Live (record { 0 = id }) (length task.spawns)) tile
-    → Enqueues id task leg spawn tile old new
-enqueued old mid new id child task made leg spawn tile there keeps adds is =
+    → arrived ≡ Some (record { 0 = child })
+    → EnqueuesTold id task leg spawn tile old new arrived
+enqueued old mid new id child task made leg spawn tile arrived there keeps adds is told =
     let other : child ≢ id = λ same. absurd (cc (adds.vacant, ap (task_at mid) same, keeps.changes.changed)) in
     let queued : queued_last mid made.tile child ≡ queued_last old tile child =
     ap (λ v. queued_last v made.tile child) keeps.frame ∙ ap (λ t. queued_last old t child) (ap (λ t. t.tile) is) in
-    let after : View → View = λ (v : View). record v { tasks = new.tasks; queues = new.queues } in
-    record {
-      child = child;
-      vacant = sym (keeps.changes.others child other) ∙ adds.vacant;
-      creator = adds.changes.others id (λ same. other (sym same)) ∙ keeps.changes.changed;
-      made = adds.changes.changed ∙ ap Some is;
-      others = λ k apart far. adds.changes.others k far ∙ keeps.changes.others k apart;
-      queues = adds.queues ∙ queued;
-      frame = adds.frame ∙ ap after keeps.frame;
-    }
+    let after : View → View = λ (v : View). record v { tasks = new.tasks; queues = new.queues } in (
+      record {
+        child = child;
+        vacant = sym (keeps.changes.others child other) ∙ adds.vacant;
+        creator = adds.changes.others id (λ same. other (sym same)) ∙ keeps.changes.changed;
+        made = adds.changes.changed ∙ ap Some is;
+        others = λ k apart far. adds.changes.others k far ∙ keeps.changes.others k apart;
+        queues = adds.queues ∙ queued;
+        frame = adds.frame ∙ ap after keeps.frame;
+      },
+      told,
+    )
 
 -- one child more is within the bound
 pub one_more : (spawns : List Spawn) (spawn : Spawn) (now : List Spawn) → now ≡ spawns ++ spawn ∷ []

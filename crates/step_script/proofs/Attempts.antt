@@ -93,13 +93,13 @@ runs_out act tile core held after leg r is =
 
 -- ---- of a player, by its parts
 
-module _ {E : Type 0} (N : Type 0) (image : ImageValue) (act : Act) (book : BookView) (inside old new : PlayerValue)
-    (r : Result Asked E) (same : inside ≡ old) where
-  pub player_asks : IfOk r (λ asked. AsksFor {N = N} image act (record { book = book; held = inside.held })
+module _ {E : Type 0} (act : Act) (inside old new : PlayerValue) (r : Result Asked E) (same : inside ≡ old) where
+  pub player_asks : (N : Type 0) (image : ImageValue) (book : BookView)
+      → IfOk r (λ asked. AsksFor {N = N} image act (record { book = book; held = inside.held })
       (asks_of asked new.leg) new.held)
-      → IfOk r (λ asked. AsksFor {N = N} image act (record { book = book; held = old.held }) (asks_of asked new.leg)
-      new.held)
-  player_asks =
+      → IfOk r (λ asked. AsksFor {N = N} image act (record { book = book; held = old.held })
+      (asks_of asked new.leg) new.held)
+  player_asks N image book =
       subst (λ (p : PlayerValue). IfOk r (λ asked. AsksFor {N = N} image act (record { book = book; held = p.held })
       (asks_of asked new.leg) new.held)) same
 

@@ -22,13 +22,6 @@ pub comes_of : {N : Type 0} (asks : Attempt N) (answer : Reply) (aborted : ℕ) 
 comes_of (Hands e) answer aborted old new there came = (there, came)
 comes_of (Says word) answer aborted old new there came = came
 
--- where it does, nothing is made
-pub none_made : {N : Type 0} (asks : Attempt N) (answer : Reply) (aborted : ℕ) (old new : BookView)
-    → answer ≡ reply.Memory → AttemptComes asks answer aborted old new → new ≡ old
-none_made (Hands e) answer aborted old new is came =
-    (subst (λ a. AttemptComes (Hands e) a aborted old new) is came).1.same
-none_made (Says word) answer aborted old new is came = came.2
-
 module _ (N : Type 0) (image : ImageValue) (before after : PlayState) (answer : Reply) (aborted : ℕ) where
   -- what came of an act
   abbrev pub HasCome : Attempt N → Type 0

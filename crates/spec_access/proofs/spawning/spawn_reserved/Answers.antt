@@ -39,13 +39,11 @@ put-requires-clause-formed g c =
     (subst (λ (s : StateValue). IsWellFormed size (length s.view.history) child) c.state.view_is formed)
 
 pub returns-clause-enqueues : goal.returns-clause-enqueues
-unfolding enqueued
 returns-clause-enqueues g c from core task takes =
-    let there = takes.runs.on.there in (
-      enqueued _ _ _ _ _ task _ _ _ _ there (c.add_spawn.ensures.keeps task there) c.put.ensures.adds
-          (child_of_same c.state.inside.version c.args.state.now.view.version _ _ task _ _ _
-          (ap (λ (v : StateValue). v.view.version) c.state.view_is)
-          (same_Some _ task (sym c.index.ensures ∙ ap (λ (v : StateValue). task_at v.view c.args.id.0) c.state.view_is
-          ∙ there)) c.child_of-child.ensures),
-      ap (λ (e : EffectValue). e.arrived) c.put.ensures.effect,
-    )
+    let there = takes.runs.on.there in
+    enqueued _ _ _ _ _ task _ _ _ _ _ there (c.add_spawn.ensures.keeps task there) c.put.ensures.adds
+    (child_of_same c.state.inside.version c.args.state.now.view.version _ _ task _ _ _
+    (ap (λ (v : StateValue). v.view.version) c.state.view_is)
+    (same_Some _ task (sym c.index.ensures ∙ ap (λ (v : StateValue). task_at v.view c.args.id.0) c.state.view_is
+    ∙ there)) c.child_of-child.ensures)
+    (ap (λ (e : EffectValue). e.arrived) c.put.ensures.effect)

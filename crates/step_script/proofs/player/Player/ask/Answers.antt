@@ -3,10 +3,9 @@ use Rattle.step_script.proofs.player.Player.ask.Goals as goal
 
 pub returns-clause-asks : goal.returns-clause-asks
 returns-clause-asks g c =
-    player_asks g.row.N.Denot g.N.Naming.image c.args.act _ _ c.args.self.now _ c.ask.result c.self.view_is
+    player_asks c.args.act _ c.args.self.now _ c.ask.result c.self.view_is g.row.N.Denot g.N.Naming.image _
     c.ask.ensures.asks
 
 pub returns-clause-out_of_memory : goal.returns-clause-out_of_memory
 returns-clause-out_of_memory g c =
-    player_runs_out g.row.N.Denot g.N.Naming.image c.args.act _ _ c.args.self.now _ c.ask.result c.self.view_is
-    c.ask.ensures.out_of_memory
+    player_runs_out c.args.act _ c.args.self.now _ c.ask.result c.self.view_is c.ask.ensures.out_of_memory

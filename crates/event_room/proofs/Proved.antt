@@ -1,0 +1,2 @@
+-- What the crates above may cite of these proofs.
+pub use Rattle.event_room.proofs.Victims.{room_told}
