@@ -20,12 +20,15 @@ pub enum CourseWord {
     Steps,
     /// What brings the least task on, up to the end of the run.
     Least,
-    /// In each round every tile dispatches, every running core makes a step, tasks commit and come back.
+    /// In each round every tile dispatches, every running core makes a step, tasks commit and come back; where many
+    /// rounds in a row brought no commit, the least task is brought on to its own.
     Lockstep {
         /// How many rounds: 1 to 1,000,000.
         rounds: u32,
         /// What the order of a round is drawn from; 0 leaves it as it is.
         seed: u32,
+        /// After how many rounds without a commit the least task is brought on: 1 to 1,000,000.
+        barren: u32,
     },
 }
 
@@ -35,10 +38,15 @@ fn put_course(line: &mut String, course: CourseWord) -> Result<(), AllocError>
     match course {
         CourseWord::Steps => put_word(line, "course", "steps"),
         CourseWord::Least => put_word(line, "course", "least"),
-        CourseWord::Lockstep { rounds, seed } => {
+        CourseWord::Lockstep {
+            rounds,
+            seed,
+            barren,
+        } => {
             put_word(line, "course", "lockstep")?;
             put_number(line, "rounds", u64::from(rounds))?;
-            put_number(line, "seed", u64::from(seed))
+            put_number(line, "seed", u64::from(seed))?;
+            put_number(line, "barren", u64::from(barren))
         }
     }
 }
