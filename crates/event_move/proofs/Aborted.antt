@@ -1,13 +1,15 @@
 -- What comes of an abort.
-use Rattle.std.proofs.Common.{ℕ, ◌≡◌, None, refl, sym, subst}
+use Rattle.std.proofs.Common.{ℕ, ◌≡◌, None, refl, sym, ap, subst}
 use Rattle.guest_image.specs.ImageValue.{ImageValue}
 use Rattle.trace_tap.specs.declared.record.Deed.TheVariants as deed
 use Rattle.trace_tap.specs.declared.record.Record.{Record}
 use Rattle.spec_state.specs.declared.task.Task.{Task}
 use Rattle.spec_state.specs.View.{View}
 use Rattle.spec_state.specs.Aborts.{Aborts, OnlyNode}
+use Rattle.spec_state.specs.Effects.{EffectValue, nothing}
 use Rattle.spec_state.specs.Least.{IsTheLeast}
 use Rattle.spec_state.specs.Queries.{IsLatestDispatched}
+use Rattle.spec_state.specs.Told.{TellsBack}
 use Rattle.spec_law.specs.Sound.{Sound}
 use Rattle.event_def.specs.declared.event.Came.TheVariants.{Made}
 use Rattle.event_def.specs.declared.event.Event.TheVariants as event
@@ -18,16 +20,21 @@ use Rattle.event_lemma.proofs.Proved.{abort_is_granted, latest_is_not_least}
 use Rattle.event_move.specs.Moving.{ComesSo}
 
 module _ (N : Type 0) (view : View) (going : IsOver view → ⊥) (tile : ℕ) where
-  -- the latest one is taken back
-  pub aborted_latest : (image : ImageValue) (id aborted : ℕ) (task : Task) (new : View) (seen : Record) → Sound image view
+  -- the latest one is taken back, and its cascade is told
+  pub aborted_latest : (image : ImageValue) (id aborted : ℕ) (task : Task) (new : View) (effect : EffectValue)
+      (seen : Record) → Sound image view
       → IsLatestDispatched view tile id task → (IsTheLeast view id → ⊥)
-      → Aborts (OnlyNode id) view aborted new → seen ≡ record_of deed.Abort tile None aborted new
-      → ComesSo N view (event.Abort tile) (Made seen) new
-  aborted_latest image id aborted task new seen sound latest other aborts is =
-      subst (λ r. ComesSo N view (event.Abort tile) (Made r) new) (sym is)
+      → (aborts : Aborts (OnlyNode id) view aborted new) × TellsBack view aborts.marks effect.back
+      → effect ≡ record nothing { back = effect.back } → seen ≡ record_of deed.Abort tile None aborted new
+      → ComesSo N view (event.Abort tile) (Made seen) new effect
+  aborted_latest image id aborted task new effect seen sound latest other aborts rest is =
+      subst (λ r. ComesSo N view (event.Abort tile) (Made r) new effect) (sym is)
       (λ placers taps steps. (
-        abort_is_granted N (book_of view placers taps steps) going tile id task latest.of_kind
-            (latest_is_not_least image view tile id task sound latest other),
-        (record { id = id; task = task; latest = latest; aborts = aborts }, refl),
-        refl,
+        (
+          abort_is_granted N (book_of view placers taps steps) going tile id task latest.of_kind
+              (latest_is_not_least image view tile id task sound latest other),
+          (record { id = id; task = task; latest = latest; aborts = aborts.0 }, refl),
+          refl,
+        ),
+        ((aborts.1, ap (λ (e : EffectValue). e.spilled) rest), ap (λ (e : EffectValue). e.arrived) rest),
       ))

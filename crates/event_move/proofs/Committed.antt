@@ -1,11 +1,12 @@
 -- What comes of a commit.
-use Rattle.std.proofs.Common.{ℕ, ◌≡◌, ◌≢◌, ◌<◌, length, List, Some, None, refl, sym, ap, subst, ◌∙◌}
+use Rattle.std.proofs.Common.{ℕ, ◌≡◌, ◌≢◌, None, refl, sym, ap, subst, ◌∙◌}
 use Rattle.trace_tap.specs.declared.record.Deed.TheVariants as deed
 use Rattle.trace_tap.specs.declared.record.Record.{Record}
 use Rattle.spec_state.specs.declared.task.Status.TheVariants.{Finished}
 use Rattle.spec_state.specs.declared.task.Task.{Task}
-use Rattle.spec_state.specs.View.{View, task_at}
+use Rattle.spec_state.specs.View.{View}
 use Rattle.spec_state.specs.Changes.{Commits}
+use Rattle.spec_state.specs.Effects.{EffectValue, nothing}
 use Rattle.spec_state.specs.Least.{IsLeastTask}
 use Rattle.event_def.specs.declared.event.Came.TheVariants.{Made, Refused}
 use Rattle.event_def.specs.declared.event.Reply.TheVariants as reply
@@ -16,25 +17,32 @@ use Rattle.event_def.specs.Book.{book_of}
 use Rattle.event_lemma.proofs.Proved.{commit_is_granted, empty_is_refused}
 use Rattle.event_move.specs.Moving.{CommitComes}
 
-module _ (N : Type 0) (view : View) (going : IsOver view → ⊥) where
+module _ (N : Type 0) (view : View) (going : IsOver view → ⊥) (effect : EffectValue) (fresh : effect ≡ nothing) where
   -- the least task isn't finished
   pub none_finished : ((id : ℕ) (task : Task) → IsLeastTask view id task → task.status ≢ Finished)
-      → CommitComes N view (Refused reply.Empty) view
-  none_finished none placers taps steps = (empty_is_refused N (book_of view placers taps steps) going event.Commit none, (refl, refl))
+      → CommitComes N view (Refused reply.Empty) view effect
+  none_finished none placers taps steps =
+      ((empty_is_refused N (book_of view placers taps steps) going event.Commit none, (refl, refl)), fresh)
 
   module _ (id : ℕ) (task : Task) (least : IsLeastTask view id task) (finished : task.status ≡ Finished) where
     -- memory runs out
-    pub commit_runs_out : (new : View) → new ≡ view → CommitComes N view (Refused reply.Memory) new
-    commit_runs_out new same placers taps steps =
-        (commit_is_granted N (book_of view placers taps steps) going id task least finished, tt, (same, refl))
+    pub commit_runs_out : (new : View) → new ≡ view → CommitComes N view (Refused reply.Memory) new effect
+    commit_runs_out new same placers taps steps = (
+      (commit_is_granted N (book_of view placers taps steps) going id task least finished, tt, (same, refl)),
+      fresh,
+    )
 
     -- it commits
     pub committed : (tile : ℕ) (new : View) (seen : Record) → Commits view new → tile ≡ task.tile
-        → seen ≡ record_of deed.Commit tile None 0 new → CommitComes N view (Made seen) new
+        → seen ≡ record_of deed.Commit tile None 0 new → CommitComes N view (Made seen) new effect
     committed tile new seen commits there is =
-        subst (λ r. CommitComes N view (Made r) new) (sym (is ∙ ap (λ t. record_of deed.Commit t None 0 new) there))
+        subst (λ r. CommitComes N view (Made r) new effect)
+        (sym (is ∙ ap (λ t. record_of deed.Commit t None 0 new) there))
         (λ placers taps steps. (
-          commit_is_granted N (book_of view placers taps steps) going id task least finished,
-          (commits, refl, refl),
-          (id, task, least, refl),
+          (
+            commit_is_granted N (book_of view placers taps steps) going id task least finished,
+            (commits, refl, refl),
+            (id, task, least, refl),
+          ),
+          fresh,
         ))

@@ -4,6 +4,7 @@ use Rattle.std.specs.Prelude.{◌↔◌, IsTrue, not}
 use Rattle.trace_tap.specs.declared.record.Deed.TheVariants as deed
 use Rattle.trace_tap.specs.declared.record.Record.{Record}
 use Rattle.spec_state.specs.declared.task.Task.{Task}
+use Rattle.spec_state.specs.Effects.{EffectValue}
 use Rattle.spec_state.specs.View.{View}
 use Rattle.spec_state.specs.Least.{IsTheLeast}
 use Rattle.spec_state.specs.Queries.{IsLeastIdle}
@@ -13,6 +14,7 @@ use Rattle.event_def.specs.declared.event.Event.TheVariants as event
 use Rattle.event_def.specs.Causes.{AllCoresHeld, IsBusy}
 use Rattle.event_def.specs.End.{IsOver}
 use Rattle.event_def.specs.Events.{FreesCore}
+use Rattle.event_def.specs.Telling.{TellsCore}
 use Rattle.event_def.specs.Trace.{record_of}
 use Rattle.event_def.specs.Book.{book_of}
 use Rattle.event_lemma.proofs.Proved.{dispatch_is_granted, least_is_not_busy}
@@ -27,16 +29,31 @@ busy_by view tile id task false idle held is =
     (λ b. record { held = held; id = id; task = task; idle = idle; not_least = λ least. absurd (cc (is.1 least)) }, λ busy. refl)
 
 module _ (N : Type 0) (view : View) (going : IsOver view → ⊥) (tile : ℕ) where
-  -- its least idle task is dispatched
-  pub dispatched : (id aborted : ℕ) (task : Task) (mid new : View) (seen : Record) → IsLeastIdle view tile id task
-      → (AllCoresHeld view tile → IsTheLeast view id) → FreesCore tile view aborted mid
-      → NumbersAndDispatches tile mid new → seen ≡ record_of deed.Dispatch tile None aborted new
-      → ComesSo N view (event.Dispatch tile) (Made seen) new
-  dispatched id aborted task mid new seen idle may frees change is =
-      subst (λ r. ComesSo N view (event.Dispatch tile) (Made r) new) (sym is)
+  -- its least idle task is dispatched, and it is told who was taken back for its core
+  pub dispatched : (id aborted : ℕ) (task : Task) (mid new : View) (cleared effect : EffectValue) (seen : Record)
+      → IsLeastIdle view tile id task → (AllCoresHeld view tile → IsTheLeast view id)
+      → (frees : FreesCore tile view aborted mid) × TellsCore tile view aborted mid frees cleared
+      → cleared.arrived ≡ None → NumbersAndDispatches tile mid new → effect ≡ cleared
+      → seen ≡ record_of deed.Dispatch tile None aborted new
+      → ComesSo N view (event.Dispatch tile) (Made seen) new effect
+  dispatched id aborted task mid new cleared effect seen idle may frees arrived change same is =
+      subst (λ (e : EffectValue). ComesSo N view (event.Dispatch tile) (Made seen) new e) (sym same)
+      (subst (λ r. ComesSo N view (event.Dispatch tile) (Made r) new cleared) (sym is)
       (λ placers taps steps. (
-        dispatch_is_granted N (book_of view placers taps steps) going tile id task idle.idle
-            (λ b. least_is_not_busy view tile id task idle (may b.held) b),
-        (record { mid = mid; forced = frees; ready = change.ready; number = change.number; change = change.change }, refl),
-        refl,
-      ))
+        (
+          dispatch_is_granted N (book_of view placers taps steps) going tile id task idle.idle
+              (λ b. least_is_not_busy view tile id task idle (may b.held) b),
+          (
+            record {
+              mid = mid;
+              forced = frees.0;
+              ready = change.ready;
+              number = change.number;
+              change = change.change;
+            },
+            refl,
+          ),
+          refl,
+        ),
+        (frees.1, arrived),
+      )))

@@ -3,6 +3,7 @@
 ghost use Rattle.std.specs.Prelude.{◌≡◌, ◌<◌};
 ghost use Rattle.spec_law.specs.Sound.{Sound};
 ghost use Rattle.spec_state.specs.declared.task.Task.{Task};
+ghost use Rattle.spec_state.specs.Effects.{nothing};
 ghost use Rattle.spec_state.specs.Least.{IsTheLeast};
 ghost use Rattle.spec_state.specs.Queries.{IsLatestDispatched};
 ghost use Rattle.event_def.specs.declared.event.Came.TheVariants.{Made};
@@ -35,6 +36,7 @@ fn make_abort<N: Naming>(state: &mut State<N>, tile: u32, id: TaskId) -> Record
 pub fn abort<N: Naming>(state: &mut State<N>, tile: u32) -> Came
     requires sound { Sound N.image state.old.view }
     requires tile { tile < state.old.view.settings.tiles }
+    requires fresh { state.old.effect ≡ nothing }
     ensures { ComesSo N state.old.view (event.Abort tile) result state.new.view state.new.effect }
 {
     if end_of(state).is_some() {

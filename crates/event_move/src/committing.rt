@@ -5,6 +5,7 @@ ghost use Rattle.spec_law.specs.Sound.{Sound};
 ghost use Rattle.spec_state.specs.declared.task.Status.TheVariants as status;
 ghost use Rattle.spec_state.specs.declared.task.Task.{Task};
 ghost use Rattle.spec_state.specs.declared.task.Where.TheVariants.{Finished};
+ghost use Rattle.spec_state.specs.Effects.{nothing};
 ghost use Rattle.spec_state.specs.Least.{IsLeast, IsLeastTask};
 ghost use Rattle.event_lemma.specs.Whereabouts.{IsUnfinished};
 ghost use Rattle.event_def.specs.End.{IsOver};
@@ -46,6 +47,7 @@ pub fn make_commit<N: Naming>(state: &mut State<N>, id: TaskId) -> Came
     requires sound { Sound N.image state.old.view }
     requires goes_on { IsOver state.old.view → ⊥ }
     requires finished { IsLeast state.old.view (Finished id) }
+    requires fresh { state.old.effect ≡ nothing }
     ensures { CommitComes N state.old.view result state.new.view state.new.effect }
 {
     let tile = state.tile_of(id);
@@ -58,6 +60,7 @@ pub fn make_commit<N: Naming>(state: &mut State<N>, id: TaskId) -> Came
 /// The event `Commit`: the least task, which is finished, commits. Refused with `Ended`, `Empty` or `Memory`.
 pub fn commit<N: Naming>(state: &mut State<N>) -> Came
     requires sound { Sound N.image state.old.view }
+    requires fresh { state.old.effect ≡ nothing }
     ensures { CommitComes N state.old.view result state.new.view state.new.effect }
 {
     if end_of(state).is_some() {

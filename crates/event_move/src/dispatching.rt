@@ -1,8 +1,9 @@
 //! The dispatch of the least idle task of a tile.
 
-ghost use Rattle.std.specs.Prelude.{◌≡◌, ◌<◌, ◌↔◌, IsTrue, IsFalse};
+ghost use Rattle.std.specs.Prelude.{◌≡◌, ◌<◌, ◌↔◌, IsTrue, IsFalse, None};
 ghost use Rattle.spec_law.specs.Sound.{Sound};
 ghost use Rattle.spec_state.specs.declared.task.Task.{Task};
+ghost use Rattle.spec_state.specs.Effects.{nothing};
 ghost use Rattle.spec_state.specs.Least.{IsTheLeast};
 ghost use Rattle.spec_state.specs.Queries.{IsLeastIdle};
 ghost use Rattle.event_def.specs.declared.event.Came.TheVariants.{Made};
@@ -10,6 +11,7 @@ ghost use Rattle.event_def.specs.declared.event.Event.TheVariants as event;
 ghost use Rattle.event_def.specs.Causes.{AllCoresHeld, IsBusy};
 ghost use Rattle.event_def.specs.End.{IsOver};
 ghost use Rattle.event_def.specs.Events.{FreesCore};
+ghost use Rattle.event_def.specs.Telling.{TellsCore};
 ghost use Rattle.event_move.specs.Moving.{ComesSo};
 
 use crate::recording::record_of;
@@ -39,7 +41,10 @@ fn abort_on_core<N: Naming>(state: &mut State<N>, tile: u32) -> u32
     requires sound { Sound N.image state.old.view }
     requires tile { tile < state.old.view.settings.tiles }
     requires held { AllCoresHeld state.old.view tile }
-    ensures { FreesCore tile state.old.view result state.new.view }
+    ensures frees { let old = state.old.view in
+        (frees : FreesCore tile old result state.new.view)
+        × TellsCore tile old result state.new.view frees state.new.effect }
+    ensures arrived { state.new.effect.arrived ≡ None }
 {
     match state.latest_on_core(tile) {
         Some(latest) => abort(state, latest),
@@ -51,7 +56,11 @@ fn abort_on_core<N: Naming>(state: &mut State<N>, tile: u32) -> u32
 fn clear_core<N: Naming>(state: &mut State<N>, tile: u32) -> u32
     requires sound { Sound N.image state.old.view }
     requires tile { tile < state.old.view.settings.tiles }
-    ensures { FreesCore tile state.old.view result state.new.view }
+    requires fresh { state.old.effect ≡ nothing }
+    ensures frees { let old = state.old.view in
+        (frees : FreesCore tile old result state.new.view)
+        × TellsCore tile old result state.new.view frees state.new.effect }
+    ensures arrived { state.new.effect.arrived ≡ None }
 {
     match free_core(state, tile) {
         Some(_) => 0,
@@ -67,6 +76,7 @@ pub fn make_dispatch<N: Naming>(state: &mut State<N>, tile: u32, id: TaskId) -> 
     requires goes_on { IsOver state.old.view → ⊥ }
     requires idle { (task : Task) × IsLeastIdle state.old.view tile id.0 task }
     requires may { AllCoresHeld state.old.view tile → IsTheLeast state.old.view id.0 }
+    requires fresh { state.old.effect ≡ nothing }
     ensures { ComesSo N state.old.view (event.Dispatch tile) (Made result) state.new.view state.new.effect }
 {
     let aborted = clear_core(state, tile);
@@ -79,6 +89,7 @@ pub fn make_dispatch<N: Naming>(state: &mut State<N>, tile: u32, id: TaskId) -> 
 pub fn dispatch<N: Naming>(state: &mut State<N>, tile: u32) -> Came
     requires sound { Sound N.image state.old.view }
     requires tile { tile < state.old.view.settings.tiles }
+    requires fresh { state.old.effect ≡ nothing }
     ensures { ComesSo N state.old.view (event.Dispatch tile) result state.new.view state.new.effect }
 {
     if end_of(state).is_some() {

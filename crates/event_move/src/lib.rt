@@ -1,10 +1,11 @@
 //! The events that move tasks between queues, cores and blocks: dispatch, abort, commit, coalescing and split.
 //!
 //! Each call first finds the causes to refuse its event, in their order, then takes memory for what it adds, takes
-//! back what stands in its way, and makes its one change. It answers with the record that taps note, or with the
-//! reply that refuses the event, and then nothing has changed. A call `make_..` makes an event that is granted
-//! already. It stands on `spec_dispatch`, `spec_rollback`, `spec_commit` and `event_room`; the book calls it. A
-//! call costs what its change does.
+//! back what stands in its way, and makes its one change. It answers with the record that taps note, or with the reply
+//! that refuses the event, and then nothing has changed. The state, which tells of no event before, then tells what
+//! the event did beside its change: whom it took back, whom it spilled and who came. A call `make_..` makes an event
+//! that is granted already. It stands on `spec_dispatch`, `spec_rollback`, `spec_commit` and `event_room`; the book
+//! calls it. A call costs what its change does.
 #![tactic(auto)]
 
 mod aborting;

@@ -3,6 +3,7 @@
 ghost use Rattle.std.specs.Prelude.{◌≡◌, ◌≢◌, ◌<◌, ◌⊎◌, ◌↔◌, [], ℕ, IsTrue};
 ghost use Rattle.spec_law.specs.Sound.{Sound};
 ghost use Rattle.spec_state.specs.declared.reserving.TheConstants.{MAX_MOVED};
+ghost use Rattle.spec_state.specs.Effects.{nothing};
 ghost use Rattle.spec_state.specs.View.{block_at};
 ghost use Rattle.spec_state.specs.StateValue.{CoversPushes};
 ghost use Rattle.spec_state.specs.Least.{IsLeastSpilled};
@@ -26,6 +27,7 @@ fn make_coalesce<N: Naming>(state: &mut State<N>, tile: u32) -> Came
     requires tile { tile < state.old.view.settings.tiles }
     requires goes_on { IsOver state.old.view → ⊥ }
     requires some { (id : ℕ) × IsMovable state.old.view tile id }
+    requires fresh { state.old.effect ≡ nothing }
     ensures { ComesSo N state.old.view (event.Coalesce tile) result state.new.view state.new.effect }
 {
     match spill(state, tile) {
@@ -39,6 +41,7 @@ fn make_coalesce<N: Naming>(state: &mut State<N>, tile: u32) -> Came
 pub fn coalesce<N: Naming>(state: &mut State<N>, tile: u32) -> Came
     requires sound { Sound N.image state.old.view }
     requires tile { tile < state.old.view.settings.tiles }
+    requires fresh { state.old.effect ≡ nothing }
     ensures { ComesSo N state.old.view (event.Coalesce tile) result state.new.view state.new.effect }
 {
     if end_of(state).is_some() {
@@ -58,6 +61,7 @@ fn return_to_queue<N: Naming>(state: &mut State<N>, tile: u32) -> Record
     requires some { block_at state.old.view tile ≢ [] }
     requires may { QueueHasRoom state.old.view tile ⊎ IsLeastSpilled state.old.view tile }
     requires covered { CoversPushes state.old tile MAX_MOVED }
+    requires fresh { state.old.effect ≡ nothing }
     ensures { ComesSo N state.old.view (event.Split tile) (Made result) state.new.view state.new.effect }
 {
     let aborted = make_room(state, tile, None);
@@ -73,6 +77,7 @@ pub fn make_split<N: Naming>(state: &mut State<N>, tile: u32) -> Came
     requires goes_on { IsOver state.old.view → ⊥ }
     requires some { block_at state.old.view tile ≢ [] }
     requires may { QueueHasRoom state.old.view tile ⊎ IsLeastSpilled state.old.view tile }
+    requires fresh { state.old.effect ≡ nothing }
     ensures { ComesSo N state.old.view (event.Split tile) result state.new.view state.new.effect }
 {
     match state.reserve(None, tile) {
@@ -94,6 +99,7 @@ fn may_return<N: Naming>(state: &State<N>, tile: u32) -> bool
 pub fn split<N: Naming>(state: &mut State<N>, tile: u32) -> Came
     requires sound { Sound N.image state.old.view }
     requires tile { tile < state.old.view.settings.tiles }
+    requires fresh { state.old.effect ≡ nothing }
     ensures { ComesSo N state.old.view (event.Split tile) result state.new.view state.new.effect }
 {
     if end_of(state).is_some() {

@@ -13,8 +13,8 @@ use Rattle.spec_state.specs.Effects.{EffectValue, nothing}
 use Rattle.spec_state.specs.Groups.{logged_tasks, live_creator}
 use Rattle.spec_state.specs.Least.{IsFirm}
 use Rattle.spec_state.specs.Queries.{IsIdleFirm}
-use Rattle.spec_state.specs.Room.{Asker, Coalesces, QueueHasRoom, IsFull, IsLeastAsker, IsMovable, IsVictim, MakesRoom, NoneMoves}
-use Rattle.spec_state.specs.Room.{queue_has_room, coalesces, aborts_victim, aborts_creator}
+use Rattle.spec_state.specs.Room.{Asker, Coalesces, QueueHasRoom, IsFull, IsLeastAsker, IsMovable, IsVictim}
+use Rattle.spec_state.specs.Room.{MakesRoom, NoneMoves, queue_has_room, coalesces, aborts_victim, aborts_creator}
 use Rattle.spec_state.specs.Told.{TellsBack}
 use Rattle.spec_law.specs.Sound.{Sound}
 use Rattle.event_def.specs.Telling.{TellsRoom, TellsSpilled}

@@ -1,4 +1,4 @@
-use Rattle.std.proofs.Common.{◌≡◌, ap, subst}
+use Rattle.std.proofs.Common.{◌≡◌, ap, subst, ◌∙◌}
 use Rattle.std.specs.Prelude.{IfSome}
 use Rattle.spec_state.specs.StateValue.{StateValue}
 use Rattle.event_lemma.proofs.Proved.{below_limit, least_is_committed}
@@ -19,12 +19,14 @@ commit_task-requires-clause-more g c =
 pub returns-in-Ok : goal.returns-in-Ok
 returns-in-Ok g c =
     let is = c.requires.finished in
-    committed g.row.N.Denot c.args.state.now.view c.requires.goes_on c.args.id.0 is.0 is.1 is.2 c.tile_of-tile.result c.commit_task.new.state.view
-    c.record_of.result c.in-Ok.ensures.ok.0
+    committed g.row.N.Denot c.args.state.now.view c.requires.goes_on c.commit_task.new.state.effect
+    (c.commit_task.ensures.effect ∙ c.requires.fresh) c.args.id.0 is.0 is.1 is.2 c.tile_of-tile.result
+    c.commit_task.new.state.view c.record_of.result c.in-Ok.ensures.ok.0
     (subst (λ o. IfSome o (λ t. c.tile_of-tile.result ≡ t.tile)) is.1.queued_at.there c.tile_of-tile.ensures) c.record_of.ensures
 
 pub returns-in-Err : goal.returns-in-Err
 returns-in-Err g c =
     let is = c.requires.finished in
-    commit_runs_out g.row.N.Denot c.args.state.now.view c.requires.goes_on c.args.id.0 is.0 is.1 is.2 c.commit_task.new.state.view
+    commit_runs_out g.row.N.Denot c.args.state.now.view c.requires.goes_on c.commit_task.new.state.effect
+    (c.commit_task.ensures.effect ∙ c.requires.fresh) c.args.id.0 is.0 is.1 is.2 c.commit_task.new.state.view
     (ap (λ (s : StateValue). s.view) c.in-Err.ensures.err)

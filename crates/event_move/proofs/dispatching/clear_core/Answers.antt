@@ -1,5 +1,10 @@
+use Rattle.std.proofs.Common.{ap}
+use Rattle.spec_state.specs.Effects.{EffectValue}
 use Rattle.event_def.specs.Events.{has_free}
 use Rattle.event_move.proofs.dispatching.clear_core.Goals as goal
 
-pub returns-in-Some : goal.returns-in-Some
-returns-in-Some g c = has_free c.in-Some.field-0 c.in-Some.ensures.some.free
+pub returns-in-Some-clause-frees : goal.returns-in-Some-clause-frees
+returns-in-Some-clause-frees g c = (
+  has_free c.in-Some.field-0 c.in-Some.ensures.some.free,
+  (ap (λ (e : EffectValue). e.back) c.requires.fresh, ap (λ (e : EffectValue). e.spilled) c.requires.fresh),
+)

@@ -7,7 +7,8 @@ spill-requires-clause-some g c =
     let v = c.victim_of-last.ensures in
     let firm = read_firm c.args.state.now.view _ v.0 c.firm.result v.1.there c.firm.ensures c.if-firm.true in
     let aborts = aborted_one g.N.Naming.image _ _ _ _ _ c.requires.sound c.abort-aborted.ensures.aborts in
-    aborted_moves g.N.Naming.image c.args.tile _ c.args.state.now.view _ v.0 c.requires.sound c.requires.runs c.requires.least v.1 firm _ _ aborts.0
+    aborted_moves g.N.Naming.image c.args.tile _ c.args.state.now.view _ v.0 c.requires.sound c.requires.runs
+    c.requires.least v.1 firm _ _ aborts.0
 
 pub abort-requires : goal.abort-requires
 abort-requires g c =
@@ -25,7 +26,8 @@ returns-then-firm-clause-makes g c =
     let aborts = aborted_one g.N.Naming.image _ _ _ _ _ c.requires.sound c.abort-aborted.ensures.aborts in
     freed_by_victim c.args.tile _ c.args.state.now.view _ v.0 _ _ c.spill.new.state.effect
     c.requires.full c.requires.none_moves c.requires.least v.1
-    c.abort-aborted.new.state.view c.abort-aborted.new.state.effect firm aborts c.spill.ensures.moves c.spill.ensures.effect
+    c.abort-aborted.new.state.view c.abort-aborted.new.state.effect firm aborts
+    c.spill.ensures.moves c.spill.ensures.effect
 
 pub returns-else-firm-clause-makes : goal.returns-else-firm-clause-makes
 returns-else-firm-clause-makes g c =
