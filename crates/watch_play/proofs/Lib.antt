@@ -7,4 +7,5 @@ pub mod Lined
 pub mod Plays
 pub mod Rounds
 pub mod Scripts
+pub mod Stages
 pub mod Tellings

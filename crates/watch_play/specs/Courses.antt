@@ -1,6 +1,6 @@
 -- Courses: which acts there are, and which of them are asked for as the machine stands.
 use Rattle.std.specs.Prelude.{◌≡◌, ◌≢◌, ◌⊎◌, ◌+◌, ◌*◌, ◌/◌, ◌%◌, ◌^◌, ◌==◌, ℕ, zero, suc, List, [], ◌∷◌, ◌++◌, length}
-use Rattle.std.specs.Prelude.{map}
+use Rattle.std.specs.Prelude.{Bool, true, false, map}
 use Rattle.std.specs.Prelude.{Some, None, nat_lt, replicate, slice_get, if◌then◌else◌}
 use Rattle.std.specs.declared.option.Option.{Option}
 use Rattle.std.specs.List.{flat_map, range_with_len, swap}
@@ -83,24 +83,20 @@ pub record Stage : Type 0 where
   pub barren : ℕ
   pub forced : Bool
 
+-- where a round begins, in this order: no act of it has come
+abbrev pub at_round : Order → (round begun barren : ℕ) → Stage
+at_round order round begun barren =
+    record { order = order; round = round; place = 0; begun = begun; barren = barren; forced = false }
+
+-- where the least task is brought on, before such a round
+abbrev pub forced_stage : Order → (round begun : ℕ) → Stage
+forced_stage order round begun = record (at_round order round begun 0) { forced = true }
+
 -- where no act has come yet, and so many tasks have committed; of a course without rounds it says nothing
 unfoldable pub first_stage : Course → ℕ → Stage
-first_stage (OfRounds rounds seed barren settings) commits = record {
-  order = next_order seed (record { drawn = seed; acts = round_acts settings.tiles settings.cores });
-  round = 0;
-  place = 0;
-  begun = commits;
-  barren = 0;
-  forced = false;
-}
-first_stage other commits = record {
-  order = record { drawn = 0; acts = [] };
-  round = 0;
-  place = 0;
-  begun = commits;
-  barren = 0;
-  forced = false;
-}
+first_stage (OfRounds rounds seed barren settings) commits =
+    at_round (next_order seed (record { drawn = seed; acts = round_acts settings.tiles settings.cores })) 0 commits 0
+first_stage other commits = at_round (record { drawn = 0; acts = [] }) 0 commits 0
 
 -- how many rounds in a row brought no commit, once this one is through and so many tasks have committed
 abbrev pub barren_after : Stage → ℕ → ℕ
@@ -109,14 +105,10 @@ barren_after stage commits = if commits == stage.begun then stage.barren + 1 els
 -- the next round, before which the least task is brought on where so many in a row brought no commit
 unfoldable pub next_round : (seed most : ℕ) → Stage → ℕ → Stage
 next_round seed most stage commits =
-    let barren = barren_after stage commits in record {
-      order = next_order seed stage.order;
-      round = stage.round + 1;
-      place = 0;
-      begun = commits;
-      barren = if barren == most then 0 else barren;
-      forced = barren == most;
-    }
+    let barren = barren_after stage commits in
+    let order = next_order seed stage.order in
+    if barren == most then forced_stage order (stage.round + 1) commits
+    else at_round order (stage.round + 1) commits barren
 
 -- behind an act, where so many tasks have committed: the least task is brought on until one did; else the next act of
 -- the round comes, or the next round
