@@ -1,5 +1,7 @@
 pub mod Chosen
 pub mod Does
+pub mod Forced
+pub mod GetsOn
 pub mod SoundPlays
 pub mod InRound
 pub mod InRounds

@@ -20,18 +20,18 @@ pub record IsLockstep {N : Type 0} (image : ImageValue) (rounds seed barren : �
   pub leads : StoryLeads image (OfRounds rounds seed barren opening.view.settings) opening count stage moments last
 
 -- so many moments in a row brought the least task on, while the run went on, and none of them committed
-pub data IsBroughtOn {N : Type 0} (image : ImageValue) (first : PlayState) : ℕ → PlayState → Type 0 where
-  not_yet : IsBroughtOn image first 0 first
-  once_more : (n : ℕ) (mid new : PlayState) (m : Moment N) → IsBroughtOn {N} image first n mid
+pub data IsBroughtOn (N : Type 0) (image : ImageValue) (first : PlayState) : ℕ → PlayState → Type 0 where
+  not_yet : IsBroughtOn N image first 0 first
+  once_more : (n : ℕ) (mid new : PlayState) (m : Moment N) → IsBroughtOn N image first n mid
       → (IsOver mid.book.view → ⊥) → IsMoment image m mid new → m.act ≡ acts.Advance
-      → commits_of new ≡ commits_of first → IsBroughtOn image first (n + 1) new
+      → commits_of new ≡ commits_of first → IsBroughtOn N image first (n + 1) new
 
 -- from a sound book, whatever queues are full, they are no more than the budget and 4, with what is left of the way to
 -- the next commit or the end
 abbrev pub ForcedGetsOn : Type 0 → Type 0
 ForcedGetsOn N =
     (image : ImageValue) (first last : PlayState) (count left : ℕ) → Sound image first.book.view
-    → first.book.stopped ≡ false → IsBroughtOn {N} image first count last → HasRest last.book.view left
+    → first.book.stopped ≡ false → IsBroughtOn N image first count last → HasRest last.book.view left
     → count + left ≤ first.book.view.settings.budget + 4
 
 -- no more rounds came than so many for each commit and as many again: so a story of enough rounds ends before they do,
