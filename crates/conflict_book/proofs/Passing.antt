@@ -4,25 +4,29 @@ use Rattle.guest_image.specs.ImageValue.{ImageValue}
 use Rattle.place_policy.specs.Policy.{Policy}
 use Rattle.trace_tap.specs.TapValue.{TapValue}
 use Rattle.spec_state.specs.declared.settings.Settings.{Settings}
+use Rattle.spec_state.specs.Effects.{EffectValue}
 use Rattle.spec_state.specs.View.{View}
 use Rattle.spec_law.specs.Sound.{Sound}
 use Rattle.event_def.specs.declared.event.Came.{Came}
 use Rattle.event_def.specs.declared.event.Event.{Event}
 use Rattle.event_def.specs.declared.event.Event.TheVariants as event
-use Rattle.event_def.specs.Comes.{Comes}
+use Rattle.event_def.specs.Telling.{ComesTelling}
 use Rattle.event_def.specs.Book.{book_of}
 use Rattle.event_move.specs.Moving.{CommitComes, placers_after}
 use Rattle.conflict_book.proofs.Telling.{comes_keeps_settings}
 
 -- what comes of a commit, with the placers that are left as the view afterwards tells
-pub commit_comes : (N : Type 0) (image : ImageValue) (old new : View) (came : Came) (before after : List Policy) → Sound image old
-    → CommitComes N old came new → after ≡ placers_after new.settings.phase (length new.history) came before
-    → (taps : List TapValue) (steps : ℕ) → Comes {N = N} (book_of old before taps steps) event.Commit came new after
-commit_comes N image old new came before after sound comes passed taps steps =
+pub commit_comes : (N : Type 0) (image : ImageValue) (old new : View) (came : Came) (before after : List Policy)
+    (effect : EffectValue) → Sound image old
+    → CommitComes N old came new effect → after ≡ placers_after new.settings.phase (length new.history) came before
+    → (taps : List TapValue) (steps : ℕ)
+    → ComesTelling {N = N} (book_of old before taps steps) event.Commit came new after effect
+commit_comes N image old new came before after effect sound comes passed taps steps =
     let commit : Event N = event.Commit in
     let first = comes before taps steps in
     let same : new.settings ≡ old.settings =
-    comes_keeps_settings N image (book_of old before taps steps) commit new (placers_after old.settings.phase (length new.history) came before) tt sound came first in
+    comes_keeps_settings N image (book_of old before taps steps) commit new
+    (placers_after old.settings.phase (length new.history) came before) tt sound came first.0 in
     let is : placers_after old.settings.phase (length new.history) came before ≡ after =
     ap (λ (s : Settings). placers_after s.phase (length new.history) came before) (sym same) ∙ sym passed in
-    subst (Comes (book_of old before taps steps) commit came new) is first
+    subst (λ ps. ComesTelling (book_of old before taps steps) commit came new ps effect) is first

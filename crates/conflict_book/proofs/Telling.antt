@@ -1,9 +1,10 @@
--- What is answered of what came of an event.
-use Rattle.std.proofs.Common.{◌≡◌, Bool, false, List, ℕ, inr, refl, sym, ap, subst, ◌∙◌}
+-- What is answered of what came of an event, and what is told.
+use Rattle.std.proofs.Common.{◌≡◌, Bool, true, false, List, ℕ, inl, inr, refl, sym, ap, subst, ◌∙◌}
 use Rattle.guest_image.specs.ImageValue.{ImageValue}
 use Rattle.place_policy.specs.Policy.{Policy}
 use Rattle.trace_tap.specs.declared.record.Record.{Record}
 use Rattle.trace_tap.specs.TapValue.{TapValue}
+use Rattle.spec_state.specs.Effects.{EffectValue, nothing}
 use Rattle.spec_state.specs.View.{View}
 use Rattle.spec_law.specs.Sound.{Sound}
 use Rattle.event_def.specs.declared.event.Came.{Came}
@@ -15,6 +16,7 @@ use Rattle.event_def.specs.Book.{BookView, CountedView}
 use Rattle.event_def.specs.Comes.{Comes, IsAsBefore}
 use Rattle.event_def.specs.Events.{IsGiven}
 use Rattle.event_def.specs.Happens.{Happens, IsUnchanged}
+use Rattle.event_def.specs.Telling.{ComesTelling, HappensTelling, TellsHappening}
 use Rattle.event_lemma.proofs.Proved.{makes_keeps_settings}
 use Rattle.conflict_book.specs.BookViews.{going_book, after_event}
 
@@ -22,9 +24,10 @@ use Rattle.conflict_book.specs.BookViews.{going_book, after_event}
 abbrev pub moved : BookView → View → List Policy → BookView
 moved book view placers = record book { view = view; placers = placers }
 
-module _ {N : Type 0} (book : BookView) (goes_on : book.stopped ≡ false) (e : Event N) (view : View) (placers : List Policy) where
+module _ {N : Type 0} (book : BookView) (goes_on : book.stopped ≡ false) (e : Event N) (view : View)
+    (placers : List Policy) where
   -- an event that was made
-  pub happens_made : (seen : Record) → Comes book e (Made seen) view placers
+  unfoldable pub happens_made : (seen : Record) → Comes book e (Made seen) view placers
       → Happens book e reply.Ok seen.aborted (after_event seen (moved book view placers))
   happens_made seen comes = record {
     goes_on = goes_on;
@@ -53,38 +56,104 @@ module _ {N : Type 0} (book : BookView) (goes_on : book.stopped ≡ false) (e : 
   happens_refused reply.Firm comes = record { goes_on = goes_on; refused = comes.0; unchanged = unchanged comes.1 }
   happens_refused reply.Ended comes = record { goes_on = goes_on; refused = comes.0; unchanged = unchanged comes.1 }
 
--- in the words of a book's parts: it was not stopped, and what it has now is told part by part
-module _ {N : Type 0} (sound : CountedView) (placers : List Policy) (taps : List TapValue) (stopped : Bool) (goes_on : stopped ≡ false)
+  -- what an event tells that was made
+  pub made_telling : (seen : Record) (effect : EffectValue) → ComesTelling book e (Made seen) view placers effect
+      → HappensTelling book e reply.Ok seen.aborted (after_event seen (moved book view placers)) effect
+  unfolding happens_made
+  made_telling seen effect comes = (happens_made seen comes.0, comes.1)
+
+  -- one that was refused tells nothing
+  told_refused : (answer : Reply) (effect : EffectValue) (comes : Comes book e (Refused answer) view placers)
+      → effect ≡ nothing
+      → TellsHappening book e answer 0 (moved book view placers) (happens_refused answer comes) effect
+  told_refused reply.Ok effect comes none = absurd comes
+  told_refused reply.Memory effect comes none = none
+  told_refused reply.Empty effect comes none = none
+  told_refused reply.Busy effect comes none = none
+  told_refused reply.Stall effect comes none = none
+  told_refused reply.Stale effect comes none = none
+  told_refused reply.Firm effect comes none = none
+  told_refused reply.Ended effect comes none = none
+
+  pub refused_telling : (answer : Reply) (effect : EffectValue)
+      → ComesTelling book e (Refused answer) view placers effect
+      → HappensTelling book e answer 0 (moved book view placers) effect
+  refused_telling answer effect comes =
+      (happens_refused answer comes.0, told_refused answer effect comes.0 comes.1)
+
+-- in the words of a book's parts: what was told before is forgotten, it was not stopped, and what it has now is told
+-- part by part
+module _ {N : Type 0} (had sound : CountedView) (forgot : sound ≡ record had { effect = nothing })
+    (placers : List Policy) (taps : List TapValue) (stopped : Bool) (goes_on : stopped ≡ false)
     (e : Event N) (view : View) (after : List Policy) (steps : ℕ) (same : steps ≡ sound.steps) where
   -- the book before
   abbrev before : Bool → BookView
-  before s = record { view = sound.view; placers = placers; taps = taps; steps = sound.steps; stopped = s }
+  before s = record { view = had.view; placers = placers; taps = taps; steps = had.steps; stopped = s }
 
   -- and after what came
   abbrev behind : ℕ → Bool → BookView
   behind n s = record { view = view; placers = after; taps = taps; steps = n; stopped = s }
 
-  pub part_made : (seen : Record) (new : BookView) → new ≡ after_event seen (behind steps stopped) → Comes (going_book sound placers taps) e (Made seen) view after
-      → Happens (before stopped) e reply.Ok seen.aborted new
-  part_made seen new is comes =
-      let made = happens_made (going_book sound placers taps) refl e view after seen comes in
-      subst (Happens (before stopped) e reply.Ok seen.aborted)
-      (sym (is ∙ ap (λ n. after_event seen (behind n stopped)) same))
-      (subst (λ s. Happens (before s) e reply.Ok seen.aborted (after_event seen (behind sound.steps s)))
-      (sym goes_on) made)
+  as_had : (came : Came) (effect : EffectValue) → ComesTelling (going_book sound placers taps) e came view after effect
+      → ComesTelling (going_book had placers taps) e came view after effect
+  as_had came effect = subst (λ s. ComesTelling (going_book s placers taps) e came view after effect) forgot
 
-  pub part_refused : (answer : Reply) → Comes (going_book sound placers taps) e (Refused answer) view after
-      → Happens (before stopped) e answer 0 (behind steps stopped)
-  part_refused answer comes =
-      let refused = happens_refused (going_book sound placers taps) refl e view after answer comes in
-      subst (λ n. Happens (before stopped) e answer 0 (behind n stopped)) (sym same)
-      (subst (λ s. Happens (before s) e answer 0 (behind sound.steps s)) (sym goes_on) refused)
+  steps_had : steps ≡ had.steps
+  steps_had = same ∙ ap (λ (s : CountedView). s.steps) forgot
+
+  pub part_made : (seen : Record) (new : BookView) (told effect : EffectValue)
+      → new ≡ after_event seen (behind steps stopped) → effect ≡ told
+      → ComesTelling (going_book sound placers taps) e (Made seen) view after told
+      → HappensTelling (before stopped) e reply.Ok seen.aborted new effect
+  part_made seen new told effect is kept comes =
+      let made = made_telling (going_book had placers taps) refl e view after seen told
+      (as_had (Made seen) told comes) in
+      subst (HappensTelling (before stopped) e reply.Ok seen.aborted new) (sym kept)
+      (subst (λ b. HappensTelling (before stopped) e reply.Ok seen.aborted b told)
+      (sym (is ∙ ap (λ n. after_event seen (behind n stopped)) steps_had))
+      (subst (λ s. HappensTelling (before s) e reply.Ok seen.aborted (after_event seen (behind had.steps s)) told)
+      (sym goes_on) made))
+
+  pub part_refused : (answer : Reply) (effect : EffectValue)
+      → ComesTelling (going_book sound placers taps) e (Refused answer) view after effect
+      → HappensTelling (before stopped) e answer 0 (behind steps stopped) effect
+  part_refused answer effect comes =
+      let refused = refused_telling (going_book had placers taps) refl e view after answer effect
+      (as_had (Refused answer) effect comes) in
+      subst (λ n. HappensTelling (before stopped) e answer 0 (behind n stopped) effect) (sym steps_had)
+      (subst (λ s. HappensTelling (before s) e answer 0 (behind had.steps s) effect) (sym goes_on) refused)
+
+-- what was forgotten tells nothing
+pub forgot_effect : (had sound : CountedView) → sound ≡ record had { effect = nothing } → sound.effect ≡ nothing
+forgot_effect had sound forgot = ap (λ (s : CountedView). s.effect) forgot
+
+-- the book of a state, by its parts
+abbrev pub parts_of : List Policy → List TapValue → Bool → CountedView → BookView
+parts_of placers taps stopped s =
+    record { view = s.view; placers = placers; taps = taps; steps = s.steps; stopped = stopped }
+
+-- it stays where what was told is forgotten
+pub parts_forgot : (placers : List Policy) (taps : List TapValue) (stopped : Bool) (had sound : CountedView)
+    → sound ≡ record had { effect = nothing }
+    → parts_of placers taps stopped sound ≡ parts_of placers taps stopped had
+parts_forgot placers taps stopped had sound forgot = ap (parts_of placers taps stopped) forgot
+
+-- a stopped book is out of memory, and tells nothing
+pub stopped_telling : {N : Type 0} (had sound : CountedView) → sound ≡ record had { effect = nothing }
+    → (placers : List Policy) (taps : List TapValue) (stopped : Bool) → stopped ≡ true → (e : Event N)
+    → HappensTelling (parts_of placers taps stopped had) e reply.Memory 0 (parts_of placers taps stopped sound)
+    sound.effect
+stopped_telling had sound forgot placers taps stopped is_stopped e = (
+  (inl is_stopped, record { none = refl; same = parts_forgot placers taps stopped had sound forgot }),
+  forgot_effect had sound forgot,
+)
 
 -- the settings stay, whatever comes of an event
 module _ (N : Type 0) (image : ImageValue) (book : BookView) (e : Event N) (new : View) (placers : List Policy)
     (given : IsGiven image book.view.settings e) (sound : Sound image book.view) where
   pub comes_keeps_settings : (came : Came) → Comes book e came new placers → new.settings ≡ book.view.settings
-  comes_keeps_settings (Made seen) comes = makes_keeps_settings N image book e seen.aborted new placers given sound comes.0 comes.1
+  comes_keeps_settings (Made seen) comes = makes_keeps_settings N image book e seen.aborted new placers given sound
+      comes.0 comes.1
   comes_keeps_settings (Refused reply.Ok) comes = absurd comes
   comes_keeps_settings (Refused reply.Memory) comes = ap (λ v. v.settings) comes.2.0
   comes_keeps_settings (Refused reply.Empty) comes = ap (λ v. v.settings) comes.1.0

@@ -3,6 +3,7 @@ use Rattle.std.specs.Prelude.{ℕ, false, List, map}
 use Rattle.place_policy.specs.Policy.{Policy}
 use Rattle.trace_tap.specs.declared.record.Record.{Record}
 use Rattle.trace_tap.specs.TapValue.{TapValue, after_note}
+use Rattle.spec_state.specs.Effects.{EffectValue}
 use Rattle.spec_state.specs.View.{View}
 use Rattle.event_def.specs.Book.{BookView, CountedView, next_count}
 use Rattle.conflict_book.specs.declared.book.Book.{Book}
@@ -20,6 +21,10 @@ view_of policy meaning book = record {
 -- what is seen of a book's machine, whatever its placers and its taps mean
 abbrev pub machine_view : {N P T : Type 0} → Book N P T → View
 machine_view book = book.sound.view
+
+-- what the last event of a book did beside its one change
+abbrev pub effect_of : {N P T : Type 0} → Book N P T → EffectValue
+effect_of book = book.sound.effect
 
 -- how many events a book has counted
 abbrev pub events_made : {N P T : Type 0} → Book N P T → ℕ

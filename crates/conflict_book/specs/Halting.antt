@@ -2,6 +2,7 @@
 use Rattle.std.specs.Prelude.{◌≡◌, ◌+◌, ◌*◌, ◌<◌, ◌≤◌, ℕ, List, length}
 use Rattle.guest_image.specs.ImageValue.{ImageValue}
 use Rattle.place_policy.specs.Policy.{Policy}
+use Rattle.spec_state.specs.Effects.{EffectValue}
 use Rattle.spec_state.specs.View.{View}
 use Rattle.trace_tap.specs.declared.record.Deed.{Deed}
 use Rattle.trace_tap.specs.declared.record.Deed.TheVariants as deed
@@ -14,12 +15,12 @@ use Rattle.event_def.specs.declared.event.Halt.{Halt}
 use Rattle.event_def.specs.declared.event.Halt.TheVariants as halts
 use Rattle.event_def.specs.Advancing.{AdvanceAnswers, AdvancesBy, HasRest, IsNextEvent}
 use Rattle.event_def.specs.Book.{BookView}
-use Rattle.event_def.specs.Comes.{Comes}
+use Rattle.event_def.specs.Telling.{ComesTelling}
 
--- what comes of the event for the least task
-abbrev pub NextComes : Type 0 → ImageValue → BookView → Came → View → List Policy → Type 0
-NextComes N image book came new placers =
-    (event : Event N) × IsNextEvent image book.view event × Comes book event came new placers
+-- what comes of the event for the least task, and what it tells
+abbrev pub NextComes : Type 0 → ImageValue → BookView → Came → View → List Policy → EffectValue → Type 0
+NextComes N image book came new placers effect =
+    (event : Event N) × IsNextEvent image book.view event × ComesTelling book event came new placers effect
 
 -- where an event other than a commit was made, less is left up to the next commit or the end
 abbrev pub FallsIfMoved : Advance → View → View → Type 0

@@ -1,7 +1,8 @@
 -- What comes next of a run.
-use Rattle.std.specs.Prelude.{List}
+use Rattle.std.specs.Prelude.{◌≡◌, List}
 use Rattle.guest_image.specs.ImageValue.{ImageValue}
 use Rattle.place_policy.specs.Policy.{Policy}
+use Rattle.spec_state.specs.Effects.{EffectValue, nothing}
 use Rattle.spec_state.specs.View.{View}
 use Rattle.event_def.specs.Book.{BookView}
 use Rattle.event_def.specs.Comes.{IsAsBefore}
@@ -10,7 +11,8 @@ use Rattle.conflict_book.specs.declared.advancing.NextEvent.{NextEvent}
 use Rattle.conflict_book.specs.declared.advancing.NextEvent.TheVariants.{Over, Came}
 use Rattle.conflict_book.specs.Halting.{NextComes}
 
--- the run is over and ended so, and nothing changes; or this came of the event for the least task
-abbrev pub ComesNext : Type 0 → ImageValue → BookView → NextEvent → View → List Policy → Type 0
-ComesNext N image book (Over end) new placers = HasEnd book.view end × IsAsBefore book new placers
-ComesNext N image book (Came came) new placers = NextComes N image book came new placers
+-- the run is over and ended so, nothing changes, and nothing is told; or this came of the event for the least task
+abbrev pub ComesNext : Type 0 → ImageValue → BookView → NextEvent → View → List Policy → EffectValue → Type 0
+ComesNext N image book (Over end) new placers effect =
+    HasEnd book.view end × IsAsBefore book new placers × (effect ≡ nothing)
+ComesNext N image book (Came came) new placers effect = NextComes N image book came new placers effect

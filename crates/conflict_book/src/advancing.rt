@@ -4,6 +4,7 @@ ghost use Rattle.std.specs.Prelude.{◌≡◌, ◌≤◌, ◌+◌, ◌*◌, ℕ,
 ghost use Rattle.place_policy.specs.Policy.{Policy};
 ghost use Rattle.trace_tap.specs.TapValue.{TapValue};
 ghost use Rattle.spec_law.specs.Sound.{Sound};
+ghost use Rattle.spec_state.specs.Effects.{nothing};
 ghost use Rattle.spec_state.specs.declared.task.Task.{Task};
 ghost use Rattle.spec_state.specs.declared.task.Where.TheVariants as where_;
 ghost use Rattle.spec_state.specs.Least.{IsLeast, IsLeastTask, IsLeastSpilled};
@@ -11,10 +12,11 @@ ghost use Rattle.spec_state.specs.Settings.{IsValid};
 ghost use Rattle.event_def.specs.Advancing.{AdvanceAnswers, HasRest, IsLegFrom};
 ghost use Rattle.event_def.specs.End.{IsOver};
 ghost use Rattle.event_def.specs.Book.{book_of};
+ghost use Rattle.event_def.specs.Telling.{AdvanceTelling};
 ghost use Rattle.conflict_book.specs.Halting.{FallsIfMoved, AdvanceGoesOn, NextComes, RunsLeast};
 ghost use Rattle.conflict_book.specs.Halting.{advance_of, last_answer};
 ghost use Rattle.conflict_book.specs.Next.{ComesNext};
-ghost use Rattle.conflict_book.specs.BookViews.{going_book, machine_view, view_of};
+ghost use Rattle.conflict_book.specs.BookViews.{effect_of, going_book, machine_view, view_of};
 
 use crate::book::{Book, SoundState};
 use crate::events::pass_after;
@@ -60,10 +62,11 @@ fn step_least<N: Naming, P: Placer>(
     requires image { image.now ≡ N.image }
     requires goes_on { IsOver state.old.view → ⊥ }
     requires least { IsLeast state.old.view (where_.Running id) }
+    requires fresh { state.old.effect ≡ nothing }
     ensures { let before = map P.policy placers.old in
         (taps : List TapValue) (steps : ℕ)
         → NextComes N N.image (book_of state.old.view before taps steps) result state.new.view
-        (map P.policy placers.new) }
+        (map P.policy placers.new) state.new.effect }
 {
     let tile = state.tile_of(id);
     run_leg_of(leg, state, image, id);
@@ -75,9 +78,10 @@ fn dispatch_least<N: Naming>(state: &mut State<N>, id: TaskId) -> Came
     requires sound { Sound N.image state.old.view }
     requires goes_on { IsOver state.old.view → ⊥ }
     requires least { IsLeast state.old.view (where_.Idle id) }
+    requires fresh { state.old.effect ≡ nothing }
     ensures { (placers : List Policy) (taps : List TapValue) (steps : ℕ)
         → NextComes N N.image (book_of state.old.view placers taps steps) result state.new.view
-        placers }
+        placers state.new.effect }
 {
     let tile = state.tile_of(id);
     Came::Made(make_dispatch(state, tile, id))
@@ -92,10 +96,11 @@ fn commit_least<N: Naming, P: Placer>(
     requires sound { Sound N.image state.old.view }
     requires goes_on { IsOver state.old.view → ⊥ }
     requires least { IsLeast state.old.view (where_.Finished id) }
+    requires fresh { state.old.effect ≡ nothing }
     ensures { let before = map P.policy placers.old.items in
         (taps : List TapValue) (steps : ℕ)
         → NextComes N N.image (book_of state.old.view before taps steps) result state.new.view
-        (map P.policy placers.new.items) }
+        (map P.policy placers.new.items) state.new.effect }
 {
     let came = make_commit(state, id);
     pass_after(state, placers, &came);
@@ -107,9 +112,10 @@ fn split_least<N: Naming>(state: &mut State<N>, tile: u32) -> Came
     requires sound { Sound N.image state.old.view }
     requires goes_on { IsOver state.old.view → ⊥ }
     requires least { IsLeastSpilled state.old.view tile }
+    requires fresh { state.old.effect ≡ nothing }
     ensures { (placers : List Policy) (taps : List TapValue) (steps : ℕ)
         → NextComes N N.image (book_of state.old.view placers taps steps) result state.new.view
-        placers }
+        placers state.new.effect }
 {
     make_split(state, tile)
 }
@@ -126,10 +132,11 @@ fn come_least<N: Naming, P: Placer>(
     requires image { image.now ≡ N.image }
     requires goes_on { IsOver state.old.view → ⊥ }
     requires least { IsLeast state.old.view least }
+    requires fresh { state.old.effect ≡ nothing }
     ensures { let before = map P.policy placers.old.items in
         (taps : List TapValue) (steps : ℕ)
         → NextComes N N.image (book_of state.old.view before taps steps) result state.new.view
-        (map P.policy placers.new.items) }
+        (map P.policy placers.new.items) state.new.effect }
 {
     match least {
         Where::Idle(id) => dispatch_least(state, id),
@@ -150,10 +157,11 @@ impl<N: Naming> SoundState<N> {
     /// The end of a run that is over, or the event for the least task. It costs one call of `least` beside the event.
     fn come_next<P: Placer>(&mut self, placers: &mut Vec<P>, image: &Image) -> NextEvent
         requires image { image.now ≡ N.image }
+        requires fresh { self.old.effect ≡ nothing }
         ensures next { let before = map P.policy placers.old.items in
             (taps : List TapValue)
             → ComesNext N N.image (going_book self.old before taps) result self.new.view
-            (map P.policy placers.new.items) }
+            (map P.policy placers.new.items) self.new.effect }
         ensures steps { self.new.steps ≡ self.old.steps }
     {
         let least = self.state.least();
@@ -207,8 +215,9 @@ impl<N: Naming, P: Placer, T: Tap> Book<N, P, T> {
     fn advance_once(&mut self, image: &Image) -> Advance
         requires image { image.now ≡ N.image }
         ensures { let old = view_of P.policy T.notes self.old in
-            AdvanceAnswers N N.image old result (view_of P.policy T.notes self.new) }
+            AdvanceTelling N N.image old result (view_of P.policy T.notes self.new) (effect_of self.new) }
     {
+        self.sound.forget();
         if self.stopped {
             return Advance::Memory;
         }
@@ -231,6 +240,8 @@ impl<N: Naming, P: Placer, T: Tap> Book<N, P, T> {
         requires image { image.now ≡ N.image }
         ensures answers { let old = view_of P.policy T.notes self.old in
             AdvanceAnswers N N.image old result (view_of P.policy T.notes self.new) }
+        ensures told { let old = view_of P.policy T.notes self.old in
+            AdvanceTelling N N.image old result (view_of P.policy T.notes self.new) (effect_of self.new) }
         ensures falls { let old = view_of P.policy T.notes self.old in
             FallsIfMoved result old.view (machine_view self.new) }
         ensures bound { let new = view_of P.policy T.notes self.new in

@@ -3,10 +3,11 @@
 ghost use Rattle.std.specs.Prelude.{◌≡◌, ◌+◌, ◌<◌, ◌≤◌, ◌++◌, ◌∷◌, [], All, IfOk, OnErr};
 ghost use Rattle.std.specs.Prelude.{length, map, vec_capacity};
 ghost use Rattle.event_def.specs.Happens.{Happens, HappenAll};
+ghost use Rattle.event_def.specs.Telling.{HappensTelling};
 ghost use Rattle.event_def.specs.declared.event.Event.TheVariants as event;
 ghost use Rattle.conflict_book.specs.Legless.{event_of};
 ghost use Rattle.conflict_book.specs.Ranges.{IsInRange};
-ghost use Rattle.conflict_book.specs.BookViews.{after_event, machine_view, view_of};
+ghost use Rattle.conflict_book.specs.BookViews.{after_event, effect_of, machine_view, view_of};
 
 use crate::book::Book;
 use crate::legless::Legless;
@@ -31,8 +32,9 @@ fn push_answer(answers: &mut Vec<Applied>, applied: Applied)
 impl<N: Naming, P: Placer, T: Tap> Book<N, P, T> {
     /// Counts an event that was made, and has the taps note it.
     pub(crate) fn note(&mut self, seen: &Record)
-        ensures { let old = view_of P.policy T.notes self.old in
+        ensures noted { let old = view_of P.policy T.notes self.old in
             view_of P.policy T.notes self.new ≡ after_event seen.now old }
+        ensures effect { effect_of self.new ≡ effect_of self.old }
     {
         self.sound.count();
         note_all(self.taps.as_mut_slice(), seen);
@@ -45,9 +47,13 @@ impl<N: Naming, P: Placer, T: Tap> Book<N, P, T> {
         ensures happens { let old = view_of P.policy T.notes self.old in
             let new = view_of P.policy T.notes self.new in
             Happens {N = N} old (event_of event) result.reply result.aborted new }
+        ensures told { let old = view_of P.policy T.notes self.old in
+            let new = view_of P.policy T.notes self.new in
+            HappensTelling {N = N} old (event_of event) result.reply result.aborted new (effect_of self.new) }
         ensures settings { let old = view_of P.policy T.notes self.old in
             (machine_view self.new).settings ≡ old.view.settings }
     {
+        self.sound.forget();
         if self.stopped {
             return Applied {
                 reply: Reply::Memory,
@@ -73,9 +79,13 @@ impl<N: Naming, P: Placer, T: Tap> Book<N, P, T> {
         ensures happens { let old = view_of P.policy T.notes self.old in
             let new = view_of P.policy T.notes self.new in
             Happens {N = N} old (event.Step tile core leg.now) result.reply result.aborted new }
+        ensures told { let old = view_of P.policy T.notes self.old in
+            let new = view_of P.policy T.notes self.new in
+            HappensTelling {N = N} old (event.Step tile core leg.now) result.reply result.aborted new (effect_of self.new) }
         ensures settings { let old = view_of P.policy T.notes self.old in
             (machine_view self.new).settings ≡ old.view.settings }
     {
+        self.sound.forget();
         if self.stopped {
             return Applied {
                 reply: Reply::Memory,
@@ -101,6 +111,9 @@ impl<N: Naming, P: Placer, T: Tap> Book<N, P, T> {
         ensures happens { let old = view_of P.policy T.notes self.old in
             let new = view_of P.policy T.notes self.new in
             Happens old event.now result.reply result.aborted new }
+        ensures told { let old = view_of P.policy T.notes self.old in
+            let new = view_of P.policy T.notes self.new in
+            HappensTelling old event.now result.reply result.aborted new (effect_of self.new) }
         ensures settings { let old = view_of P.policy T.notes self.old in
             (machine_view self.new).settings ≡ old.view.settings }
     {
@@ -115,13 +128,16 @@ impl<N: Naming, P: Placer, T: Tap> Book<N, P, T> {
     }
 
     /// Makes an event on a tile and a core that are there, or refuses it, and then nothing changes. Each event that
-    /// is made is counted, and the taps note it. A stopped book answers `Memory`.
+    /// is made is counted, the taps note it, and `effect` tells what it did. A stopped book answers `Memory`.
     pub fn apply(&mut self, event: Event<N>) -> Applied
         requires given { let old = view_of P.policy T.notes self.old in
             IsInRange old.view.settings event }
         ensures happens { let old = view_of P.policy T.notes self.old in
             let new = view_of P.policy T.notes self.new in
             Happens old event result.reply result.aborted new }
+        ensures told { let old = view_of P.policy T.notes self.old in
+            let new = view_of P.policy T.notes self.new in
+            HappensTelling old event result.reply result.aborted new (effect_of self.new) }
         ensures settings { let old = view_of P.policy T.notes self.old in
             (machine_view self.new).settings ≡ old.view.settings }
     {

@@ -1,6 +1,7 @@
 //! The book, and the sound state in it.
 
 ghost use Rattle.std.specs.Prelude.{◌≡◌};
+ghost use Rattle.spec_state.specs.Effects.{nothing};
 ghost use Rattle.event_def.specs.Book.{next_count};
 ghost use Rattle.spec_law.specs.Sound.{Sound};
 
@@ -25,7 +26,7 @@ impl<N: Naming> Model for SoundState<N> {
 
     ghost Value = { CountedView };
 
-    ghost view = { λ s. record { view = s.state.view; steps = s.steps } };
+    ghost view = { λ s. record { view = s.state.view; effect = s.state.effect; steps = s.steps } };
 
     ghost invariant = { λ s. Sound N.image s.state.view };
 }
@@ -43,6 +44,14 @@ pub struct Book<N: Naming, P: Placer = Box<dyn Placer + Send>, T: Tap = Box<dyn 
     pub(crate) stopped: bool,
 }
 
+/// Forgets what the last event did beside its one change.
+fn forget<N: Naming>(state: &mut State<N>)
+    ensures view { state.new.view ≡ state.old.view }
+    ensures effect { state.new.effect ≡ nothing }
+{
+    state.effect.clear();
+}
+
 impl<N: Naming> SoundState<N> {
     /// Law: what the type keeps of the view.
     pub(crate) fn is_sound(&self)
@@ -54,9 +63,17 @@ impl<N: Naming> SoundState<N> {
     /// The state.
     pub(crate) fn state(&self) -> &State<N>
         ensures view { result.now.view ≡ self.now.view }
+        ensures effect { result.now.effect ≡ self.now.effect }
         ensures sound { Sound N.image self.now.view }
     {
         &self.state
+    }
+
+    /// Forgets what the last event did beside its one change, before another one.
+    pub(crate) fn forget(&mut self)
+        ensures { self.new ≡ record self.old { effect = nothing } }
+    {
+        forget(&mut self.state);
     }
 
     /// Counts an event that was made.

@@ -3,10 +3,11 @@
 ghost use Rattle.std.specs.Prelude.{◌≡◌, ◌<◌, ℕ, List, length, map};
 ghost use Rattle.trace_tap.specs.TapValue.{TapValue};
 ghost use Rattle.spec_law.specs.Sound.{Sound};
+ghost use Rattle.spec_state.specs.Effects.{nothing};
 ghost use Rattle.event_def.specs.declared.event.Event.TheVariants as event;
 ghost use Rattle.event_def.specs.Book.{placers_after_commit, book_of};
-ghost use Rattle.event_def.specs.Comes.{Comes};
 ghost use Rattle.event_def.specs.Events.{IsGiven};
+ghost use Rattle.event_def.specs.Telling.{ComesTelling};
 ghost use Rattle.event_move.specs.Moving.{CommitComes, placers_after};
 ghost use Rattle.conflict_book.specs.Legless.{event_of};
 ghost use Rattle.conflict_book.specs.Ranges.{IsInRange};
@@ -48,10 +49,11 @@ pub(crate) fn pass_after<N: Naming, P: Placer>(state: &State<N>, placers: &mut V
 /// The event `Commit`, after which another placer may serve.
 fn commit_event<N: Naming, P: Placer>(state: &mut State<N>, placers: &mut Vec<P>) -> Came
     requires sound { Sound N.image state.old.view }
+    requires fresh { state.old.effect ≡ nothing }
     ensures { let before = map P.policy placers.old.items in
         (taps : List TapValue) (steps : ℕ)
-        → Comes {N = N} (book_of state.old.view before taps steps) event.Commit result state.new.view
-        (map P.policy placers.new.items) }
+        → ComesTelling {N = N} (book_of state.old.view before taps steps) event.Commit result state.new.view
+        (map P.policy placers.new.items) state.new.effect }
 {
     let came = commit(state);
     pass_after(state, placers, &came);
@@ -87,10 +89,11 @@ fn leg_is_given<N: Naming>(state: &State<N>, tile: u32, core: u32, leg: &Leg<N>)
 fn come<N: Naming, P: Placer>(state: &mut State<N>, placers: &mut Vec<P>, event: Legless) -> Came
     requires sound { Sound N.image state.old.view }
     requires given { IsInRange {N = N} state.old.view.settings (event_of event) }
+    requires fresh { state.old.effect ≡ nothing }
     ensures { let before = map P.policy placers.old.items in
         (taps : List TapValue) (steps : ℕ)
-        → Comes {N = N} (book_of state.old.view before taps steps) (event_of event) result state.new.view
-        (map P.policy placers.new.items) }
+        → ComesTelling {N = N} (book_of state.old.view before taps steps) (event_of event) result state.new.view
+        (map P.policy placers.new.items) state.new.effect }
 {
     match event {
         Legless::Dispatch { tile } => dispatch(state, tile),
@@ -112,10 +115,11 @@ fn come_step<N: Naming, P: Placer>(
     requires sound { Sound N.image state.old.view }
     requires tile { tile < state.old.view.settings.tiles }
     requires core { core < state.old.view.settings.cores }
+    requires fresh { state.old.effect ≡ nothing }
     ensures { let before = map P.policy placers.old.items in
         (taps : List TapValue) (steps : ℕ)
-        → Comes {N = N} (book_of state.old.view before taps steps) (event.Step tile core leg.now) result state.new.view
-        (map P.policy placers.new.items) }
+        → ComesTelling {N = N} (book_of state.old.view before taps steps) (event.Step tile core leg.now) result state.new.view
+        (map P.policy placers.new.items) state.new.effect }
 {
     step(state, placers.as_mut_slice(), tile, core, leg)
 }
@@ -124,10 +128,11 @@ impl<N: Naming> SoundState<N> {
     /// What comes of an event without a leg, on a tile that is there.
     pub(crate) fn come<P: Placer>(&mut self, placers: &mut Vec<P>, event: Legless) -> Came
         requires given { IsInRange {N = N} self.old.view.settings (event_of event) }
+        requires fresh { self.old.effect ≡ nothing }
         ensures comes { let before = map P.policy placers.old.items in
             (taps : List TapValue)
-            → Comes {N = N} (going_book self.old before taps) (event_of event) result self.new.view
-            (map P.policy placers.new.items) }
+            → ComesTelling {N = N} (going_book self.old before taps) (event_of event) result self.new.view
+            (map P.policy placers.new.items) self.new.effect }
         ensures settings { self.new.view.settings ≡ self.old.view.settings }
         ensures steps { self.new.steps ≡ self.old.steps }
     {
@@ -145,10 +150,11 @@ impl<N: Naming> SoundState<N> {
     ) -> Came
         requires tile { tile < self.old.view.settings.tiles }
         requires core { core < self.old.view.settings.cores }
+        requires fresh { self.old.effect ≡ nothing }
         ensures comes { let before = map P.policy placers.old.items in
             (taps : List TapValue)
-            → Comes {N = N} (going_book self.old before taps) (event.Step tile core leg.now) result self.new.view
-            (map P.policy placers.new.items) }
+            → ComesTelling {N = N} (going_book self.old before taps) (event.Step tile core leg.now) result self.new.view
+            (map P.policy placers.new.items) self.new.effect }
         ensures settings { self.new.view.settings ≡ self.old.view.settings }
         ensures steps { self.new.steps ≡ self.old.steps }
     {

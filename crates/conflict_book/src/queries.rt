@@ -10,7 +10,7 @@ ghost use Rattle.spec_state.specs.Queries.{IsFreeCore, IsIdle, IsRunning};
 ghost use Rattle.event_def.specs.Book.{picked_tile};
 ghost use Rattle.event_def.specs.End.{HasEnd, IsOver};
 ghost use Rattle.conflict_book.specs.Counts.{counts_of};
-ghost use Rattle.conflict_book.specs.BookViews.{events_made, machine_view, view_of};
+ghost use Rattle.conflict_book.specs.BookViews.{effect_of, events_made, machine_view, view_of};
 ghost use Rattle.conflict_book.specs.Ready.{HasRunning, IsReady};
 
 use crate::book::Book;
@@ -20,7 +20,7 @@ use progress_cell::Reading;
 use rv_core::{Core, Decoded, Naming, NotedCore};
 use serial_machine::{End, Entry};
 use spec_dispatch::free_core;
-use spec_state::{Loads, Settings, State, Status, TaskId};
+use spec_state::{Effect, Loads, Settings, State, Status, TaskId};
 use std::alloc::Global;
 use trace_tap::Tap;
 
@@ -84,6 +84,14 @@ impl<N: Naming, P: Placer, T: Tap> Book<N, P, T> {
         ensures sound { Sound N.image result.now.view }
     {
         self.sound.state()
+    }
+
+    /// What the last event did beside its one change: whom it took back, whom it spilled, and who came. Nothing where it
+    /// was refused, and before the first one.
+    pub fn effect(&self) -> &Effect
+        ensures { result.now ≡ effect_of self.now }
+    {
+        &self.sound.state().effect
     }
 
     /// What its parts take their memory from.

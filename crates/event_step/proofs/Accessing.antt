@@ -1,22 +1,26 @@
 -- What is forced for an access or an enqueue leaves it spare, and for an access what its task asks for.
-use Rattle.std.proofs.Common.{ℕ, ◌≡◌, ◌<◌, ◌/◌, Bool, List, Some, Result, Ok, Err, sym, subst, ◌∙◌, length}
+use Rattle.std.proofs.Common.{ℕ, ◌≡◌, ◌<◌, ◌/◌, Bool, true, false, List, Some, Result, Ok, Err, length}
+use Rattle.std.proofs.Common.{sym, ap, subst, ◌∙◌}
 use Rattle.std.specs.Prelude.{IsOk, OnOk, IfSome, Option}
 use Rattle.guest_image.specs.ImageValue.{ImageValue}
 use Rattle.rv_core.specs.LegValue.{LegValue}
+use Rattle.rv_table.specs.declared.instr.LoadWidth.{LoadWidth}
 use Rattle.task_request.specs.declared.request.Request.{Request}
 use Rattle.spec_state.specs.declared.task.Task.{Task}
 use Rattle.spec_state.specs.View.{View, task_at}
 use Rattle.spec_state.specs.StateValue.{StateValue, CoversLog, CoversChild}
-use Rattle.spec_state.specs.Changes.{TakesLeg}
+use Rattle.spec_state.specs.Changes.{TakesLeg, LoadsFrom, StoresTo}
+use Rattle.spec_state.specs.Effects.{EffectValue, nothing}
 use Rattle.spec_access.specs.Asking.{Asks}
 use Rattle.spec_state.specs.Aborts.{Aborts}
 use Rattle.spec_state.specs.Groups.{logged_tasks}
 use Rattle.spec_state.specs.Queries.{Conflicts}
+use Rattle.spec_state.specs.Told.{TellsBack}
 use Rattle.memory_law.specs.Tasks.{IsByKey}
 use Rattle.spec_law.specs.Sound.{Sound}
-use Rattle.event_def.specs.Events.{TakesConflicts}
 use Rattle.event_lemma.specs.Forcing.{TakesStill}
 use Rattle.event_lemma.proofs.Proved.{sound_by_key}
+use Rattle.event_step.specs.Accessing.{TakesTelling, LoadsTelling, StoresTelling}
 use Rattle.event_step.proofs.Stepping.{asks_still}
 
 -- what holds where a call succeeds, and it does
@@ -53,16 +57,44 @@ child_still old mid id there spare covers =
     subst (λ n. IfSome (task_at mid.view id) (λ task. length task.spawns < n)) (sym spare)
     (subst (λ (o : Option Task). IfSome o (λ task. length task.spawns < old.spare.spawns)) (sym there) covers)
 
--- what conflicts with the task's access is taken back
-pub conflicts_taken : (image : ImageValue) (old new : View) (id line offset aborted : ℕ) (write : Bool) (task :
-    Task)
+-- what conflicts with an access of the task to this line is taken back, and told
+abbrev LineTelling : View → ℕ → Bool → ℕ → View → EffectValue → Task → Type 0
+LineTelling old line write aborted new effect task =
+    (aborts : Aborts (Conflicts old task line write) old aborted new) × TellsBack old aborts.marks effect.back
+
+-- what conflicts with the task's access is taken back, and it alone is told
+pub conflicts_taken : (image : ImageValue) (old new : View) (effect : EffectValue) (id line offset aborted : ℕ)
+    (write : Bool) (task : Task)
     → Sound image old → task_at old id ≡ Some task → line ≡ offset / old.settings.line
     → IfSome (task_at old id) (λ t. (ids : List ℕ) → IsByKey (logged_tasks old) ids
-    → Aborts (Conflicts old t line write) old aborted new)
-    → TakesConflicts task offset write old aborted new
-conflicts_taken image old new id line offset aborted write task sound there line_is aborts =
+    → LineTelling old line write aborted new effect t)
+    → effect ≡ record nothing { back = effect.back }
+    → TakesTelling task offset write old aborted new effect
+conflicts_taken image old new effect id line offset aborted write task sound there line_is aborts alone =
     let by_key = sound_by_key image old sound in
     let taken = subst (λ (o : Option Task). IfSome o (λ t. (ids : List ℕ) → IsByKey (logged_tasks old) ids
-    → Aborts (Conflicts old t line write) old aborted new))
+    → LineTelling old line write aborted new effect t))
     there aborts in
-    subst (λ n. Aborts (Conflicts old task n write) old aborted new) line_is (taken by_key.0 by_key.1)
+    let told = subst (λ n. LineTelling old n write aborted new effect task) line_is (taken by_key.0 by_key.1) in (
+      told.0,
+      (told.1, ap (λ (e : EffectValue). e.spilled) alone),
+      ap (λ (e : EffectValue). e.arrived) alone,
+    )
+
+module _ (tile core : ℕ) (leg : LegValue) (id : ℕ) (task : Task) (offset aborted : ℕ) (old mid new : View)
+    (cleared effect : EffectValue) (same : effect ≡ cleared) where
+  -- a load behind it tells the same
+  pub loads_telling : (width : LoadWidth) (rd : ℕ) → TakesTelling task offset false old aborted mid cleared
+      → LoadsFrom id task leg width rd offset mid new
+      → LoadsTelling tile core leg id task width rd offset old aborted new effect
+  loads_telling width rd takes loads =
+      subst (λ e. LoadsTelling tile core leg id task width rd offset old aborted new e) (sym same)
+      (record { mid = mid; forced = takes.0; change = loads }, takes.1, takes.2)
+
+  -- and so does a store
+  pub stores_telling : (width value : ℕ) → TakesTelling task offset true old aborted mid cleared
+      → StoresTo id task leg offset width value mid new
+      → StoresTelling tile core leg id task offset width value old aborted new effect
+  stores_telling width value takes stores =
+      subst (λ e. StoresTelling tile core leg id task offset width value old aborted new e) (sym same)
+      (record { mid = mid; forced = takes.0; change = stores }, takes.1, takes.2)

@@ -1,5 +1,5 @@
--- What comes of an end call.
-use Rattle.std.proofs.Common.{ℕ, ◌≡◌, inr, Bool, false, List, Option, Some, None, refl, subst}
+-- What comes of an end call, and what it tells.
+use Rattle.std.proofs.Common.{ℕ, ◌≡◌, ◌<◌, inr, Bool, false, List, Option, Some, None, refl, sym, ap, subst, length}
 use Rattle.std.specs.Prelude.{IfSome, IsTrue, ◌↔◌}
 use Rattle.std.specs.declared.cmp.Ordering.TheVariants.{Less}
 use Rattle.fractal_vt.specs.Keys.{key_cmp}
@@ -12,9 +12,11 @@ use Rattle.trace_tap.specs.TapValue.{TapValue}
 use Rattle.rv_core.specs.LegValue.{LegValue}
 use Rattle.task_request.specs.declared.request.Request.TheVariants.{End}
 use Rattle.spec_state.specs.declared.task.Task.{Task}
-use Rattle.spec_state.specs.View.{View, task_at}
+use Rattle.spec_state.specs.Effects.{EffectValue, nothing}
+use Rattle.spec_state.specs.Told.{TellsBack}
+use Rattle.spec_state.specs.View.{View, task_at, finished_at}
 use Rattle.spec_state.specs.Aborts.{Aborts, OnlyNode}
-use Rattle.spec_state.specs.Changes.{TakesLeg}
+use Rattle.spec_state.specs.Changes.{TakesLeg, Finishes}
 use Rattle.spec_state.specs.Groups.{logged_tasks}
 use Rattle.spec_state.specs.Queries.{IsFinished, IsLatestFinished}
 use Rattle.spec_access.specs.Asking.{Asks, CommitQueueHasRoom}
@@ -23,16 +25,17 @@ use Rattle.event_def.specs.declared.event.Came.TheVariants.{Made, Refused}
 use Rattle.event_def.specs.declared.event.Event.TheVariants as event
 use Rattle.event_def.specs.declared.event.Reply.TheVariants as reply
 use Rattle.event_def.specs.Causes.{IsCommitFull, StallsAtEnd}
-use Rattle.event_def.specs.Comes.{Comes}
 use Rattle.event_def.specs.End.{IsOver}
-use Rattle.event_def.specs.Events.{FreesCommit, EndEvent, has_free}
+use Rattle.event_def.specs.Events.{FreesCommit}
 use Rattle.event_def.specs.Events as events
+use Rattle.event_def.specs.Telling.{ComesTelling, TellsCommit}
 use Rattle.event_def.specs.Trace.{record_of}
 use Rattle.event_def.specs.Book.{book_of}
 use Rattle.event_lemma.specs.Forcing.{TakesStill}
-use Rattle.event_lemma.proofs.Proved.{commit_leaves_taker, commit_leaves_place, finished_is_later, no_child_no_stall, none_is_later, sound_by_key, stall_is_refused}
-use Rattle.event_step.specs.Ending.{HasLater, HasNoLater, SaysLater}
-use Rattle.event_step.proofs.Stepping.{asks_same, granted, made_granted}
+use Rattle.event_lemma.proofs.Proved.{commit_leaves_taker, commit_leaves_place, finished_is_later, no_child_no_stall}
+use Rattle.event_lemma.proofs.Proved.{none_is_later, sound_by_key, stall_is_refused}
+use Rattle.event_step.specs.Ending.{EndsTelling, HasLater, HasNoLater, SaysLater}
+use Rattle.event_step.proofs.Stepping.{asks_same, granted, made_granted, tells_neither}
 
 -- what holds of the task that stands there
 pub of_there : (o : Option Task) (P : Task → Type 0) (task : Task) → IfSome o P → o ≡ Some task → P task
@@ -68,20 +71,24 @@ none_later view tile v x (Some task) told latest is told_so =
     latest.of_kind.there).1 less in
     absurd (cc (also, told_so)))
 
-module _ (image : ImageValue) (old : View) (tile core id : ℕ) (leg : LegValue) (task : Task) (sound : Sound
-    image old)
-    (takes : TakesLeg old tile core leg id task) (v aborted : ℕ) (mid : View) (full : IsCommitFull old tile)
-    (later : HasLater old tile v task)
-    (aborts : (ids : List ℕ) → IsByKey (logged_tasks old) ids → Aborts (OnlyNode v) old aborted mid) where
-  -- a place is freed by the latest task of the queue, which is later
-  pub frees : FreesCommit tile task old aborted mid
+module _ (image : ImageValue) (old : View) (tile core id : ℕ) (leg : LegValue) (task : Task) (sound : Sound image old)
+    (takes : TakesLeg old tile core leg id task) (v aborted : ℕ) (mid : View) (effect : EffectValue)
+    (full : IsCommitFull old tile) (later : HasLater old tile v task)
+    (aborts : (ids : List ℕ) → IsByKey (logged_tasks old) ids
+    → (a : Aborts (OnlyNode v) old aborted mid) × TellsBack old a.marks effect.back)
+    (alone : effect ≡ record nothing { back = effect.back }) where
+  -- a place is freed by the latest task of the queue, which is later, and what is taken back for it is told
+  frees : (frees : FreesCommit tile task old aborted mid) × TellsCommit tile task old aborted mid frees effect
   frees =
       let by_key = sound_by_key image old sound in
-      events.aborts_latest aborted v later.0 mid full later.1 later.2 (aborts by_key.0 by_key.1)
+      let taken = aborts by_key.0 by_key.1 in (
+        events.aborts_latest aborted v later.0 mid full later.1 later.2 taken.0,
+        (taken.1, ap (λ (e : EffectValue). e.spilled) alone),
+      )
 
   -- the task that ends stays
   pub stays : TakesStill image tile core leg id task old mid
-  stays = commit_leaves_taker image old tile core id leg task aborted mid sound takes frees
+  stays = commit_leaves_taker image old tile core id leg task aborted mid sound takes frees.0
 
   -- and has the place
   pub has_place : CommitQueueHasRoom mid id
@@ -90,39 +97,59 @@ module _ (image : ImageValue) (old : View) (tile core id : ℕ) (leg : LegValue)
     core,
     task,
     stays.takes.runs.on,
-    commit_leaves_place image old tile core id leg task
-        aborted mid sound takes frees,
+    commit_leaves_place image old tile core id leg task aborted mid sound takes frees.0,
   )
+
+  -- it ends then, and no more is told
+  pub ends_telling : (new : View) (last : EffectValue) → last ≡ effect → Finishes tile core id task leg mid new
+      → EndsTelling tile core leg id task old aborted new last
+  ends_telling new last same finishes =
+      subst (λ e. EndsTelling tile core leg id task old aborted new e) (sym same) (
+        record { mid = mid; forced = frees.0; change = finishes },
+        frees.1,
+        ap (λ (e : EffectValue). e.arrived) alone,
+      )
+
+-- where a place is free, the task ends, and nothing is told
+pub ends_freely : (tile core id : ℕ) (leg : LegValue) (task : Task) (old new : View) (effect : EffectValue)
+    → length (finished_at old tile) < old.settings.commit_queue → Finishes tile core id task leg old new
+    → effect ≡ nothing → EndsTelling tile core leg id task old 0 new effect
+ends_freely tile core id leg task old new effect free finishes none =
+    let neither = tells_neither effect none in
+    (record { mid = old; forced = events.has_free free; change = finishes }, neither.0, neither.1)
 
 module _ (N : Type 0) (old : View) (placers : List Policy) (taps : List TapValue) (steps : ℕ)
     (tile core id : ℕ) (leg : LegValue) (task : Task)
     (goes_on : IsOver old → ⊥) (asks : Asks old leg id End) (takes : TakesLeg old tile core leg id task) where
   -- an end call that doesn't stall is made
-  pub made_end : (StallsAtEnd old tile core leg → ⊥) → (aborted : ℕ) (new : View) (seen : Record)
-      → EndEvent tile core leg id task old aborted new → seen ≡ record_of Call tile None aborted new
-      → Comes {N = N} (book_of old placers taps steps) (event.Step tile core leg) (Made seen) new placers
-  made_end no_stall aborted new seen ends is =
-      made_granted N old placers taps steps tile core id leg task End goes_on asks takes aborted new placers seen
+  pub made_end : (StallsAtEnd old tile core leg → ⊥) → (aborted : ℕ) (new : View) (effect : EffectValue)
+      (seen : Record) → EndsTelling tile core leg id task old aborted new effect
+      → seen ≡ record_of Call tile None aborted new
+      → ComesTelling {N = N} (book_of old placers taps steps) (event.Step tile core leg) (Made seen) new placers effect
+  made_end no_stall aborted new effect seen ends is =
+      made_granted N old placers taps steps tile core id leg task End goes_on asks takes aborted new placers effect seen
       (granted N old placers taps steps tile core id leg task End goes_on asks takes
       (no_child_no_stall (book_of old placers taps steps) tile core id leg task takes
       (λ spawn same. absurd (cc (same, asks_same old tile core id leg task End asks takes))))
       no_stall)
-      (ends, refl) is
+      ((ends.0, refl), (ends.1, ends.2)) is
 
   -- one where the queue is full and holds no later task stalls
-  pub stalls_end : IsCommitFull old tile → HasNoLater old tile task
-      → Comes {N = N} (book_of old placers taps steps) (event.Step tile core leg) (Refused reply.Stall) old
-      placers
-  stalls_end full none = (
-    stall_is_refused N (book_of old placers taps steps) goes_on tile core leg
-        (inr (record {
-          id = id;
-          task = task;
-          takes = takes;
-          asks = asks_same old tile core id leg task End asks
-              takes;
-          full = full;
-          none_later = none;
-        })),
-    (refl, refl),
+  pub stalls_end : IsCommitFull old tile → HasNoLater old tile task → (effect : EffectValue) → effect ≡ nothing
+      → ComesTelling {N = N} (book_of old placers taps steps) (event.Step tile core leg) (Refused reply.Stall) old
+      placers effect
+  stalls_end full none effect fresh = (
+    (
+      stall_is_refused N (book_of old placers taps steps) goes_on tile core leg
+          (inr (record {
+            id = id;
+            task = task;
+            takes = takes;
+            asks = asks_same old tile core id leg task End asks takes;
+            full = full;
+            none_later = none;
+          })),
+      (refl, refl),
+    ),
+    fresh,
   )

@@ -1,5 +1,5 @@
--- What comes of a step, by what its task asks for.
-use Rattle.std.proofs.Common.{ℕ, ◌≡◌, List, refl, sym, ap, subst, ◌∙◌}
+-- What comes of a step, by what its task asks for, and what it tells.
+use Rattle.std.proofs.Common.{ℕ, ◌≡◌, List, None, refl, sym, ap, subst, ◌∙◌}
 use Rattle.std.proofs.lemmas.Option.{same_Some}
 use Rattle.guest_image.specs.ImageValue.{ImageValue}
 use Rattle.place_policy.specs.Policy.{Policy}
@@ -9,6 +9,7 @@ use Rattle.rv_core.specs.LegValue.{LegValue}
 use Rattle.task_request.specs.declared.request.Request.{Request}
 use Rattle.task_request.specs.declared.request.Request.TheVariants.{Enqueue, End}
 use Rattle.spec_state.specs.declared.task.Task.{Task}
+use Rattle.spec_state.specs.Effects.{EffectValue, nothing}
 use Rattle.spec_state.specs.View.{View}
 use Rattle.spec_state.specs.Changes.{TakesLeg, request_of}
 use Rattle.spec_access.specs.Asking.{Asks}
@@ -17,9 +18,9 @@ use Rattle.event_def.specs.declared.event.Event.TheVariants as event
 use Rattle.event_def.specs.declared.event.Reply.TheVariants as reply
 use Rattle.event_def.specs.Book.{BookView, book_of}
 use Rattle.event_def.specs.Causes.{IsGranted, RequestTakesMemory, StallsAtEnqueue, StallsAtEnd}
-use Rattle.event_def.specs.Comes.{Comes}
 use Rattle.event_def.specs.End.{IsOver}
 use Rattle.event_def.specs.Events.{ComesTo, StepEvent}
+use Rattle.event_def.specs.Telling.{ComesTelling, TellsNeither, TellsRequest}
 use Rattle.event_def.specs.Trace.{deed_of, line_of_request, record_of}
 use Rattle.event_lemma.specs.Forcing.{TakesStill}
 use Rattle.event_lemma.proofs.Proved.{no_child_no_stall, no_end_no_stall, step_is_granted}
@@ -29,6 +30,20 @@ abbrev pub MayStall : Request → Type 0
 MayStall (Enqueue spawn) = Unit {0}
 MayStall End = Unit {0}
 MayStall other = ⊥
+
+-- what comes of a request, and what it tells
+abbrev pub RequestTelling : ℕ → ℕ → LegValue → ℕ → Task → Request → BookView → ℕ → View → List Policy → EffectValue
+    → Type 0
+RequestTelling tile core leg id task request book aborted new placers effect =
+    (comes : ComesTo tile core leg id task request book aborted new placers)
+    × TellsRequest tile core leg id task request book aborted new placers comes effect
+
+-- what did nothing tells of no task
+pub tells_neither : (effect : EffectValue) → effect ≡ nothing → TellsNeither effect × (effect.arrived ≡ None)
+tells_neither effect fresh = (
+  (ap (λ (e : EffectValue). e.back) fresh, ap (λ (e : EffectValue). e.spilled) fresh),
+  ap (λ (e : EffectValue). e.arrived) fresh,
+)
 
 -- a task that takes the leg asks for what the task of this id is known to ask for
 pub asks_same : (view : View) (tile core id : ℕ) (leg : LegValue) (task : Task) (request : Request)
@@ -76,48 +91,59 @@ module _ (N : Type 0) (old : View) (placers : List Policy) (taps : List TapValue
       (no_end_no_stall book tile core id leg task takes (λ same. never (subst MayStall (sym same ∙ asked) tt)))
 
   -- a granted step is made
-  pub made_granted : (aborted : ℕ) (new : View) (after : List Policy) (seen : Record)
+  pub made_granted : (aborted : ℕ) (new : View) (after : List Policy) (effect : EffectValue) (seen : Record)
       → IsGranted {N = N} book (event.Step tile core leg)
-      → ComesTo tile core leg id task request book aborted new after
+      → RequestTelling tile core leg id task request book aborted new after effect
       → seen ≡ record_of (deed_of request) tile (line_of_request old.settings.line request) aborted new
-      → Comes {N = N} book (event.Step tile core leg) (Made seen) new after
-  made_granted aborted new after seen may comes is =
-      let step : StepEvent tile core leg book aborted new after = record {
-        id = id;
-        task = task;
-        takes = takes;
-        comes = subst (λ r. ComesTo tile core leg id task r book aborted new after) (sym asked) comes;
-      } in
-      subst (λ (s : Record). Comes {N = N} book (event.Step tile core leg) (Made s) new after) (sym is) (
-        may,
-        step,
+      → ComesTelling {N = N} book (event.Step tile core leg) (Made seen) new after effect
+  made_granted aborted new after effect seen may telling is =
+      let told = subst (λ r. RequestTelling tile core leg id task r book aborted new after effect) (sym asked)
+      telling in
+      let step : StepEvent tile core leg book aborted new after =
+      record { id = id; task = task; takes = takes; comes = told.0 } in
+      subst (λ (s : Record). ComesTelling {N = N} book (event.Step tile core leg) (Made s) new after effect) (sym is) (
         (
-          id,
-          task,
-          takes,
-          ap (λ r. record_of (deed_of r) tile (line_of_request old.settings.line r) aborted
-              new) (sym asked),
+          may,
+          step,
+          (
+            id,
+            task,
+            takes,
+            ap (λ r. record_of (deed_of r) tile (line_of_request old.settings.line r) aborted new) (sym asked),
+          ),
         ),
+        told.1,
       )
 
   -- memory runs out for a granted step
-  pub wants_memory : (new : View) → IsGranted {N = N} book (event.Step tile core leg) → RequestTakesMemory request
-      → new ≡ old → Comes {N = N} book (event.Step tile core leg) (Refused reply.Memory) new placers
-  wants_memory new may memory same = (
-    may,
-    record { id = id; task = task; takes = takes; memory = subst RequestTakesMemory (sym asked) memory },
-    (same, refl),
+  pub wants_memory : (new : View) (effect : EffectValue) → IsGranted {N = N} book (event.Step tile core leg)
+      → RequestTakesMemory request → new ≡ old → effect ≡ nothing
+      → ComesTelling {N = N} book (event.Step tile core leg) (Refused reply.Memory) new placers effect
+  wants_memory new effect may memory same none = (
+    (
+      may,
+      record { id = id; task = task; takes = takes; memory = subst RequestTakesMemory (sym asked) memory },
+      (same, refl),
+    ),
+    none,
   )
+
+  -- for one whose request never stalls
+  pub wants_quietly : (MayStall request → ⊥) → RequestTakesMemory request → (new : View) (effect : EffectValue)
+      → new ≡ old → effect ≡ nothing
+      → ComesTelling {N = N} book (event.Step tile core leg) (Refused reply.Memory) new placers effect
+  wants_quietly never memory new effect = wants_memory new effect (granted_quietly never) memory
 
   -- a step whose request never stalls is made on a view that is the same
   pub made_quietly : (MayStall request → ⊥) → (ready : View) → ready ≡ old
-      → (aborted : ℕ) (new : View) (seen : Record)
-      → ComesTo tile core leg id task request (book_of ready placers taps steps) aborted new placers
+      → (aborted : ℕ) (new : View) (effect : EffectValue) (seen : Record)
+      → RequestTelling tile core leg id task request (book_of ready placers taps steps) aborted new placers effect
       → seen ≡ record_of (deed_of request) tile (line_of_request ready.settings.line request) aborted new
-      → Comes {N = N} book (event.Step tile core leg) (Made seen) new placers
-  made_quietly never ready same aborted new seen comes is =
-      made_granted aborted new placers seen (granted_quietly never)
-      (subst (λ v. ComesTo tile core leg id task request (book_of v placers taps steps) aborted new placers)
-      same comes)
+      → ComesTelling {N = N} book (event.Step tile core leg) (Made seen) new placers effect
+  made_quietly never ready same aborted new effect seen telling is =
+      made_granted aborted new placers effect seen (granted_quietly never)
+      (subst
+      (λ v. RequestTelling tile core leg id task request (book_of v placers taps steps) aborted new placers effect)
+      same telling)
       (is ∙ ap (λ (v : View). record_of (deed_of request) tile (line_of_request v.settings.line request) aborted new)
       same)

@@ -1,10 +1,14 @@
--- Whether a task in a commit queue is later than one that comes to its end call.
-use Rattle.std.specs.Prelude.{◌≡◌, ◌↔◌, ℕ, Bool, IsTrue, IfSome}
+-- Whether a task in a commit queue is later than one that comes to its end call, and what that call tells.
+use Rattle.std.specs.Prelude.{◌≡◌, ◌↔◌, ℕ, Bool, None, IsTrue, IfSome}
 use Rattle.std.specs.declared.cmp.Ordering.TheVariants.{Less}
 use Rattle.fractal_vt.specs.Keys.{key_cmp}
+use Rattle.rv_core.specs.LegValue.{LegValue}
 use Rattle.spec_state.specs.declared.task.Task.{Task}
+use Rattle.spec_state.specs.Effects.{EffectValue}
 use Rattle.spec_state.specs.View.{View, task_at}
 use Rattle.spec_state.specs.Queries.{IsFinished, IsLater, IsLatestFinished}
+use Rattle.event_def.specs.Events.{EndEvent}
+use Rattle.event_def.specs.Telling.{TellsCommit}
 
 -- the task of this id is the latest one in the commit queue of the tile, and is later than the given one
 abbrev pub HasLater : View → ℕ → ℕ → Task → Type 0
@@ -17,3 +21,9 @@ HasNoLater view tile task = (k : ℕ) (x : Task) → IsFinished view tile k x �
 -- an answer tells whether the task of this id has a greater key than the given one
 abbrev pub SaysLater : View → ℕ → Task → Bool → Type 0
 SaysLater view other task answer = IfSome (task_at view other) (λ x. IsTrue answer ↔ (key_cmp task.key x.key ≡ Less))
+
+-- an end call, which tells what was taken back for it
+abbrev pub EndsTelling : ℕ → ℕ → LegValue → ℕ → Task → View → ℕ → View → EffectValue → Type 0
+EndsTelling tile core leg id task old aborted new effect =
+    (ends : EndEvent tile core leg id task old aborted new)
+    × TellsCommit tile task old aborted ends.mid ends.forced effect × (effect.arrived ≡ None)

@@ -1,4 +1,5 @@
--- Contracts mean all but Ending and Placing, which serve this crate alone.
+-- Contracts mean Coming; the others serve this crate alone.
+pub mod Accessing
 pub mod Coming
 pub mod Ending
 pub mod Placing

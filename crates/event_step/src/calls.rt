@@ -1,8 +1,10 @@
 //! Steps that force nothing and take no memory: a leg that did its quantum, a subdomain, a byte
 //! and a trap.
 
+ghost use Rattle.std.specs.Prelude.{◌≡◌};
 ghost use Rattle.task_request.specs.declared.request.Request.TheVariants.{Continue, MakeSub};
 ghost use Rattle.task_request.specs.declared.request.Request.TheVariants.{Emit, Trap};
+ghost use Rattle.spec_state.specs.Effects.{nothing};
 ghost use Rattle.spec_access.specs.Asking.{Asks};
 ghost use Rattle.event_def.specs.End.{IsOver};
 ghost use Rattle.event_step.specs.Coming.{QuietlyComes};
@@ -18,6 +20,7 @@ use trace_tap::Deed;
 /// A task that did its quantum goes on from the end of its leg.
 pub(crate) fn go_on<N: Naming>(state: &mut State<N>, tile: u32, id: TaskId, leg: &Leg<N>) -> Came
     requires goes_on { IsOver state.old.view → ⊥ }
+    requires fresh { state.old.effect ≡ nothing }
     requires asks { Asks state.old.view leg.now id.0 Continue }
     ensures { QuietlyComes N tile leg.now id.0 state.old.view result state.new.view state.new.effect }
 {
@@ -34,6 +37,7 @@ pub(crate) fn make_subdomain<N: Naming>(
     kind: Kind,
 ) -> Came
     requires goes_on { IsOver state.old.view → ⊥ }
+    requires fresh { state.old.effect ≡ nothing }
     requires asks { Asks state.old.view leg.now id.0 (MakeSub kind) }
     ensures { QuietlyComes N tile leg.now id.0 state.old.view result state.new.view state.new.effect }
 {
@@ -50,6 +54,7 @@ pub(crate) fn emit_byte<N: Naming>(
     byte: u8,
 ) -> Came
     requires goes_on { IsOver state.old.view → ⊥ }
+    requires fresh { state.old.effect ≡ nothing }
     requires asks { Asks state.old.view leg.now id.0 (Emit byte) }
     ensures { QuietlyComes N tile leg.now id.0 state.old.view result state.new.view state.new.effect }
 {
@@ -66,6 +71,7 @@ pub(crate) fn keep_trap<N: Naming>(
     cause: u8,
 ) -> Came
     requires goes_on { IsOver state.old.view → ⊥ }
+    requires fresh { state.old.effect ≡ nothing }
     requires asks { Asks state.old.view leg.now id.0 (Trap cause) }
     ensures { QuietlyComes N tile leg.now id.0 state.old.view result state.new.view state.new.effect }
 {

@@ -1,17 +1,17 @@
 //! End calls: the commit queue gets a free place first.
 
-ghost use Rattle.std.specs.Prelude.{◌<◌, ℕ, IsSome, IsNone, IfSome};
+ghost use Rattle.std.specs.Prelude.{◌≡◌, ◌<◌, ℕ, IsSome, IsNone, IfSome};
 ghost use Rattle.task_request.specs.declared.request.Request.TheVariants.{End};
 ghost use Rattle.spec_state.specs.declared.task.Task.{Task};
+ghost use Rattle.spec_state.specs.Effects.{nothing};
 ghost use Rattle.spec_state.specs.View.{task_at};
 ghost use Rattle.spec_state.specs.Changes.{TakesLeg};
 ghost use Rattle.spec_access.specs.Asking.{Asks};
 ghost use Rattle.spec_law.specs.Sound.{Sound};
 ghost use Rattle.event_def.specs.Causes.{IsCommitFull};
 ghost use Rattle.event_def.specs.End.{IsOver};
-ghost use Rattle.event_def.specs.Events.{EndEvent};
 ghost use Rattle.event_step.specs.Coming.{QuietlyComes};
-ghost use Rattle.event_step.specs.Ending.{HasLater, HasNoLater, SaysLater};
+ghost use Rattle.event_step.specs.Ending.{EndsTelling, HasLater, HasNoLater, SaysLater};
 
 use crate::recording::record_of;
 use event_def::{Came, Reply};
@@ -51,8 +51,8 @@ fn later_finished<N: Naming>(state: &State<N>, tile: u32, id: TaskId) -> Option<
     }
 }
 
-/// Takes the latest task of the full commit queue back, which is later than this one, and then ends this one; tells how
-/// many tasks were taken back.
+/// Takes the latest task of the full commit queue back, which is later than this one, and then ends this one. It tells
+/// how many tasks were taken back, and in the state which.
 fn finish_after<N: Naming>(
     state: &mut State<N>,
     tile: u32,
@@ -69,7 +69,7 @@ fn finish_after<N: Naming>(
         (core : ℕ) × (task : Task) × TakesLeg old tile core leg.now id.0 task }
     ensures { let old = state.old.view in
         (core : ℕ) (task : Task) → TakesLeg old tile core leg.now id.0 task
-        → EndEvent tile core leg.now id.0 task old result state.new.view }
+        → EndsTelling tile core leg.now id.0 task old result state.new.view state.new.effect }
 {
     let aborted = abort(state, last);
     finish(state, id, leg);
@@ -80,6 +80,7 @@ fn finish_after<N: Naming>(
 pub(crate) fn end<N: Naming>(state: &mut State<N>, tile: u32, id: TaskId, leg: &Leg<N>) -> Came
     requires sound { Sound N.image state.old.view }
     requires goes_on { IsOver state.old.view → ⊥ }
+    requires fresh { state.old.effect ≡ nothing }
     requires tile { tile < state.old.view.settings.tiles }
     requires takes { let old = state.old.view in
         (core : ℕ) × (task : Task) × TakesLeg old tile core leg.now id.0 task }

@@ -5,6 +5,7 @@ ghost use Rattle.place_policy.specs.Serving.{serving_tile};
 ghost use Rattle.task_request.specs.declared.request.Request.TheVariants.{Enqueue};
 ghost use Rattle.spec_state.specs.declared.task.Task.{Task};
 ghost use Rattle.spec_state.specs.View.{loads};
+ghost use Rattle.spec_state.specs.Effects.{nothing};
 ghost use Rattle.spec_state.specs.StateValue.{Covers};
 ghost use Rattle.spec_state.specs.Room.{Enqueuer};
 ghost use Rattle.spec_state.specs.Changes.{TakesLeg};
@@ -13,7 +14,7 @@ ghost use Rattle.spec_law.specs.Sound.{Sound};
 ghost use Rattle.event_def.specs.End.{IsOver};
 ghost use Rattle.event_room.specs.Entering.{MayEnter};
 ghost use Rattle.event_step.specs.Coming.{TaskComes};
-ghost use Rattle.event_step.specs.Placing.{PlacesChild};
+ghost use Rattle.event_step.specs.Placing.{PlacesTelling};
 
 use crate::recording::record_of;
 use event_def::{Came, Reply};
@@ -34,17 +35,18 @@ fn pick<N: Naming, P: Placer>(state: &State<N>, placers: &[P], hint: u32) -> u32
     serving_pick(placers, hint, state.loads().as_slice())
 }
 
-/// Makes room for a child in a tile that gives it a place, and enqueues it there; tells how many
-/// tasks were taken back for it.
+/// Makes room for a child in a tile that gives it a place, and enqueues it there. It tells how many tasks were taken
+/// back for it, and in the state which, which were spilled and which came.
 fn place<N: Naming>(state: &mut State<N>, id: TaskId, leg: &Leg<N>, child: Spawn, tile: u32) -> u32
     requires sound { Sound N.image state.old.view }
     requires tile { tile < state.old.view.settings.tiles }
     requires asks { Asks state.old.view leg.now id.0 (Enqueue child) }
     requires may_enter { MayEnter state.old.view tile (Enqueuer id.0) }
     requires covered { Covers state.old (Some id) tile }
+    requires fresh { state.old.effect ≡ nothing }
     ensures { let old = state.old.view in
         (from core : ℕ) (task : Task) → TakesLeg old from core leg.now id.0 task
-        → PlacesChild tile id.0 task leg.now child old result state.new.view }
+        → PlacesTelling tile id.0 task leg.now child old result state.new.view state.new.effect }
 {
     let aborted = make_room(state, tile, Some(id));
     let _ = enqueue_child(state, id, leg, child, tile);
@@ -64,6 +66,7 @@ pub(crate) fn enqueue<N: Naming, P: Placer>(
 ) -> Came
     requires sound { Sound N.image state.old.view }
     requires goes_on { IsOver state.old.view → ⊥ }
+    requires fresh { state.old.effect ≡ nothing }
     requires asks { Asks state.old.view leg.now id.0 (Enqueue child) }
     ensures { let old = state.old.view in
         let before = map P.policy placers.old in

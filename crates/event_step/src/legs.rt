@@ -4,6 +4,7 @@ ghost use Rattle.std.specs.Prelude.{◌≡◌, ◌<◌, ◌↔◌, ℕ, IsTrue, 
 ghost use Rattle.spec_state.specs.declared.task.Status.TheVariants.{Running};
 ghost use Rattle.spec_state.specs.declared.task.Task.{Task};
 ghost use Rattle.spec_state.specs.Changes.{TakesLeg};
+ghost use Rattle.spec_state.specs.Effects.{nothing};
 ghost use Rattle.spec_law.specs.Sound.{Sound};
 ghost use Rattle.event_def.specs.Causes.{IsStale};
 ghost use Rattle.event_def.specs.End.{IsOver};
@@ -45,9 +46,9 @@ pub fn taker<N: Naming>(state: &State<N>, tile: u32, core: u32, leg: &Leg<N>) ->
     }
 }
 
-/// Makes the step of a task that takes the leg, in a tile, where the run goes on: what the task
-/// asks for at the end of the leg comes to be, or the step is refused with `Stall` or `Memory`
-/// and nothing changes.
+/// Makes the step of a task that takes the leg, in a tile, where the run goes on: what the task asks for at the end of
+/// the leg comes to be, or the step is refused with `Stall` or `Memory` and nothing changes. The state's effect, which
+/// was cleared before, tells what the step did beside its change.
 pub fn make_step<N: Naming, P: Placer>(
     state: &mut State<N>,
     placers: &mut [P],
@@ -57,6 +58,7 @@ pub fn make_step<N: Naming, P: Placer>(
 ) -> Came
     requires sound { Sound N.image state.old.view }
     requires goes_on { IsOver state.old.view → ⊥ }
+    requires fresh { state.old.effect ≡ nothing }
     requires tile { tile < state.old.view.settings.tiles }
     requires takes { let old = state.old.view in
         (core : ℕ) × (task : Task) × TakesLeg old tile core leg.now id.0 task }
@@ -88,7 +90,8 @@ pub fn make_step<N: Naming, P: Placer>(
 /// The event of a step, from a state of a book that wasn't stopped: the task that runs on that
 /// core of that tile takes the leg, and what it asks for at the end of the leg comes to be.
 /// `Ended` where the run is over, `Stale` where no task there takes the leg, `Stall` where a
-/// queue is full for it, and `Memory` where memory runs out; nothing changes then.
+/// queue is full for it, and `Memory` where memory runs out; nothing changes then. The state's
+/// effect, which was cleared before, tells what the step did beside its change.
 pub fn step<N: Naming, P: Placer>(
     state: &mut State<N>,
     placers: &mut [P],
@@ -97,6 +100,7 @@ pub fn step<N: Naming, P: Placer>(
     leg: &Leg<N>,
 ) -> Came
     requires sound { Sound N.image state.old.view }
+    requires fresh { state.old.effect ≡ nothing }
     requires tile { tile < state.old.view.settings.tiles }
     requires core { core < state.old.view.settings.cores }
     ensures { let old = state.old.view in

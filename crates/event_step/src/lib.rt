@@ -3,10 +3,11 @@
 //! `step` and `make_step` are over a state and answer what came of the event; their contract is that of the event in a
 //! book of that state, whatever else the book has. `taker` tells which task takes a leg. A step finds the causes to
 //! refuse it, takes its memory, forces what stands in its way and makes one change. It takes memory first, so that
-//! nothing has changed where memory runs out, and never needs any afterwards. It stands on `spec_access`,
-//! `spec_rollback` and `event_room`; the book calls it, and `watch_text` calls `taker`. Beside its change a step
-//! costs a look at each dispatched task where it is an access, one at each tile where it enqueues, looks at the tasks
-//! of a queue that is full for it, and what it takes back; by `step` it also costs what `least` does.
+//! nothing has changed where memory runs out, and never needs any afterwards. Its caller has cleared the state's
+//! effect, in which the step then tells what it forced and which child came. It stands on `spec_access`,
+//! `spec_rollback` and `event_room`; the book calls it, and `watch_text` calls `taker`. Beside its change a step costs
+//! a look at each dispatched task where it is an access, one at each tile where it enqueues, looks at the tasks of a
+//! queue that is full for it, and what it takes back; by `step` it also costs what `least` does.
 #![tactic(auto)]
 
 mod accesses;

@@ -1,7 +1,8 @@
 -- What acts come to.
 use Rattle.std.proofs.Common.{◌≡◌, ◌⊎◌, ◌≤◌, ◌<◌, ℕ, List, [], length, Some, None}
 use Rattle.std.proofs.Common.{Result, inl, inr, refl, sym, ap, subst, ◌∙◌}
-use Rattle.std.specs.Prelude.{IfOk, OnErr, slice_get}
+use Rattle.std.specs.Prelude.{IfOk, IfSome, OnErr, slice_get}
+use Rattle.std.specs.declared.option.Option.{Option}
 use Rattle.std.proofs.lemmas.Bool.{cases_lt}
 use Rattle.std.proofs.lemmas.List.{get_or_past}
 use Rattle.std.proofs.lemmas.Option.{slice_get_within}
@@ -27,7 +28,7 @@ use Rattle.event_def.specs.End.{IsOver}
 use Rattle.event_lemma.proofs.Proved.{next_is_step, trapped_is_over}
 use Rattle.step_script.specs.declared.act.Act.{Act}
 use Rattle.step_script.specs.declared.act.Act.TheVariants as acts
-use Rattle.step_script.specs.Playing.{HasLegAt, HeldLeg, PlayState, PlayerValue, held_for, holding}
+use Rattle.step_script.specs.Playing.{HasLegAt, HeldLeg, PlayerValue, held_for, holding}
 use Rattle.step_script.specs.Playing.{without_held_leg}
 use Rattle.step_script.proofs.HeldLegs.{without_unheld}
 use Rattle.step_script.specs.declared.asked.Asked.{Asked}
@@ -68,43 +69,36 @@ pub advance_asks : (N : Type 0) (image : ImageValue) (book : BookView) (e : Even
     → (held : List HeldLeg) → AsksAdvance image (record { book = book; held = held }) (Hands e) held
 advance_asks N image book e next held = advance_next e next (record { asks_is = refl; held_is = refl })
 
--- an act that is this one comes to the same
-pub asks_by : (N : Type 0) (image : ImageValue) (act this : Act) (old : PlayState) (asks : Attempt N)
-    (held : List HeldLeg)
-    → act ≡ this → AsksFor image this old asks held → AsksFor image act old asks held
-asks_by N image act this old asks held is asked = subst (λ a. AsksFor image a old asks held) (sym is) asked
+-- ---- what a player asks, by its parts
 
--- also where memory may run out
-pub asks_by_ok : {E : Type 0} (N : Type 0) (image : ImageValue) (act : Act) (tile core : ℕ) (old : PlayState)
-    (leg : LegValue) (held : List HeldLeg) (r : Result Asked E) → act ≡ acts.Take tile core
-    → IfOk r (λ asked. (some : LegValue) → AsksTake {N = N} image tile core old (asks_of asked some) held)
-    → IfOk r (λ asked. AsksFor {N = N} image act old (asks_of asked leg) held)
-asks_by_ok N image act tile core old leg held r is =
-    IfOk-weaker r _ _ (λ asked takes. asks_by N image act (acts.Take tile core) old (asks_of asked leg) held is
-    (takes leg))
+module _ (N : Type 0) (image : ImageValue) (act this : Act) (is : act ≡ this) (inside old : PlayerValue)
+    (same : inside ≡ old) (book : BookView) where
+  -- an act that is this one comes to the same
+  pub asks_by : (asks : Attempt N) (held : List HeldLeg)
+      → AsksFor image this (record { book = book; held = inside.held }) asks held
+      → AsksFor image act (record { book = book; held = old.held }) asks held
+  asks_by asks held asked =
+      subst (λ a. AsksFor image a (record { book = book; held = old.held }) asks held) (sym is)
+      (subst (λ (p : PlayerValue). AsksFor image this (record { book = book; held = p.held }) asks held) same asked)
 
--- where memory runs out over a take
-pub runs_out : {E : Type 0} (act : Act) (tile core : ℕ) (held after : List HeldLeg) (leg : LegValue)
-    (r : Result Asked E) → act ≡ acts.Take tile core → OnErr r (after ≡ without_held_leg tile core held)
-    → OnErr r (RunsOut act (record { held = held; leg = leg }) (record { held = after; leg = leg }))
-runs_out act tile core held after leg r is =
-    on_err_weaker r (λ rest. subst (λ a. RunsOut a (record { held = held; leg = leg })
-    (record { held = after; leg = leg })) (sym is) (ap (λ h. record { held = h; leg = leg }) rest))
-
--- ---- of a player, by its parts
-
-module _ {E : Type 0} (act : Act) (inside old new : PlayerValue) (r : Result Asked E) (same : inside ≡ old) where
-  pub player_asks : (N : Type 0) (image : ImageValue) (book : BookView)
-      → IfOk r (λ asked. AsksFor {N = N} image act (record { book = book; held = inside.held })
-      (asks_of asked new.leg) new.held)
+-- a take, over which memory may run out
+module _ {E : Type 0} (act : Act) (tile core : ℕ) (is : act ≡ acts.Take tile core) (inside old : PlayerValue)
+    (same : inside ≡ old) (held : List HeldLeg) (r : Result Asked E) where
+  pub takes_by : (N : Type 0) (image : ImageValue) (book : BookView)
+      → IfOk r (λ asked. (some : LegValue) → AsksTake {N = N} image tile core
+      (record { book = book; held = inside.held }) (asks_of asked some) held)
       → IfOk r (λ asked. AsksFor {N = N} image act (record { book = book; held = old.held })
-      (asks_of asked new.leg) new.held)
-  player_asks N image book =
-      subst (λ (p : PlayerValue). IfOk r (λ asked. AsksFor {N = N} image act (record { book = book; held = p.held })
-      (asks_of asked new.leg) new.held)) same
+      (asks_of asked inside.leg) held)
+  takes_by N image book =
+      IfOk-weaker r _ _ (λ asked takes. asks_by N image act (acts.Take tile core) is inside old same book
+      (asks_of asked inside.leg) held (takes inside.leg))
 
-  pub player_runs_out : OnErr r (RunsOut act inside new) → OnErr r (RunsOut act old new)
-  player_runs_out = subst (λ (p : PlayerValue). OnErr r (RunsOut act p new)) same
+  pub runs_out : OnErr r (held ≡ without_held_leg tile core inside.held)
+      → OnErr r (RunsOut act old (record { held = held; leg = inside.leg }))
+  runs_out =
+      on_err_weaker r (λ rest. subst (λ a. RunsOut a old (record { held = held; leg = inside.leg })) (sym is)
+      (subst (λ (p : PlayerValue). RunsOut (acts.Take tile core) p (record { held = held; leg = inside.leg })) same
+      (ap (λ h. record { held = h; leg = inside.leg }) rest)))
 
 -- ---- the least task
 
@@ -192,24 +186,35 @@ module _ (image : ImageValue) (seen view : View) (same : seen ≡ view) (sound :
         → HasLegAt image view tile core leg → IsNextEvent {N = N} image view (event.Step tile core leg)
     seen_leg = next_is_leg image view here id tile core task stands_here runs read_here
 
-  module _ (w : Where) (least : IsLeast seen w) where
-    is_least : (other : Where) → w ≡ other → IsLeast view other
-    is_least other is = subst (IsLeast view) is (subst (λ v. IsLeast v w) same least)
+-- the run goes on where it isn't over, also as the state is read
+pub least_goes : (seen view : View) → seen ≡ view → (least : Option Where) → (IsOver seen → ⊥)
+    → IfSome least (IsLeast seen) → IfSome least (λ w. (IsOver view → ⊥) × IsLeast view w)
+least_goes seen view same least going is =
+    subst (λ v. IfSome least (λ w. (IsOver v → ⊥) × IsLeast v w)) same (both least is)
+  where
+    both : (l : Option Where) → IfSome l (IsLeast seen) → IfSome l (λ w. (IsOver seen → ⊥) × IsLeast seen w)
+    both None h = tt
+    both (Some w) h = (going, h)
 
-    module _ (going : IsOver view → ⊥) where
-      -- a trapped one would end the run
-      pub none_trapped : (id : TaskId) → w ≡ where_.Trapped id → ⊥
-      none_trapped id is = going (trapped_is_over image view id here (is_least (where_.Trapped id) is))
+-- the event for the least task, while the run goes on
+module _ (image : ImageValue) (view : View) (sound : Sound image view) (w : Where)
+    (least : (IsOver view → ⊥) × IsLeast view w) where
+  is_least : (other : Where) → w ≡ other → IsLeast view other
+  is_least other is = subst (IsLeast view) is least.1
 
-      module _ (N : Type 0) where
-        pub seen_dispatch : (id : TaskId) (tile : ℕ) → w ≡ where_.Idle id → ReadsTile seen id tile
-            → IsNextEvent {N = N} image view (event.Dispatch tile)
-        seen_dispatch id tile is read =
-            next_dispatch N image view here going id tile (is_least (where_.Idle id) is)
-            (subst (λ v. ReadsTile v id tile) same read)
+  -- a trapped one would end the run
+  pub none_trapped : (id : TaskId) → w ≡ where_.Trapped id → ⊥
+  none_trapped id is = least.0 (trapped_is_over image view id sound (is_least (where_.Trapped id) is))
 
-        pub seen_commit : (id : TaskId) → w ≡ where_.Finished id → IsNextEvent {N = N} image view event.Commit
-        seen_commit id is = next_commit N image view here going id (is_least (where_.Finished id) is)
+  module _ (N : Type 0) where
+    pub least_dispatch : (seen : View) → seen ≡ view → (id : TaskId) (tile : ℕ) → w ≡ where_.Idle id
+        → ReadsTile seen id tile → IsNextEvent {N = N} image view (event.Dispatch tile)
+    least_dispatch seen same id tile is read =
+        next_dispatch N image view sound least.0 id tile (is_least (where_.Idle id) is)
+        (subst (λ v. ReadsTile v id tile) same read)
 
-        pub seen_split : (tile : ℕ) → w ≡ where_.Spilled tile → IsNextEvent {N = N} image view (event.Split tile)
-        seen_split tile is = next_split N image view here going tile (is_least (where_.Spilled tile) is)
+    pub least_commit : (id : TaskId) → w ≡ where_.Finished id → IsNextEvent {N = N} image view event.Commit
+    least_commit id is = next_commit N image view sound least.0 id (is_least (where_.Finished id) is)
+
+    pub least_split : (tile : ℕ) → w ≡ where_.Spilled tile → IsNextEvent {N = N} image view (event.Split tile)
+    least_split tile is = next_split N image view sound least.0 tile (is_least (where_.Spilled tile) is)

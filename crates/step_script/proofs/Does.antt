@@ -1,5 +1,5 @@
 -- What an act comes to, and what comes of that, do the act.
-use Rattle.std.proofs.Common.{◌≡◌, ◌≢◌, ℕ, refl, subst}
+use Rattle.std.proofs.Common.{◌≢◌, ℕ, refl, subst}
 use Rattle.guest_image.specs.ImageValue.{ImageValue}
 use Rattle.event_def.specs.declared.event.Event.{Event}
 use Rattle.event_def.specs.declared.event.Event.TheVariants as event

@@ -1,5 +1,5 @@
 -- What acts do, one after another.
-use Rattle.std.proofs.Common.{◌≡◌, ℕ, ◌+◌, ◌<◌, List, [], ◌∷◌, ◌++◌, length, take, Result, Ok, Err, refl, subst, ap, sym}
+use Rattle.std.proofs.Common.{◌≡◌, ℕ, ◌+◌, ◌<◌, List, [], ◌∷◌, ◌++◌, length, take, Result, Ok, Err, refl, subst, sym}
 use Rattle.std.specs.Prelude.{OnErr, slice_index_or}
 use Rattle.std.proofs.lemmas.List.{take_more}
 use Rattle.guest_image.specs.ImageValue.{ImageValue}
@@ -37,8 +37,3 @@ some_played N image script count old mid new said held (Err e) played same = rec
   said = said;
   plays = (held, subst (λ b. DoesAll N image (take count script) (record { book = old; held = [] }) said (record { book = b; held = held })) (sym same) played);
 }
-
--- no act was played yet
-pub none_played : (N : Type 0) (image : ImageValue) (book : BookView) (held : List HeldLeg) → held ≡ []
-    → DoesAll N image [] (record { book = book; held = [] }) [] (record { book = book; held = held })
-none_played N image book held none = ap (λ h. record { book = book; held = h }) (sym none)

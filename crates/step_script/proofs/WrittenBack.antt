@@ -7,7 +7,7 @@ use Rattle.std.proofs.lemmas.Bool.{eqb-true, and_parts}
 use Rattle.step_script.specs.declared.act.Act.{Act}
 use Rattle.step_script.specs.declared.act.Act.TheVariants as acts
 use Rattle.text_lines.specs.Lines.{lines_of}
-use Rattle.text_lines.specs.Numerals.{number, number_below}
+use Rattle.text_lines.specs.Numerals.{number_below}
 use Rattle.step_script.specs.Grammar.{core_in, act_at, act_in, acts_at, onto_acts}
 use Rattle.step_script.specs.Ranges.{ActIsInRange}
 use Rattle.step_script.specs.Written.{line_of_act, core_text, script, ScriptReadsBack}

@@ -1,22 +1,20 @@
-//! What acts come to.
+//! What acts come to, but for those that are an event by themselves.
 
-ghost use Rattle.std.specs.Prelude.{◌≡◌, ◌<◌, IfOk, List, OnErr};
+ghost use Rattle.std.specs.Prelude.{◌≡◌, ◌<◌, IfOk, IfSome, IsNone, List, OnErr};
 ghost use Rattle.conflict_book.specs.BookViews.{machine_view, view_of};
 ghost use Rattle.rv_core.specs.LegValue.{LegValue};
 ghost use Rattle.spec_state.specs.declared.task.Where.TheVariants as where_;
 ghost use Rattle.spec_state.specs.Least.{IsLeast};
 ghost use Rattle.event_def.specs.End.{IsOver};
 ghost use Rattle.step_script.specs.Playing.{HeldLeg, without_held_leg};
-ghost use Rattle.step_script.specs.Ranges.{ActIsInRange};
-ghost use Rattle.step_script.specs.Asking.{AskedIsInRange, AsksAdvance, AsksFor, AsksGive, AsksStep, AsksTake};
-ghost use Rattle.step_script.specs.Asking.{RunsOut, asks_of};
+ghost use Rattle.step_script.specs.Asking.{AskedIsInRange, AsksAdvance, AsksGive, AsksStep, AsksTake, asks_of};
 
-use crate::act::Act;
 use crate::asked::Asked;
 use crate::holding::{Held, forget, hand_out, hold};
 use crate::running::{leg_at, run_at};
 use conflict_book::{Book, Legless};
 use event_def::Reply;
+use event_room::end_with;
 use guest_image::Image;
 use place_policy::Placer;
 use rv_core::{Leg, Naming};
@@ -25,7 +23,7 @@ use std::alloc::AllocError;
 use trace_tap::Tap;
 
 /// `step`: the leg of the running task on a core is run, in the place of the one that stood ready.
-fn ask_step<N: Naming, P: Placer, T: Tap>(
+pub(crate) fn ask_step<N: Naming, P: Placer, T: Tap>(
     leg: &mut Leg<N>,
     image: &Image,
     book: &Book<N, P, T>,
@@ -51,7 +49,7 @@ fn ask_step<N: Naming, P: Placer, T: Tap>(
 }
 
 /// `take`: the leg of the running task on a core is held; where no task runs there, nothing is held for that core.
-fn ask_take<N: Naming, P: Placer, T: Tap>(
+pub(crate) fn ask_take<N: Naming, P: Placer, T: Tap>(
     image: &Image,
     book: &Book<N, P, T>,
     held: &mut Vec<Held<N>>,
@@ -80,7 +78,7 @@ fn ask_take<N: Naming, P: Placer, T: Tap>(
 }
 
 /// `give`: the leg that is held for a core takes the place of the one that stood ready.
-fn ask_give<N: Naming, P: Placer, T: Tap>(
+pub(crate) fn ask_give<N: Naming, P: Placer, T: Tap>(
     leg: &mut Leg<N>,
     book: &Book<N, P, T>,
     held: &mut Vec<Held<N>>,
@@ -135,8 +133,22 @@ fn ask_running<N: Naming, P: Placer, T: Tap>(
     }
 }
 
+/// The least task, while a run goes on, for which it looks once; None where the run is over.
+fn least_going<N: Naming, P: Placer, T: Tap>(book: &Book<N, P, T>) -> Option<Where>
+    ensures some { let view = machine_view book.now in
+        IfSome result (λ least. (IsOver view → ⊥) × IsLeast view least) }
+    ensures none { IsNone result → IsOver (machine_view book.now) }
+{
+    let state = book.state();
+    let least = state.least();
+    if end_with(state, least).is_some() {
+        return None;
+    }
+    least
+}
+
 /// `advance`: what brings the least task on.
-fn ask_advance<N: Naming, P: Placer, T: Tap>(
+pub(crate) fn ask_advance<N: Naming, P: Placer, T: Tap>(
     leg: &mut Leg<N>,
     image: &Image,
     book: &Book<N, P, T>,
@@ -147,10 +159,9 @@ fn ask_advance<N: Naming, P: Placer, T: Tap>(
         (asks_of result leg.new) held }
     ensures within { AskedIsInRange N (machine_view book.now).settings result }
 {
-    if book.end().is_some() {
-        return Asked::Says(Reply::Ended);
-    }
-    match book.state().least() {
+    book.is_sound();
+    match least_going(book) {
+        None => Asked::Says(Reply::Ended),
         Some(Where::Idle(id)) => Asked::Legless(Legless::Dispatch {
             tile: book.state().tile_of(id),
         }),
@@ -158,37 +169,5 @@ fn ask_advance<N: Naming, P: Placer, T: Tap>(
         Some(Where::Finished(_)) => Asked::Legless(Legless::Commit),
         Some(Where::Spilled(tile)) => Asked::Legless(Legless::Split { tile }),
         Some(Where::Trapped(_)) => unreachable!(),
-        None => unreachable!(),
-    }
-}
-
-/// The same as `Player::ask`, of the parts of a player.
-pub(crate) fn ask<N: Naming, P: Placer, T: Tap>(
-    leg: &mut Leg<N>,
-    image: &Image,
-    book: &Book<N, P, T>,
-    held: &mut Vec<Held<N>>,
-    act: Act,
-) -> Result<Asked, AllocError>
-    requires image { image.now ≡ N.image }
-    requires within { let settings = (machine_view book.now).settings in
-        ActIsInRange settings.tiles settings.cores act }
-    ensures asks { let book = view_of P.policy T.notes book.now in
-        IfOk result (λ asked. AsksFor {N = N} N.image act (record { book = book; held = held.old.items })
-        (asks_of asked leg.new) held.new.items) }
-    ensures within { IfOk result (AskedIsInRange N (machine_view book.now).settings) }
-    ensures out_of_memory { OnErr result (RunsOut act (record { held = held.old.items; leg = leg.old })
-        (record { held = held.new.items; leg = leg.new })) }
-{
-    match act {
-        Act::Dispatch(tile) => Ok(Asked::Legless(Legless::Dispatch { tile })),
-        Act::Step(tile, core) => Ok(ask_step(leg, image, book, tile, core)),
-        Act::Take(tile, core) => ask_take(image, book, held, tile, core),
-        Act::Give(tile, core) => Ok(ask_give(leg, book, held, tile, core)),
-        Act::Abort(tile) => Ok(Asked::Legless(Legless::Abort { tile })),
-        Act::Commit => Ok(Asked::Legless(Legless::Commit)),
-        Act::Coalesce(tile) => Ok(Asked::Legless(Legless::Coalesce { tile })),
-        Act::Split(tile) => Ok(Asked::Legless(Legless::Split { tile })),
-        Act::Advance => Ok(ask_advance(leg, image, book)),
     }
 }

@@ -1,10 +1,11 @@
 //! Scripts of the machine: read from a text, one act a line, for a machine of so many tiles with so many cores each,
 //! and played on a book, with what is said of each act.
 //!
-//! Between the acts it keeps the legs that are held back. It stands on lines of texts and on the book, which it knows
-//! by its public calls alone; `machine_run` plays by it, `watch_play` plays its acts one by one, and both programs read
-//! by it. Reading takes memory for the acts and time linear in the text. An act costs its event, if it makes one, and
-//! the leg that it runs, if it runs one. `script_text`, `watch_text` and `outcome_law` speak of scripts.
+//! A player stands between the acts: it holds the legs that are held back, tells what an act comes to, and hands that
+//! in. The crate stands on lines of texts and on the book, which it knows by its public calls alone; `machine_run`
+//! plays by it, `watch_play` asks and makes act by act with its player, and both programs read by it. Reading takes
+//! memory for the acts and time linear in the text. An act costs its event, if it makes one, and the leg that it runs,
+//! if it runs one. `script_text`, `watch_text` and `outcome_law` speak of scripts.
 #![tactic(auto)]
 
 mod act;

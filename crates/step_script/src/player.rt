@@ -7,10 +7,10 @@ ghost use Rattle.step_script.specs.Ranges.{ActIsInRange};
 
 use crate::act::Act;
 use crate::asked::Asked;
-use crate::asking::ask;
+use crate::asking::{ask_advance, ask_give, ask_step, ask_take};
 use crate::holding::Held;
 use crate::running::first_leg;
-use conflict_book::Book;
+use conflict_book::{Book, Legless};
 use event_def::Applied;
 use guest_image::Image;
 use place_policy::Placer;
@@ -70,7 +70,17 @@ impl<N: Naming> Player<N> {
         ensures within { IfOk result (AskedIsInRange N (machine_view book.now).settings) }
         ensures out_of_memory { OnErr result (RunsOut act self.old self.new) }
     {
-        ask(&mut self.leg, image, book, &mut self.held, act)
+        match act {
+            Act::Dispatch(tile) => Ok(Asked::Legless(Legless::Dispatch { tile })),
+            Act::Step(tile, core) => Ok(ask_step(&mut self.leg, image, book, tile, core)),
+            Act::Take(tile, core) => ask_take(image, book, &mut self.held, tile, core),
+            Act::Give(tile, core) => Ok(ask_give(&mut self.leg, book, &mut self.held, tile, core)),
+            Act::Abort(tile) => Ok(Asked::Legless(Legless::Abort { tile })),
+            Act::Commit => Ok(Asked::Legless(Legless::Commit)),
+            Act::Coalesce(tile) => Ok(Asked::Legless(Legless::Coalesce { tile })),
+            Act::Split(tile) => Ok(Asked::Legless(Legless::Split { tile })),
+            Act::Advance => Ok(ask_advance(&mut self.leg, image, book)),
+        }
     }
 
     /// Hands in what an act came to, or says its word. Behind an event the book's `effect` tells what it did beside its

@@ -1,8 +1,7 @@
 //! A script that is played on a book.
 
-ghost use Rattle.std.specs.Prelude.{◌≡◌, ◌≢◌, All, IfOk, List, OnErr};
+ghost use Rattle.std.specs.Prelude.{◌≡◌, All, IfOk, List, OnErr};
 ghost use Rattle.conflict_book.specs.BookViews.{machine_view, view_of};
-ghost use Rattle.step_script.specs.declared.act.Act.TheVariants as acts;
 ghost use Rattle.step_script.specs.Playing.{Does, DoesAdvance, HeldLeg, Plays, PlaysSome};
 ghost use Rattle.step_script.specs.Ranges.{ActIsInRange};
 
@@ -49,36 +48,6 @@ fn advance<N: Naming, P: Placer, T: Tap>(
     }
 }
 
-/// Plays an act other than an advance: what it comes to is handed in, or said.
-fn play_asked<N: Naming, P: Placer, T: Tap>(
-    player: &mut Player<N>,
-    image: &Image,
-    book: &mut Book<N, P, T>,
-    act: Act,
-) -> Result<Said, AllocError>
-    requires image { image.now ≡ N.image }
-    requires within { let settings = (machine_view book.old).settings in
-        ActIsInRange settings.tiles settings.cores act }
-    requires other { act ≢ acts.Advance }
-    ensures does { let old = view_of P.policy T.notes book.old in
-        let new = view_of P.policy T.notes book.new in
-        IfOk result (λ said. Does N N.image act (record { book = old; held = player.old.held }) said
-        (record { book = new; held = player.new.held })) }
-    ensures out_of_memory { OnErr result (view_of P.policy T.notes book.new ≡ view_of P.policy T.notes book.old) }
-    ensures settings { let old = view_of P.policy T.notes book.old in
-        (machine_view book.new).settings ≡ old.view.settings }
-{
-    let asked = player.ask(image, book, act)?;
-    let applied = player.make(book, asked);
-    match applied.reply {
-        Reply::Memory => Err(AllocError),
-        reply => Ok(Said {
-            word: Word::Plain(reply),
-            aborted: applied.aborted,
-        }),
-    }
-}
-
 /// Plays one act, and says what came of it.
 fn play_act<N: Naming, P: Placer, T: Tap>(
     player: &mut Player<N>,
@@ -97,9 +66,17 @@ fn play_act<N: Naming, P: Placer, T: Tap>(
     ensures settings { let old = view_of P.policy T.notes book.old in
         (machine_view book.new).settings ≡ old.view.settings }
 {
-    match act {
-        Act::Advance => advance(image, book),
-        _ => play_asked(player, image, book, act),
+    if let Act::Advance = act {
+        return advance(image, book);
+    }
+    let asked = player.ask(image, book, act)?;
+    let applied = player.make(book, asked);
+    match applied.reply {
+        Reply::Memory => Err(AllocError),
+        reply => Ok(Said {
+            word: Word::Plain(reply),
+            aborted: applied.aborted,
+        }),
     }
 }
 

@@ -14,7 +14,7 @@ unreachable-requires g c =
 pub returns-in-Running : goal.returns-in-Running
 returns-in-Running g c taps steps =
     as_slice g.P.Placer.policy c.args.placers.now.items c.as_mut_slice.result.now c.step_least.new.placers _
-    (λ before after. NextComes g.row.N.Denot g.N.Naming.image (book_of c.args.state.now.view before taps steps) c.step_least.result c.step_least.new.state.view after)
+    (λ before after. NextComes g.row.N.Denot g.N.Naming.image (book_of c.args.state.now.view before taps steps) c.step_least.result c.step_least.new.state.view after c.step_least.new.state.effect)
     c.as_mut_slice.ensures.value
     (with_items_is c.args.placers.now c.step_least.new.placers (omega (arith, c.step_least.auto.placers, c.as_mut_slice.ensures.len)))
     (c.step_least.ensures taps steps)

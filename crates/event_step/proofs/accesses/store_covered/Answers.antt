@@ -1,24 +1,22 @@
 use Rattle.std.proofs.Common.{ap}
 use Rattle.spec_state.specs.StateValue.{Spare}
-use Rattle.event_step.proofs.Accessing.{of_ok, asks_on, same_task, log_still}
+use Rattle.event_step.proofs.Accessing.{asks_on, same_task, log_still, stores_telling}
 use Rattle.event_step.proofs.accesses.store_covered.Goals as goal
 
-pub store_at-requires : goal.store_at-requires
-store_at-requires g c = record {
-  asks = asks_on g.N.Naming.image _ _ _ _ c.clear-aborted.ensures.stays _
-      c.requires.asks;
-}
+pub store_reserved-requires-clause-asks : goal.store_reserved-requires-clause-asks
+store_reserved-requires-clause-asks g c =
+    asks_on g.N.Naming.image _ _ _ _ c.clear-aborted.ensures.stays _ c.requires.asks
+
+pub store_reserved-requires-clause-covers : goal.store_reserved-requires-clause-covers
+store_reserved-requires-clause-covers g c =
+    let same = same_task g.N.Naming.image _ _ _ _ c.clear-aborted.ensures.stays _ c.requires.asks in
+    let spare = ap (λ (s : Spare). s.log) c.clear-aborted.ensures.spare in
+    log_still c.args.state.now c.clear-aborted.new.state c.args.id.0 same spare c.requires.covered
 
 pub returns : goal.returns
 returns g c tile core task takes =
     let still = c.clear-aborted.ensures.stays tile core task takes in
-    let same = same_task g.N.Naming.image _ _ _ _ c.clear-aborted.ensures.stays _ c.requires.asks in
-    let spare = ap (λ (s : Spare). s.log) c.clear-aborted.ensures.spare in
-    let ok = c.store_at.ensures.covered (log_still c.args.state.now c.clear-aborted.new.state c.args.id.0 same
-    spare c.requires.covered) in
-    record {
-      mid = c.clear-aborted.new.state.view;
-      forced = c.clear-aborted.ensures.conflicts tile core task takes;
-      change = of_ok _ _ c.store_at.ensures.stores ok tile core task still.takes (still.sound.memory.noted
-          c.args.id.0 task still.there);
-    }
+    stores_telling tile core _ c.args.id.0 task c.args.offset c.clear-aborted.result _ _ _ _ _
+    c.store_reserved.ensures.effect c.args.width c.args.value (c.clear-aborted.ensures.conflicts tile core task takes)
+    (c.store_reserved.ensures.stores tile core task still.takes
+    (still.sound.memory.noted c.args.id.0 task still.there))

@@ -1,10 +1,9 @@
-use Rattle.std.proofs.Common.{refl, arith, ◌<◌, length}
+use Rattle.std.proofs.Common.{refl, arith, ◌<◌, ◌∙◌, length}
 use Rattle.spec_state.specs.View.{finished_at}
 use Rattle.event_def.specs.Causes.{IsCommitFull}
-use Rattle.event_def.specs.Events.{has_free}
 use Rattle.event_def.specs.Book.{book_of}
 use Rattle.event_lemma.proofs.Proved.{free_no_stall, later_no_stall}
-use Rattle.event_step.proofs.Ending.{of_there, made_end, stalls_end}
+use Rattle.event_step.proofs.Ending.{of_there, ends_freely, made_end, stalls_end}
 use Rattle.event_step.proofs.ends.end.Goals as goal
 
 pub returns-then-commit_free-gt0 : goal.returns-then-commit_free-gt0
@@ -17,13 +16,9 @@ returns-then-commit_free-gt0 g c placers core task takes taps steps =
     c.requires.goes_on c.requires.asks takes
     (free_no_stall (book_of c.args.state.now.view placers taps steps) c.args.tile core c.args.id.0
     c.args.leg.now task takes free)
-    0 _ c.record_of.result
-    (record {
-      mid = c.args.state.now.view;
-      forced = has_free free;
-      change = c.finish.ensures.finishes
-          c.args.tile core task takes;
-    })
+    0 _ _ c.record_of.result
+    (ends_freely c.args.tile core c.args.id.0 c.args.leg.now task _ _ _ free
+    (c.finish.ensures.finishes c.args.tile core task takes) (c.finish.ensures.effect ∙ c.requires.fresh))
     c.record_of.ensures
 
 pub returns-in-Some : goal.returns-in-Some
@@ -33,7 +28,7 @@ returns-in-Some g c placers core task takes taps steps =
     c.requires.goes_on c.requires.asks takes
     (later_no_stall (book_of c.args.state.now.view placers taps steps) c.args.tile core c.args.id.0
     c.args.leg.now task takes _ later.0 later.1.of_kind later.2)
-    c.finish_after-aborted.result _ c.record_of-in-Some.result (c.finish_after-aborted.ensures core task takes)
+    c.finish_after-aborted.result _ _ c.record_of-in-Some.result (c.finish_after-aborted.ensures core task takes)
     c.record_of-in-Some.ensures
 
 pub returns-in-None : goal.returns-in-None
@@ -44,4 +39,4 @@ returns-in-None g c placers core task takes taps steps =
     stalls_end g.row.N.Denot _ placers taps steps c.args.tile core c.args.id.0 c.args.leg.now task
     c.requires.goes_on c.requires.asks takes
     full
-    (of_there _ _ task (c.in-None.ensures.none refl) takes.runs.on.there)
+    (of_there _ _ task (c.in-None.ensures.none refl) takes.runs.on.there) _ c.requires.fresh

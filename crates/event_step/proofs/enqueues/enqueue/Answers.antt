@@ -1,4 +1,4 @@
-use Rattle.std.proofs.Common.{sym, subst}
+use Rattle.std.proofs.Common.{sym, subst, ◌∙◌}
 use Rattle.spec_state.specs.Changes.{TakesLeg}
 use Rattle.spec_state.specs.Room.{Enqueuer}
 use Rattle.spec_state.specs.View.{View}
@@ -10,7 +10,8 @@ pub returns-then-stalls : goal.returns-then-stalls
 returns-then-stalls g c core task takes taps steps =
     stalls_enqueue g.row.N.Denot _ _ taps steps c.args.tile core c.args.id.0 c.args.leg.now task c.args.child
     c.requires.goes_on c.requires.asks takes
-    c.pick-target.result c.pick-target.ensures.chosen (c.stalls.ensures.stalls.0 c.if-stalls.true)
+    c.pick-target.result c.pick-target.ensures.chosen (c.stalls.ensures.stalls.0 c.if-stalls.true) _
+    c.requires.fresh
 
 pub returns-then-is_err : goal.returns-then-is_err
 returns-then-is_err g c core task takes taps steps =
@@ -20,7 +21,7 @@ returns-then-is_err g c core task takes taps steps =
       c.stalls.ensures.stalls.1 stalls,
       c.if-stalls.false,
     )))
-    _ c.reserve.ensures.view
+    _ _ c.reserve.ensures.view (c.reserve.ensures.effect ∙ c.requires.fresh)
 
 pub place-aborted-requires-clause-may_enter : goal.place-aborted-requires-clause-may_enter
 place-aborted-requires-clause-may_enter g c =
@@ -38,5 +39,5 @@ returns g c core task takes taps steps =
       c.stalls.ensures.stalls.1 stalls,
       c.if-stalls.false,
     )))
-    c.pick-target.ensures.inside _ same c.place-aborted.result _ _ c.record_of.result
+    c.pick-target.ensures.inside _ same c.place-aborted.result _ _ _ c.record_of.result
     (c.place-aborted.ensures c.args.tile core task ready) c.serving_placed.ensures c.record_of.ensures

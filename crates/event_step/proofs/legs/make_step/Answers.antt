@@ -1,5 +1,11 @@
 use Rattle.event_step.proofs.legs.make_step.Goals as goal
 
+pub returns-in-Quantum : goal.returns-in-Quantum
+returns-in-Quantum g c core task takes taps steps = c.go_on.ensures _ core task takes taps steps
+
+pub returns-in-Continue : goal.returns-in-Continue
+returns-in-Continue g c core task takes taps steps = c.go_on-in-Continue.ensures _ core task takes taps steps
+
 pub returns-in-Load : goal.returns-in-Load
 returns-in-Load g c core task takes taps steps = c.load.ensures _ core task takes taps steps
 

@@ -11,11 +11,11 @@ returns-in-Some g c =
     let new = view_of g.P.Placer.policy g.T.Tap.notes c.advance_once.new.self in
     halted g.row.N.Denot g.N.Naming.image c.loop-made.made (view_of g.P.Placer.policy g.T.Tap.notes c.args.self.now) mid new c.in-Some.halt
     c.is_sound.ensures.sound c.loop-made.invariant
-    (subst (λ a. AdvanceAnswers g.row.N.Denot g.N.Naming.image mid a new) c.in-Some.ensures.some c.advance_once.ensures)
+    (subst (λ a. AdvanceAnswers g.row.N.Denot g.N.Naming.image mid a new) c.in-Some.ensures.some c.advance_once.ensures.0)
 
 pub loop-made-preserved : goal.loop-made-preserved
 loop-made-preserved g c =
-    one_more g.row.N.Denot g.N.Naming.image c.loop-made.made _ _ _ c.advance_once.result c.loop-made.invariant c.advance_once.ensures (c.in_default.ensures.none refl)
+    one_more g.row.N.Denot g.N.Naming.image c.loop-made.made _ _ _ c.advance_once.result c.loop-made.invariant c.advance_once.ensures.0 (c.in_default.ensures.none refl)
 
 pub unreachable-requires : goal.unreachable-requires
 unreachable-requires g c =

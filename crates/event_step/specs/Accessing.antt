@@ -1,0 +1,28 @@
+-- Accesses, with what they tell.
+use Rattle.std.specs.Prelude.{◌≡◌, ℕ, Bool, None}
+use Rattle.rv_core.specs.LegValue.{LegValue}
+use Rattle.rv_table.specs.declared.instr.LoadWidth.{LoadWidth}
+use Rattle.spec_state.specs.declared.task.Task.{Task}
+use Rattle.spec_state.specs.Effects.{EffectValue}
+use Rattle.spec_state.specs.View.{View}
+use Rattle.event_def.specs.Events.{TakesConflicts, LoadEvent, StoreEvent}
+use Rattle.event_def.specs.Telling.{TellsAbort}
+
+-- what conflicts with an access is taken back, and it alone is told
+abbrev pub TakesTelling : Task → ℕ → Bool → View → ℕ → View → EffectValue → Type 0
+TakesTelling task offset write old aborted new effect =
+    (takes : TakesConflicts task offset write old aborted new)
+    × TellsAbort old takes.marks effect × (effect.arrived ≡ None)
+
+module _ (tile core : ℕ) (leg : LegValue) (id : ℕ) (task : Task) where
+  -- a load, which tells what conflicted with it
+  abbrev pub LoadsTelling : LoadWidth → ℕ → ℕ → View → ℕ → View → EffectValue → Type 0
+  LoadsTelling width rd offset old aborted new effect =
+      (loads : LoadEvent tile core leg id task width rd offset old aborted new)
+      × TellsAbort old loads.forced.marks effect × (effect.arrived ≡ None)
+
+  -- a store, likewise
+  abbrev pub StoresTelling : ℕ → ℕ → ℕ → View → ℕ → View → EffectValue → Type 0
+  StoresTelling offset width value old aborted new effect =
+      (stores : StoreEvent tile core leg id task offset width value old aborted new)
+      × TellsAbort old stores.forced.marks effect × (effect.arrived ≡ None)
