@@ -136,7 +136,7 @@ module _ (N : Type 0) (image : ImageValue) (first : PlayState) (first_sound : So
     sound = first_sound;
     going = first_going;
     commits = refl;
-    few = λ left has. rest_is_bounded first.book.view left has;
+    few = λ left has. let most = rest_is_bounded first.book.view left has in omega (arith, most);
   }
   gets_on count last (once_more n mid new m before on is advances same) =
       by_asks n mid new (gets_on n mid before) m on is same

@@ -403,7 +403,15 @@ pub fn play_rounds<N: Naming, P: Placer, T: Tap, K: Sink>(
 {
     match round_acts(watch.book.alloc(), watch.book.settings()) {
         Ok(mut acts) => {
-            play_in_order(watch, sink, image, acts.as_mut_slice(), rounds, seed, barren)
+            play_in_order(
+                watch,
+                sink,
+                image,
+                acts.as_mut_slice(),
+                rounds,
+                seed,
+                barren,
+            )
         }
         Err(_) => Err(StoryStop::Memory),
     }
