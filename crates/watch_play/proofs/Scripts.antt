@@ -36,8 +36,8 @@ least_act_is n stage = refl
 
 module _ (N : Type 0) (image : ImageValue) (each : Option ℕ) (first : PlayState) (began : SinkState) where
   -- the next act of a script is told, by what is counted on the way
-  pub script_goes_on : (script : List Act) (stage : Stage) (i at count : ℕ) (every : Option ℕ) (d : Act) (old new : PlayState)
-      (now after : SinkState) (r : Result (Unit {0}) StoryStop) → i < length script → at ≡ i → count ≡ i → every ≡ each
+  pub script_goes_on : (script : List Act) (stage : Stage) (i at count : ℕ) (every : Option ℕ) (d : Act)
+      (old new : PlayState) (now after : SinkState) (r : Result (Unit {0}) StoryStop) → i < length script → at ≡ i → count ≡ i → every ≡ each
       → CourseGoes N image each (OfScript script) first began i stage i old now
       → TellsAct N image every (at + 1) (count + 1) (slice_index_or script i d) old new now after r
       → CourseGoesOn N image each (OfScript script) first began (i + 1) stage (i + 1) new after r

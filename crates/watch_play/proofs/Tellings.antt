@@ -265,7 +265,8 @@ act_goes_on N image each number act told new_told old new now after r asked tell
     (subst (λ i. TellsAct N i each (number + 1) (told + 1) act old new now after r) (sym image_is) tells)))
   where
     by_result : (q : Result (Unit {0}) StoryStop) → OnOk q (new_told ≡ told + 1)
-        → GoesOn N plan opening (number + 1) (next_stage plan.course stage (commits_of new)) (told + 1) new start after q
+        → GoesOn N plan opening (number + 1) (next_stage plan.course stage (commits_of new)) (told + 1) new start
+        after q
         → GoesOn N plan opening (number + 1) (next_stage plan.course stage (commits_of new)) new_told new start after q
     by_result (Ok done) counts goes =
         subst (λ n. GoesSoFar N plan opening (number + 1) (next_stage plan.course stage (commits_of new)) n new start

@@ -11,8 +11,8 @@ use Rattle.watch_play.specs.Courses.{Course, Stage, course_act, first_stage, IsA
 abbrev pub begun : BookView → PlayState
 begun opening = record { book = opening; held = [] }
 
--- the act of this number, counted from 0, comes at this stage: it isn't asked for, and passes; or it is, and is a moment
--- more
+-- the act of this number, counted from 0, comes at this stage: it isn't asked for, and passes; or it is, and is a
+-- moment more
 pub data ActComes {N : Type 0} (image : ImageValue) (course : Course) (number : ℕ) (stage : Stage)
     (front : List (Moment N)) (old : PlayState) (moments : List (Moment N)) (new : PlayState) : Type 0 where
   Passes : (act : Act) → course_act course number stage ≡ Some act → (IsAskedBy course old.book.view act → ⊥)

@@ -111,8 +111,8 @@ ActGoesOn N image each number act told new_told old new now after result =
     → GoesOn N plan opening (number + 1) (next_stage plan.course stage (commits_of new)) new_told new start after
     result
 
--- whatever story of such a course led to a round in this order, the acts of the round lead on, to the next round, or the
--- story ends on the way
+-- whatever story of such a course led to a round in this order, the acts of the round lead on, to the next round, or
+-- the story ends on the way
 abbrev pub RoundGoesOn : (N : Type 0) → ImageValue → Option ℕ → (number : ℕ) → List Act → (told new_told : ℕ)
     → (old new : PlayState) → (now after : SinkState) → Result (Unit {0}) StoryStop → Type 0
 RoundGoesOn N image each number acts told new_told old new now after result =

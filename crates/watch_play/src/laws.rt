@@ -38,8 +38,8 @@ pub fn forced_gets_on<N: Naming>()
 {}
 
 /// Of a story in rounds no more rounds came than so many for each commit and as many again, where the least task is
-/// brought on behind so many barren ones: a story of enough rounds reaches the end of its run, its limit of commits or a
-/// trap. Where none at all may be barren no round need commit.
+/// brought on behind so many barren ones: a story of enough rounds reaches the end of its run, its limit of commits or
+/// a trap. The number is one at least, as no stretch of no rounds is one that brought no commit.
 pub fn rounds_commit<N: Naming>()
     ensures { RoundsCommit N }
 {}

@@ -37,8 +37,8 @@ loop-made-preserved g c =
     record {
       goes = course_told g.row.N.Denot g.N.Naming.image c.args.watch.now.each OfLeast first began (i + 1) stage
           (i + 1) new after c.tell_act.result
-          (least_goes_on g.row.N.Denot g.N.Naming.image c.args.watch.now.each first began stage i c.loop-made.watch.count
-          c.loop-made.watch.each old new (g.K.Sink.state c.loop-made.sink) after c.tell_act.result
+          (least_goes_on g.row.N.Denot g.N.Naming.image c.args.watch.now.each first began stage i
+          c.loop-made.watch.count c.loop-made.watch.each old new (g.K.Sink.state c.loop-made.sink) after c.tell_act.result
           inv.count inv.each (search rules) inv.goes c.tell_act.ensures.tells)
           (search rules);
       each = c.tell_act.ensures.each ∙ inv.each;

@@ -20,8 +20,8 @@ returns-in_err-tell_act g c =
     course_stops g.row.N.Denot g.N.Naming.image c.args.watch.now.each (OfScript c.args.script.now) first began (i + 1)
     stage (i + 1)
     new after c.tell_act.result c.from_residual.result c.in_err-tell_act.field-0.0
-    (script_goes_on g.row.N.Denot g.N.Naming.image c.args.watch.now.each first began c.args.script.now stage i c.loop-act.at
-    c.loop-act.watch.count c.loop-act.watch.each _ old new (g.K.Sink.state c.loop-act.sink) after c.tell_act.result
+    (script_goes_on g.row.N.Denot g.N.Naming.image c.args.watch.now.each first began c.args.script.now stage i
+    c.loop-act.at c.loop-act.watch.count c.loop-act.watch.each _ old new (g.K.Sink.state c.loop-act.sink) after c.tell_act.result
     (search rules) inv.at inv.count inv.each inv.goes c.tell_act.ensures.tells)
     c.in_err-tell_act.was told
 
