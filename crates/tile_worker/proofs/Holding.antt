@@ -53,9 +53,18 @@ module _ (N : Type 0) (image : ImageValue) (old mid new : BookView) where
   by_least (answers.Ended end) so on = absurd on
   by_least answers.Memory so on = absurd on
 
+  goes_on : (answer : Advance) → ((n : ℕ) × (answer ≡ answers.Moved n)) ⊎ (answer ≡ answers.Committed)
+      → AdvanceGoesOn answer
+  goes_on answer (inl moved) = subst AdvanceGoesOn (sym moved.1) tt
+  goes_on answer (inr committed) = subst AdvanceGoesOn (sym committed) tt
+
   -- and so it is with the event for the least task
   pub advance_made : (answer : Advance) → AdvanceAnswers N image old answer mid → AdvanceGoesOn answer → new ≡ mid → MakesOne N old new
   advance_made answer so on same = subst (λ (b : BookView). MakesOne N old b) (sym same) (by_least answer so on)
+
+  pub advance_moved : (answer : Advance) → AdvanceAnswers N image old answer mid
+      → ((n : ℕ) × (answer ≡ answers.Moved n)) ⊎ (answer ≡ answers.Committed) → new ≡ mid → MakesOne N old new
+  advance_moved answer so is same = advance_made answer so (goes_on answer is) same
 
   pub advance_ended : (answer : Advance) (end : End) → AdvanceAnswers N image old answer mid → answer ≡ answers.Ended end → new ≡ mid
       → IsOver old.view × (new ≡ old)

@@ -8,7 +8,6 @@ use Rattle.spec_state.specs.Effects.{EffectValue}
 use Rattle.spec_state.specs.View.{View}
 use Rattle.event_def.specs.declared.event.Reply.{Reply}
 use Rattle.event_def.specs.declared.event.Reply.TheVariants as reply
-use Rattle.event_def.specs.Book.{BookView}
 use Rattle.step_script.specs.declared.act.Act.{Act}
 use Rattle.step_script.specs.declared.asked.Asked.{Asked}
 use Rattle.step_script.specs.Playing.{PlayState}

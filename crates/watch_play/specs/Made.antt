@@ -6,7 +6,6 @@ use Rattle.place_policy.specs.Policy.{Policy}
 use Rattle.sim_io.specs.Parts.{Writes}
 use Rattle.sim_io.specs.Streams.{SinkState}
 use Rattle.trace_tap.specs.TapValue.{TapValue}
-use Rattle.event_def.specs.Book.{BookView}
 use Rattle.conflict_book.specs.BookViews.{view_of}
 use Rattle.step_script.specs.declared.act.Act.{Act}
 use Rattle.step_script.specs.Playing.{PlayState}

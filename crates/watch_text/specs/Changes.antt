@@ -1,5 +1,5 @@
 -- What stands in a line behind its event: the reply, and what changed.
-use Rattle.std.specs.Prelude.{◌≡◌, ◌-◌, ◌==◌, ℕ, List, [], ◌∷◌, ◌++◌, codes, decimal, drop, filter, length, map}
+use Rattle.std.specs.Prelude.{◌-◌, ◌==◌, ℕ, List, [], ◌∷◌, ◌++◌, codes, decimal, drop, filter, length, map}
 use Rattle.std.specs.Prelude.{Some, None, option_and_then, option_map, slice_get, if◌then◌else◌}
 use Rattle.std.specs.declared.option.Option.{Option}
 use Rattle.run_journal.specs.declared.journal.Entry.{Entry}

@@ -1,6 +1,6 @@
 //! Lists of a line, with commas between their items.
 
-ghost use Rattle.std.specs.Prelude.{◌++◌, ◌≡◌, decimal, OnOk};
+ghost use Rattle.std.specs.Prelude.{◌++◌, ◌≡◌, decimal, List, OnOk, ℕ};
 ghost use Rattle.std.specs.String.{string_bytes};
 ghost use Rattle.watch_text.specs.Fields.{items_field, items_text, more_items};
 

@@ -1,5 +1,4 @@
 use Rattle.std.proofs.Common.{◌≡◌}
-use Rattle.conflict_book.specs.BookViews.{machine_view}
 use Rattle.watch_play.specs.Courses.{OfLeast, first_stage}
 use Rattle.watch_play.specs.Made.{play_of}
 use Rattle.watch_play.specs.Stories.{commits_of}

@@ -1,4 +1,4 @@
-use Rattle.std.proofs.Common.{rules, ◌≢◌, ◌+◌, refl, ◌∙◌}
+use Rattle.std.proofs.Common.{rules, ◌≢◌, ◌+◌}
 use Rattle.std.specs.String.{string_bytes}
 use Rattle.event_def.specs.declared.event.Reply.TheVariants as reply
 use Rattle.conflict_book.specs.BookViews.{effect_of, view_of}
