@@ -4,7 +4,7 @@ ghost use Rattle.std.specs.Prelude.{◌≡◌, ◌++◌, OnOk};
 ghost use Rattle.std.specs.String.{string_bytes};
 ghost use Rattle.watch_text.specs.Fields.{window_field};
 ghost use Rattle.watch_text.specs.Opening.{bounds_text, contents_text, course_text, head_line, image_text, limits_text};
-ghost use Rattle.watch_text.specs.Opening.{settings_text, sizes_text};
+ghost use Rattle.watch_text.specs.Opening.{rounds_text, settings_text, sizes_text};
 
 use crate::fields::{put_number, put_word};
 use crate::words::kind_word;
@@ -32,6 +32,15 @@ pub enum CourseWord {
     },
 }
 
+/// How many rounds, what their orders are drawn from, and how many may be barren.
+fn put_rounds(line: &mut String, rounds: u32, seed: u32, barren: u32) -> Result<(), AllocError>
+    ensures { OnOk result (string_bytes line.new ≡ string_bytes line.old ++ rounds_text rounds seed barren) }
+{
+    put_number(line, "rounds", u64::from(rounds))?;
+    put_number(line, "seed", u64::from(seed))?;
+    put_number(line, "barren", u64::from(barren))
+}
+
 fn put_course(line: &mut String, course: CourseWord) -> Result<(), AllocError>
     ensures { OnOk result (string_bytes line.new ≡ string_bytes line.old ++ course_text course) }
 {
@@ -44,9 +53,7 @@ fn put_course(line: &mut String, course: CourseWord) -> Result<(), AllocError>
             barren,
         } => {
             put_word(line, "course", "lockstep")?;
-            put_number(line, "rounds", u64::from(rounds))?;
-            put_number(line, "seed", u64::from(seed))?;
-            put_number(line, "barren", u64::from(barren))
+            put_rounds(line, rounds, seed, barren)
         }
     }
 }
