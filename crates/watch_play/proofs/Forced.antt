@@ -2,7 +2,6 @@
 use Rattle.std.proofs.Common.{◌≡◌, ◌≢◌, ◌≤◌, ◌+◌, ℕ, false, length, refl, sym, ap, subst, ◌∙◌, arith, le_refl}
 use Rattle.std.proofs.lemmas.List.{length-append}
 use Rattle.guest_image.specs.ImageValue.{ImageValue}
-use Rattle.rv_core.specs.LegValue.{LegValue}
 use Rattle.spec_law.specs.Sound.{Sound}
 use Rattle.event_def.specs.declared.event.Event.{Event}
 use Rattle.event_def.specs.declared.event.Event.TheVariants as event
@@ -14,7 +13,6 @@ use Rattle.event_def.specs.End.{IsOver}
 use Rattle.event_def.specs.Happens.{Happens, IsMade}
 use Rattle.event_law.proofs.Proved.{advances_fall, event_stays, event_stays_sound, least_event_is_granted}
 use Rattle.event_law.proofs.Proved.{next_event_is_given, rest_is_bounded, rest_is_there}
-use Rattle.step_script.specs.declared.act.Act.TheVariants as acts
 use Rattle.step_script.specs.Asking.{AsksAdvance, AsksFor, Attempt, ComesOf, Hands, Says}
 use Rattle.step_script.specs.Asking as asking
 use Rattle.step_script.specs.Playing.{PlayState}

@@ -1,8 +1,7 @@
 -- A course in rounds gets on, and is a script of its acts.
 use Rattle.std.proofs.Common.{◌≡◌, ◌≢◌, ◌<◌, ◌≤◌, ◌+◌, ◌*◌, ◌==◌, ℕ, zero, suc, Bool, true, false, List, All, length}
-use Rattle.std.proofs.Common.{Some, None, nat_lt, inl, inr, sym, ap, subst, ◌∙◌, arith, le_refl}
+use Rattle.std.proofs.Common.{Some, None, nat_lt, sym, ap, subst, arith, le_refl}
 use Rattle.std.specs.Prelude.{if◌then◌else◌, slice_get}
-use Rattle.std.specs.declared.option.Option.{Option}
 use Rattle.std.proofs.lemmas.Bool.{cond-false, cond-true, cond_both, eqb-false, eqb-true}
 use Rattle.std.proofs.lemmas.Nat.{mul-le}
 use Rattle.std.proofs.lemmas.Option.{get_or_from_slice_get, slice_get_within}
@@ -14,7 +13,7 @@ use Rattle.step_script.specs.declared.act.Act.TheVariants as acts
 use Rattle.step_script.specs.Playing.{PlayState}
 use Rattle.step_script.specs.Ranges.{ActIsInRange}
 use Rattle.watch_text.specs.Moments.{Moment}
-use Rattle.watch_play.specs.Courses.{OfRounds, Order, Stage, at_round, barren_after, course_act, first_stage}
+use Rattle.watch_play.specs.Courses.{OfRounds, Stage, at_round, barren_after, course_act, first_stage}
 use Rattle.watch_play.specs.Courses.{forced_stage, next_order, next_round, round_act, round_acts, stage_after}
 use Rattle.watch_play.specs.Lockstep.{LockstepPlays, RoundsCommit}
 use Rattle.watch_play.specs.Stories.{ActComes, Makes, Passes, StoryLeads, commits_of}

@@ -15,7 +15,7 @@ use Rattle.step_script.specs.Playing.{PlayState}
 use Rattle.watch_play.specs.declared.lockstep.SoFar.{SoFar}
 use Rattle.watch_play.specs.declared.stop.StoryStop.{StoryStop}
 use Rattle.watch_play.specs.declared.stop.StoryStop.TheVariants as stops
-use Rattle.watch_play.specs.Courses.{Course, IsThrough, OfRounds, Order, Stage, at_round, barren_after, forced_stage}
+use Rattle.watch_play.specs.Courses.{IsThrough, OfRounds, Order, Stage, at_round, barren_after, forced_stage}
 use Rattle.watch_play.specs.Courses.{course_act, first_stage, next_order, next_round, next_stage, round_acts}
 use Rattle.watch_play.specs.Courses.{stage_after}
 use Rattle.watch_play.specs.Made.{TellsAct}

@@ -1,6 +1,6 @@
 -- The acts of a round, their number and their order.
 use Rattle.std.proofs.Common.{◌≡◌, ◌<◌, ◌≤◌, ◌+◌, ◌-◌, ◌*◌, ◌/◌, ◌^◌, ◌++◌, ◌∷◌, ◌==◌, ℕ, zero, suc, List, []}
-use Rattle.std.proofs.Common.{All, length, map, replicate, set, refl, inl, inr, le_refl}
+use Rattle.std.proofs.Common.{All, length, map, replicate, set, inl, inr, le_refl}
 use Rattle.std.proofs.Common.{sym, ap, subst, ◌∙◌, arith, append_assoc, append-nil, length-append, map-id, add-one}
 use Rattle.std.specs.Prelude.{slice_index_or}
 use Rattle.std.specs.List.{flat_map, range_with_len, swap}

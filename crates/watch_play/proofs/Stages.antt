@@ -1,8 +1,7 @@
 -- The stages of a course in rounds.
-use Rattle.std.proofs.Common.{◌≡◌, ◌≢◌, ◌<◌, ◌+◌, ◌==◌, ℕ, Bool, true, false, List, length, nat_lt, Some, None, refl}
-use Rattle.std.proofs.Common.{sym, ap, subst, ◌∙◌, eq-eqb, arith, lt-ltb}
+use Rattle.std.proofs.Common.{◌≡◌, ◌≢◌, ◌<◌, ◌+◌, ◌==◌, ℕ, false, length, nat_lt, Some, None, refl}
+use Rattle.std.proofs.Common.{sym, ap, ◌∙◌, eq-eqb, arith, lt-ltb}
 use Rattle.std.specs.Prelude.{if◌then◌else◌, slice_get}
-use Rattle.std.specs.declared.option.Option.{Option}
 use Rattle.std.proofs.lemmas.Bool.{cond-false, cond-true, false_from_ne_true, eqb-true}
 use Rattle.std.proofs.lemmas.Bool.Decides.{nat_tests}
 use Rattle.spec_state.specs.declared.settings.Settings.{Settings}

@@ -1,4 +1,4 @@
-use Rattle.std.proofs.Common.{rules, arith, ◌≡◌, ◌+◌, Err, length, ◌∙◌}
+use Rattle.std.proofs.Common.{rules, arith, ◌≡◌, Err, length, ◌∙◌}
 use Rattle.conflict_book.specs.BookViews.{machine_view}
 use Rattle.watch_play.specs.Made.{play_of}
 use Rattle.watch_play.proofs.InRounds.{forced_begins, forced_stops, forced_told, forced_wants}

@@ -1,4 +1,4 @@
-use Rattle.std.proofs.Common.{rules, arith, ◌≡◌, ◌<◌, ◌≤◌, ◌+◌, All, Err, inl, sym, ap, subst, ◌∙◌, length}
+use Rattle.std.proofs.Common.{rules, arith, ◌≡◌, ◌<◌, All, Err, inl, sym, ap, subst, ◌∙◌, length}
 use Rattle.std.proofs.lemmas.List.Sorted.{All-permutation}
 use Rattle.conflict_book.specs.BookViews.{machine_view}
 use Rattle.spec_state.specs.declared.settings.Settings.{Settings}

@@ -1,4 +1,4 @@
-use Rattle.std.proofs.Common.{rules, ◌≡◌, ◌+◌, Err, length}
+use Rattle.std.proofs.Common.{rules, ◌≡◌, Err, length}
 use Rattle.std.proofs.lemmas.List.Sorted.{All-permutation}
 use Rattle.conflict_book.specs.BookViews.{machine_view}
 use Rattle.step_script.specs.Ranges.{ActIsInRange}

@@ -1,4 +1,4 @@
-use Rattle.std.proofs.Common.{rules, arith, ◌≡◌, ◌+◌, Err, ◌∙◌}
+use Rattle.std.proofs.Common.{rules, arith, ◌≡◌, Err, ◌∙◌}
 use Rattle.watch_play.specs.Made.{play_of}
 use Rattle.watch_play.proofs.InRounds.{round_ends, round_stops, round_told}
 use Rattle.watch_play.proofs.lockstep.play_round.Goals as goal
