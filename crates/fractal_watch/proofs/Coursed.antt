@@ -1,5 +1,5 @@
 -- A course behind its opening.
-use Rattle.std.proofs.Common.{◌≡◌, inl, List, [], refl, sym, subst, append-nil, Err}
+use Rattle.std.proofs.Common.{◌≡◌, inl, List, [], length, refl, sym, subst, append-nil, Err}
 use Rattle.sim_io.specs.Parts.{TakesFront}
 use Rattle.sim_io.specs.Streams.{SinkState}
 use Rattle.spec_state.specs.declared.settings.Settings.{Settings}
@@ -7,7 +7,7 @@ use Rattle.event_def.specs.Book.{BookView}
 use Rattle.step_script.specs.declared.act.Act.{Act}
 use Rattle.watch_play.specs.declared.stop.StoryStop.{StoryStop}
 use Rattle.watch_play.specs.declared.stop.StoryStop.TheVariants as stops
-use Rattle.watch_play.specs.Courses.{course_word}
+use Rattle.watch_play.specs.Courses.{course_word, first_stage}
 use Rattle.watch_play.specs.Stories.{begun}
 use Rattle.watch_play.specs.Telling.{HasStory, Plan, Tells, TellsOpening}
 use Rattle.watch_play.specs.Texts.{opening_lines}
@@ -20,12 +20,18 @@ pub same_word : (course : CourseWord) (settings : Settings) (script : List Act)
     → course_word (course_of course settings script) ≡ course
 same_word courses.Steps settings script = refl
 same_word courses.Least settings script = refl
-same_word (courses.Lockstep rounds seed) settings script = refl
+same_word (courses.Lockstep rounds seed barren) settings script = refl
 
 module _ (N : Type 0) (plan : Plan) (opening : BookView) where
   -- the story before the first act
   nothing_yet : (book : BookView) → book ≡ opening → HasStory {N = N} plan opening [] book
-  nothing_yet book same = record { count = 0; last = begun opening; goes = (refl, refl); book_is = same }
+  nothing_yet book same = record {
+    count = 0;
+    stage = first_stage plan.course (length opening.view.history);
+    last = begun opening;
+    goes = (refl, refl, refl);
+    book_is = same;
+  }
 
   -- the lines before the first act weren't all told
   pub opening_stopped : (book : BookView) (before after : SinkState) (stop : StoryStop) → book ≡ opening

@@ -34,7 +34,7 @@ pub record TellsFault (call : Call) (o : Outcome) : Type 0 where
 pub record TellsStory (N : Type 0) (call : Call) (o : Outcome) : Type 0 where
   pub watched : IsWatched N call.input o
   pub through : IsThrough (plan_of watched.asking watched.image watched.script).course watched.story.count
-      watched.book.view
+      watched.story.stage watched.book.view
   pub end : End
   pub stands : StandsAt watched.book.view end
   pub end_is : o.end ≡ Some end
@@ -73,7 +73,8 @@ pub data IsCutText (N : Type 0) (call : Call) (o : Outcome) : List ℕ → Type 
   OfFault : (status : ℕ) (line : List ℕ) → IsFault call.input status line → IsEmpty o → IsCutText N call o line
   OfStory : (watched : IsWatched N call.input o) → IsCutText N call o (lines_of_watched watched)
   OfEnd : (watched : IsWatched N call.input o) (end : End) → StandsAt watched.book.view end
-      → IsThrough (plan_of watched.asking watched.image watched.script).course watched.story.count watched.book.view
+      → IsThrough (plan_of watched.asking watched.image watched.script).course watched.story.count
+      watched.story.stage watched.book.view
       → IsCutText N call o (text_of_watched watched end)
 
 -- the sink failed (7): it took the first bytes of a text, and no other byte; the run stopped there

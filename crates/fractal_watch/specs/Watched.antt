@@ -23,7 +23,7 @@ use Rattle.fractal_watch.specs.Given.{IsWatchScript, WatchReadsImage}
 abbrev pub course_of : CourseWord → Settings → List Act → Course
 course_of courses.Steps settings script = OfScript script
 course_of courses.Least settings script = OfLeast
-course_of (courses.Lockstep rounds seed) settings script = OfRounds rounds seed settings
+course_of (courses.Lockstep rounds seed barren) settings script = OfRounds rounds seed barren settings
 
 -- what is to be told of an image
 abbrev pub plan_of : Asking → ImageValue → List Act → Plan

@@ -9,6 +9,7 @@ use Rattle.command_line.specs.Settings.{between}
 use Rattle.watch_text.specs.declared.head.CourseWord.{CourseWord}
 use Rattle.watch_text.specs.declared.head.CourseWord.TheVariants as courses
 use Rattle.fractal_watch.specs.declared.words.Asking.{Asking}
+use Rattle.fractal_watch.specs.declared.words.TheConstants.{BARREN_ROUNDS}
 
 -- behind each so many moments the view is told, or never; and the words behind that
 pub record WordsBehindViews : Type 0 where
@@ -36,15 +37,34 @@ pub record WordsOfCourse : Type 0 where
 abbrev pub words_of : CourseWord → List ℕ → List (Bor (List ℕ)) → WordsOfCourse
 words_of course command behind = record { course = course; words = command ∷ map (λ w. w.now) behind }
 
--- `lockstep ROUNDS SEED`, of which these are the words behind the first
+-- after how many rounds without a commit the least task is brought on, and the words behind that
+pub record WordsBehindBarren : Type 0 where
+  pub barren : ℕ
+  pub behind : List (List ℕ)
+
+-- `barren K`, of which these are the words behind the first
+abbrev pub barren_number : List (List ℕ) → Option WordsBehindBarren
+barren_number [] = None
+barren_number (barren ∷ behind) =
+    number_in (between 1 1000000) barren >>= λ number. Some (record { barren = number; behind = behind })
+
+-- `barren K` in front of other words, or the number that stands for it where it isn't there
+abbrev pub barren_in : List (List ℕ) → Option WordsBehindBarren
+barren_in [] = Some (record { barren = BARREN_ROUNDS; behind = [] })
+barren_in (word ∷ words) =
+    if bytes_eq word (codes "barren") then barren_number words
+    else Some (record { barren = BARREN_ROUNDS; behind = word ∷ words })
+
+-- `lockstep ROUNDS SEED`, with `barren K` or not, of which these are the words behind the first
 abbrev pub lockstep_in : List (List ℕ) → Option WordsOfCourse
 lockstep_in [] = None
 lockstep_in (rounds ∷ []) = None
 lockstep_in (rounds ∷ seed ∷ behind) =
     number_in (between 1 1000000) rounds >>= λ count. number_in (between 0 (2 ^ 32 - 1)) seed >>= λ drawn.
-    Some (record { course = courses.Lockstep count drawn; words = codes "run" ∷ behind })
+    barren_in behind >>= λ barren.
+    Some (record { course = courses.Lockstep count drawn barren.barren; words = codes "run" ∷ barren.behind })
 
--- `steps`, `least`, or `lockstep` with its two numbers
+-- `steps`, `least`, or `lockstep` with its numbers
 abbrev pub course_in : List (List ℕ) → Option WordsOfCourse
 course_in [] = None
 course_in (word ∷ behind) =
@@ -59,9 +79,9 @@ asking_of_words words =
     views_in words >>= λ views. course_in views.behind >>= λ leading. request_of_words leading.words >>= λ request.
     Some (record { course = leading.course; each = views.each; request = request })
 
--- the number of rounds is in its range
+-- the numbers of rounds are in their ranges
 abbrev pub HasRounds : CourseWord → Type 0
-HasRounds (courses.Lockstep rounds seed) = (1 ≤ rounds) × (rounds ≤ 1000000)
+HasRounds (courses.Lockstep rounds seed barren) = (1 ≤ rounds) × (rounds ≤ 1000000) × (1 ≤ barren)
 HasRounds other = Unit {0}
 
 -- so are the numbers that the words give: of rounds, and of moments between views

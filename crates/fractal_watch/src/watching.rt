@@ -50,7 +50,11 @@ fn tell_course<N: Naming, P: Placer, T: Tap, K: Sink>(
     match course {
         CourseWord::Steps => play_script(watch, sink, image, script),
         CourseWord::Least => play_least(watch, sink, image),
-        CourseWord::Lockstep { rounds, seed } => play_rounds(watch, sink, image, rounds, seed),
+        CourseWord::Lockstep {
+            rounds,
+            seed,
+            barren,
+        } => play_rounds(watch, sink, image, rounds, seed, barren),
     }
 }
 

@@ -2,12 +2,16 @@
 
 ghost use Rattle.std.specs.Prelude.{◌≡◌, ◌≤◌, ◌∷◌, IfOk, IfSome, Err, None, Some, map, option_map};
 ghost use Rattle.command_line.specs.Requests.{IsLimited};
-ghost use Rattle.fractal_watch.specs.Words.{IsInRanges, asking_of_words, course_in, lockstep_in, views_in};
+ghost use Rattle.fractal_watch.specs.Words.{IsInRanges, asking_of_words, barren_in, course_in, lockstep_in, views_in};
 ghost use Rattle.fractal_watch.specs.Words.{HasRounds, words_of};
 
 use command_line::{Refusal, Request, number_between, read_words};
 use std::alloc::{AllocError, Global};
 use watch_text::CourseWord;
+
+/// After how many rounds without a commit the least task is brought on in lockstep, unless the words say otherwise:
+/// where rounds get on, a commit comes every few of them, and so this changes nothing there.
+pub const BARREN_ROUNDS: u32 = 16;
 
 /// What the words ask for.
 #[derive(Clone, Copy, Debug, PartialEq, Eq)]
@@ -24,6 +28,13 @@ pub struct Asking {
 #[derive(Clone, Copy)]
 struct Views<'a> {
     each: Option<u32>,
+    behind: &'a [&'a str],
+}
+
+/// `barren K` in front of other words: K, or what stands for it, and the words behind it.
+#[derive(Clone, Copy)]
+struct Barren<'a> {
+    barren: u32,
     behind: &'a [&'a str],
 }
 
@@ -57,7 +68,29 @@ fn views_of<'a>(words: &'a [&'a str]) -> Option<Views<'a>>
     })
 }
 
-/// `lockstep ROUNDS SEED`, of which these are the words behind the first.
+fn barren_of<'a>(words: &'a [&'a str]) -> Option<Barren<'a>>
+    ensures value { option_map (λ b. record { barren = b.barren; behind = map (λ w. w.now) b.behind.now }) result
+        ≡ barren_in (map (λ w. w.now) words.now) }
+    ensures barren { IfSome result (λ b. 1 ≤ b.barren) }
+{
+    let Some((word, behind)) = words.split_first() else {
+        return Some(Barren {
+            barren: BARREN_ROUNDS,
+            behind: words,
+        });
+    };
+    if word.as_bytes() != b"barren".as_slice() {
+        return Some(Barren {
+            barren: BARREN_ROUNDS,
+            behind: words,
+        });
+    }
+    let (barren, behind) = behind.split_first()?;
+    let barren = number_between(1, 1_000_000, barren)?;
+    Some(Barren { barren, behind })
+}
+
+/// `lockstep ROUNDS SEED`, with `barren K` or not, of which these are the words behind the first.
 fn lockstep_of<'a>(words: &'a [&'a str]) -> Option<Leading<'a>>
     ensures value { option_map (λ l. words_of l.course l.command.now l.behind.now) result
         ≡ lockstep_in (map (λ w. w.now) words.now) }
@@ -67,8 +100,13 @@ fn lockstep_of<'a>(words: &'a [&'a str]) -> Option<Leading<'a>>
     let (seed, behind) = behind.split_first()?;
     let rounds = number_between(1, 1_000_000, rounds)?;
     let seed = number_between(0, u32::MAX, seed)?;
+    let Barren { barren, behind } = barren_of(behind)?;
     Some(Leading {
-        course: CourseWord::Lockstep { rounds, seed },
+        course: CourseWord::Lockstep {
+            rounds,
+            seed,
+            barren,
+        },
         command: "run",
         behind,
     })
@@ -115,7 +153,7 @@ fn in_front<'a>(
 }
 
 /// What the words, without the program's name, ask for. `Usage` where they are outside the grammar: `views K` or not,
-/// then `steps`, `least`, or `lockstep ROUNDS SEED`, and then the options of the first program.
+/// then `steps`, `least`, or `lockstep ROUNDS SEED`, with `barren K` or not, and then the options of the first program.
 #[tactic(auto, unfolding(crate::specs::Words::asking_of_words))]
 pub(crate) fn read_asking(alloc: Global, words: &[&str]) -> Result<Asking, Refusal>
     ensures value { IfOk result (λ asking. asking_of_words (map (λ w. w.now) words.now) ≡ Some asking) }

@@ -103,11 +103,11 @@ handed : {N : Type 0} (asks : Attempt N) (e : Event N) (answer : Reply) (aborted
 handed asks e answer aborted old new is = subst (λ a. AttemptComes a answer aborted old new) is
 
 pub asked_is_made : (N : Type 0) → AskedIsMade N
-asked_is_made N image old new (acts.Dispatch tile) asks held answer aborted goes_on asked asks_for comes =
+asked_is_made N image old new (acts.Dispatch tile) asks held answer aborted goes_on of asked asks_for comes =
     by_answer N old.book new aborted (acts.Dispatch tile) goes_on (event.Dispatch tile)
     (λ other cause. absurd (asked_dispatch N old.book tile goes_on asked other cause)) answer
     (handed asks (event.Dispatch tile) answer aborted old.book new asks_for.asks_is comes)
-asked_is_made N image old new (acts.Step tile core) asks held answer aborted goes_on asked asks_for comes =
+asked_is_made N image old new (acts.Step tile core) asks held answer aborted goes_on of asked asks_for comes =
     by_ask asks_for
   where
     by_ask : AsksStep image tile core old asks held → IsMadeOrStalls (acts.Step tile core) answer
@@ -118,19 +118,19 @@ asked_is_made N image old new (acts.Step tile core) asks held answer aborted goe
         answer (handed asks (event.Step tile core leg) answer aborted old.book new hands.asks_is comes)
     by_ask (step_ended over says) = absurd (goes_on over)
     by_ask (step_stale on none says) = absurd (none asked.0 asked.1 asked.2)
-asked_is_made N image old new acts.Commit asks held answer aborted goes_on asked asks_for comes =
+asked_is_made N image old new acts.Commit asks held answer aborted goes_on of asked asks_for comes =
     by_answer N old.book new aborted acts.Commit goes_on event.Commit
     (λ other cause. absurd (asked_commit N old.book goes_on asked other cause)) answer
     (handed asks event.Commit answer aborted old.book new asks_for.asks_is comes)
-asked_is_made N image old new (acts.Split tile) asks held answer aborted goes_on asked asks_for comes =
+asked_is_made N image old new (acts.Split tile) asks held answer aborted goes_on of asked asks_for comes =
     by_answer N old.book new aborted (acts.Split tile) goes_on (event.Split tile)
     (λ other cause. absurd (asked_split N old.book tile goes_on asked other cause)) answer
     (handed asks (event.Split tile) answer aborted old.book new asks_for.asks_is comes)
-asked_is_made N image old new (acts.Take tile core) asks held answer aborted goes_on asked asks_for comes = absurd asked
-asked_is_made N image old new (acts.Give tile core) asks held answer aborted goes_on asked asks_for comes = absurd asked
-asked_is_made N image old new (acts.Abort tile) asks held answer aborted goes_on asked asks_for comes = absurd asked
-asked_is_made N image old new (acts.Coalesce tile) asks held answer aborted goes_on asked asks_for comes = absurd asked
-asked_is_made N image old new acts.Advance asks held answer aborted goes_on asked asks_for comes = absurd asked
+asked_is_made N image old new (acts.Take tile core) asks held answer aborted goes_on of asked asks_for comes = absurd of
+asked_is_made N image old new (acts.Give tile core) asks held answer aborted goes_on of asked asks_for comes = absurd of
+asked_is_made N image old new (acts.Abort tile) asks held answer aborted goes_on of asked asks_for comes = absurd of
+asked_is_made N image old new (acts.Coalesce tile) asks held answer aborted goes_on of asked asks_for comes = absurd of
+asked_is_made N image old new acts.Advance asks held answer aborted goes_on of asked asks_for comes = absurd of
 
 -- ---- what is passed over
 

@@ -1,5 +1,7 @@
 pub mod Chosen
 pub mod Does
+pub mod Forced
+pub mod GetsOn
 pub mod SoundPlays
 pub mod InRound
 pub mod InRounds
@@ -7,4 +9,5 @@ pub mod Lined
 pub mod Plays
 pub mod Rounds
 pub mod Scripts
+pub mod Stages
 pub mod Tellings

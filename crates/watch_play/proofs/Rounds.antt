@@ -1,24 +1,22 @@
 -- The acts of a round, their number and their order.
-use Rattle.std.proofs.Common.{◌≡◌, ◌<◌, ◌+◌, ◌-◌, ◌*◌, ◌/◌, ◌%◌, ◌^◌, ◌++◌, ◌∷◌, ℕ, zero, suc, true}
-use Rattle.std.proofs.Common.{false, List, [], All, length, map, replicate, nat_lt, Some, None, refl}
+use Rattle.std.proofs.Common.{◌≡◌, ◌<◌, ◌≤◌, ◌+◌, ◌-◌, ◌*◌, ◌/◌, ◌^◌, ◌++◌, ◌∷◌, ◌==◌, ℕ, zero, suc, List, []}
+use Rattle.std.proofs.Common.{All, length, map, replicate, set, inl, inr, le_refl}
 use Rattle.std.proofs.Common.{sym, ap, subst, ◌∙◌, arith, append_assoc, append-nil, length-append, map-id, add-one}
-use Rattle.std.specs.Prelude.{if◌then◌else◌, slice_get}
-use Rattle.std.specs.declared.option.Option.{Option}
+use Rattle.std.specs.Prelude.{slice_index_or}
 use Rattle.std.specs.List.{flat_map, range_with_len, swap}
-use Rattle.std.proofs.lemmas.Bool.Decides.{nat_tests}
-use Rattle.std.proofs.lemmas.List.{get_or-replicate, length-map, length-replicate, replicate_more}
+use Rattle.std.proofs.lemmas.Bool.{cases_lt, cond_both}
+use Rattle.std.proofs.lemmas.List.{get_or_past, get_or-replicate, length-map, length-replicate, replicate_more}
 use Rattle.std.proofs.lemmas.List.Concat.{flat_map-append}
-use Rattle.std.proofs.lemmas.List.Elements.{All-append, All-map, All-nil}
+use Rattle.std.proofs.lemmas.List.Elements.{All-append, All-map, All-nil, All-set}
 use Rattle.std.proofs.lemmas.List.FromFn.{get_or-range_with_len, length-range_with_len, map-range_with_len_more}
-use Rattle.std.proofs.lemmas.Nat.{div-add-mod', div-mul-add}
-use Rattle.std.proofs.lemmas.Option.{slice_get_within}
+use Rattle.std.proofs.lemmas.Nat.{mul-le}
 use Rattle.spec_state.specs.declared.settings.Settings.{Settings}
+use Rattle.spec_state.specs.Settings.{IsValid}
 use Rattle.step_script.specs.declared.act.Act.{Act}
 use Rattle.step_script.specs.declared.act.Act.TheVariants as acts
 use Rattle.step_script.specs.Ranges.{ActIsInRange}
-use Rattle.watch_play.specs.Courses.{OfRounds, Order, course_act, acts_in_round, next_draw, next_order, order_after}
-use Rattle.watch_play.specs.Courses.{round_acts, round_length, shuffled, tile_acts, with_drawn}
-use Rattle.watch_play.specs.Telling.{AreActsOf}
+use Rattle.watch_play.specs.Courses.{Order, next_draw, next_order, round_acts, round_length, shuffled, tile_acts}
+use Rattle.watch_play.specs.Courses.{with_drawn}
 
 -- ---- put together act by act
 
@@ -92,6 +90,21 @@ round_acts_length tiles cores =
     product_parts zero c = omega arith
     product_parts (suc n) c = let rest = product_parts n c in omega (arith, rest)
 
+-- there are some, in a machine of some tiles
+pub some_acts : (settings : Settings) → IsValid settings → 0 < round_length settings
+some_acts settings valid =
+    let least = mul-le 1 (settings.cores + 3) settings.tiles (settings.cores + 3) valid.tiles.0
+    (le_refl (settings.cores + 3)) in
+    omega (arith, least)
+
+-- and 112 at most
+pub few_acts : (settings : Settings) → IsValid settings → round_length settings ≤ 112
+few_acts settings valid =
+    let cores = valid.cores.1 in
+    let sum : settings.cores + 3 ≤ 7 = omega (arith, cores) in
+    let bound = mul-le settings.tiles (settings.cores + 3) 16 7 valid.tiles.1 sum in
+    omega (arith, bound)
+
 -- ---- where they act
 
 module _ (tiles cores : ℕ) where
@@ -159,53 +172,29 @@ shuffle_step done place drawn next acts swapped end inside so_far draws swaps pl
     ∙ (ap (shuffled last) drawn_is
     ∙ (ap (λ n. shuffled n (record { drawn = drawn; acts = acts })) (sym before) ∙ so_far))
 
--- ---- rounds, one after another
+-- a draw within a list is one of its acts, and one outside of it is the first
+drawn_in : (P : Act → Type 0) (act : Act) (rest : List Act) (place : ℕ) → All P (act ∷ rest)
+    → P (slice_index_or (act ∷ rest) place act)
+drawn_in P act rest place all = elim (cases_lt place (length (act ∷ rest))) [
+  | inl inside ↦ all place act inside
+  | inr past ↦ subst P (sym (get_or_past (act ∷ rest) place act past)) (all 0 act (omega arith))
+]
 
--- the order after one round more
-pub order_more : (seed : ℕ) (settings : Settings) (rounds : ℕ) (order next : Order)
-    → order ≡ order_after seed settings rounds → next ≡ next_order seed order
-    → next ≡ order_after seed settings (rounds + 1)
-order_more seed settings rounds order next is next_is =
-    next_is ∙ (ap (next_order seed) is ∙ ap (order_after seed settings) (sym (add-one rounds)))
+-- what holds of all acts holds of them in another order
+swapped_in : (P : Act → Type 0) (list : List Act) (one other : ℕ) → All P list → All P (swap list one other)
+swapped_in P [] one other all = all
+swapped_in P (act ∷ rest) one other all =
+    All-set P (set (act ∷ rest) one (slice_index_or (act ∷ rest) other act)) other
+    (slice_index_or (act ∷ rest) one act) (drawn_in P act rest one all)
+    (All-set P (act ∷ rest) one (slice_index_or (act ∷ rest) other act) (drawn_in P act rest other all) all)
 
--- the acts of a round are those of the course from there on
-pub round_is_there : (rounds seed : ℕ) (settings : Settings) (round : ℕ) (list : List Act) → round < rounds
-    → length list ≡ round_length settings → list ≡ acts_in_round seed settings round
-    → AreActsOf (OfRounds rounds seed settings) (round * round_length settings) list
-unfolding course_act
-round_is_there rounds seed settings round list fewer count is place act found =
-    let width = round_length settings in
-    let inside : place < width = subst (λ n. place < n) count (slice_get_within list place act found) in
-    let number : (round * width + place) / width ≡ round = div-mul-add round width place inside in
-    let rest : (round * width + place) % width ≡ place = rest_of round width place inside number in
-    let within : nat_lt round rounds ≡ true = grind (arith, nat_tests, fewer) in
-    let there : slice_get (acts_in_round seed settings round) place ≡ Some act =
-    subst (λ (l : List Act). slice_get l place ≡ Some act) is found in
-    subst (λ n. (if◌then◌else◌ {A = Option Act} (nat_lt n rounds)
-    (slice_get (acts_in_round seed settings n) ((round * width + place) % width)) None) ≡ Some act) (sym number)
-    (subst (λ n. (if◌then◌else◌ {A = Option Act} (nat_lt round rounds)
-    (slice_get (acts_in_round seed settings round) n) None) ≡ Some act) (sym rest)
-    (subst (λ t. (if◌then◌else◌ {A = Option Act} t (slice_get (acts_in_round seed settings round) place) None) ≡ Some
-    act) (sym within) there))
-  where
-    rest_of : (round width place : ℕ) → place < width → (round * width + place) / width ≡ round
-        → (round * width + place) % width ≡ place
-    rest_of round width place inside number =
-        let whole = div-add-mod' (round * width + place) width in
-        let front : (round * width + place) / width * width ≡ round * width = ap (λ n. n * width) number in
-        omega (arith, whole, front)
+shuffled_in : (P : Act → Type 0) (n : ℕ) (order : Order) → All P order.acts → All P (shuffled n order).acts
+shuffled_in P zero order all = all
+shuffled_in P (suc last) order all =
+    shuffled_in P last (with_drawn last order) (swapped_in P order.acts last _ all)
 
--- behind the last round there is no act
-pub rounds_are_through : (rounds seed : ℕ) (settings : Settings) → 0 < round_length settings
-    → course_act (OfRounds rounds seed settings) (rounds * round_length settings) ≡ None
-unfolding course_act
-rounds_are_through rounds seed settings some =
-    let width = round_length settings in
-    let number : (rounds * width + 0) / width ≡ rounds = div-mul-add rounds width 0 some in
-    let same : rounds * width / width ≡ rounds = ap (λ n. n / width)
-    (let e : rounds * width ≡ rounds * width + 0 = omega arith in e) ∙ number in
-    let past : nat_lt rounds rounds ≡ false = grind (arith, nat_tests) in
-    subst (λ n. (if◌then◌else◌ {A = Option Act} (nat_lt n rounds)
-    (slice_get (acts_in_round seed settings n) (rounds * width % width)) None) ≡ None) (sym same)
-    (subst (λ t. (if◌then◌else◌ {A = Option Act} t (slice_get (acts_in_round seed settings rounds)
-    (rounds * width % width)) None) ≡ None) (sym past) refl)
+pub next_in : (P : Act → Type 0) (seed : ℕ) (order : Order) → All P order.acts → All P (next_order seed order).acts
+unfolding next_order
+next_in P seed order all =
+    cond_both (seed == 0) order (shuffled (length order.acts) order) (λ (o : Order). All P o.acts)
+    (λ none. all) (λ some. shuffled_in P (length order.acts) order all)

@@ -11,51 +11,53 @@ use Rattle.step_script.specs.declared.act.Act.{Act}
 use Rattle.step_script.specs.declared.act.Act.TheVariants as acts
 use Rattle.step_script.specs.Playing.{PlayState}
 use Rattle.watch_play.specs.declared.stop.StoryStop.{StoryStop}
-use Rattle.watch_play.specs.Courses.{OfLeast, OfScript, course_act}
+use Rattle.watch_play.specs.Courses.{OfLeast, OfScript, Stage, course_act}
 use Rattle.watch_play.specs.Made.{TellsAct}
 use Rattle.watch_play.proofs.Tellings.{CourseGoes, CourseGoesOn, course_goes_on}
 
 -- the act of a place of a script
-script_act_is : (script : List Act) (n : ℕ) (d : Act) → n < length script
-    → course_act (OfScript script) n ≡ Some (slice_index_or script n d)
+script_act_is : (script : List Act) (n : ℕ) (stage : Stage) (d : Act) → n < length script
+    → course_act (OfScript script) n stage ≡ Some (slice_index_or script n d)
 unfolding course_act
-script_act_is script n d inside = slice_get-get_or script n d inside
+script_act_is script n stage d inside = slice_get-get_or script n d inside
 
 -- behind the last one there is none
-none_behind : (script : List Act) → course_act (OfScript script) (length script) ≡ None
+none_behind : (script : List Act) (stage : Stage) → course_act (OfScript script) (length script) stage ≡ None
 unfolding course_act
-none_behind script = slice_get_past script (length script) (le_refl (length script))
+none_behind script stage = slice_get_past script (length script) (le_refl (length script))
 
-pub script_is_through : (script : List Act) (n : ℕ) → n ≡ length script → course_act (OfScript script) n ≡ None
-script_is_through script n is = ap (course_act (OfScript script)) is ∙ none_behind script
+pub script_is_through : (script : List Act) (n : ℕ) (stage : Stage) → n ≡ length script
+    → course_act (OfScript script) n stage ≡ None
+script_is_through script n stage is = ap (λ k. course_act (OfScript script) k stage) is ∙ none_behind script stage
 
-least_act_is : (n : ℕ) → course_act OfLeast n ≡ Some acts.Advance
+least_act_is : (n : ℕ) (stage : Stage) → course_act OfLeast n stage ≡ Some acts.Advance
 unfolding course_act
-least_act_is n = refl
+least_act_is n stage = refl
 
 module _ (N : Type 0) (image : ImageValue) (each : Option ℕ) (first : PlayState) (began : SinkState) where
   -- the next act of a script is told, by what is counted on the way
-  pub script_goes_on : (script : List Act) (i at count : ℕ) (every : Option ℕ) (d : Act) (old new : PlayState)
-      (now after : SinkState) (r : Result (Unit {0}) StoryStop) → i < length script → at ≡ i → count ≡ i → every ≡ each
-      → CourseGoes N image each (OfScript script) first began i i old now
+  pub script_goes_on : (script : List Act) (stage : Stage) (i at count : ℕ) (every : Option ℕ) (d : Act)
+      (old new : PlayState) (now after : SinkState) (r : Result (Unit {0}) StoryStop) → i < length script → at ≡ i → count ≡ i → every ≡ each
+      → CourseGoes N image each (OfScript script) first began i stage i old now
       → TellsAct N image every (at + 1) (count + 1) (slice_index_or script i d) old new now after r
-      → CourseGoesOn N image each (OfScript script) first began (i + 1) (i + 1) new after r
-  script_goes_on script i at count every d old new now after r inside at_is count_is each_is so_far tells =
+      → CourseGoesOn N image each (OfScript script) first began (i + 1) stage (i + 1) new after r
+  script_goes_on script stage i at count every d old new now after r inside at_is count_is each_is so_far tells =
       let act = slice_index_or script i d in
-      course_goes_on N image each (OfScript script) first began i i old now so_far act
-      (script_act_is script i d inside) tt
+      course_goes_on N image each (OfScript script) first began i stage i old now so_far act
+      (script_act_is script i stage d inside) tt
       new after r
       (subst (λ e. TellsAct N image e (i + 1) (i + 1) act old new now after r) each_is
       (subst (λ n. TellsAct N image every (i + 1) (n + 1) act old new now after r) count_is
       (subst (λ n. TellsAct N image every (n + 1) (count + 1) act old new now after r) at_is tells)))
 
   -- the next event for the least task is told
-  pub least_goes_on : (i count : ℕ) (every : Option ℕ) (old new : PlayState) (now after : SinkState)
+  pub least_goes_on : (stage : Stage) (i count : ℕ) (every : Option ℕ) (old new : PlayState) (now after : SinkState)
       (r : Result (Unit {0}) StoryStop) → count ≡ i → every ≡ each → (IsOver old.book.view → ⊥)
-      → CourseGoes N image each OfLeast first began i i old now
+      → CourseGoes N image each OfLeast first began i stage i old now
       → TellsAct N image every (i + 1) (count + 1) acts.Advance old new now after r
-      → CourseGoesOn N image each OfLeast first began (i + 1) (i + 1) new after r
-  least_goes_on i count every old new now after r count_is each_is going so_far tells =
-      course_goes_on N image each OfLeast first began i i old now so_far acts.Advance (least_act_is i) going new after r
+      → CourseGoesOn N image each OfLeast first began (i + 1) stage (i + 1) new after r
+  least_goes_on stage i count every old new now after r count_is each_is going so_far tells =
+      course_goes_on N image each OfLeast first began i stage i old now so_far acts.Advance (least_act_is i stage) going
+      new after r
       (subst (λ e. TellsAct N image e (i + 1) (i + 1) acts.Advance old new now after r) each_is
       (subst (λ n. TellsAct N image every (i + 1) (n + 1) acts.Advance old new now after r) count_is tells))

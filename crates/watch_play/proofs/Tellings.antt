@@ -1,17 +1,15 @@
 -- A story that is told act by act.
-use Rattle.std.proofs.Common.{◌≡◌, ◌⊎◌, ◌<◌, ◌+◌, ℕ, List, [], ◌∷◌, ◌++◌, length, Some, Result, Ok, Err}
-use Rattle.std.proofs.Common.{inl, inr, refl, sym, ap, subst, ◌∙◌, arith, add-one, append_assoc, append-nil}
+use Rattle.std.proofs.Common.{◌≡◌, ◌⊎◌, ◌+◌, ℕ, List, [], ◌∷◌, ◌++◌, length, Some, Result, Ok, Err}
+use Rattle.std.proofs.Common.{inl, inr, refl, sym, ap, subst, ◌∙◌, add-one, append_assoc, append-nil}
 use Rattle.std.specs.declared.option.Option.{Option}
-use Rattle.std.specs.Prelude.{OnOk, slice_index_or}
+use Rattle.std.specs.Prelude.{OnOk}
 use Rattle.std.specs.List.{flat_map}
 use Rattle.std.proofs.lemmas.List.{length_push}
 use Rattle.std.proofs.lemmas.List.Concat.{flat_map-append}
-use Rattle.std.proofs.lemmas.Option.{slice_get-get_or}
 use Rattle.guest_image.specs.ImageValue.{ImageValue}
 use Rattle.sim_io.specs.Parts.{SinkTakes, Writes}
 use Rattle.sim_io.specs.Streams.{SinkState}
 use Rattle.sim_io.proofs.Proved.{Wrote, wrote_front, wrote_more}
-use Rattle.spec_state.specs.declared.settings.Settings.{Settings}
 use Rattle.event_def.specs.Book.{BookView}
 use Rattle.event_def.specs.End.{IsOver}
 use Rattle.step_script.specs.declared.act.Act.{Act}
@@ -19,12 +17,13 @@ use Rattle.step_script.specs.Playing.{PlayState}
 use Rattle.watch_text.specs.Moments.{Moment}
 use Rattle.watch_play.specs.declared.stop.StoryStop.{StoryStop}
 use Rattle.watch_play.specs.declared.stop.StoryStop.TheVariants as stops
-use Rattle.watch_play.specs.Courses.{Course, IsAskedBy, IsAskedInRound, IsThrough, OfRounds, course_act}
+use Rattle.watch_play.specs.Courses.{Course, IsAskedBy, IsAskedInRound, IsThrough, Stage, course_act, first_stage}
+use Rattle.watch_play.specs.Courses.{next_stage}
 use Rattle.watch_play.specs.Made.{TellsAct}
 use Rattle.watch_play.specs.Playing.{IsMomentAt}
-use Rattle.watch_play.specs.Stories.{StoryLeads, Makes, Passes}
-use Rattle.watch_play.specs.Telling.{ActGoesOn, AreActsOf, GoesOn, GoesSoFar, HasStory, IsOpened, IsAllTold}
-use Rattle.watch_play.specs.Telling.{IsToldInPart, Plan, RoundGoesOn, TellsCourse, lines_by}
+use Rattle.watch_play.specs.Stories.{StoryLeads, Makes, Passes, commits_of}
+use Rattle.watch_play.specs.Telling.{ActGoesOn, GoesOn, GoesSoFar, HasStory, IsOpened, IsAllTold}
+use Rattle.watch_play.specs.Telling.{IsToldInPart, Plan, TellsCourse, lines_by}
 use Rattle.watch_play.specs.Texts.{moment_lines, opening_lines}
 
 -- the lines of one moment more
@@ -39,11 +38,11 @@ lines_more plan opening moments m =
 module _ (N : Type 0) (plan : Plan) (opening : BookView) (start : SinkState) where
   -- a story of no moment
   pub begins : (play : PlayState) (now : SinkState) → IsOpened plan opening play start now
-      → GoesSoFar N plan opening 0 0 play start now
+      → GoesSoFar N plan opening 0 (first_stage plan.course (commits_of play)) 0 play start now
   begins play now opened = (
     [],
     record {
-      goes = (refl, opened.play_is);
+      goes = (refl, opened.play_is, ap (λ p. first_stage plan.course (commits_of p)) opened.play_is);
       told_are = refl;
       took =
           subst (SinkTakes start now) (sym (append-nil (opening_lines plan.course plan.settings plan.image
@@ -52,9 +51,13 @@ module _ (N : Type 0) (plan : Plan) (opening : BookView) (start : SinkState) whe
     },
   )
 
-  module _ (count told : ℕ) (old : PlayState) (now : SinkState)
-      (so_far : GoesSoFar N plan opening count told old start now)
+  module _ (count : ℕ) (stage : Stage) (told : ℕ) (old : PlayState) (now : SinkState)
+      (so_far : GoesSoFar N plan opening count stage told old start now)
     where
+      -- the stage behind the next act
+      abbrev behind : PlayState → Stage
+      behind new = next_stage plan.course stage (commits_of new)
+
       abbrev moments : List (Moment N)
       moments = so_far.0
 
@@ -62,21 +65,22 @@ module _ (N : Type 0) (plan : Plan) (opening : BookView) (start : SinkState) whe
       wrote = record { taken = so_far.1.took; later = so_far.1.later }
 
       -- the act of this number isn't asked for
-      pub passes : (act : Act) → course_act plan.course count ≡ Some act → (IsAskedBy plan.course old.book.view act → ⊥)
-          → GoesSoFar N plan opening (count + 1) told old start now
+      pub passes : (act : Act) → course_act plan.course count stage ≡ Some act
+          → (IsAskedBy plan.course old.book.view act → ⊥)
+          → GoesSoFar N plan opening (count + 1) (behind old) told old start now
       passes act is unasked = (
         moments,
         record {
           goes =
-              subst (λ n. StoryLeads plan.image plan.course opening n moments old) (sym (add-one count))
-              (moments, old, so_far.1.goes, Passes act is unasked refl refl);
+              subst (λ n. StoryLeads plan.image plan.course opening n (behind old) moments old) (sym (add-one count))
+              (moments, old, stage, so_far.1.goes, Passes act is unasked refl refl, refl);
           told_are = so_far.1.told_are;
           took = so_far.1.took;
           later = so_far.1.later;
         },
       )
 
-      module _ (act : Act) (is : course_act plan.course count ≡ Some act)
+      module _ (act : Act) (is : course_act plan.course count stage ≡ Some act)
           (asked : IsAskedBy plan.course old.book.view act)
           (new : PlayState) where
         abbrev longer : Moment N → List (Moment N)
@@ -84,17 +88,24 @@ module _ (N : Type 0) (plan : Plan) (opening : BookView) (start : SinkState) whe
 
         -- it is a moment
         goes_more : (m : Moment N) → IsMomentAt plan.image (count + 1) (told + 1) act m old new
-            → StoryLeads plan.image plan.course opening (count + 1) (longer m) new
+            → StoryLeads plan.image plan.course opening (count + 1) (behind new) (longer m) new
         goes_more m comes =
-            let act_is : course_act plan.course count ≡ Some m.act = is ∙ ap Some (sym comes.act_is) in
+            let act_is : course_act plan.course count stage ≡ Some m.act = is ∙ ap Some (sym comes.act_is) in
             let asked_is = subst (IsAskedBy plan.course old.book.view) (sym comes.act_is) asked in
             let number : m.number ≡ length moments + 1 = comes.number_is ∙ ap (λ n. n + 1) (sym so_far.1.told_are) in
-            subst (λ n. StoryLeads plan.image plan.course opening n (longer m) new) (sym (add-one count))
-            (moments, old, so_far.1.goes, Makes m act_is asked_is comes.at_is number comes.moment refl)
+            subst (λ n. StoryLeads plan.image plan.course opening n (behind new) (longer m) new) (sym (add-one count))
+            (moments, old, stage, so_far.1.goes, Makes m act_is asked_is comes.at_is number comes.moment refl, refl)
 
         has_more : (m : Moment N) → IsMomentAt plan.image (count + 1) (told + 1) act m old new
             → HasStory plan opening (longer m) new.book
-        has_more m comes = record { count = count + 1; last = new; goes = goes_more m comes; book_is = refl }
+        has_more m comes =
+            record {
+              count = count + 1;
+              stage = behind new;
+              last = new;
+              goes = goes_more m comes;
+              book_is = refl;
+            }
 
         untold : (after : SinkState) → after ≡ now → ((m : Moment N) × IsMomentAt plan.image (count + 1) (told + 1)
             act m old new) ⊎ (new.book ≡ old.book)
@@ -113,14 +124,14 @@ module _ (N : Type 0) (plan : Plan) (opening : BookView) (start : SinkState) whe
         }
         untold after same (inr unmade) = record {
           moments = moments;
-          story = record { count = count; last = old; goes = so_far.1.goes; book_is = unmade };
+          story = record { count = count; stage = stage; last = old; goes = so_far.1.goes; book_is = unmade };
           took = inr (inl (subst (λ s. SinkTakes start s (lines_by plan opening moments)) (sym same) so_far.1.took));
         }
 
         -- and told, or not
         pub goes_on : (after : SinkState) (r : Result (Unit {0}) StoryStop)
             → TellsAct N plan.image plan.each (count + 1) (told + 1) act old new now after r
-            → GoesOn N plan opening (count + 1) (told + 1) new start after r
+            → GoesOn N plan opening (count + 1) (behind new) (told + 1) new start after r
         goes_on after (Ok done) tells =
             let m = tells.0 in
             let more : Wrote start after (lines_by plan opening moments ++ moment_lines plan.each m) =
@@ -147,10 +158,10 @@ module _ (N : Type 0) (plan : Plan) (opening : BookView) (start : SinkState) whe
             record { moments = longer m; story = has_more m tells.1; took = cut.err; rose = cut.cause.failed }
 
       -- all of the course is told
-      pub ends : IsThrough plan.course count old.book.view → IsAllTold N plan opening old.book start now
+      pub ends : IsThrough plan.course count stage old.book.view → IsAllTold N plan opening old.book start now
       ends through = record {
         moments = moments;
-        story = record { count = count; last = old; goes = so_far.1.goes; book_is = refl };
+        story = record { count = count; stage = stage; last = old; goes = so_far.1.goes; book_is = refl };
         through = through;
         took = so_far.1.took;
         later = so_far.1.later;
@@ -160,81 +171,82 @@ module _ (N : Type 0) (plan : Plan) (opening : BookView) (start : SinkState) whe
       pub wants : IsToldInPart N plan opening old.book start now
       wants = record {
         moments = moments;
-        story = record { count = count; last = old; goes = so_far.1.goes; book_is = refl };
+        story = record { count = count; stage = stage; last = old; goes = so_far.1.goes; book_is = refl };
         took = inr (inl so_far.1.took);
       }
 
 -- ---- whatever the plan is of which the course is told
 
--- so many acts of the course, from an opening on that was told, led here
+-- so many acts of the course, from an opening on that was told, led here, to this stage
 abbrev pub CourseGoes : (N : Type 0) → ImageValue → Option ℕ → Course → (first : PlayState) → SinkState
-    → (count told : ℕ) → PlayState → SinkState → Type 0
-CourseGoes N image each course first begun_at count told play now =
+    → (count : ℕ) → Stage → (told : ℕ) → PlayState → SinkState → Type 0
+CourseGoes N image each course first begun_at count stage told play now =
     (plan : Plan) (opening : BookView) (start : SinkState) → plan.image ≡ image → plan.each ≡ each
     → plan.course ≡ course → IsOpened plan opening first start begun_at
-    → GoesSoFar N plan opening count told play start now
+    → GoesSoFar N plan opening count stage told play start now
 
 -- and led on, or the course ended there
 abbrev pub CourseGoesOn : (N : Type 0) → ImageValue → Option ℕ → Course → (first : PlayState) → SinkState
-    → (count told : ℕ) → PlayState → SinkState → Result (Unit {0}) StoryStop → Type 0
-CourseGoesOn N image each course first begun_at count told play now r =
+    → (count : ℕ) → Stage → (told : ℕ) → PlayState → SinkState → Result (Unit {0}) StoryStop → Type 0
+CourseGoesOn N image each course first begun_at count stage told play now r =
     (plan : Plan) (opening : BookView) (start : SinkState) → plan.image ≡ image → plan.each ≡ each
     → plan.course ≡ course → IsOpened plan opening first start begun_at
-    → GoesOn N plan opening count told play start now r
+    → GoesOn N plan opening count stage told play start now r
 
 module _ (N : Type 0) (image : ImageValue) (each : Option ℕ) (course : Course) (first : PlayState)
     (begun_at : SinkState)
   where
-    pub course_begins : CourseGoes N image each course first begun_at 0 0 first begun_at
+    pub course_begins : CourseGoes N image each course first begun_at 0 (first_stage course (commits_of first)) 0 first
+        begun_at
     course_begins plan opening start image_is each_is course_is opened =
-        begins N plan opening start first begun_at opened
+        subst (λ c. GoesSoFar N plan opening 0 (first_stage c (commits_of first)) 0 first start begun_at) course_is
+        (begins N plan opening start first begun_at opened)
 
-    module _ (count told : ℕ) (old : PlayState) (now : SinkState)
-        (so_far : CourseGoes N image each course first begun_at count told old now) where
-      pub course_goes_on : (act : Act) → course_act course count ≡ Some act → IsAskedBy course old.book.view act
+    module _ (count : ℕ) (stage : Stage) (told : ℕ) (old : PlayState) (now : SinkState)
+        (so_far : CourseGoes N image each course first begun_at count stage told old now) where
+      pub course_goes_on : (act : Act) → course_act course count stage ≡ Some act
+          → IsAskedBy course old.book.view act
           → (new : PlayState) (after : SinkState) (r : Result (Unit {0}) StoryStop)
           → TellsAct N image each (count + 1) (told + 1) act old new now after r
-          → CourseGoesOn N image each course first begun_at (count + 1) (told + 1) new after r
+          → CourseGoesOn N image each course first begun_at (count + 1) (next_stage course stage (commits_of new))
+          (told + 1) new after r
       course_goes_on act is asked new after r tells plan opening start image_is each_is course_is opened =
-          goes_on N plan opening start count told old now
+          subst (λ c. GoesOn N plan opening (count + 1) (next_stage c stage (commits_of new)) (told + 1) new start after
+          r) course_is
+          (goes_on N plan opening start count stage told old now
           (so_far plan opening start image_is each_is course_is opened) act
-          (subst (λ c. course_act c count ≡ Some act) (sym course_is) is)
+          (subst (λ c. course_act c count stage ≡ Some act) (sym course_is) is)
           (subst (λ c. IsAskedBy c old.book.view act) (sym course_is) asked) new after r
           (subst (λ e. TellsAct N plan.image e (count + 1) (told + 1) act old new now after r) (sym each_is)
-          (subst (λ i. TellsAct N i each (count + 1) (told + 1) act old new now after r) (sym image_is) tells))
+          (subst (λ i. TellsAct N i each (count + 1) (told + 1) act old new now after r) (sym image_is) tells)))
 
-      pub course_passes : (act : Act) → course_act course count ≡ Some act → (IsAskedBy course old.book.view act → ⊥)
-          → CourseGoes N image each course first begun_at (count + 1) told old now
-      course_passes act is unasked plan opening start image_is each_is course_is opened =
-          passes N plan opening start count told old now (so_far plan opening start image_is each_is course_is opened)
-          act
-          (subst (λ c. course_act c count ≡ Some act) (sym course_is) is)
-          (λ asked. unasked (subst (λ c. IsAskedBy c old.book.view act) course_is asked))
-
-      pub course_ends : IsThrough course count old.book.view
+      pub course_ends : IsThrough course count stage old.book.view
           → TellsCourse N image each course first old.book begun_at now (Ok tt)
       course_ends through plan opening start image_is each_is course_is opened =
-          ends N plan opening start count told old now (so_far plan opening start image_is each_is course_is opened)
-          (subst (λ c. IsThrough c count old.book.view) (sym course_is) through)
+          ends N plan opening start count stage told old now
+          (so_far plan opening start image_is each_is course_is opened)
+          (subst (λ c. IsThrough c count stage old.book.view) (sym course_is) through)
 
       pub course_wants : TellsCourse N image each course first old.book begun_at now (Err stops.Memory)
       course_wants plan opening start image_is each_is course_is opened =
-          wants N plan opening start count told old now (so_far plan opening start image_is each_is course_is opened)
+          wants N plan opening start count stage told old now
+          (so_far plan opening start image_is each_is course_is opened)
 
     -- by how the act came out
-    pub course_told : (count told : ℕ) (play : PlayState) (now : SinkState) (r : Result (Unit {0}) StoryStop)
-        → CourseGoesOn N image each course first begun_at count told play now r → r ≡ Ok tt
-        → CourseGoes N image each course first begun_at count told play now
-    course_told count told play now r goes is =
-        subst (CourseGoesOn N image each course first begun_at count told play now) is goes
+    pub course_told : (count : ℕ) (stage : Stage) (told : ℕ) (play : PlayState) (now : SinkState)
+        (r : Result (Unit {0}) StoryStop)
+        → CourseGoesOn N image each course first begun_at count stage told play now r → r ≡ Ok tt
+        → CourseGoes N image each course first begun_at count stage told play now
+    course_told count stage told play now r goes is =
+        subst (CourseGoesOn N image each course first begun_at count stage told play now) is goes
 
-    pub course_stops : (count told : ℕ) (play : PlayState) (now : SinkState) (r q : Result (Unit {0}) StoryStop)
-        (stop : StoryStop)
-        → CourseGoesOn N image each course first begun_at count told play now r → r ≡ Err stop → q ≡ Err stop
+    pub course_stops : (count : ℕ) (stage : Stage) (told : ℕ) (play : PlayState) (now : SinkState)
+        (r q : Result (Unit {0}) StoryStop) (stop : StoryStop)
+        → CourseGoesOn N image each course first begun_at count stage told play now r → r ≡ Err stop → q ≡ Err stop
         → TellsCourse N image each course first play.book begun_at now q
-    course_stops count told play now r q stop goes is told_is =
+    course_stops count stage told play now r q stop goes is told_is =
         subst (TellsCourse N image each course first play.book begun_at now) (sym told_is)
-        (subst (CourseGoesOn N image each course first begun_at count told play now) is goes)
+        (subst (CourseGoesOn N image each course first begun_at count stage told play now) is goes)
 
 -- ---- courses in rounds
 
@@ -244,83 +256,28 @@ pub act_goes_on : (N : Type 0) (image : ImageValue) (each : Option ℕ) (number 
     → ((IsOver old.book.view → ⊥) × IsAskedInRound old.book.view act)
     → TellsAct N image each (number + 1) (told + 1) act old new now after r → OnOk r (new_told ≡ told + 1)
     → ActGoesOn N image each number act told new_told old new now after r
-act_goes_on N image each number act told new_told old new now after r asked tells counts rounds seed settings plan
-    opening start image_is each_is course_is is so_far =
+act_goes_on N image each number act told new_told old new now after r asked tells counts rounds seed barren settings
+    stage plan opening start image_is each_is course_is is so_far =
     by_result r counts
-    (goes_on N plan opening start number told old now so_far act is
+    (goes_on N plan opening start number stage told old now so_far act is
     (subst (λ c. IsAskedBy c old.book.view act) (sym course_is) asked) new after r
     (subst (λ e. TellsAct N plan.image e (number + 1) (told + 1) act old new now after r) (sym each_is)
     (subst (λ i. TellsAct N i each (number + 1) (told + 1) act old new now after r) (sym image_is) tells)))
   where
     by_result : (q : Result (Unit {0}) StoryStop) → OnOk q (new_told ≡ told + 1)
-        → GoesOn N plan opening (number + 1) (told + 1) new start after q
-        → GoesOn N plan opening (number + 1) new_told new start after q
+        → GoesOn N plan opening (number + 1) (next_stage plan.course stage (commits_of new)) (told + 1) new start
+        after q
+        → GoesOn N plan opening (number + 1) (next_stage plan.course stage (commits_of new)) new_told new start after q
     by_result (Ok done) counts goes =
-        subst (λ n. GoesSoFar N plan opening (number + 1) n new start after) (sym counts) goes
+        subst (λ n. GoesSoFar N plan opening (number + 1) (next_stage plan.course stage (commits_of new)) n new start
+        after) (sym counts) goes
     by_result (Err stop) counts goes = goes
 
 -- one that isn't asked for
 pub act_passes : (N : Type 0) (image : ImageValue) (each : Option ℕ) (number : ℕ) (act : Act) (told : ℕ)
     (old : PlayState) (now : SinkState) → ((IsOver old.book.view → ⊥) × IsAskedInRound old.book.view act → ⊥)
     → ActGoesOn N image each number act told told old old now now (Ok tt)
-act_passes N image each number act told old now unasked rounds seed settings plan opening start image_is each_is
-    course_is is so_far =
-    passes N plan opening start number told old now so_far act is
+act_passes N image each number act told old now unasked rounds seed barren settings stage plan opening start image_is
+    each_is course_is is so_far =
+    passes N plan opening start number stage told old now so_far act is
     (λ asked. unasked (subst (λ c. IsAskedBy c old.book.view act) course_is asked))
-
--- so many acts of a round led here
-abbrev pub RoundGoes : (N : Type 0) → ImageValue → Option ℕ → List Act → (before told : ℕ) → (first : PlayState)
-    → SinkState → (count new_told : ℕ) → PlayState → SinkState → Type 0
-RoundGoes N image each list before told first begun_at count new_told play now =
-    (rounds seed : ℕ) (settings : Settings) (plan : Plan) (opening : BookView) (start : SinkState)
-    → plan.image ≡ image → plan.each ≡ each → plan.course ≡ OfRounds rounds seed settings
-    → AreActsOf plan.course before list → GoesSoFar N plan opening before told first start begun_at
-    → GoesSoFar N plan opening count new_told play start now
-
-module _ (N : Type 0) (image : ImageValue) (each : Option ℕ) (list : List Act) (before told : ℕ) (first : PlayState)
-    (begun_at : SinkState) where
-  -- none of them
-  pub round_begins : (count : ℕ) → count ≡ before
-      → RoundGoes N image each list before told first begun_at count told first begun_at
-  round_begins count is rounds seed settings plan opening start image_is each_is course_is are so_far =
-      subst (λ n. GoesSoFar N plan opening n told first start begun_at) (sym is) so_far
-
-  -- the act of the next place, by what is counted on the way
-  module _ (place mid_told new_told : ℕ) (every : Option ℕ) (d : Act) (old new : PlayState) (now after : SinkState)
-      (r : Result (Unit {0}) StoryStop) (inside : place < length list) (every_is : every ≡ each)
-      (so_far : RoundGoes N image each list before told first begun_at (before + place) mid_told old now)
-      (acts_on : ActGoesOn N image every (before + place) (slice_index_or list place d) mid_told new_told old new now
-      after r)
-    where
-      led_on : (rounds seed : ℕ) (settings : Settings) (plan : Plan) (opening : BookView) (start : SinkState)
-          → plan.image ≡ image → plan.each ≡ each → plan.course ≡ OfRounds rounds seed settings
-          → AreActsOf plan.course before list → GoesSoFar N plan opening before told first start begun_at
-          → GoesOn N plan opening (before + place + 1) new_told new start after r
-      led_on rounds seed settings plan opening start image_is each_is course_is are goes =
-          acts_on rounds seed settings plan opening start image_is (each_is ∙ sym every_is) course_is
-          (are place (slice_index_or list place d) (slice_get-get_or list place d inside))
-          (so_far rounds seed settings plan opening start image_is each_is course_is are goes)
-
-      pub round_told : r ≡ Ok tt
-          → RoundGoes N image each list before told first begun_at (before + (place + 1)) new_told new after
-      round_told is rounds seed settings plan opening start image_is each_is course_is are goes =
-          let count : before + (place + 1) ≡ before + place + 1 = omega arith in
-          subst (λ n. GoesSoFar N plan opening n new_told new start after) (sym count)
-          (subst (GoesOn N plan opening (before + place + 1) new_told new start after) is
-          (led_on rounds seed settings plan opening start image_is each_is course_is are goes))
-
-      pub round_stops : (q : Result (Unit {0}) StoryStop) (stop : StoryStop) → r ≡ Err stop → q ≡ Err stop
-          → RoundGoesOn N image each before list told new_told first new begun_at after q
-      round_stops q stop is told_is rounds seed settings plan opening start image_is each_is course_is are goes =
-          subst (GoesOn N plan opening (before + length list) new_told new start after) (sym told_is)
-          (subst (GoesOn N plan opening (before + place + 1) new_told new start after) is
-          (led_on rounds seed settings plan opening start image_is each_is course_is are goes))
-
-  -- all of them
-  pub round_ends : (count new_told : ℕ) (play : PlayState) (now : SinkState) → count ≡ before + length list
-      → RoundGoes N image each list before told first begun_at count new_told play now
-      → RoundGoesOn N image each before list told new_told first play begun_at now (Ok tt)
-  round_ends count new_told play now is so_far rounds seed settings plan opening start image_is each_is course_is are
-      goes =
-      subst (λ n. GoesSoFar N plan opening n new_told play start now) is
-      (so_far rounds seed settings plan opening start image_is each_is course_is are goes)

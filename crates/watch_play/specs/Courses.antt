@@ -1,6 +1,6 @@
 -- Courses: which acts there are, and which of them are asked for as the machine stands.
 use Rattle.std.specs.Prelude.{◌≡◌, ◌≢◌, ◌⊎◌, ◌+◌, ◌*◌, ◌/◌, ◌%◌, ◌^◌, ◌==◌, ℕ, zero, suc, List, [], ◌∷◌, ◌++◌, length}
-use Rattle.std.specs.Prelude.{map}
+use Rattle.std.specs.Prelude.{Bool, true, false, map}
 use Rattle.std.specs.Prelude.{Some, None, nat_lt, replicate, slice_get, if◌then◌else◌}
 use Rattle.std.specs.declared.option.Option.{Option}
 use Rattle.std.specs.List.{flat_map, range_with_len, swap}
@@ -17,16 +17,17 @@ use Rattle.step_script.specs.declared.act.Act.TheVariants as acts
 use Rattle.watch_text.specs.declared.head.CourseWord.{CourseWord}
 use Rattle.watch_text.specs.declared.head.CourseWord.TheVariants as courses
 
--- the acts of a script; what brings the least task on; or so many rounds in lockstep, in an order that is drawn
+-- the acts of a script; what brings the least task on; or so many rounds in lockstep, in an order that is drawn, among
+-- which the least task is brought on to its commit wherever so many rounds in a row brought none
 pub data Course : Type 0 where
   OfScript : List Act → Course
   OfLeast : Course
-  OfRounds : (rounds seed : ℕ) → Settings → Course
+  OfRounds : (rounds seed barren : ℕ) → Settings → Course
 
 abbrev pub course_word : Course → CourseWord
 course_word (OfScript script) = courses.Steps
 course_word OfLeast = courses.Least
-course_word (OfRounds rounds seed settings) = courses.Lockstep rounds seed
+course_word (OfRounds rounds seed barren settings) = courses.Lockstep rounds seed barren
 
 -- ---- the order of a round
 
@@ -69,28 +70,77 @@ shuffled (suc last) order = shuffled last (with_drawn last order)
 unfoldable pub next_order : ℕ → Order → Order
 next_order seed order = if seed == 0 then order else shuffled (length order.acts) order
 
--- the order after so many rounds
-abbrev pub order_after : ℕ → Settings → ℕ → Order
-order_after seed settings zero = record { drawn = seed; acts = round_acts settings.tiles settings.cores }
-order_after seed settings (suc rounds) = next_order seed (order_after seed settings rounds)
+-- ---- how far a course in rounds has come
 
--- the acts of a round, counted from 0
-abbrev pub acts_in_round : ℕ → Settings → ℕ → List Act
-acts_in_round seed settings round = (order_after seed settings (round + 1)).acts
+-- the order of the round that is played, how many rounds came before it, and the place in it of the next act; how many
+-- tasks had committed where it began; how many rounds in a row up to there brought no commit; and whether the least
+-- task is brought on, before this round begins
+pub record Stage : Type 0 where
+  pub order : Order
+  pub round : ℕ
+  pub place : ℕ
+  pub begun : ℕ
+  pub barren : ℕ
+  pub forced : Bool
 
--- the act of a number, counted from 0, where there is one
-unfoldable pub course_act : Course → ℕ → Option Act
-course_act (OfScript script) number = slice_get script number
-course_act OfLeast number = Some acts.Advance
-course_act (OfRounds rounds seed settings) number =
-    let round = number / round_length settings in
-    if nat_lt round rounds then slice_get (acts_in_round seed settings round) (number % round_length settings) else None
+-- where a round begins, in this order: no act of it has come
+abbrev pub at_round : Order → (round begun barren : ℕ) → Stage
+at_round order round begun barren =
+    record { order = order; round = round; place = 0; begun = begun; barren = barren; forced = false }
+
+-- where the least task is brought on, before such a round
+abbrev pub forced_stage : Order → (round begun : ℕ) → Stage
+forced_stage order round begun = record (at_round order round begun 0) { forced = true }
+
+-- where no act has come yet, and so many tasks have committed; of a course without rounds it says nothing
+unfoldable pub first_stage : Course → ℕ → Stage
+first_stage (OfRounds rounds seed barren settings) commits =
+    at_round (next_order seed (record { drawn = seed; acts = round_acts settings.tiles settings.cores })) 0 commits 0
+first_stage other commits = at_round (record { drawn = 0; acts = [] }) 0 commits 0
+
+-- how many rounds in a row brought no commit, once this one is through and so many tasks have committed
+abbrev pub barren_after : Stage → ℕ → ℕ
+barren_after stage commits = if commits == stage.begun then stage.barren + 1 else 0
+
+-- the next round, before which the least task is brought on where so many in a row brought no commit
+unfoldable pub next_round : (seed most : ℕ) → Stage → ℕ → Stage
+next_round seed most stage commits =
+    let barren = barren_after stage commits in
+    let order = next_order seed stage.order in
+    if barren == most then forced_stage order (stage.round + 1) commits
+    else at_round order (stage.round + 1) commits barren
+
+-- behind an act, where so many tasks have committed: the least task is brought on until one did; else the next act of
+-- the round comes, or the next round
+unfoldable pub stage_after : (seed most : ℕ) → Stage → ℕ → Stage
+stage_after seed most stage commits =
+    if stage.forced
+    then (if commits == stage.begun then stage else record stage { begun = commits; forced = false })
+    else if stage.place + 1 == length stage.order.acts
+    then next_round seed most stage commits
+    else record stage { place = stage.place + 1 }
+
+abbrev pub next_stage : Course → Stage → ℕ → Stage
+next_stage (OfRounds rounds seed barren settings) stage commits = stage_after seed barren stage commits
+next_stage other stage commits = stage
+
+-- the act of a course in rounds, where there is one
+unfoldable pub round_act : ℕ → Stage → Option Act
+round_act rounds stage =
+    if stage.forced then Some acts.Advance
+    else if nat_lt stage.round rounds then slice_get stage.order.acts stage.place else None
+
+-- the act of a number, counted from 0, at a stage, where there is one
+unfoldable pub course_act : Course → ℕ → Stage → Option Act
+course_act (OfScript script) number stage = slice_get script number
+course_act OfLeast number stage = Some acts.Advance
+course_act (OfRounds rounds seed barren settings) number stage = round_act rounds stage
 
 -- ---- which acts are asked for
 
 -- a tile dispatches its least idle task, where a core is free for it, or it is the least task; a running task makes a
 -- step; the least task commits, once it is finished; a tile brings a task back, where there is room for it, or it is
--- the least task
+-- the least task; and where the least task is brought on, whatever that wants is made
 abbrev pub IsAskedInRound : View → Act → Type 0
 IsAskedInRound view (acts.Dispatch tile) =
     (id : ℕ) × (task : Task) × IsLeastIdle view tile id task
@@ -99,14 +149,16 @@ IsAskedInRound view (acts.Step tile core) = (id : ℕ) × (task : Task) × IsRun
 IsAskedInRound view acts.Commit = (id : ℕ) × (task : Task) × IsLeastTask view id task × (task.status ≡ Finished)
 IsAskedInRound view (acts.Split tile) =
     (block_at view tile ≢ []) × (QueueHasRoom view tile ⊎ IsLeastSpilled view tile)
+IsAskedInRound view acts.Advance = Unit {0}
 IsAskedInRound view other = ⊥
 
 -- each act of a script is asked for; of the other courses none once the run is over
 abbrev pub IsAskedBy : Course → View → Act → Type 0
 IsAskedBy (OfScript script) view act = Unit {0}
 IsAskedBy OfLeast view act = IsOver view → ⊥
-IsAskedBy (OfRounds rounds seed settings) view act = (IsOver view → ⊥) × IsAskedInRound view act
+IsAskedBy (OfRounds rounds seed barren settings) view act = (IsOver view → ⊥) × IsAskedInRound view act
 
--- behind so many acts the course is through: no act is left, or none is asked for any more
-abbrev pub IsThrough : Course → ℕ → View → Type 0
-IsThrough course count view = (course_act course count ≡ None) ⊎ ((act : Act) → IsAskedBy course view act → ⊥)
+-- behind so many acts, at this stage, the course is through: no act is left, or none is asked for any more
+abbrev pub IsThrough : Course → ℕ → Stage → View → Type 0
+IsThrough course count stage view =
+    (course_act course count stage ≡ None) ⊎ ((act : Act) → IsAskedBy course view act → ⊥)

@@ -7,3 +7,4 @@ pub mod Made
 pub mod Telling
 pub mod Replies
 pub mod Rounds
+pub mod Lockstep

@@ -15,7 +15,7 @@ use Rattle.step_script.specs.Playing.{Does, PlayState, Plays}
 use Rattle.step_script.specs.Ranges.{ActIsInRange}
 use Rattle.step_script.specs.Asking.{Attempt, Hands}
 use Rattle.watch_text.specs.Moments.{IsMoment, Moment}
-use Rattle.watch_play.specs.Courses.{OfScript}
+use Rattle.watch_play.specs.Courses.{OfScript, Stage}
 use Rattle.watch_play.specs.Stories.{StoryLeads}
 
 -- what is said of an advance: that it committed, or that another event was made; else its reply
@@ -42,8 +42,9 @@ MomentDoes N =
 -- so a story of a whole script, from a sound opening on, plays it, and its replies are those of the play
 abbrev pub StoryPlays : Type 0 → Type 0
 StoryPlays N =
-    (image : ImageValue) (script : List Act) (opening : BookView) (moments : List (Moment N)) (last : PlayState)
+    (image : ImageValue) (script : List Act) (opening : BookView) (stage : Stage) (moments : List (Moment N))
+    (last : PlayState)
     → Sound image opening.view → opening.stopped ≡ false
     → All (ActIsInRange opening.view.settings.tiles opening.view.settings.cores) script
-    → StoryLeads image (OfScript script) opening (length script) moments last
+    → StoryLeads image (OfScript script) opening (length script) stage moments last
     → Plays N image script opening (map said_by moments) last.book

@@ -37,7 +37,7 @@ IsMadeOrStalls act other = ⊥
 abbrev pub AskedIsMade : Type 0 → Type 0
 AskedIsMade N =
     (image : ImageValue) (old : PlayState) (new : BookView) (act : Act) (asks : Attempt N) (held : List HeldLeg)
-    (answer : Reply) (aborted : ℕ) → (IsOver old.book.view → ⊥) → IsAskedInRound old.book.view act
+    (answer : Reply) (aborted : ℕ) → (IsOver old.book.view → ⊥) → IsOfRound act → IsAskedInRound old.book.view act
     → AsksFor image act old asks held → AttemptComes asks answer aborted old.book new → IsMadeOrStalls act answer
 
 -- and what it passes over isn't made by whoever hands it in, and leaves the book as it is

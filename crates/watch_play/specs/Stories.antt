@@ -5,24 +5,31 @@ use Rattle.event_def.specs.Book.{BookView}
 use Rattle.step_script.specs.declared.act.Act.{Act}
 use Rattle.step_script.specs.Playing.{PlayState}
 use Rattle.watch_text.specs.Moments.{IsMoment, Moment}
-use Rattle.watch_play.specs.Courses.{Course, course_act, IsAskedBy}
+use Rattle.watch_play.specs.Courses.{Course, Stage, course_act, first_stage, IsAskedBy, next_stage}
 
 -- a book before its first act, for which no leg is held
 abbrev pub begun : BookView → PlayState
 begun opening = record { book = opening; held = [] }
 
--- the act of this number, counted from 0, comes: it isn't asked for, and passes; or it is, and is a moment more
-pub data ActComes {N : Type 0} (image : ImageValue) (course : Course) (number : ℕ) (front : List (Moment N))
-    (old : PlayState) (moments : List (Moment N)) (new : PlayState) : Type 0 where
-  Passes : (act : Act) → course_act course number ≡ Some act → (IsAskedBy course old.book.view act → ⊥)
-      → moments ≡ front → new ≡ old → ActComes image course number front old moments new
-  Makes : (m : Moment N) → course_act course number ≡ Some m.act → IsAskedBy course old.book.view m.act
+-- the act of this number, counted from 0, comes at this stage: it isn't asked for, and passes; or it is, and is a
+-- moment more
+pub data ActComes {N : Type 0} (image : ImageValue) (course : Course) (number : ℕ) (stage : Stage)
+    (front : List (Moment N)) (old : PlayState) (moments : List (Moment N)) (new : PlayState) : Type 0 where
+  Passes : (act : Act) → course_act course number stage ≡ Some act → (IsAskedBy course old.book.view act → ⊥)
+      → moments ≡ front → new ≡ old → ActComes image course number stage front old moments new
+  Makes : (m : Moment N) → course_act course number stage ≡ Some m.act → IsAskedBy course old.book.view m.act
       → m.at ≡ number + 1 → m.number ≡ length front + 1 → IsMoment image m old new → moments ≡ front ++ m ∷ []
-      → ActComes image course number front old moments new
+      → ActComes image course number stage front old moments new
 
--- so many acts of the course, from an opening on, gave these moments, and led here
-abbrev pub StoryLeads : {N : Type 0} → ImageValue → Course → BookView → ℕ → List (Moment N) → PlayState → Type 0
-StoryLeads image course opening zero moments new = (moments ≡ []) × (new ≡ begun opening)
-StoryLeads {N} image course opening (suc number) moments new =
-    (front : List (Moment N)) × (old : PlayState) × StoryLeads image course opening number front old
-    × ActComes image course number front old moments new
+-- how many tasks have committed
+abbrev pub commits_of : PlayState → ℕ
+commits_of play = length play.book.view.history
+
+-- so many acts of the course, from an opening on, gave these moments, and led here, to this stage
+abbrev pub StoryLeads : {N : Type 0} → ImageValue → Course → BookView → ℕ → Stage → List (Moment N) → PlayState → Type 0
+StoryLeads image course opening zero stage moments new =
+    (moments ≡ []) × (new ≡ begun opening) × (stage ≡ first_stage course (length opening.view.history))
+StoryLeads {N} image course opening (suc number) stage moments new =
+    (front : List (Moment N)) × (old : PlayState) × (at : Stage)
+    × StoryLeads image course opening number at front old × ActComes image course number at front old moments new
+    × (stage ≡ next_stage course at (commits_of new))

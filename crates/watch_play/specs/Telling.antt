@@ -1,5 +1,5 @@
 -- How far a story was told.
-use Rattle.std.specs.Prelude.{◌≡◌, ◌⊎◌, ◌+◌, ◌≤◌, ◌++◌, ◌∷◌, ℕ, List, [], Result, Ok, Err, Some, length, slice_get}
+use Rattle.std.specs.Prelude.{◌≡◌, ◌⊎◌, ◌+◌, ◌<◌, ◌≤◌, ◌++◌, ◌∷◌, ℕ, List, [], Result, Ok, Err, Some, length}
 use Rattle.std.specs.declared.option.Option.{Option}
 use Rattle.guest_image.specs.ImageValue.{ImageValue}
 use Rattle.sim_io.specs.Causes.{Rose}
@@ -7,13 +7,16 @@ use Rattle.sim_io.specs.Parts.{SinkTakes, TakesFront}
 use Rattle.sim_io.specs.Streams.{SinkState}
 use Rattle.spec_state.specs.declared.settings.Settings.{Settings}
 use Rattle.event_def.specs.Book.{BookView}
+use Rattle.event_def.specs.End.{IsOver}
 use Rattle.step_script.specs.declared.act.Act.{Act}
 use Rattle.step_script.specs.Playing.{PlayState}
 use Rattle.watch_text.specs.Moments.{Moment}
 use Rattle.watch_play.specs.declared.stop.StoryStop.{StoryStop}
 use Rattle.watch_play.specs.declared.stop.StoryStop.TheVariants as stops
-use Rattle.watch_play.specs.Courses.{Course, IsThrough, OfRounds, course_act}
-use Rattle.watch_play.specs.Stories.{StoryLeads, begun}
+use Rattle.watch_play.specs.Courses.{Course, IsThrough, OfRounds, Order, Stage, at_round, course_act, forced_stage}
+use Rattle.watch_play.specs.Courses.{next_order, next_round, next_stage, stage_after}
+use Rattle.watch_play.specs.declared.lockstep.SoFar.{SoFar}
+use Rattle.watch_play.specs.Stories.{StoryLeads, begun, commits_of}
 use Rattle.watch_play.specs.Texts.{opening_lines, story_lines}
 
 -- what is told: a course on a machine of these settings, of this image, with a view behind each so many moments
@@ -32,15 +35,16 @@ lines_by plan opening moments =
 pub record HasStory {N : Type 0} (plan : Plan) (opening : BookView) (moments : List (Moment N)) (book : BookView)
     : Type 0 where
   pub count : ℕ
+  pub stage : Stage
   pub last : PlayState
-  pub goes : StoryLeads plan.image plan.course opening count moments last
+  pub goes : StoryLeads plan.image plan.course opening count stage moments last
   pub book_is : book ≡ last.book
 
 -- the course was played to its end, and all of it was told
 pub record IsAllTold (N : Type 0) (plan : Plan) (opening book : BookView) (before after : SinkState) : Type 0 where
   pub moments : List (Moment N)
   pub story : HasStory plan opening moments book
-  pub through : IsThrough plan.course story.count book.view
+  pub through : IsThrough plan.course story.count story.stage book.view
   pub took : SinkTakes before after (lines_by plan opening moments)
   pub later : before.faults ≤ after.faults
 
@@ -73,49 +77,94 @@ Tells N plan opening book before after (Err stops.Sink) = IsCutOff N plan openin
 
 -- ---- a story that goes on
 
--- these are the acts of a course from this number on, counted from 0
-abbrev pub AreActsOf : Course → ℕ → List Act → Type 0
-AreActsOf course number acts =
-    (place : ℕ) (act : Act) → slice_get acts place ≡ Some act → course_act course (number + place) ≡ Some act
-
--- so many acts of the course led here, through so many moments, all of which were told
-pub record IsSoFar {N : Type 0} (plan : Plan) (opening : BookView) (count told : ℕ) (moments : List (Moment N))
-    (play : PlayState) (before now : SinkState) : Type 0 where
-  pub goes : StoryLeads plan.image plan.course opening count moments play
+-- so many acts of the course led here, to this stage, through so many moments, all of which were told
+pub record IsSoFar {N : Type 0} (plan : Plan) (opening : BookView) (count : ℕ) (stage : Stage) (told : ℕ)
+    (moments : List (Moment N)) (play : PlayState) (before now : SinkState) : Type 0 where
+  pub goes : StoryLeads plan.image plan.course opening count stage moments play
   pub told_are : length moments ≡ told
   pub took : SinkTakes before now (lines_by plan opening moments)
   pub later : before.faults ≤ now.faults
 
 -- some story led so far
-abbrev pub GoesSoFar : (N : Type 0) → Plan → BookView → (count told : ℕ) → PlayState → (before now : SinkState)
-    → Type 0
-GoesSoFar N plan opening count told play before now =
-    (moments : List (Moment N)) × IsSoFar plan opening count told moments play before now
+abbrev pub GoesSoFar : (N : Type 0) → Plan → BookView → (count : ℕ) → Stage → (told : ℕ) → PlayState
+    → (before now : SinkState) → Type 0
+GoesSoFar N plan opening count stage told play before now =
+    (moments : List (Moment N)) × IsSoFar plan opening count stage told moments play before now
 
--- so many acts of the course led on from there, or the story ended on the way
-abbrev pub GoesOn : (N : Type 0) → Plan → BookView → (count told : ℕ) → (new : PlayState)
+-- so many acts of the course led on from there, to this stage, or the story ended on the way
+abbrev pub GoesOn : (N : Type 0) → Plan → BookView → (count : ℕ) → Stage → (told : ℕ) → (new : PlayState)
     → (before after : SinkState) → Result (Unit {0}) StoryStop → Type 0
-GoesOn N plan opening count told new before after (Ok done) =
-    GoesSoFar N plan opening count told new before after
-GoesOn N plan opening count told new before after (Err stop) = Tells N plan opening new.book before after (Err stop)
+GoesOn N plan opening count stage told new before after (Ok done) =
+    GoesSoFar N plan opening count stage told new before after
+GoesOn N plan opening count stage told new before after (Err stop) =
+    Tells N plan opening new.book before after (Err stop)
 
--- whatever story of a course in rounds led to the act of this number, it leads on, or the story ends there
+-- whatever story of a course in rounds led to the act of this number, it leads on, to the next stage, or the story ends
+-- there
 abbrev pub ActGoesOn : (N : Type 0) → ImageValue → Option ℕ → (number : ℕ) → Act → (told new_told : ℕ)
     → (old new : PlayState) → (now after : SinkState) → Result (Unit {0}) StoryStop → Type 0
 ActGoesOn N image each number act told new_told old new now after result =
-    (rounds seed : ℕ) (settings : Settings) (plan : Plan) (opening : BookView) (start : SinkState)
-    → plan.image ≡ image → plan.each ≡ each → plan.course ≡ OfRounds rounds seed settings
-    → course_act plan.course number ≡ Some act → GoesSoFar N plan opening number told old start now
-    → GoesOn N plan opening (number + 1) new_told new start after result
+    (rounds seed barren : ℕ) (settings : Settings) (stage : Stage) (plan : Plan) (opening : BookView)
+    (start : SinkState)
+    → plan.image ≡ image → plan.each ≡ each → plan.course ≡ OfRounds rounds seed barren settings
+    → course_act plan.course number stage ≡ Some act → GoesSoFar N plan opening number stage told old start now
+    → GoesOn N plan opening (number + 1) (next_stage plan.course stage (commits_of new)) new_told new start after
+    result
 
--- likewise the acts of a round, from this number on
+-- whatever story of such a course led to a round in this order, the acts of the round lead on, to the next round, or
+-- the story ends on the way
 abbrev pub RoundGoesOn : (N : Type 0) → ImageValue → Option ℕ → (number : ℕ) → List Act → (told new_told : ℕ)
     → (old new : PlayState) → (now after : SinkState) → Result (Unit {0}) StoryStop → Type 0
 RoundGoesOn N image each number acts told new_told old new now after result =
-    (rounds seed : ℕ) (settings : Settings) (plan : Plan) (opening : BookView) (start : SinkState)
-    → plan.image ≡ image → plan.each ≡ each → plan.course ≡ OfRounds rounds seed settings
-    → AreActsOf plan.course number acts → GoesSoFar N plan opening number told old start now
-    → GoesOn N plan opening (number + length acts) new_told new start after result
+    (rounds seed barren : ℕ) (settings : Settings) (drawn round so_barren : ℕ) (plan : Plan) (opening : BookView)
+    (start : SinkState)
+    → plan.image ≡ image → plan.each ≡ each → plan.course ≡ OfRounds rounds seed barren settings → round < rounds
+    → (let stage = at_round (record { drawn = drawn; acts = acts }) round (commits_of old) so_barren in
+    GoesSoFar N plan opening number stage told old start now
+    → GoesOn N plan opening (number + length acts) (next_round seed barren stage (commits_of new)) new_told new start
+    after result)
+
+-- so many acts led to this stage, or the story ended on the way
+abbrev pub LeadsOn : (N : Type 0) → Plan → BookView → Stage → (told : ℕ) → (new : PlayState)
+    → (before after : SinkState) → Result ℕ StoryStop → Type 0
+LeadsOn N plan opening stage told new before after (Ok count) =
+    GoesSoFar N plan opening count stage told new before after
+LeadsOn N plan opening stage told new before after (Err stop) = Tells N plan opening new.book before after (Err stop)
+
+-- whatever story of such a course led to where the least task is brought on, that leads on, or the story ends there
+abbrev pub ForcedGoesOn : (N : Type 0) → ImageValue → Option ℕ → (number told new_told : ℕ) → (old new : PlayState)
+    → (now after : SinkState) → Result ℕ StoryStop → Type 0
+ForcedGoesOn N image each number told new_told old new now after result =
+    (rounds seed barren : ℕ) (settings : Settings) (order : Order) (round : ℕ) (plan : Plan) (opening : BookView)
+    (start : SinkState)
+    → plan.image ≡ image → plan.each ≡ each → plan.course ≡ OfRounds rounds seed barren settings
+    → (let stage = forced_stage order round (commits_of old) in
+    GoesSoFar N plan opening number stage told old start now
+    → LeadsOn N plan opening (stage_after seed barren stage (commits_of new)) new_told new start after result)
+
+-- where the next round begins, in the order that follows this one
+abbrev pub next_at : (seed : ℕ) → List Act → SoFar → (round commits : ℕ) → Stage
+next_at seed acts so_far round commits =
+    at_round (next_order seed (record { drawn = so_far.drawn; acts = acts })) round commits so_far.barren
+
+-- so many acts led to where the next round begins, or where the run is over; or the story ended on the way
+abbrev pub LeadsThrough : (N : Type 0) → Plan → BookView → (seed : ℕ) → List Act → (round told : ℕ)
+    → (new : PlayState) → (before after : SinkState) → Result SoFar StoryStop → Type 0
+LeadsThrough N plan opening seed acts round told new before after (Ok so_far) =
+    (stage : Stage) × GoesSoFar N plan opening so_far.acts stage told new before after
+    × ((IsOver new.book.view → ⊥) → stage ≡ next_at seed acts so_far round (commits_of new))
+LeadsThrough N plan opening seed acts round told new before after (Err stop) =
+    Tells N plan opening new.book before after (Err stop)
+
+-- whatever story of such a course led to the next round, that round, and what brings the least task on behind it, lead
+-- on, or the story ends on the way
+abbrev pub NextGoesOn : (N : Type 0) → ImageValue → Option ℕ → (seed barren : ℕ) → SoFar → (acts new_acts : List Act)
+    → (told new_told : ℕ) → (old new : PlayState) → (now after : SinkState) → Result SoFar StoryStop → Type 0
+NextGoesOn N image each seed barren so_far acts new_acts told new_told old new now after result =
+    (rounds round : ℕ) (settings : Settings) (plan : Plan) (opening : BookView) (start : SinkState)
+    → plan.image ≡ image → plan.each ≡ each → plan.course ≡ OfRounds rounds seed barren settings → round < rounds
+    → GoesSoFar N plan opening so_far.acts (next_at seed acts so_far round (commits_of old)) told old start now
+    → LeadsThrough N plan opening seed new_acts (round + 1) new_told new start after result
 
 -- ---- the opening
 

@@ -1,5 +1,6 @@
 //! Laws of stories and their lines. Each is the contract of a function that does nothing.
 
+ghost use Rattle.watch_play.specs.Lockstep.{ForcedGetsOn, LockstepPlays, RoundsCommit};
 ghost use Rattle.watch_play.specs.Replies.{MomentDoes, StoryPlays};
 ghost use Rattle.watch_play.specs.Rounds.{AskedIsMade, PassedIsRefused};
 
@@ -27,4 +28,24 @@ pub fn asked_is_made<N: Naming>()
 /// as it is. On an unsound view an id might stand twice in a task queue, so that none is the least idle one.
 pub fn passed_is_refused<N: Naming>()
     ensures { PassedIsRefused N }
+{}
+
+/// From a sound book, whatever queues are full, advances of which none commits are no more than the budget and 4, less
+/// what is left of the way to the next commit or the end: so as many as that commit the next task or end the run, want
+/// of memory aside. An unsound view may have no least task, and a stopped book advances to no end.
+pub fn forced_gets_on<N: Naming>()
+    ensures { ForcedGetsOn N }
+{}
+
+/// Of a story in rounds no more rounds came than so many for each commit and as many again, where the least task is
+/// brought on behind so many barren ones: a story of enough rounds reaches the end of its run, its limit of commits or
+/// a trap. The number is one at least, as no stretch of no rounds is one that brought no commit.
+pub fn rounds_commit<N: Naming>()
+    ensures { RoundsCommit N }
+{}
+
+/// The acts that a story in rounds tells, in their order, are a script that is played so: lockstep is `steps` of the
+/// acts of its lines, with the same replies.
+pub fn lockstep_plays<N: Naming>()
+    ensures { LockstepPlays N }
 {}

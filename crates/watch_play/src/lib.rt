@@ -16,7 +16,10 @@ mod stop;
 mod watch;
 
 pub use courses::{play_least, play_script};
-pub use laws::{asked_is_made, moment_does, passed_is_refused, story_plays};
+pub use laws::{
+    asked_is_made, forced_gets_on, lockstep_plays, moment_does, passed_is_refused, rounds_commit,
+    story_plays,
+};
 pub use lockstep::play_rounds;
 pub use opening::tell_opening;
 pub use stop::StoryStop;

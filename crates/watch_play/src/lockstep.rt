@@ -1,7 +1,7 @@
 //! The course in lockstep.
 
-ghost use Rattle.std.specs.Prelude.{◌≡◌, ◌↔◌, ◌<◌, ◌≤◌, ◌+◌, ◌^◌, ◌++◌, All, IfOk, IfSome, IsPermutation, IsTrue};
-ghost use Rattle.std.specs.Prelude.{OnOk, length, map, replicate};
+ghost use Rattle.std.specs.Prelude.{◌≡◌, ◌≢◌, ◌↔◌, ◌<◌, ◌≤◌, ◌+◌, ◌^◌, ◌++◌, All, IfOk, IfSome, IsPermutation, IsTrue};
+ghost use Rattle.std.specs.Prelude.{OnOk, ◌==◌, if◌then◌else◌, length, map, replicate};
 ghost use Rattle.std.specs.List.{flat_map, range_with_len};
 ghost use Rattle.conflict_book.specs.BookViews.{machine_view, view_of};
 ghost use Rattle.step_script.specs.Ranges.{ActIsInRange};
@@ -9,7 +9,7 @@ ghost use Rattle.event_def.specs.End.{IsOver};
 ghost use Rattle.watch_play.specs.Courses.{IsAskedInRound, OfRounds, next_draw, next_order, round_acts, shuffled};
 ghost use Rattle.watch_play.specs.Courses.{tile_acts};
 ghost use Rattle.watch_play.specs.Made.{play_of};
-ghost use Rattle.watch_play.specs.Telling.{ActGoesOn, RoundGoesOn, TellsCourse};
+ghost use Rattle.watch_play.specs.Telling.{ActGoesOn, ForcedGoesOn, NextGoesOn, RoundGoesOn, TellsCourse};
 
 use crate::playing::tell_act;
 use crate::stop::StoryStop;
@@ -24,6 +24,17 @@ use spec_state::{Settings, State, Where};
 use std::alloc::{AllocError, Global};
 use step_script::Act;
 use trace_tap::Tap;
+
+/// How far rounds have come.
+#[derive(Clone, Copy)]
+struct SoFar {
+    /// The number that was drawn last.
+    drawn: u32,
+    /// How many acts came.
+    acts: u64,
+    /// How many rounds in a row brought no commit.
+    barren: u32,
+}
 
 /// Adds what a tile does at the front of a round: it dispatches, and each of its cores makes a step.
 #[tactic(auto, using(crate::proofs::Rounds::tile_step))]
@@ -172,7 +183,7 @@ fn is_asked_in_round<N: Naming, P: Placer, T: Tap>(book: &Book<N, P, T>, act: Ac
         Act::Give(_, _) => false,
         Act::Abort(_) => false,
         Act::Coalesce(_) => false,
-        Act::Advance => false,
+        Act::Advance => true,
     }
 }
 
@@ -197,7 +208,7 @@ fn play_asked<N: Naming, P: Placer, T: Tap, K: Sink>(
     requires image { image.now ≡ N.image }
     requires each { IfSome watch.old.each (λ number. 1 ≤ number) }
     requires count { watch.old.count ≤ number }
-    requires below { number < 2 ^ 63 }
+    requires below { number + 1 < 2 ^ 64 }
     requires within { let settings = (machine_view watch.old.book).settings in
         ActIsInRange settings.tiles settings.cores act }
     ensures goes_on { ActGoesOn N N.image watch.old.each number act watch.old.count watch.new.count
@@ -225,7 +236,8 @@ fn play_round<N: Naming, P: Placer, T: Tap, K: Sink>(
     requires image { image.now ≡ N.image }
     requires each { IfSome watch.old.each (λ number. 1 ≤ number) }
     requires count { watch.old.count ≤ before }
-    requires below { before + length acts.now < 2 ^ 63 }
+    requires below { before + length acts.now < 2 ^ 64 }
+    requires some { 0 < length acts.now }
     requires within { let settings = (machine_view watch.old.book).settings in
         All (ActIsInRange settings.tiles settings.cores) acts.now }
     ensures goes_on { RoundGoesOn N N.image watch.old.each before acts.now watch.old.count watch.new.count
@@ -241,6 +253,98 @@ fn play_round<N: Naming, P: Placer, T: Tap, K: Sink>(
     Ok(())
 }
 
+/// Brings the least task on, act by act, behind so many acts, until it committed or the run is over. How many acts came
+/// then is told.
+fn play_forced<N: Naming, P: Placer, T: Tap, K: Sink>(
+    watch: &mut Watch<N, P, T>,
+    sink: &mut K,
+    image: &Image,
+    before: u64,
+) -> Result<u64, StoryStop>
+    requires image { image.now ≡ N.image }
+    requires each { IfSome watch.old.each (λ number. 1 ≤ number) }
+    requires count { watch.old.count ≤ before }
+    ensures goes_on { ForcedGoesOn N N.image watch.old.each before watch.old.count watch.new.count
+        (play_of P.policy T.notes watch.old) (play_of P.policy T.notes watch.new) (K.state sink.old) (K.state sink.new)
+        result }
+    ensures ends { let commits = length (machine_view watch.new.book).history in
+        OnOk result ((IsOver (machine_view watch.new.book) → ⊥)
+        → commits ≢ length (machine_view watch.old.book).history) }
+    ensures settings { (machine_view watch.new.book).settings ≡ (machine_view watch.old.book).settings }
+    ensures each { watch.new.each ≡ watch.old.each }
+    ensures count { IfOk result (λ behind. watch.new.count ≤ behind) }
+{
+    let begun = watch.book.state().commit_count();
+    for made in before..u64::MAX {
+        if watch.book.end().is_some() || watch.book.state().commit_count() != begun {
+            return Ok(made);
+        }
+        tell_act(watch, sink, image, made + 1, Act::Advance)?;
+    }
+    // No run is so long; want of memory is the one answer that says nothing of it.
+    Err(StoryStop::Memory)
+}
+
+/// How many rounds in a row brought no commit behind one more, from so many commits at its beginning to so many.
+fn barren_rounds_after(before: u32, begun: u32, commits: u32) -> u32
+    requires { before + 1 < 2 ^ 32 }
+    ensures { result ≡ if commits == begun then before + 1 else 0 }
+{
+    if commits == begun { before + 1 } else { 0 }
+}
+
+/// Plays the round in the order that follows this one. Where it is the last of so many in a row that brought no commit,
+/// the least task is brought on behind it.
+fn play_next<N: Naming, P: Placer, T: Tap, K: Sink>(
+    watch: &mut Watch<N, P, T>,
+    sink: &mut K,
+    image: &Image,
+    acts: &mut [Act],
+    seed: u32,
+    barren: u32,
+    so_far: SoFar,
+) -> Result<SoFar, StoryStop>
+    requires image { image.now ≡ N.image }
+    requires each { IfSome watch.old.each (λ number. 1 ≤ number) }
+    requires count { watch.old.count ≤ so_far.acts }
+    requires few { length acts.old < 2 ^ 32 }
+    requires some { 0 < length acts.old }
+    requires barren { so_far.barren + 1 < 2 ^ 32 }
+    requires within { let settings = (machine_view watch.old.book).settings in
+        All (ActIsInRange settings.tiles settings.cores) acts.old }
+    ensures goes_on { NextGoesOn N N.image watch.old.each seed barren so_far acts.old acts.new watch.old.count
+        watch.new.count (play_of P.policy T.notes watch.old) (play_of P.policy T.notes watch.new) (K.state sink.old)
+        (K.state sink.new) result }
+    ensures permuted { OnOk result (IsPermutation acts.old acts.new) }
+    ensures len { OnOk result (length acts.new ≡ length acts.old) }
+    ensures settings { (machine_view watch.new.book).settings ≡ (machine_view watch.old.book).settings }
+    ensures each { watch.new.each ≡ watch.old.each }
+    ensures count { IfOk result (λ behind. watch.new.count ≤ behind.acts) }
+    ensures barren { IfOk result (λ behind. behind.barren ≤ so_far.barren + 1) }
+{
+    let Some(behind) = so_far.acts.checked_add(acts.len() as u64) else {
+        // No run is so long; want of memory is the one answer that says nothing of it.
+        return Err(StoryStop::Memory);
+    };
+    let drawn = next_order(acts, so_far.drawn, seed);
+    let begun = watch.book.state().commit_count();
+    play_round(watch, sink, image, acts, so_far.acts)?;
+    let in_a_row = barren_rounds_after(so_far.barren, begun, watch.book.state().commit_count());
+    if in_a_row != barren {
+        return Ok(SoFar {
+            drawn,
+            acts: behind,
+            barren: in_a_row,
+        });
+    }
+    let behind = play_forced(watch, sink, image, behind)?;
+    Ok(SoFar {
+        drawn,
+        acts: behind,
+        barren: 0,
+    })
+}
+
 /// Plays so many rounds, in the orders that follow one after another from this one; with the seed 0 all have this one.
 fn play_in_order<N: Naming, P: Placer, T: Tap, K: Sink>(
     watch: &mut Watch<N, P, T>,
@@ -249,6 +353,7 @@ fn play_in_order<N: Naming, P: Placer, T: Tap, K: Sink>(
     acts: &mut [Act],
     rounds: u32,
     seed: u32,
+    barren: u32,
 ) -> Result<(), StoryStop>
     requires image { image.now ≡ N.image }
     requires each { IfSome watch.old.each (λ number. 1 ≤ number) }
@@ -257,44 +362,57 @@ fn play_in_order<N: Naming, P: Placer, T: Tap, K: Sink>(
     requires acts { let settings = (machine_view watch.old.book).settings in
         acts.old ≡ round_acts settings.tiles settings.cores }
     ensures { let old = play_of P.policy T.notes watch.old in
-        let course = OfRounds rounds seed (machine_view watch.old.book).settings in
+        let course = OfRounds rounds seed barren (machine_view watch.old.book).settings in
         TellsCourse N N.image watch.old.each course old (view_of P.policy T.notes watch.new.book)
         (K.state sink.old) (K.state sink.new) result }
 {
     watch.book.is_sound();
-    let mut drawn = seed;
-    let mut before = 0u64;
+    let mut so_far = SoFar {
+        drawn: seed,
+        acts: 0,
+        barren: 0,
+    };
     for _round in 0..rounds {
-        drawn = next_order(acts, drawn, seed);
-        play_round(watch, sink, image, acts, before)?;
+        so_far = play_next(watch, sink, image, acts, seed, barren, so_far)?;
         if watch.book.end().is_some() {
             return Ok(());
         }
-        before += acts.len() as u64;
     }
     Ok(())
 }
 
 /// Plays so many rounds in lockstep, each of which shuffles the order of the round before, unless the seed is 0; or as
-/// many as there are up to the end of the run.
+/// many as there are up to the end of the run. Wherever so many rounds in a row brought no commit the least task is
+/// brought on, act by act, until it committed or the run is over.
 pub fn play_rounds<N: Naming, P: Placer, T: Tap, K: Sink>(
     watch: &mut Watch<N, P, T>,
     sink: &mut K,
     image: &Image,
     rounds: u32,
     seed: u32,
+    barren: u32,
 ) -> Result<(), StoryStop>
     requires image { image.now ≡ N.image }
     requires each { IfSome watch.old.each (λ number. 1 ≤ number) }
     requires count { watch.old.count ≡ 0 }
     requires rounds { rounds ≤ 1000000 }
     ensures { let old = play_of P.policy T.notes watch.old in
-        let course = OfRounds rounds seed (machine_view watch.old.book).settings in
+        let course = OfRounds rounds seed barren (machine_view watch.old.book).settings in
         TellsCourse N N.image watch.old.each course old (view_of P.policy T.notes watch.new.book)
         (K.state sink.old) (K.state sink.new) result }
 {
     match round_acts(watch.book.alloc(), watch.book.settings()) {
-        Ok(mut acts) => play_in_order(watch, sink, image, acts.as_mut_slice(), rounds, seed),
+        Ok(mut acts) => {
+            play_in_order(
+                watch,
+                sink,
+                image,
+                acts.as_mut_slice(),
+                rounds,
+                seed,
+                barren,
+            )
+        }
         Err(_) => Err(StoryStop::Memory),
     }
 }

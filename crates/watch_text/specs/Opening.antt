@@ -17,12 +17,16 @@ use Rattle.watch_text.specs.Fields.{word_field}
 
 -- ---- the head
 
+-- how many rounds, what their orders are drawn from, and how many may be barren
+abbrev pub rounds_text : (rounds seed barren : ℕ) → List ℕ
+rounds_text rounds seed barren =
+    number_field (codes "rounds") rounds ++ number_field (codes "seed") seed ++ number_field (codes "barren") barren
+
 abbrev pub course_text : CourseWord → List ℕ
 course_text courses.Steps = word_field (codes "course") (codes "steps")
 course_text courses.Least = word_field (codes "course") (codes "least")
-course_text (courses.Lockstep rounds seed) =
-    word_field (codes "course") (codes "lockstep") ++ number_field (codes "rounds") rounds
-    ++ number_field (codes "seed") seed
+course_text (courses.Lockstep rounds seed barren) =
+    word_field (codes "course") (codes "lockstep") ++ rounds_text rounds seed barren
 
 -- how large a tile is, and how many there are
 unfoldable pub sizes_text : Settings → List ℕ

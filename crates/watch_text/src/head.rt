@@ -4,7 +4,7 @@ ghost use Rattle.std.specs.Prelude.{◌≡◌, ◌++◌, OnOk};
 ghost use Rattle.std.specs.String.{string_bytes};
 ghost use Rattle.watch_text.specs.Fields.{window_field};
 ghost use Rattle.watch_text.specs.Opening.{bounds_text, contents_text, course_text, head_line, image_text, limits_text};
-ghost use Rattle.watch_text.specs.Opening.{settings_text, sizes_text};
+ghost use Rattle.watch_text.specs.Opening.{rounds_text, settings_text, sizes_text};
 
 use crate::fields::{put_number, put_word};
 use crate::words::kind_word;
@@ -20,13 +20,25 @@ pub enum CourseWord {
     Steps,
     /// What brings the least task on, up to the end of the run.
     Least,
-    /// In each round every tile dispatches, every running core makes a step, tasks commit and come back.
+    /// In each round every tile dispatches, every running core makes a step, tasks commit and come back; where many
+    /// rounds in a row brought no commit, the least task is brought on to its own.
     Lockstep {
         /// How many rounds: 1 to 1,000,000.
         rounds: u32,
         /// What the order of a round is drawn from; 0 leaves it as it is.
         seed: u32,
+        /// After how many rounds without a commit the least task is brought on: 1 to 1,000,000.
+        barren: u32,
     },
+}
+
+/// How many rounds, what their orders are drawn from, and how many may be barren.
+fn put_rounds(line: &mut String, rounds: u32, seed: u32, barren: u32) -> Result<(), AllocError>
+    ensures { OnOk result (string_bytes line.new ≡ string_bytes line.old ++ rounds_text rounds seed barren) }
+{
+    put_number(line, "rounds", u64::from(rounds))?;
+    put_number(line, "seed", u64::from(seed))?;
+    put_number(line, "barren", u64::from(barren))
 }
 
 fn put_course(line: &mut String, course: CourseWord) -> Result<(), AllocError>
@@ -35,10 +47,13 @@ fn put_course(line: &mut String, course: CourseWord) -> Result<(), AllocError>
     match course {
         CourseWord::Steps => put_word(line, "course", "steps"),
         CourseWord::Least => put_word(line, "course", "least"),
-        CourseWord::Lockstep { rounds, seed } => {
+        CourseWord::Lockstep {
+            rounds,
+            seed,
+            barren,
+        } => {
             put_word(line, "course", "lockstep")?;
-            put_number(line, "rounds", u64::from(rounds))?;
-            put_number(line, "seed", u64::from(seed))
+            put_rounds(line, rounds, seed, barren)
         }
     }
 }

@@ -1,6 +1,7 @@
 use Rattle.std.proofs.Common.{rules, ◌≡◌, ◌+◌, Err, ap, ◌∙◌, inl}
-use Rattle.watch_play.specs.Courses.{OfScript}
+use Rattle.watch_play.specs.Courses.{OfScript, first_stage}
 use Rattle.watch_play.specs.Made.{play_of}
+use Rattle.watch_play.specs.Stories.{commits_of}
 use Rattle.watch_play.proofs.Scripts.{script_goes_on, script_is_through}
 use Rattle.watch_play.proofs.Tellings.{course_ends, course_stops, course_told}
 use Rattle.watch_play.proofs.courses.play_script.Goals as goal
@@ -14,12 +15,13 @@ returns-in_err-tell_act g c =
     let after = g.K.Sink.state c.tell_act.new.sink in
     let i = c.loop-act.act-index in
     let inv = c.loop-act.invariant in
+    let stage = first_stage (OfScript c.args.script.now) (commits_of first) in
     let told : c.from_residual.result ≡ Err c.in_err-tell_act.field-0.0 = search rules in
     course_stops g.row.N.Denot g.N.Naming.image c.args.watch.now.each (OfScript c.args.script.now) first began (i + 1)
-    (i + 1)
+    stage (i + 1)
     new after c.tell_act.result c.from_residual.result c.in_err-tell_act.field-0.0
-    (script_goes_on g.row.N.Denot g.N.Naming.image c.args.watch.now.each first began c.args.script.now i c.loop-act.at
-    c.loop-act.watch.count c.loop-act.watch.each _ old new (g.K.Sink.state c.loop-act.sink) after c.tell_act.result
+    (script_goes_on g.row.N.Denot g.N.Naming.image c.args.watch.now.each first began c.args.script.now stage i
+    c.loop-act.at c.loop-act.watch.count c.loop-act.watch.each _ old new (g.K.Sink.state c.loop-act.sink) after c.tell_act.result
     (search rules) inv.at inv.count inv.each inv.goes c.tell_act.ensures.tells)
     c.in_err-tell_act.was told
 
@@ -32,13 +34,14 @@ loop-act-preserved g c =
     let after = g.K.Sink.state c.tell_act.new.sink in
     let i = c.loop-act.act-index in
     let inv = c.loop-act.invariant in
+    let stage = first_stage (OfScript c.args.script.now) (commits_of first) in
     record {
       at = ap (λ n. n + 1) inv.at;
       goes =
           course_told g.row.N.Denot g.N.Naming.image c.args.watch.now.each (OfScript c.args.script.now) first began
-          (i + 1) (i + 1)
+          (i + 1) stage (i + 1)
           new after c.tell_act.result
-          (script_goes_on g.row.N.Denot g.N.Naming.image c.args.watch.now.each first began c.args.script.now i
+          (script_goes_on g.row.N.Denot g.N.Naming.image c.args.watch.now.each first began c.args.script.now stage i
           c.loop-act.at
           c.loop-act.watch.count c.loop-act.watch.each _ old new (g.K.Sink.state c.loop-act.sink) after
           c.tell_act.result
@@ -51,9 +54,11 @@ loop-act-preserved g c =
 
 pub returns : goal.returns
 returns g c =
+    let stage = first_stage (OfScript c.args.script.now)
+    (commits_of (play_of g.P.Placer.policy g.T.Tap.notes c.args.watch.now)) in
     course_ends g.row.N.Denot g.N.Naming.image c.args.watch.now.each (OfScript c.args.script.now)
     (play_of g.P.Placer.policy g.T.Tap.notes c.args.watch.now) (g.K.Sink.state c.args.sink.now) c.loop-act.act-index
-    c.loop-act.act-index
+    stage c.loop-act.act-index
     (play_of g.P.Placer.policy g.T.Tap.notes c.loop-act.watch) (g.K.Sink.state c.loop-act.sink)
     c.loop-act.invariant.goes
-    (inl (script_is_through c.args.script.now c.loop-act.act-index (search rules)))
+    (inl (script_is_through c.args.script.now c.loop-act.act-index stage (search rules)))

@@ -1,6 +1,6 @@
-use Rattle.std.proofs.Common.{rules, arith, ◌≡◌, ◌+◌, Err, ◌∙◌}
+use Rattle.std.proofs.Common.{rules, arith, ◌≡◌, Err, ◌∙◌}
 use Rattle.watch_play.specs.Made.{play_of}
-use Rattle.watch_play.proofs.Tellings.{round_ends, round_stops, round_told}
+use Rattle.watch_play.proofs.InRounds.{round_ends, round_stops, round_told}
 use Rattle.watch_play.proofs.lockstep.play_round.Goals as goal
 
 pub returns-in_err-play_asked-clause-goes_on : goal.returns-in_err-play_asked-clause-goes_on
@@ -36,6 +36,6 @@ pub returns-clause-goes_on : goal.returns-clause-goes_on
 returns-clause-goes_on g c =
     round_ends g.row.N.Denot g.N.Naming.image c.args.watch.now.each c.args.acts.now c.args.before c.args.watch.now.count
     (play_of g.P.Placer.policy g.T.Tap.notes c.args.watch.now) (g.K.Sink.state c.args.sink.now)
-    (c.args.before + c.loop-place.place) c.loop-place.watch.count
+    c.loop-place.place c.loop-place.watch.count
     (play_of g.P.Placer.policy g.T.Tap.notes c.loop-place.watch)
     (g.K.Sink.state c.loop-place.sink) (search rules) c.loop-place.invariant.goes

@@ -1,13 +1,13 @@
 use Rattle.std.proofs.Common.{◌≡◌, ◌≤◌, ◌+◌}
 use Rattle.conflict_book.specs.BookViews.{machine_view}
 use Rattle.watch_play.specs.Made.{play_of}
-use Rattle.watch_play.proofs.Tellings.{RoundGoes}
+use Rattle.watch_play.proofs.InRounds.{RoundGoes}
 use Rattle.watch_play.proofs.lockstep.play_round.Given as goal
 
 abbrev pub invariant-loop-place : goal.invariant-loop-place
 invariant-loop-place g l = record {
   goes : RoundGoes g.row.N.Denot g.N.Naming.image l.fn.watch.each l.acts l.before l.fn.watch.count
-      (play_of g.P.Placer.policy g.T.Tap.notes l.fn.watch) (g.K.Sink.state l.fn.sink) (l.before + l.place) l.watch.count
+      (play_of g.P.Placer.policy g.T.Tap.notes l.fn.watch) (g.K.Sink.state l.fn.sink) l.place l.watch.count
       (play_of g.P.Placer.policy g.T.Tap.notes l.watch) (g.K.Sink.state l.sink);
   settings : (machine_view l.watch.book).settings ≡ (machine_view l.fn.watch.book).settings;
   each : l.watch.each ≡ l.fn.watch.each;
