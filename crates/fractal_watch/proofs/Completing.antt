@@ -1,6 +1,6 @@
 -- Where nothing failed, the status is the one that is due.
 use Rattle.std.proofs.Common.{◌≡◌, inl, inr, sym, ap, ◌∙◌, subst, ℕ, ◌≤◌, List, length}
-use Rattle.std.proofs.Common.{arith, drop, Some}
+use Rattle.std.proofs.Common.{drop, Some}
 use Rattle.guest_image.specs.ImageValue.{ImageValue}
 use Rattle.guest_image.specs.Reading.{image_of}
 use Rattle.step_script.specs.declared.act.Act.{Act}

@@ -1,14 +1,8 @@
 -- What was taken where a call read its input, and that a script has no more acts than bytes.
 use Rattle.std.specs.Prelude.{IfOk}
-use Rattle.std.proofs.Common.{◌≡◌, ℕ, ◌+◌, ◌^◌, ◌<◌, ◌≤◌, ◌==◌, List, [], ◌∷◌, length, refl, ap, arith}
-use Rattle.std.proofs.Common.{Result, Ok, Err, Bool, true, false, nat_lt, if◌then◌else◌, Some, None}
-use Rattle.std.proofs.lemmas.Bool.Decides.{nat_tests}
-use Rattle.std.proofs.lemmas.Grind.{common_steps}
+use Rattle.std.proofs.Common.{◌≡◌, ℕ, ◌+◌, ◌^◌, ◌<◌, ◌≤◌, ◌==◌, List, [], ◌∷◌, length, ap, arith}
+use Rattle.std.proofs.Common.{Result, Ok, Err, Bool, true, false, if◌then◌else◌, Some, None}
 use Rattle.std.specs.declared.option.Option.{Option}
-use Rattle.guest_image.specs.ImageValue.{ImageValue}
-use Rattle.guest_image.specs.Reading.{after_header, header_fault, image_of, value_in_bytes, whole_length}
-use Rattle.guest_image.specs.declared.fault.ImageFault.{ImageFault}
-use Rattle.guest_image.specs.declared.fault.ImageFault.TheVariants as faults
 use Rattle.step_script.specs.declared.act.Act.{Act}
 use Rattle.step_script.specs.Grammar.{act_in, acts_at, acts_of, after_act}
 use Rattle.text_lines.specs.Lines.{lines_of, onto}
