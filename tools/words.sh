@@ -59,6 +59,11 @@ fault_of_watch() {
             line="$line $1"
             shift
         done
+        if [ "${1-}" = barren ]; then
+            fault_of_number barren "$line barren" "${2-}" && return
+            line="$line barren $2"
+            shift 2
+        fi
     fi
     fault_of_further "$@"
 }

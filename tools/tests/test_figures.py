@@ -38,12 +38,13 @@ class Spreads(unittest.TestCase):
 
 class Means(unittest.TestCase):
     def test_rounds_count_alike(self) -> None:
-        """Rounds of five acts: the first has events behind which one and three run, so two on the mean; the second has
-        none, and three run still; in the third one runs, four times."""
-        occupancy = Occupancy(5)
-        for act, running in ((1, 1), (3, 3), (11, 1), (12, 1), (13, 1), (15, 1)):
-            occupancy.note_event(act, counts(running))
-        occupancy.count(13, "commits", 2)
+        """The first round has events behind which one and three run, so two on the mean; the second has none, and three
+        run still; in the third one runs, four times."""
+        occupancy = Occupancy(True)
+        for number, running in ((0, 1), (0, 3), (2, 1), (2, 1), (2, 1), (2, 1)):
+            occupancy.end_rounds(number)
+            occupancy.note_event(counts(running))
+        occupancy.count("commits", 2)
         occupancy.close(3)
         self.assertEqual(occupancy.curve.means()[RUNNING], 2.0)
         self.assertEqual(occupancy.greatest[RUNNING], 3)
@@ -52,9 +53,9 @@ class Means(unittest.TestCase):
         self.assertEqual(occupancy.over(), "rounds")
 
     def test_events_count_alike_without_rounds(self) -> None:
-        occupancy = Occupancy(None)
-        for act, running in ((1, 1), (3, 3), (11, 2)):
-            occupancy.note_event(act, counts(running))
+        occupancy = Occupancy(False)
+        for running in (1, 3, 2):
+            occupancy.note_event(counts(running))
         occupancy.close(None)
         self.assertEqual((occupancy.curve.means()[RUNNING], occupancy.over()), (2.0, "events"))
 

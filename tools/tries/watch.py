@@ -131,6 +131,7 @@ def random_call(chance, table):
     words.append(course)
     if course == "lockstep":
         words += [number(chance, 1, 1_000_000), number(chance, 0, 2 ** 32 - 1)]
+        words += ["barren", number(chance, 1, 1_000_000)] if chance.random() < 0.3 else []
     for option in chance.sample(list(table.options.values()), chance.choice((0, 0, 1, 2))):
         words += [f"--{option.name}", number(chance, option.values[0], option.values[-1])]
     for _ in range(chance.choice((0, 0, 1, 2))):

@@ -15,7 +15,7 @@ from yotarimu.common.progress import show_line
 from yotarimu.common.tables import row_of, table
 from yotarimu.courses.grid import Shard
 from yotarimu.figures.columns import COLUMNS, END, Row, heads
-from yotarimu.figures.run import Figures, acts_a_round, figures_of
+from yotarimu.figures.run import Figures, figures_of
 from yotarimu.lines.reader import Watched
 from yotarimu.programs.calls import Calls
 
@@ -65,8 +65,8 @@ class Study:
 
     def figures(self, file: BinaryIO, tell: Tell) -> Figures:
         watched = Watched(file, "the second program")
-        acts = acts_a_round(watched.head) or 1
-        return figures_of(watched, lambda act: tell(act // acts))
+        rounds = watched.machine.rounds
+        return figures_of(watched, lambda act: tell(act if rounds is None else rounds.number))
 
 
 class Played:

@@ -113,6 +113,8 @@ COLUMNS = {
     "rounds": count("Rounds", lambda it: it.rounds()),
     "fewer": Column("as many times less", lambda it, first: f"{fewer(it, first):.1f}",
                     lambda it, first: f"{fewer(it, first):.6g}", True),
+    "barren": count("Barren rounds in a row", lambda it: it.longest_barren),
+    "advances": count("Acts that brought the least task on", lambda it: it.advances),
     "acts": count("Acts", lambda it: it.acts),
     "round": quotient("Commits a round", lambda it: it.commits, lambda it: it.rounds()),
     "thousand": quotient("Commits in 1,000 acts", lambda it: it.commits, lambda it: it.acts, 1_000),

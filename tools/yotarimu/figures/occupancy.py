@@ -47,11 +47,11 @@ class Curve:
 
 
 class Occupancy:
-    """How many tasks were where, by places, over rounds of so many acts, or over events where that is None; and over
-    rounds what was counted in each."""
+    """How many tasks were where, by places, over rounds, or over events where there are none; and over rounds what was
+    counted in each."""
 
-    def __init__(self, acts_a_round: Optional[int]) -> None:
-        self.acts_a_round = acts_a_round
+    def __init__(self, is_in_rounds: bool) -> None:
+        self.is_in_rounds = is_in_rounds
         self.curve, self.rates = Curve(len(PLACES)), Curve(len(RATES))
         self.greatest = [0] * len(PLACES)
         # The round that goes on, how many events it had, their sums, and what the last one left.
@@ -60,30 +60,24 @@ class Occupancy:
         self.last: Sequence[int] = (0,) * len(PLACES)
         self.counted = [0] * len(RATES)
 
-    def note_event(self, act: int, counts: Sequence[int]) -> None:
+    def note_event(self, counts: Sequence[int]) -> None:
         """Takes what an event left, by places."""
-        if self.acts_a_round is None:
+        if not self.is_in_rounds:
             self.curve.note(counts)
         else:
-            self.go_to(act)
             self.events += 1
             self.within = [total + count for total, count in zip(self.within, counts)]
         if counts != self.last:
             self.greatest = [one if one > other else other for one, other in zip(self.greatest, counts)]
             self.last = counts
 
-    def count(self, act: int, rate: str, number: int = 1) -> None:
+    def count(self, rate: str, number: int = 1) -> None:
         """Counts what happened at an act."""
-        if self.acts_a_round is not None:
-            self.go_to(act)
+        if self.is_in_rounds:
             self.counted[RATES.index(rate)] += number
 
-    def go_to(self, act: int) -> None:
-        """Ends all rounds before that of an act."""
-        assert self.acts_a_round is not None
-        self.end_rounds((act - 1) // self.acts_a_round)
-
     def end_rounds(self, rounds: int) -> None:
+        """Ends all rounds before the one of this number, from 0."""
         while self.round < rounds:
             means = [total / self.events for total in self.within] if self.events else [*map(float, self.last)]
             self.curve.note(means)
@@ -98,12 +92,12 @@ class Occupancy:
 
     def over(self) -> str:
         """What the moments are."""
-        return "events" if self.acts_a_round is None else "rounds"
+        return "rounds" if self.is_in_rounds else "events"
 
     def series(self) -> Iterator[tuple[str, list[tuple[int, float]]]]:
         """The curves by name."""
         curves: list[tuple[Sequence[str], Curve]] = [(PLACES, self.curve)]
-        if self.acts_a_round is not None:
+        if self.is_in_rounds:
             curves.append((RATES, self.rates))
         for names, curve in curves:
             for place, name in enumerate(names):

@@ -4,11 +4,10 @@ from __future__ import annotations
 import collections
 import contextlib
 import gc
-from collections.abc import Callable, Iterator, Mapping
+from collections.abc import Callable, Iterator
 from typing import Any, Optional
 
 from yotarimu.common.outcome import Refused
-from yotarimu.courses.schedules import round_of
 from yotarimu.figures.limits import Call, Cells, CommittedTask, Limit, Limits, Manner, Point
 from yotarimu.figures.occupancy import Occupancy
 from yotarimu.figures.orders import Bounds
@@ -23,11 +22,6 @@ LINES_BETWEEN = 2_000
 Progress = Callable[[int], None]
 
 
-def acts_a_round(head: Mapping[str, Any]) -> Optional[int]:
-    """How many acts a round of a course has; None where it has no rounds."""
-    return len(round_of(head["tiles"], head["cores"])) if head["course"] == "lockstep" else None
-
-
 class Figures:
     """The figures of a run: plain numbers, which may be handed from one process to another."""
 
@@ -37,7 +31,11 @@ class Figures:
         self.taken_back = TakenBack(head["line"])
         self.replies: collections.Counter[tuple[str, str]] = collections.Counter()
         self.commits = self.events = self.acts = self.spills = 0
-        self.occupancy = Occupancy(acts_a_round(head))
+        self.is_in_rounds = head["course"] == "lockstep"
+        # Of a course in rounds: how many were begun, the longest row of those without a commit, and how many acts
+        # brought the least task on behind such rows.
+        self.begun_rounds = self.longest_barren = self.advances = 0
+        self.occupancy = Occupancy(self.is_in_rounds)
         self.tasks = TaskFigures(head["tiles"], head["line"], head["root"])
         # The limits by the order of the commits, and the bounds for any order.
         self.limits: list[Limit] = []
@@ -47,11 +45,10 @@ class Figures:
 
     def rounds(self) -> Optional[int]:
         """How many rounds of a course in lockstep were begun; None of another course."""
-        acts = acts_a_round(self.head)
-        if acts is None:
+        if not self.is_in_rounds:
             return None
-        # Acts that weren't asked for aren't told, so those of the last round may be missing.
-        rounds: int = self.head["rounds"] if self.end == "open" else -(-self.acts // acts)
+        # Acts that weren't asked for aren't told, so those of the last rounds may be missing.
+        rounds: int = self.head["rounds"] if self.end == "open" else self.begun_rounds
         return rounds
 
     def dispatches(self) -> int:
@@ -77,6 +74,7 @@ class Summing:
                 it.tasks.note_place(told)
             return
         it.acts = line["at"]
+        self.note_rounds(machine)
         it.replies[line["do"], line["reply"]] += 1
         if not told.is_made:
             self.note_refused(told)
@@ -89,8 +87,15 @@ class Summing:
         if told.committed is not None:
             self.note_commit(told.committed)
         stalled, trapped = len(self.stalled), len(self.trapped)
-        it.occupancy.note_event(it.acts, (machine.queued, machine.running - stalled - trapped, stalled, trapped,
-                                          machine.waiting, machine.spilled))
+        it.occupancy.note_event((machine.queued, machine.running - stalled - trapped, stalled, trapped,
+                                 machine.waiting, machine.spilled))
+
+    def note_rounds(self, machine: Machine) -> None:
+        it, rounds = self.figures, machine.rounds
+        if rounds is not None:
+            # What brings the least task on is counted with the round behind it.
+            it.occupancy.end_rounds(rounds.number)
+            it.begun_rounds, it.longest_barren, it.advances = rounds.begun_rounds(), rounds.longest, rounds.advances
 
     def note_refused(self, told: Told) -> None:
         line, it = told.line, self.figures
@@ -98,7 +103,7 @@ class Summing:
         if line["reply"] == "stall":
             word = line["do"]
             it.tasks.note_stall(line.get("asks", word))
-            it.occupancy.count(it.acts, f"stalled {word}s")
+            it.occupancy.count(f"stalled {word}s")
             if told.task is not None:
                 self.stalled.add(told.task)
 
@@ -115,7 +120,7 @@ class Summing:
     def note_taken(self, told: Told) -> None:
         it = self.figures
         it.taken_back.note(told)
-        it.occupancy.count(it.acts, "taken back", len(told.taken))
+        it.occupancy.count("taken back", len(told.taken))
         for taken in told.taken:
             it.tasks.note_taken(taken.task, taken.work)
             self.stalled.discard(taken.task)
@@ -124,7 +129,7 @@ class Summing:
     def note_commit(self, task: Task) -> None:
         it = self.figures
         it.useful += task.work
-        it.occupancy.count(it.acts, "commits")
+        it.occupancy.count("commits")
         it.tasks.note_commit(task)
         done = committed_task(task, self.cells)
         self.limits.commit(done)
@@ -135,6 +140,9 @@ class Summing:
         """Takes the last line. All work is useful, wasted or left: else the lines don't go together."""
         it = self.figures
         it.end, it.events, it.commits = end["end"], machine.events, machine.commits
+        if it.end == "open" and machine.rounds is not None:
+            machine.rounds.end_all()
+            it.longest_barren = machine.rounds.longest
         it.left = sum(task.work for task in machine.tasks.values())
         it.occupancy.close(it.rounds())
         it.limits, it.bounds, it.useful_steps = self.limits.told(), self.bounds.told(), self.limits.work[1]

@@ -120,7 +120,7 @@ FAULT = (("fault", one_of("usage", "image", "script", "long")), ("number?", NUMB
 
 
 def head_fields(line):
-    rounds = (("rounds", NUMBER), ("seed", NUMBER)) if line.get("course") == "lockstep" else ()
+    rounds = (("rounds", NUMBER), ("seed", NUMBER), ("barren", NUMBER)) if line.get("course") == "lockstep" else ()
     return (("watch", NUMBER), ("course", one_of(*COURSES)), *rounds, *((name, NUMBER) for name in SETTINGS),
             ("root", one_of(*KINDS)), ("text", NUMBER), ("data", NUMBER), ("window", PAIR), ("tasks", NUMBER))
 

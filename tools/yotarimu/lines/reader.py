@@ -25,7 +25,8 @@ from yotarimu.lines.replay import Machine, Told
 
 # The values that the numbers of a head may have: docs/guest/FORMATS.md.
 RANGES = {
-    "rounds": range(1, 1_000_001), "seed": range(1 << 32), "tiles": range(1, MOST_TILES + 1),
+    "rounds": range(1, 1_000_001), "seed": range(1 << 32), "barren": range(1, 1_000_001),
+    "tiles": range(1, MOST_TILES + 1),
     "cores": range(1, MOST_CORES + 1), "task_queue": range(4, 257), "commit_queue": range(1, 65),
     "line": (4, 8, 16, 32, 64), "quantum": range(1, 1_025), "commits": range(1, 1_000_001),
     "budget": range(1, 65_537), "phase": range(1, 1_000_001), "text": range(65_537), "data": range(16_777_217),

@@ -246,6 +246,8 @@ class Machine:
             self.events += 1
             self.force(told, line)
             MADE[line["do"]](self, told, line)
+        if self.rounds is not None:
+            self.rounds.note_commits(self.commits)
 
     def need_leg(self, task, line):
         """A leg of a whole quantum goes on, whatever stands next, and no other does. None goes beyond the budget."""

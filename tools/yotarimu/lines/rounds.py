@@ -1,4 +1,4 @@
-"""Rounds in lockstep, as the head of lines has them: which act stands where."""
+"""Rounds in lockstep, as the head of lines has them: which act stands where, and when the least task is brought on."""
 from __future__ import annotations
 
 from typing import Any, Dict
@@ -6,24 +6,66 @@ from typing import Any, Dict
 from yotarimu.courses.schedules import Act, Shuffle, round_of
 from yotarimu.lines.fields import Wrong
 
+# What brings the least task on, by how that stands.
+BRINGS_ON = ("dispatch", "step", "commit", "split")
+
 
 class Rounds:
-    """The acts of the rounds, one round after another."""
+    """The acts of the rounds, one round after another. A round is barren where it brought no commit: `longest` is the
+    longest row of such rounds. Behind `most` of them in a row the least task is brought on, in so many `advances` in
+    all."""
 
     def __init__(self, head: Dict[str, Any]) -> None:
-        self.count, self.shuffle = head["rounds"], Shuffle(head["seed"])
+        self.count, self.most, self.shuffle = head["rounds"], head["barren"], Shuffle(head["seed"])
         self.acts = self.shuffle.shuffled(round_of(head["tiles"], head["cores"]))
-        self.number = 0
+        # How many rounds came before the one that goes on or comes next, and the number of the act that it begins with.
+        self.number, self.first = 0, 1
+        # How many tasks had committed where it began, and how many have by now.
+        self.begun = self.commits = 0
+        self.barren = self.longest = self.advances = 0
+        self.is_brought_on = False
+
+    def begun_rounds(self) -> int:
+        """How many rounds were begun, once an act was told."""
+        return self.number + (not self.is_brought_on)
 
     def need(self, line: Dict[str, Any]) -> None:
         """Holds an act that is told against the one that stands there."""
-        number, place = divmod(line["at"] - 1, len(self.acts))
-        if number >= self.count:
+        while not self.is_brought_on and line["at"] >= self.first + len(self.acts):
+            self.end_round()
+        if self.is_brought_on:
+            self.need_advance(line)
+        else:
+            self.need_act(line)
+
+    def end_round(self) -> None:
+        self.barren = self.barren + 1 if self.commits == self.begun else 0
+        self.longest = max(self.longest, self.barren)
+        self.number, self.first, self.begun = self.number + 1, self.first + len(self.acts), self.commits
+        self.acts = self.shuffle.shuffled(self.acts)
+        if self.barren == self.most:
+            self.barren, self.is_brought_on = 0, True
+
+    def end_all(self) -> None:
+        """Ends the rounds that are left, whose acts weren't asked for."""
+        while self.number < self.count and not self.is_brought_on:
+            self.end_round()
+
+    def need_act(self, line: Dict[str, Any]) -> None:
+        if self.number >= self.count:
             raise Wrong(f"act {line['at']} is of no round, as there are {self.count}")
-        while self.number < number:
-            self.acts = self.shuffle.shuffled(self.acts)
-            self.number += 1
-        act: Act = self.acts[place]
+        act: Act = self.acts[line["at"] - self.first]
         if (line["do"], line.get("tile"), line.get("core") if act.core is not None else None) != (
                 act.word, act.tile, act.core):
             raise Wrong(f"act {line['at']} of these rounds is `{act}`, and another one is told")
+
+    def need_advance(self, line: Dict[str, Any]) -> None:
+        if line["at"] != self.first or line["do"] not in BRINGS_ON:
+            raise Wrong(f"act {self.first} brings the least task on, and another one is told")
+        self.first, self.advances = self.first + 1, self.advances + 1
+
+    def note_commits(self, commits: int) -> None:
+        """Takes how many tasks have committed behind an act: a commit ends the bringing on."""
+        self.commits = commits
+        if self.is_brought_on and commits != self.begun:
+            self.begun, self.is_brought_on = commits, False
