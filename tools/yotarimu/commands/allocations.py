@@ -19,7 +19,7 @@ import pathlib
 
 from yotarimu.common.outcome import Refused
 from yotarimu.common.words import take_option
-from yotarimu.programs.allocations import NAMES, Refusing, refused
+from yotarimu.programs.allocations import NAMES, Refuser, refused
 from yotarimu.programs.calls import built
 from yotarimu.programs.limits import KILLED, OUT_OF_MEMORY, WHOLE
 from yotarimu.programs.program import PROGRAM
@@ -32,7 +32,7 @@ def main(words):
         if word not in NAMES:
             raise Refused(f"`{word}` isn't known; it takes {', '.join(NAMES)}.")
     failed = 0
-    with Refusing() as library:
+    with Refuser() as library:
         for name in words or NAMES:
             count, counts, faults = refused(name, program, library)
             told = ", ".join(f"{counts[outcome]:,} {outcome}" for outcome in (OUT_OF_MEMORY, WHOLE, KILLED))

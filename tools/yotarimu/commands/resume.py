@@ -23,7 +23,7 @@ from yotarimu.images.image import read_image
 from yotarimu.programs import pieces
 from yotarimu.programs.calls import Calls
 from yotarimu.programs.program import PROGRAM
-from yotarimu.programs.resumption import Resumed
+from yotarimu.programs.resumption import Resumption
 from yotarimu.programs.table import Table
 
 
@@ -63,9 +63,9 @@ def main(words):
     program = PROGRAM if program is None else pathlib.Path(program)
     calls = Calls(program)
     folder = pieces.Folder(words[1], image, [f"--every={every}", *options])
-    resumed = Resumed(calls, options, every, folder)
-    resumed.run_all()
-    count, turns = resumed.join()
+    resumption = Resumption(calls, options, every, folder)
+    resumption.run_all()
+    count, turns = resumption.join()
     told = f"{counted(turns, 'commit')} in {counted(count, 'piece')}"
     print(f"{folder.name(pieces.REPORT)}: {told}; accepted by check.")
     return 0

@@ -5,6 +5,8 @@ from __future__ import annotations
 
 import dataclasses
 import functools
+from collections.abc import Iterable, Iterator, Mapping, Sequence
+from typing import Optional, Union
 
 from yotarimu.common.places import EXAMPLES_FOLDER
 from yotarimu.images.image import DATA, TEXT, Image, InitialTask, image_bytes, read_image
@@ -34,38 +36,38 @@ DISPATCH, ACCESS, CALL, GOES_ON, ABORT, COMMIT, COALESCING, SPLIT = range(1, 9)
 class Case:
     """A call of the program: its words, what it reads, the status and the text that it is to answer."""
     name: str
-    words: tuple
+    words: tuple[str, ...]
     given: bytes
     status: int
     text: bytes
 
 
-def answer(name, words, given, status, text):
+def answer(name: str, words: str, given: bytes, status: int, text: Union[bytes, str]) -> Case:
     return Case(name, tuple(words.split()), given, status, text if isinstance(text, bytes) else f"{text}\n".encode())
 
 
 @functools.lru_cache(maxsize=None)
-def stored(name, file="image.bin"):
+def stored(name: str, file: str = "image.bin") -> bytes:
     return (EXAMPLES_FOLDER / name / file).read_bytes()
 
 
-def changed(data, offset, number, size=4):
+def changed(data: bytes, offset: int, number: int, size: int = 4) -> bytes:
     """An image with one field of its header changed."""
     return data[:offset] + number.to_bytes(size, "little") + data[offset + size:]
 
 
-def all_answers():
+def all_answers() -> list[Case]:
     return [*of_words(), *of_images(), *of_runs(), *of_loads(), *of_checks(), *of_scripts(), *of_ends(), *of_traces(),
             *of_saves()]
 
 
-def unshown(shown):
+def unshown(shown: set[tuple[str, int]]) -> list[str]:
     """A sentence on each status of a command that none of these pairs of a command and a status shows."""
     return [f"no call of `{word}` shows the status {status}" for word, statuses in SHOWN.items() for status in statuses
             if (word, status) not in shown]
 
 
-def of_words():
+def of_words() -> Iterator[Case]:
     """Words that are refused: nothing is read."""
     for words in ("rum", "--tiles 2 run", "run --tiles 17", "run --tiles 0", "run --tiles 2 --tiles 2", "run --tiles",
                   "run --tiles --cores 2", "run --tiles=00000000002", "run --line 12", "run --tower 2", "run --",
@@ -74,7 +76,7 @@ def of_words():
         yield answer(f"words: {words}", words, b"", 1, USAGE)
 
 
-def of_images():
+def of_images() -> Iterator[Case]:
     """Inputs that begin with no image."""
     hello = stored("hello")
     for name, given, fault in (
@@ -97,7 +99,7 @@ def of_images():
         yield answer(f"input of {word}: too long", word, long, 10, "fault long")
 
 
-def of_runs():
+def of_runs() -> Iterator[Case]:
     """Runs to each end, by each limit, and with host threads."""
     hello, report = stored("hello"), stored("hello", "report")
     yield answer("run: bytes behind the image", "run", hello + b"more", 0, report)
@@ -110,7 +112,7 @@ def of_runs():
     yield answer("run: all commits", "run --commits 9", stored("pipeline"), 0, stored("pipeline", "report"))
 
 
-def of_loads():
+def of_loads() -> Iterator[Case]:
     """Generated images of one node and of one addition."""
     walk = "load walk 7 1\ncommits 2\noutput -\nwindow 1000000c 00000001\nend normal"
     yield answer("load: a walk", "load walk 7 1", b"", 0, walk)
@@ -124,7 +126,7 @@ def of_loads():
                  f"load nest 5 1\ncommits 3\noutput -\n{cells}\nend normal")
 
 
-def of_checks():
+def of_checks() -> Iterator[Case]:
     """Reports that are accepted, and one that is refused for each of its lines."""
     image, report = stored("nested"), stored("nested", "report")
     yield answer("check: no last newline", "check", image + report[:-1], 0, "check ok 8")
@@ -148,7 +150,7 @@ def of_checks():
     yield answer("check: no report", "check", image, 8, "fault journal 1")
 
 
-def of_scripts():
+def of_scripts() -> Iterator[Case]:
     """Scripts that are played, and lines that are none."""
     hello, open_report = stored("hello"), "fractal 1\noutput -\nend open"
     yield answer("steps: no act", "steps", hello, 0, open_report)
@@ -161,7 +163,7 @@ def of_scripts():
                  f"empty 0\n{open_report}")
 
 
-def of_ends():
+def of_ends() -> Iterator[Case]:
     """Scripts after which the run is over: in a trap, and at its limit. `trace` tells no end."""
     hello, two = stored("hello"), stored("schedules/commit_queue")
     trap = "end trap 17 0001000c 0.0"
@@ -175,7 +177,7 @@ def of_ends():
                  traced([(DISPATCH, 0, 0, 0, 0), (CALL, 0, 0, 0, 0), (COMMIT, 0, 0, 0, 1)]))
 
 
-def traced(events, taken_back=None):
+def traced(events: Sequence[tuple[int, ...]], taken_back: Optional[Mapping[int, int]] = None) -> str:
     """What `trace` writes of these events: five numbers of each of the last 16, and how many tasks were taken back by
     accesses to each of the first 16 lines, by their numbers; 16 stands for all further lines."""
     numbers = [number for event in events[-16:] for number in event]
@@ -183,7 +185,7 @@ def traced(events, taken_back=None):
     return "\n".join(map(str, ["trace 1", f"tap 0 {len(numbers)}", *numbers, "tap 1 17", *lines, "end trace"]))
 
 
-def of_traces():
+def of_traces() -> Iterator[Case]:
     """What the program's two taps note of each kind of event, and where its three placers put tasks."""
     hello, conflict, stall = (stored(name) for name in ("hello", "schedules/conflict", "schedules/stall"))
     yield answer("trace: no act", "trace", hello, 0, traced([]))
@@ -211,7 +213,7 @@ def of_traces():
     yield from of_placers()
 
 
-def of_placers():
+def of_placers() -> Iterator[Case]:
     """A chain of four tasks beside a task in tile 0, each with the hint 3: the first stands in tile 1 by its place in
     the image, and makes the second before any commit, that the third after one commit, and that the last after two."""
     text = b"".join(word.to_bytes(4, "little") for word in CHAIN)
@@ -226,7 +228,7 @@ def of_placers():
         yield answer(f"{words}: placers", words, chain, 0, traced(told))
 
 
-def of_saves():
+def of_saves() -> Iterator[Case]:
     """Runs that end before their limit, and one at each limit."""
     yield answer("save: a normal end", "save", stored("hello"), 0, stored("hello", "report"))
     yield answer("save: a trap", "save", stored("trap"), 3, stored("trap", "report"))
@@ -242,7 +244,7 @@ def of_saves():
     yield answer("save: too many tasks", "save --commits 1", twins, 13, f"fault tasks {MOST_TASKS + 1}")
 
 
-def saved(name, commits):
+def saved(name: str, commits: int) -> bytes:
     """The image from which a stored run goes on behind so many commits."""
     image = read_image(stored(name), name)
     machine = Machine(image)

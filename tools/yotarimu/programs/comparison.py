@@ -5,13 +5,17 @@ import dataclasses
 import pathlib
 import subprocess
 import tempfile
+from collections.abc import Sequence
+from typing import Callable
 
 from yotarimu.common.files import write_whole
 from yotarimu.common.outcome import Refused
 from yotarimu.common.places import EXAMPLES_FOLDER
 from yotarimu.images import large_programs
-from yotarimu.images.image import DATA, WINDOW_WORDS, image_bytes
-from yotarimu.reports.report import read_report
+from yotarimu.images.elf import Label
+from yotarimu.images.image import DATA, WINDOW_WORDS, Image, image_bytes
+from yotarimu.programs.calls import Calls
+from yotarimu.reports.report import Report, read_report
 
 MOST_ADVANCES = 6_000_000
 HOST_COMPILER = "cc"
@@ -21,7 +25,7 @@ HOST_COMPILER = "cc"
 class Kind:
     """A large program: the name of its data, the one that makes it, sizes, and the variable with the result."""
     data: str
-    made: callable
+    made: Callable[[int, int], str]
     sizes: range
     size: int
     result: str
@@ -34,7 +38,7 @@ KINDS = {
 }
 
 
-def write_sources(name, kind, folder, size, seed):
+def write_sources(name: str, kind: Kind, folder: pathlib.Path, size: int, seed: int) -> None:
     if folder.exists() and (not folder.is_dir() or any(folder.iterdir())):
         raise Refused(f"{folder}: it is there and not empty.")
     (folder / "plain").mkdir(parents=True, exist_ok=True)
@@ -44,22 +48,23 @@ def write_sources(name, kind, folder, size, seed):
                  folder / "plain" / "plain.c": (sources / f"{name}_plain.c").read_bytes()})
 
 
-def plain_words(folder):
+def plain_words(folder: pathlib.Path) -> list[int]:
     """The words that the plain program writes."""
     # A path that begins with a slash is no option.
     folder = folder.absolute()
     with tempfile.TemporaryDirectory() as place:
-        program = pathlib.Path(place) / "plain"
-        for words in ([HOST_COMPILER, "-O2", "-I", folder, "-o", program, folder / "plain" / "plain.c"], [program]):
+        program, source = str(pathlib.Path(place) / "plain"), folder / "plain" / "plain.c"
+        for words in ([HOST_COMPILER, "-O2", "-I", str(folder), "-o", program, str(source)], [program]):
             done = subprocess.run(words, capture_output=True, text=True, errors="replace", stdin=subprocess.DEVNULL)
             if done.returncode != 0:
-                raise Refused(f"{folder / 'plain' / 'plain.c'}: {done.stderr.strip() or done.returncode}")
+                raise Refused(f"{source}: {done.stderr.strip() or done.returncode}")
     return [int(word, 16) for word in done.stdout.split()]
 
 
-def words_left(calls, image, label):
+def words_left(calls: Calls, image: Image, label: Label) -> tuple[list[int], Report]:
     """The words that a run leaves from a label on, one window after another, and the report of the last."""
-    words, whole = [], -(-label.size // 4)
+    words: list[int] = []
+    whole = -(-label.size // 4)
     while len(words) < whole:
         image.window_offset = label.address - DATA + 4 * len(words)
         image.window_words = min(WINDOW_WORDS, whole - len(words))
@@ -76,14 +81,14 @@ def words_left(calls, image, label):
     return words, report
 
 
-def said(calls, words, data):
+def said(calls: Calls, words: Sequence[str], data: bytes) -> bytes:
     status, written = calls.call(words, data)
     if status != 0 or written.startswith(b"fault"):
         raise Refused(f"`{' '.join(words)}` ended with status {status}.")
     return written
 
 
-def events_of(calls, image, commits):
+def events_of(calls: Calls, image: Image, commits: int) -> int:
     """How many events the run has: so many acts `advance` are answered otherwise than that it is over."""
     advances = 16 * commits
     while advances <= MOST_ADVANCES:
