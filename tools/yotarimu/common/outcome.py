@@ -7,7 +7,6 @@ import os
 import signal
 import sys
 import types
-from collections.abc import Sequence
 from typing import Callable, NoReturn, Optional, Union
 
 from yotarimu.common.text import without_controls

@@ -42,10 +42,10 @@ class Schedule:
 
     def play(self, acts, first=None):
         """Plays acts; the sentences of those from a place on are kept, or that of the last."""
-        return Playing(self, acts, len(acts) - 1 if first is None else first)
+        return Performance(self, acts, len(acts) - 1 if first is None else first)
 
 
-class Playing:
+class Performance:
     """Acts that were played: the sentences of those from one on, and what stands behind the last."""
 
     def __init__(self, schedule, acts, first):

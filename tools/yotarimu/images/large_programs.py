@@ -5,7 +5,7 @@ import dataclasses
 import math
 import random
 from collections.abc import Sequence, Sized
-from typing import NamedTuple, Optional
+from typing import NamedTuple
 
 # How far apart the main roads of a network are, and the lengths of its roads.
 MAIN_ROADS = 10

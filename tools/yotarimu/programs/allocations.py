@@ -8,10 +8,9 @@ import pathlib
 import subprocess
 import sys
 import tempfile
-from collections.abc import Iterator, Sequence
+from collections.abc import Iterator
 from typing import NamedTuple, Optional
 
-from yotarimu.common.files import FilePath
 from yotarimu.common.outcome import Refused
 from yotarimu.common.places import EXAMPLES_FOLDER
 from yotarimu.programs.examples import words_of
@@ -81,8 +80,8 @@ class Refuser:
         said = self.answer(call, COUNTED_ALLOCATIONS=str(place))
         count = int.from_bytes(place.read_bytes(), sys.byteorder) if place.exists() else 0
         if not 0 < count <= MOST:
-            raise Refused(f"{call.program}: no allocations are counted; a program without the GNU C library, or with an "
-                          "allocator of its own, can't be watched so.")
+            raise Refused(f"{call.program}: no allocations are counted; a program without the GNU C library, or with "
+                          "an allocator of its own, can't be watched so.")
         return count, said
 
     def refused_in_turn(self, call: Call, count: int, whole: Answer) -> Iterator[tuple[int, Optional[str], Answer]]:

@@ -10,7 +10,7 @@ from collections.abc import Iterator, Sequence
 from typing import IO, Callable, Optional, TypeVar, Union
 
 from yotarimu.common.outcome import Refused
-from yotarimu.programs.program import Answer
+from yotarimu.programs.program import PROGRAM, Answer
 
 # What a shell tells of a program that it can't start.
 NOT_STARTED = 126
@@ -24,6 +24,11 @@ def built(program: pathlib.Path) -> pathlib.Path:
     if not program.is_file():
         raise Refused(f"{program}: the program isn't built; ./fractal prove builds it.")
     return program.absolute()
+
+
+def program_at(word: Optional[str]) -> pathlib.Path:
+    """The built program that a word names, or the one of this clone."""
+    return built(PROGRAM if word is None else pathlib.Path(word))
 
 
 class Calls:

@@ -3,6 +3,7 @@ from __future__ import annotations
 
 import dataclasses
 import pathlib
+import shutil
 import subprocess
 import tempfile
 from collections.abc import Sequence
@@ -12,8 +13,10 @@ from yotarimu.common.files import write_whole
 from yotarimu.common.outcome import Refused
 from yotarimu.common.places import EXAMPLES_FOLDER
 from yotarimu.images import large_programs
+from yotarimu.images.compiler import need_compiler
 from yotarimu.images.elf import Label
 from yotarimu.images.image import DATA, WINDOW_WORDS, Image, image_bytes
+from yotarimu.images.source import tool_prefix
 from yotarimu.programs.calls import Calls
 from yotarimu.reports.report import Report, read_report
 
@@ -36,6 +39,14 @@ KINDS = {
     "roads": Kind("graph.h", large_programs.roads, range(2, 12_001), 10_000, "distance", "{:,} crossings"),
     "circuit": Kind("circuit.h", large_programs.circuit, range(2, 17), 8, "wires", "a multiplier of {:,} bits"),
 }
+
+
+def need_tools(compiler: str) -> None:
+    """Refuses where what compiles the tasks or the plain program isn't there."""
+    if not shutil.which(HOST_COMPILER):
+        raise Refused(f"{HOST_COMPILER} isn't in the path; it compiles the plain program for this machine.")
+    need_compiler(compiler)
+    tool_prefix()
 
 
 def write_sources(name: str, kind: Kind, folder: pathlib.Path, size: int, seed: int) -> None:
@@ -100,3 +111,17 @@ def events_of(calls: Calls, image: Image, commits: int) -> int:
             return advances - ended
         advances *= 2
     raise Refused(f"the run has no end within {MOST_ADVANCES:,} events.")
+
+
+def compare(calls: Calls, image: Image, result: Label, folder: pathlib.Path) -> None:
+    """Runs a large program, tells how long its run is, and holds each word of its result against the plain program."""
+    words, report = words_left(calls, image, result)
+    events = events_of(calls, image, len(report.entries))
+    print(f"{len(report.entries):,} tasks took their turns, in {events:,} events; `check` accepts the report.")
+    plain = plain_words(folder)
+    if len(plain) != len(words):
+        raise Refused(f"the plain program tells {len(plain):,} words, and not {len(words):,}.")
+    for place, (word, other) in enumerate(zip(words, plain)):
+        if word != other:
+            raise Refused(f"the word {place} of `{result.name}` is {word:08x}, and {other:08x} by the plain program.")
+    print(f"{len(words):,} words of `{result.name}` are those of the plain program.")

@@ -15,7 +15,8 @@ LOCK, ENDING = threading.Lock(), threading.Event()
 
 
 class Launched(NamedTuple):
-    """What a call of the launcher came to: its status, what it wrote, and what came on standard error, where asked for."""
+    """What a call of the launcher came to: its status, what it wrote, and what came on standard error where that was
+    asked for."""
     status: int
     written: bytes
     errors: Optional[bytes]

@@ -8,6 +8,7 @@ from collections.abc import Sequence
 from typing import Callable, Optional
 
 from yotarimu.common.outcome import is_at_terminal
+from yotarimu.common.places import EXAMPLES_FOLDER
 from yotarimu.common.progress import show_progress
 from yotarimu.images.image import read_image
 from yotarimu.programs.calls import Calls
@@ -61,3 +62,20 @@ def tried(told: str, program: pathlib.Path, image: bytes, words: Sequence[str], 
     kinds = "one answer" if len(counts) == 1 else f"{len(counts)} different answers"
     print(f"{told}: {'; '.join(faults) or f'{runs} runs accepted, {kinds}'}", flush=True)
     return not faults
+
+
+def failures_of(name: str, program: pathlib.Path, runs: int, jobs: int) -> int:
+    """How many of the ways to run an example with host threads went wrong; a line tells of each."""
+    image = (EXAMPLES_FOLDER / name / "image.bin").read_bytes()
+    # Half of the example's commits; none of an example with one. The first line of a report is no entry.
+    commits = ((EXAMPLES_FOLDER / name / "report").read_bytes().partition(b"output ")[0].count(b"\n") - 1) // 2
+    failed = 0
+    for workers in WORKERS:
+        told, by = f"{name} with {workers} workers", ["--workers", str(workers)]
+        failed += not tried(told, program, image, ["run", *by], runs, jobs,
+                            lambda answer: fault_of(program, image, answer))
+        if commits:
+            failed += not tried(f"{told}, saved after {commits}", program, image,
+                                ["save", "--commits", str(commits), *by], runs, jobs,
+                                lambda answer: fault_of_saved(program, commits, answer))
+    return failed

@@ -90,8 +90,9 @@ def end_of(report: Report, machine: Machine, listing: Listing) -> dict[str, obje
         return {"kind": report.end}
     trap, found = report.trap, machine.trapped(report.trap)
     meaning, usual = cause_told(trap.cause, machine.image.limits)
-    told: dict[str, object] = {"kind": "trap", "cause": trap.cause, "meaning": meaning, "usually": usual, "pc": trap.pc,
-            "label": listing.label(trap.pc), "place": listing.place(trap.pc), "task": str(trap.name)}
+    told: dict[str, object] = {
+        "kind": "trap", "cause": trap.cause, "meaning": meaning, "usually": usual, "pc": trap.pc,
+        "label": listing.label(trap.pc), "place": listing.place(trap.pc), "task": str(trap.name)}
     if found:
         run, trapped = found
         told["address"], told["registers"] = trapped.address, dict(zip(REGISTERS, run.registers))

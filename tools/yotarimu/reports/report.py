@@ -3,7 +3,6 @@ from __future__ import annotations
 
 import dataclasses
 import re
-from collections.abc import Sequence
 from typing import NoReturn, Optional
 
 from yotarimu.common.files import FilePath
