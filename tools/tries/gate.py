@@ -155,9 +155,12 @@ def odd_sources_are_told(place: Place) -> None:
     edit = next(iter(sorted((place.clone / "crates").glob("*/must-fail/*.edit"))))
     edit.write_text("old: x\nnew: y\n")
     (place.clone / "CHANGELOG.md").write_text("# Changes\n")
+    package = place.clone / "tools" / "pyproject.toml"
+    package.write_text(package.read_text().replace('version = "', 'version = "0.'))
     answer = place.call(".ci/lint")
     expect((answer.status, answer.errors) == (1, ""), "a failure", answer)
-    for part in (f"{edit.name}: `old` stands before", f"{edit.name}: `new` stands before", "newest version is None"):
+    for part in (f"{edit.name}: `old` stands before", f"{edit.name}: `new` stands before", "newest version is None",
+                 "pyproject.toml: its version is 0."):
         expect(part in answer.output.decode(), f"`{part}`", answer)
     edit.write_bytes(b"\xff\n")
     place.call(".ci/lint").sentence(edit.name, "no text in UTF-8")

@@ -21,4 +21,5 @@ class Answer(NamedTuple):
 
 def end_of(report: bytes) -> str:
     """The word after `end` of a report's bytes, or nothing."""
-    return report.rpartition(b"\nend ")[2].partition(b" ")[0].strip().decode("ascii", "replace")
+    _, end, behind = report.rpartition(b"\nend ")
+    return behind.partition(b" ")[0].strip().decode("ascii", "replace") if end else ""
