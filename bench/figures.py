@@ -102,7 +102,7 @@ def read(path: FilePath) -> dict[Key, float]:
     return values
 
 
-def load_told(values: Mapping[Key, float]) -> str:
+def load_text(values: Mapping[Key, float]) -> str:
     """How loaded the machine was, as a sentence; empty where nobody noted it."""
     count, before, after = (values.get(Key(MACHINE, "", name)) for name in (PROCESSORS, BEFORE, AFTER))
     if count is None or before is None or after is None:
@@ -111,7 +111,7 @@ def load_told(values: Mapping[Key, float]) -> str:
     return f"{count:.0f} processors, a load of {before:.2f} before and of {after:.2f} after{more}"
 
 
-def shown(value: float) -> str:
+def number_text(value: float) -> str:
     """A number with as many digits as tell something."""
     return f"{value:,.0f}" if abs(value) >= 1_000 else f"{value:.4g}"
 
@@ -125,34 +125,35 @@ def beside_frozen(values: Mapping[Key, float]) -> list[str]:
             continue
         cells = []
         for old in frozen.values():
-            cells += [shown(old[key]), f"{value / old[key]:.2f}"] if old.get(key) else ["", ""]
-        rows.append([key.case, key.figure, shown(value), *cells])
+            cells += [number_text(old[key]), f"{value / old[key]:.2f}"] if old.get(key) else ["", ""]
+        rows.append([key.case, key.figure, number_text(value), *cells])
     head = [cell for name in frozen for cell in (name.capitalize(), "Ratio")]
     return table(["Case", "Figure", "Now", *head], rows) if rows else []
 
 
-def compared(old_path: FilePath, new_path: FilePath) -> tuple[list[str], bool]:
+def compare(old_path: FilePath, new_path: FilePath) -> tuple[list[str], bool]:
     """The lines on what got slower from one file to another, and whether anything did."""
     old, new = read(old_path), read(new_path)
     both = [key for key in old if key in new and key.table != MACHINE]
     if not both:
         raise Refused(f"{old_path} and {new_path} have no figure in common.")
     worse = {key: key.worse(old[key], new[key]) for key in both}
-    slower = sorted((key for key in both if worse[key] > 1 + allowed(key)), key=lambda key: -worse[key])
-    faster = [key for key in both if worse[key] < 1 / (1 + allowed(key))]
+    slower = sorted((key for key in both if worse[key] > 1 + tolerance(key)), key=lambda key: -worse[key])
+    faster = [key for key in both if worse[key] < 1 / (1 + tolerance(key))]
     lines = []
     if slower:
-        rows = [[key.case, key.figure, shown(old[key]), shown(new[key]), f"{worse[key]:.2f}"] for key in slower]
+        rows = [[key.case, key.figure, number_text(old[key]), number_text(new[key]), f"{worse[key]:.2f}"]
+                for key in slower]
         lines += [*table(["Case", "Figure", "Old", "New", "Times worse"], rows), ""]
     lines.append(f"Of {len(both)} figures {len(slower)} got worse, {len(faster)} better, by more than {COUNTED:.1%} of "
                  f"a count of instructions or {TIMED:.0%} of another.")
     for path, one, other in ((old_path, old, new), (new_path, new, old)):
         alone = sum(key not in other and key.table != MACHINE for key in one)
-        told = load_told(one)
+        told = load_text(one)
         lines.append(f"{path}: {told or 'nobody noted how loaded the machine was'}."
                      + (f" {alone} of its figures stand there alone." if alone else ""))
     return lines, bool(slower)
 
 
-def allowed(key: Key) -> float:
+def tolerance(key: Key) -> float:
     return COUNTED if key.is_counted else TIMED

@@ -166,10 +166,10 @@ def enqueue(chance: Chance, shape: Shape, call: int, part: Optional[int] = None,
 def child(chance: Chance, shape: Shape, is_inner: bool) -> Words:
     """A child in the own domain. A task of a subdomain goes on with one that knows its floor."""
     part = 1 + shape.outer + chance.below(shape.inner) if is_inner else None
-    return guarded(enqueue(chance, shape, 1, part))
+    return guard(enqueue(chance, shape, 1, part))
 
 
-def guarded(words: Words) -> Words:
+def guard(words: Words) -> Words:
     """What is done where s0 is above 0 alone."""
     return [branch(BGE, ZERO, S0, 4 * len(words) + 4), *words]
 
@@ -178,13 +178,13 @@ def subdomain(chance: Chance, shape: Shape) -> Words:
     words: list[Word] = [addi(A0, ZERO, chance.below(2)), addi(A7, ZERO, 4), ECALL]
     for _ in range(chance.between(1, shape.first)):
         words += enqueue(chance, shape, 2)
-    return guarded(words)
+    return guard(words)
 
 
 def wide(chance: Chance, shape: Shape) -> Words:
     """A loop of enqueues, whose children have no children."""
     body = [*enqueue(chance, shape, 1, 1, 0), addi(S6, S6, -1)]
-    return guarded([addi(S6, ZERO, shape.width), *body, branch(BNE, S6, ZERO, -4 * len(body))])
+    return guard([addi(S6, ZERO, shape.width), *body, branch(BNE, S6, ZERO, -4 * len(body))])
 
 
 def pointer(chance: Chance, shape: Shape) -> Words:
@@ -233,11 +233,11 @@ def body(chance: Chance, shape: Shape, is_inner: bool) -> Words:
     if not is_inner:
         weights.pop("super")
     for _ in range(shape.fragments):
-        kind = chance.weighted(weights)
+        kind = chance.pick_weighted(weights)
         if kind == "child":
             words += child(chance, shape, is_inner)
         elif kind == "super":
-            words += guarded(enqueue(chance, shape, 3))
+            words += guard(enqueue(chance, shape, 3))
         elif kind in ("subdomain", "wide"):
             words += (subdomain if kind == "subdomain" else wide)(chance, shape)
             weights.pop(kind)

@@ -71,7 +71,7 @@ def calls_of(seed: int, number: int) -> Calls:
 
 def whole(chance: Chance, theme: str) -> Calls:
     """An image that is run and played, and one thing more that is done with it."""
-    image, options, acts = settled(chance, theme)
+    image, options, acts = settle(chance, theme)
     data, script = image_bytes(image), scripts.text_of(chance, acts).encode()
     said = yield Call(("steps", *options), data + script)
     report = yield Call(("run", *options), data)
@@ -79,7 +79,7 @@ def whole(chance: Chance, theme: str) -> Calls:
     if what == 0:
         yield Call(("trace", *options), data + script)
     elif what == 1:
-        yield Call(("check", *limits_in(options)), data + reports.altered(chance, report))
+        yield Call(("check", *limits_in(options)), data + reports.alter(chance, report))
     elif what == 2:
         # What a script leaves is a report of its own, as the old program's answer is.
         yield Call(("check", *limits_in(options)), data + reports.without_replies(said))
@@ -87,7 +87,7 @@ def whole(chance: Chance, theme: str) -> Calls:
         yield Call(("trace", *options), data + script_text([Act("advance")] * chance.between(5, 400)).encode())
 
 
-def settled(chance: Chance, theme: str) -> tuple[Image, tuple[str, ...], list[Act]]:
+def settle(chance: Chance, theme: str) -> tuple[Image, tuple[str, ...], list[Act]]:
     """An image with a theme, options, and acts for as many tiles and cores."""
     shape = shape_of(theme, chance)
     image, numbers = images.image_of(chance, shape), numbers_of(chance, theme)
@@ -128,20 +128,20 @@ def limits_in(options: tuple[str, ...]) -> tuple[str, ...]:
 
 
 def malformed_images(chance: Chance) -> Calls:
-    image, options, acts = settled(chance, "malformed image")
+    image, options, acts = settle(chance, "malformed image")
     fault = chance.pick(images.FAULTS)
-    data = images.malformed(chance, image, fault)
+    data = images.spoil(chance, image, fault)
     yield Call((chance.pick(("run", "check", "steps", "trace", "save")), *options), data)
-    yield Call(("run", *options), images.scrambled(chance, image_bytes(image)))
-    yield Call(("steps", *options), images.scrambled(chance, image_bytes(image)) + script_text(acts[:200]).encode())
+    yield Call(("run", *options), images.scramble(chance, image_bytes(image)))
+    yield Call(("steps", *options), images.scramble(chance, image_bytes(image)) + script_text(acts[:200]).encode())
 
 
 def malformed_scripts(chance: Chance) -> Calls:
-    image, options, acts = settled(chance, "mixed")
+    image, options, acts = settle(chance, "mixed")
     for command in ("steps", "trace"):
         yield Call((command, *options), image_bytes(image) + scripts.bad_text(chance, acts).encode())
     report = yield Call(("run", *options), image_bytes(image))
-    yield Call(("check", *limits_in(options)), image_bytes(image) + reports.altered(chance, report))
+    yield Call(("check", *limits_in(options)), image_bytes(image) + reports.alter(chance, report))
 
 
 def loads(chance: Chance) -> Calls:
@@ -151,7 +151,7 @@ def loads(chance: Chance) -> Calls:
 
 
 def bad_words(chance: Chance) -> Calls:
-    image, options, _ = settled(chance, "mixed")
+    image, options, _ = settle(chance, "mixed")
     wrong = chance.pick(BAD_WORDS).split(" ")
     yield Call((chance.pick(("run", "check", "steps")), *options, *wrong), image_bytes(image))
     yield Call((chance.pick(("", "walk", "load", "runs", "--tiles=2")), *options), image_bytes(image))
@@ -159,7 +159,7 @@ def bad_words(chance: Chance) -> Calls:
 
 
 def with_workers(chance: Chance) -> Calls:
-    image, options, _ = settled(chance, chance.pick(("mixed", "conflicts", "queues", "wide", "pointers")))
+    image, options, _ = settle(chance, chance.pick(("mixed", "conflicts", "queues", "wide", "pointers")))
     for workers in (chance.between(1, 4), 0):
         yield Call(("run", *options, f"--workers={workers}"), image_bytes(image))
 
@@ -167,7 +167,7 @@ def with_workers(chance: Chance) -> Calls:
 def saved(chance: Chance) -> Calls:
     """A run that is cut, and that goes on from there."""
     theme = chance.pick(("mixed", "conflicts", "wide", "deep", "deep", "chain", "trap 17", "trap 8"))
-    image, options, _ = settled(chance, theme)
+    image, options, _ = settle(chance, theme)
     options = tuple(option for option in options if not option.startswith("--commits"))
     first = yield Call(("save", *options, f"--commits={chance.between(1, 12)}"), image_bytes(image))
     if first.startswith(b"FRAC"):

@@ -28,7 +28,7 @@ class Chance:
     def pick(self, values: Sequence[Item]) -> Item:
         return values[self.below(len(values))]
 
-    def weighted(self, weights: Mapping[str, float]) -> str:
+    def pick_weighted(self, weights: Mapping[str, float]) -> str:
         """A key of a dictionary, as often as its number says."""
         left = self.next() * sum(weights.values())
         for key, weight in weights.items():
@@ -37,7 +37,7 @@ class Chance:
                 return key
         return key
 
-    def mixed(self, values: Iterable[Item]) -> list[Item]:
+    def shuffle(self, values: Iterable[Item]) -> list[Item]:
         """The values in random order."""
         drawn = list(values)
         for last in range(len(drawn) - 1, 0, -1):

@@ -61,7 +61,7 @@ def window_of(chance: Chance, size: int) -> tuple[int, int]:
     return offset, chance.between(0, min(64, (size - offset) // 4))
 
 
-def malformed(chance: Chance, image: Image, fault: int) -> bytes:
+def spoil(chance: Chance, image: Image, fault: int) -> bytes:
     """The bytes of an image with a fault of this number: docs/guest/FORMATS.md."""
     data = bytearray(image_bytes(image))
     if fault == 1:
@@ -81,7 +81,7 @@ def malformed(chance: Chance, image: Image, fault: int) -> bytes:
     return bytes(data)
 
 
-def scrambled(chance: Chance, data: bytes) -> bytes:
+def scramble(chance: Chance, data: bytes) -> bytes:
     """The bytes with a few that are changed, wherever they stand."""
     changed = bytearray(data)
     for _ in range(chance.between(1, 4)):

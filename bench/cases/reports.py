@@ -4,7 +4,7 @@ from __future__ import annotations
 from cases.chance import Chance
 
 
-def altered(chance: Chance, report: bytes) -> bytes:
+def alter(chance: Chance, report: bytes) -> bytes:
     """The report with a change; bytes."""
     lines = report.split(b"\n")
     change, place = chance.below(9), chance.below(len(lines))
@@ -24,7 +24,7 @@ def altered(chance: Chance, report: bytes) -> bytes:
     elif change == 5:
         return report + chance.pick((b"\n", b" ", b"end normal\n", b"\x00"))
     elif change == 6:
-        return digit_changed(chance, report)
+        return change_digit(chance, report)
     elif change == 7:
         lines[place] += chance.pick((b" ", b"0", b"\r"))
     else:
@@ -32,7 +32,7 @@ def altered(chance: Chance, report: bytes) -> bytes:
     return b"\n".join(lines)
 
 
-def digit_changed(chance: Chance, report: bytes) -> bytes:
+def change_digit(chance: Chance, report: bytes) -> bytes:
     places = [place for place, byte in enumerate(report) if 0x30 <= byte <= 0x39]
     if not places:
         return report

@@ -31,13 +31,13 @@ def act_of(chance: Chance, word: str, tiles: int, cores: int) -> Act:
 
 
 def random_acts(chance: Chance, mood: str, tiles: int, cores: int, count: int) -> list[Act]:
-    return [act_of(chance, chance.weighted(MOODS[mood]), tiles, cores) for _ in range(count)]
+    return [act_of(chance, chance.pick_weighted(MOODS[mood]), tiles, cores) for _ in range(count)]
 
 
 def rounds_of(chance: Chance, tiles: int, cores: int, count: int) -> list[Act]:
     """Lockstep rounds; the acts of each are in order, or in random order."""
     acts, is_mixed = round_of(tiles, cores), chance.is_one_of(2)
-    return [act for _ in range(count) for act in (chance.mixed(acts) if is_mixed else acts)]
+    return [act for _ in range(count) for act in (chance.shuffle(acts) if is_mixed else acts)]
 
 
 def script_of(chance: Chance, tiles: int, cores: int) -> list[Act]:

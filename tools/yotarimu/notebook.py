@@ -62,16 +62,16 @@ def build(folder: FilePath, compiler: str = GCC) -> Image:
 
 def run(image: Image, **options: int) -> Report:
     """The report of the image's run by the built program."""
-    answer = answered(PROGRAM, ["run"], image, options)
+    answer = ask(PROGRAM, ["run"], image, options)
     return read_report_text(answer.written.decode("ascii", "replace"), "run")
 
 
 def watch(image: Image, course: str = "least", **options: int) -> Lines:
     """What the built second program tells of a course: `least`, or `lockstep ROUNDS SEED`."""
-    return Lines(answered(SECOND_PROGRAM, course.split(), image, options).written)
+    return Lines(ask(SECOND_PROGRAM, course.split(), image, options).written)
 
 
-def answered(program: pathlib.Path, words: Sequence[str], image: Image, options: Mapping[str, int]) -> Answer:
+def ask(program: pathlib.Path, words: Sequence[str], image: Image, options: Mapping[str, int]) -> Answer:
     given = [f"--{name.replace('_', '-')}={value}" for name, value in options.items()]
     answer = Calls(program).call([*words, *given], image_bytes(image))
     if answer.status not in STATUSES.values():

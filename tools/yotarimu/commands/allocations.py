@@ -17,7 +17,7 @@ from __future__ import annotations
 
 from yotarimu.common.outcome import Refused
 from yotarimu.common.words import Words
-from yotarimu.programs.allocations import NAMES, Refuser, refused
+from yotarimu.programs.allocations import NAMES, Refuser, refuse_each
 from yotarimu.programs.calls import program_at
 from yotarimu.programs.limits import KILLED, OUT_OF_MEMORY, WHOLE
 
@@ -31,7 +31,7 @@ def main(words: list[str]) -> int:
     failed = 0
     with Refuser() as library:
         for name in given.others or NAMES:
-            count, counts, faults = refused(name, program, library)
+            count, counts, faults = refuse_each(name, program, library)
             told = ", ".join(f"{counts[outcome]:,} {outcome}" for outcome in (OUT_OF_MEMORY, WHOLE, KILLED))
             print(f"{name}: {count:,} allocations, each refused once: {told}", *faults[:20], sep="\n  ", flush=True)
             failed += bool(faults)

@@ -19,7 +19,7 @@ from yotarimu.common.outcome import Refused
 from yotarimu.common.words import Words
 from yotarimu.programs.calls import program_at
 from yotarimu.programs.limits import OUTCOMES
-from yotarimu.programs.memory import NAMES, fallen
+from yotarimu.programs.memory import NAMES, fall_of
 
 
 def main(words: list[str]) -> int:
@@ -30,7 +30,7 @@ def main(words: list[str]) -> int:
             raise Refused(f"`{word}` isn't known; it takes {', '.join(NAMES)}.")
     failed = 0
     for name in given.others or NAMES:
-        counts, faults = fallen(name, program)
+        counts, faults = fall_of(name, program)
         runs = ", ".join(f"{counts[outcome]:,} {outcome}" for outcome in OUTCOMES)
         print(f"{name}: {sum(counts.values()):,} runs: {runs}", *faults, sep="\n  ", flush=True)
         failed += bool(faults)

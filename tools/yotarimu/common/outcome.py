@@ -37,7 +37,7 @@ def run_script(name: str, main: Main, words: Optional[list[str]] = None) -> NoRe
             signal.signal(number, stop)
         # tools/start holds an interrupt back until Python can answer it.
         signal.pthread_sigmask(signal.SIG_UNBLOCK, SIGNALS)
-        status = answered(name, main, sys.argv[1:] if words is None else words)
+        status = answer(name, main, sys.argv[1:] if words is None else words)
         ignore_signals()
     except Stopped as stopped:
         say(name, "interrupted.")
@@ -45,7 +45,7 @@ def run_script(name: str, main: Main, words: Optional[list[str]] = None) -> NoRe
     end(status)
 
 
-def answered(name: str, main: Main, words: list[str]) -> int:
+def answer(name: str, main: Main, words: list[str]) -> int:
     try:
         if sys.stdout is None:
             raise Refused("standard output is closed.")
@@ -57,7 +57,7 @@ def answered(name: str, main: Main, words: list[str]) -> int:
     except Refused as refused:
         say(name, refused)
     except (OSError, MemoryError) as error:
-        say(name, told(error))
+        say(name, error_text(error))
     return REFUSED
 
 
@@ -95,7 +95,7 @@ def note(sentence: str) -> None:
     say("note", sentence)
 
 
-def told(error: Union[OSError, MemoryError]) -> str:
+def error_text(error: Union[OSError, MemoryError]) -> str:
     """An error of the system as a sentence."""
     if isinstance(error, MemoryError):
         return "out of memory."

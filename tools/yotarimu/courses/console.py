@@ -10,7 +10,7 @@ from collections.abc import Iterable, Iterator, Sequence
 from typing import Callable, Optional
 
 from yotarimu.common.files import encoded, need_outputs, need_writable, write_whole
-from yotarimu.common.outcome import Refused, say, told
+from yotarimu.common.outcome import Refused, say, error_text
 from yotarimu.common.text import counted
 from yotarimu.common.words import need_number
 from yotarimu.courses.growth import Performance, Schedule
@@ -55,7 +55,7 @@ class Console:
             except BrokenPipeError:
                 raise
             except (Refused, OSError) as error:
-                say(NAME, told(error) if isinstance(error, OSError) else error)
+                say(NAME, error_text(error) if isinstance(error, OSError) else error)
                 self.is_refused = True
             if self.is_left:
                 break

@@ -12,7 +12,7 @@ from yotarimu.images.labels import listing_for
 from yotarimu.lines.display import Standing
 from yotarimu.lines.reader import Watched
 from yotarimu.lines.sentences import end_told, name_told, opening_told, sentence_of
-from yotarimu.programs.launcher import launched
+from yotarimu.programs.launcher import launch
 from yotarimu.programs.table import Table
 
 # The statuses of a script that was played.
@@ -35,7 +35,7 @@ class Schedule:
         """What the second program tells of these acts."""
         words = ["watch", "steps", *(f"--{name}={value}" for name, value in self.options.items())]
         script = "".join(f"{act}\n" for act in acts).encode()
-        status, written, said = launched(words, self.data + script, subprocess.PIPE)
+        status, written, said = launch(words, self.data + script, subprocess.PIPE)
         if status not in PLAYED:
             raise Refused(why_not_played(status, written, said.decode("utf-8", "replace")))
         return written

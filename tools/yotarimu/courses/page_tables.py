@@ -85,7 +85,7 @@ def words_of(line: str) -> list[str]:
         raise Refused(f"`{line}` breaks off within quotation marks or behind a backslash.") from None
 
 
-def called(line: str, folder: pathlib.Path) -> list[str]:
+def call_line(line: str, folder: pathlib.Path) -> list[str]:
     """What a line tells, unless it writes that to a file."""
     words = words_of(line)
     name = None
@@ -110,11 +110,11 @@ def told_lines(line: str, data: bytes) -> list[str]:
         raise Refused(f"`{line}` tells no text; `{INTO} FILE` behind it writes that to a file.") from None
 
 
-def made(page: Page, folder: pathlib.Path) -> list[Table]:
+def make_tables(page: Page, folder: pathlib.Path) -> list[Table]:
     """Each table of a page as its commands tell it, from the last one to the first."""
     tables: list[Table] = []
     for first, end in page.blocks():
-        told = [text for line in page.lines[first:end] for text in called(line, folder)]
+        told = [text for line in page.lines[first:end] for text in call_line(line, folder)]
         rows = [line for line in told if line.startswith("|")]
         if not rows:
             continue
@@ -138,7 +138,7 @@ def main(path: str, words: Sequence[str]) -> int:
     if is_written:
         need_writable(path)
     with tempfile.TemporaryDirectory() as folder:
-        tables = made(page, pathlib.Path(folder))
+        tables = make_tables(page, pathlib.Path(folder))
     different = [table for table in tables if page.differs_from(table)]
     if is_written and different:
         for table in different:

@@ -9,9 +9,9 @@ from yotarimu.common.files import FilePath, read_bytes, read_text
 from yotarimu.common.outcome import Refused
 from yotarimu.common.words import Words, number_in
 from yotarimu.courses.schedules import Played, Said, read_played, read_script
-from yotarimu.programs.launcher import launched
+from yotarimu.programs.launcher import launch
 from yotarimu.programs.table import Table
-from yotarimu.reports.refusals import script_fault, shown
+from yotarimu.reports.refusals import script_fault, quote
 
 MOST_VALUE = 2 ** 32 - 1
 # The width up to which a reply stands right behind its line.
@@ -79,7 +79,7 @@ def acts_in(lines: Sequence[bytes], name: FilePath, options: Options, table: Tab
         if not text:
             continue
         if fault := script_fault(text, tiles, cores):
-            raise Refused(f"{name}:{number}: {shown(text)}: {fault}.")
+            raise Refused(f"{name}:{number}: {quote(text)}: {fault}.")
         acts.append(NumberedAct(number, text.decode("ascii")))
     return acts
 
@@ -95,7 +95,7 @@ def play(image: FilePath, acts: Sequence[NumberedAct], options: Options, name: s
 def asked(words: Sequence[str], image: FilePath, behind: bytes = b"") -> tuple[int, str]:
     """The status of a call on an image and what comes behind it, and what the program wrote; a refusal in place of a
     fault."""
-    status, written, _ = launched(words, read_bytes(image) + behind)
+    status, written, _ = launch(words, read_bytes(image) + behind)
     text = written.decode("utf-8", "replace")
     if text.startswith("fault") or not text:
         raise Refused(f"{image}: the program refused it: {text.strip() or f'status {status}'}.")

@@ -79,7 +79,7 @@ class Function:
         if word == EBREAK:
             return []
         if rd == SP and opcode not in WRITES_NOTHING:
-            taken = self.moved(at, word, taken)
+            taken = self.after_change(at, word, taken)
         return [(at + 4, taken)]
 
     def jump(self, at: int, target: Optional[int], rd: int, taken: int) -> list[tuple[int, int]]:
@@ -100,7 +100,7 @@ class Function:
             return None
         return at - 4 + signed(above >> 12 << 12, 32) + signed(word >> 20, 12) & 0xFFFFFFFF
 
-    def moved(self, at: int, word: int, taken: int) -> int:
+    def after_change(self, at: int, word: int, taken: int) -> int:
         """The bytes that are taken once an instruction has changed the stack pointer."""
         opcode, rs1, rs2, immediate = word & 0x7F, word >> 15 & 31, word >> 20 & 31, signed(word >> 20, 12)
         if opcode == IMMEDIATE and word >> 12 & 7 == 0 and rs1 == SP:
@@ -164,7 +164,7 @@ class Stacks:
 
     def need(self, function: Function) -> Need:
         """What a function needs with all that it calls. Calls may be far too deep for the interpreter's own stack."""
-        calls = [] if function in self.needs else [self.begun(function)]
+        calls = [] if function in self.needs else [self.begin(function)]
         while calls:
             top = calls[-1]
             if top.place == len(top.function.calls):
@@ -172,7 +172,7 @@ class Stacks:
                 continue
             callee = self.function_at(top.function.calls[top.place][1])
             if callee and callee not in self.needs and all(call.function is not callee for call in calls):
-                calls.append(self.begun(callee))
+                calls.append(self.begin(callee))
                 continue
             if callee and callee not in self.needs:
                 self.tell_ring(calls[[call.function for call in calls].index(callee):])
@@ -181,7 +181,7 @@ class Stacks:
             top.place += 1
         return self.needs[function]
 
-    def begun(self, function: Function) -> Call:
+    def begin(self, function: Function) -> Call:
         """A function whose calls are to be looked at, once what can't be told of it alone was noted."""
         if function.is_open:
             self.tell(function, "takes a part of the stack whose size is known only when it runs")
@@ -192,7 +192,7 @@ class Stacks:
     def tell_ring(self, ring: list[Call]) -> None:
         others = ", ".join(f"`{call.function.name}`" for call in ring[1:])
         self.tell(ring[0].function, f"calls itself{others and ' by ' + others}, and takes "
-                                    f"{sum(call.taken() for call in ring):,} bytes each time")
+                                    f"{sum(call.bytes_taken() for call in ring):,} bytes each time")
 
 
 @dataclasses.dataclass
@@ -202,17 +202,17 @@ class Call:
     most: Need
     place: int = 0
 
-    def taken(self) -> int:
+    def bytes_taken(self) -> int:
         return self.function.calls[self.place][0]
 
     def add(self, callee: Need) -> None:
         """What the call it is at needs."""
-        size = self.taken() + callee.size
+        size = self.bytes_taken() + callee.size
         if size > self.most.size:
-            self.most = Need(size, Way(self.function.name, self.taken(), callee.way))
+            self.most = Need(size, Way(self.function.name, self.bytes_taken(), callee.way))
 
 
-def parts_told(way: Optional[Way]) -> str:
+def parts_text(way: Optional[Way]) -> str:
     """The functions on a way that take a part of the stack."""
     parts = []
     while way:
@@ -233,4 +233,4 @@ def check_stack(assembled: Assembled, image: Image) -> None:
             body = assembled.place(entry.calls[0][1])
             has = f"has {image.limits.stack:,}" if image.limits.stack else f"has none in version {image.version}"
             raise Refused(f"{body + ': ' if body else ''}the task `{task.name}` needs {size:,} bytes of stack, "
-                          f"and {has}: {parts_told(way)}.")
+                          f"and {has}: {parts_text(way)}.")

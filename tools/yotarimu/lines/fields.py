@@ -138,7 +138,7 @@ def end_fields(line: Line) -> Fields:
 def leg_fields(line: Line) -> Fields:
     if line["do"] != "step" or "leg" not in line:
         return ()
-    asks = line.get("asks")
+    asks = line.get("asks", "")
     return (("leg", NUMBER), ("pc", NUMBER), ("asks", one_of(*ASKED)), *ASKED.get(asks, ()))
 
 

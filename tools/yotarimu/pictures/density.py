@@ -34,7 +34,7 @@ class Cell:
         self.stalled += said.reply == "stall"
         self.idle += said.reply not in DONE and said.reply != "stall"
 
-    def asked(self) -> int:
+    def all_acts(self) -> int:
         return self.done + self.stalled + self.idle
 
     def told(self) -> str:
@@ -78,7 +78,7 @@ def drawn(played: Played) -> str:
     parts = [f'<svg xmlns="http://www.w3.org/2000/svg" width="{width}" height="{height}" '
              f'viewBox="0 0 {width} {height}" font-family="sans-serif" font-size="12">',
              f'<rect width="{width}" height="{height}" fill="white"/>', *axis(grid)]
-    asked, taken = grid.most(Cell.asked), grid.most(lambda cell: cell.taken_back)
+    asked, taken = grid.most(Cell.all_acts), grid.most(lambda cell: cell.taken_back)
     for tile in range(grid.tiles):
         parts += lane_of(grid, tile, TOP + (LANE + GAP) * tile, asked, taken, width)
     parts += commits_of(grid, TOP + (LANE + GAP) * grid.tiles, width)
@@ -104,7 +104,7 @@ def lane_of(grid: Grid, tile: int, y: float, asked: int, taken: int, width: int)
         scale = ASKED_PART * LANE / asked
         bars = [(y + LANE - scale * cell.done, scale * cell.done, DONE_COLOUR),
                 (y + LANE - scale * (cell.done + cell.stalled), scale * cell.stalled, STALLED_COLOUR),
-                (y + LANE - scale * cell.asked(), scale * cell.idle, IDLE_COLOUR),
+                (y + LANE - scale * cell.all_acts(), scale * cell.idle, IDLE_COLOUR),
                 (y, TAKEN_PART * LANE * cell.taken_back / taken, TAKEN_COLOUR)]
         yield from cell_of(x, bars, f"{grid.span(column)}, tile {tile}: {cell.told()}")
 

@@ -67,10 +67,10 @@ class Mark:
         fill = self.colour() if self.said.reply in DONE else "white"
         if self.act.word == "take" and self.said.reply in DONE:
             fill = TAKEN_LEG_COLOUR
-        return painted(fill, self.colour())
+        return paint_of(fill, self.colour())
 
 
-def painted(fill: str, stroke: str) -> str:
+def paint_of(fill: str, stroke: str) -> str:
     return f'fill="{fill}" stroke="{stroke}" stroke-width="1.6"'
 
 
@@ -168,11 +168,11 @@ def footer(played: Played, style: Style) -> Iterator[str]:
     told = [counted(len(played.acts), "act"), counted(commits, "commit"), f"{counted(taken, 'task')} taken back",
             f"end {played.report.end}"]
     yield text(12, 14, "; ".join(told), "#333333", 12, "start", True)
-    blue = painted(DONE_COLOUR, DONE_COLOUR)
+    blue = paint_of(DONE_COLOUR, DONE_COLOUR)
     kinds = [("step", blue, "done; a leg has its core's number" if style.has_words else "done"),
-             ("step", painted("white", REFUSED_COLOUR), "refused"),
-             ("commit", painted(COMMIT_COLOUR, COMMIT_COLOUR), "a commit"),
-             ("step", painted("none", TAKEN_COLOUR), "tasks are taken back")]
+             ("step", paint_of("white", REFUSED_COLOUR), "refused"),
+             ("commit", paint_of(COMMIT_COLOUR, COMMIT_COLOUR), "a commit"),
+             ("step", paint_of("none", TAKEN_COLOUR), "tasks are taken back")]
     if not style.has_words:
         used = {act.word for act in played.acts}
         kinds += [(word, blue, word) for word in NUMBERS if word in used and word != "commit"]

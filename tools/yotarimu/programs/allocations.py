@@ -73,7 +73,7 @@ class Refuser:
             raise Refused(f"{call.program}: it can't be run: {error.strerror}.") from None
         return Answer(done.returncode, done.stdout)
 
-    def counted(self, call: Call) -> tuple[int, Answer]:
+    def count(self, call: Call) -> tuple[int, Answer]:
         """How many allocations a call makes, and its answer."""
         place = pathlib.Path(self.folder.name, "counted")
         place.unlink(missing_ok=True)
@@ -119,11 +119,11 @@ def call_of(name: str, program: pathlib.Path) -> Call:
     return Call(program, (*words_of(str(folder)), *FEW), image + (folder / "script").read_bytes())
 
 
-def refused(name: str, program: pathlib.Path,
-            library: Refuser) -> tuple[int, collections.Counter[Optional[str]], list[str]]:
+def refuse_each(name: str, program: pathlib.Path,
+                library: Refuser) -> tuple[int, collections.Counter[Optional[str]], list[str]]:
     """How many allocations a schedule makes, how many runs came to what, and what was wrong, a text each."""
     call = call_of(name, program)
-    count, whole = library.counted(call)
+    count, whole = library.count(call)
     if whole.status != 0:
         raise Refused(f"{program}: with all allocations the schedule {name} has the status {whole.status}, and not 0.")
     counts: collections.Counter[Optional[str]] = collections.Counter()

@@ -79,20 +79,20 @@ def words_left(calls: Calls, image: Image, label: Label) -> tuple[list[int], Rep
     while len(words) < whole:
         image.window_offset = label.address - DATA + 4 * len(words)
         image.window_words = min(WINDOW_WORDS, whole - len(words))
-        written = said(calls, ["run"], image_bytes(image))
+        written = answer_of(calls, ["run"], image_bytes(image))
         report = read_report(written.decode("ascii", "replace"), "run")
         if report.end != "normal":
             raise Refused(f"the run ended otherwise: {written.splitlines()[-1].decode('ascii')}.")
         if len(report.window) != image.window_words:
             raise Refused(f"the run tells {len(report.window):,} words, and not {image.window_words:,}.")
         words += [value for _, value in report.window]
-    told = said(calls, ["check"], image_bytes(image) + written)
+    told = answer_of(calls, ["check"], image_bytes(image) + written)
     if told != b"check ok %d\n" % len(report.entries):
         raise Refused(f"the report is refused: {told.decode('ascii', 'replace').strip()}.")
     return words, report
 
 
-def said(calls: Calls, words: Sequence[str], data: bytes) -> bytes:
+def answer_of(calls: Calls, words: Sequence[str], data: bytes) -> bytes:
     status, written = calls.call(words, data)
     if status != 0 or written.startswith(b"fault"):
         raise Refused(f"`{' '.join(words)}` ended with status {status}.")
@@ -103,7 +103,7 @@ def events_of(calls: Calls, image: Image, commits: int) -> int:
     """How many events the run has: so many acts `advance` are answered otherwise than that it is over."""
     advances = 16 * commits
     while advances <= MOST_ADVANCES:
-        written = said(calls, ["steps"], image_bytes(image) + b"advance\n" * advances)
+        written = answer_of(calls, ["steps"], image_bytes(image) + b"advance\n" * advances)
         replies, head, _ = written.partition(b"fractal 1\n")
         if not head:
             raise Refused("`steps` wrote no report.")

@@ -89,7 +89,7 @@ def bash(table: Table) -> str:
 def zsh(table: Table) -> str:
     purposes = {**{name: row[2] for name, row in table.command_rows.items()}, **table.own}
     described = "\n".join(f"    {zsh_text(f'{name}:{purpose}')}" for name, purpose in purposes.items())
-    options = " \\\n".join(f"            {zsh_text(option_told(option))}" for option in table.options.values())
+    options = " \\\n".join(f"            {zsh_text(option_text(option))}" for option in table.options.values())
     kinds = "'1:kind:({})' '2:seed:' '3:size:'".format(" ".join(table.kinds))
     return ZSH.format(name=NAME, described=described, commands="|".join(table.commands), options=options, further=kinds,
                       leading=leading_words(table))
@@ -100,7 +100,7 @@ def leading_words(table: Table) -> str:
     return " ".join([*table.course_rows, "views"])
 
 
-def option_told(option: Option) -> str:
+def option_text(option: Option) -> str:
     return f"--{option.name}=[{option.purpose}]:{option.told()}:({values_of(option)})"
 
 
@@ -132,16 +132,16 @@ def man(table: Table) -> str:
     lines.append(".SH EXIT STATUS")
     for number, meaning in table.statuses.items():
         lines += entry(str(number), meaning)
-    lines += [".SH EXAMPLES", ".nf", escaped(f"{NAME} run < image.bin > report"),
-              escaped(f"cat image.bin report | {NAME} check"), ".fi"]
+    lines += [".SH EXAMPLES", ".nf", escape(f"{NAME} run < image.bin > report"),
+              escape(f"cat image.bin report | {NAME} check"), ".fi"]
     return "\n".join(lines) + "\n"
 
 
 def entry(name: str, text: str) -> list[str]:
-    return [".TP", f".B {escaped(name)}", escaped(text)]
+    return [".TP", f".B {escape(name)}", escape(text)]
 
 
-def escaped(text: str) -> str:
+def escape(text: str) -> str:
     text = text.replace("\\", "\\e").replace("-", "\\-").replace("'", "\\(aq").replace("`", "\\(ga")
     return f"\\&{text}" if text.startswith(".") else text
 

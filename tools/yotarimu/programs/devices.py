@@ -10,7 +10,7 @@ from typing import IO, Optional, Union
 
 from yotarimu.images.image import DATA_BYTES
 from yotarimu.programs import limits
-from yotarimu.programs.answers import changed, stored
+from yotarimu.programs.answers import with_field, stored_file
 from yotarimu.programs.program import LAUNCHER, PROGRAM, Answer
 
 UNREAD, UNWRITTEN = 6, 7
@@ -40,8 +40,8 @@ class Device:
         return "it writes something all the same" if written else None
 
 
-def called(words: Sequence[str], given: Optional[bytes], stdout: Union[int, IO[bytes]],
-           stdin: Optional[int] = None) -> Answer:
+def call_launcher(words: Sequence[str], given: Optional[bytes], stdout: Union[int, IO[bytes]],
+                  stdin: Optional[int] = None) -> Answer:
     """The status of a call of the launcher, and what it wrote where that can be seen."""
     done = subprocess.run([LAUNCHER, *words], stderr=subprocess.DEVNULL, input=given, stdin=stdin, stdout=stdout)
     return Answer(done.returncode, done.stdout or b"")
@@ -50,14 +50,14 @@ def called(words: Sequence[str], given: Optional[bytes], stdout: Union[int, IO[b
 def unreadable(words: Sequence[str], _given: bytes) -> Answer:
     folder = os.open("/", os.O_RDONLY)
     try:
-        return called(words, None, stdout=subprocess.PIPE, stdin=folder)
+        return call_launcher(words, None, stdout=subprocess.PIPE, stdin=folder)
     finally:
         os.close(folder)
 
 
 def full(words: Sequence[str], given: bytes) -> Answer:
     with open("/dev/full", "wb") as sink:
-        return called(words, given, stdout=sink)
+        return call_launcher(words, given, stdout=sink)
 
 
 def unread(words: Sequence[str], given: bytes) -> Answer:
@@ -65,7 +65,7 @@ def unread(words: Sequence[str], given: bytes) -> Answer:
     reader, writer = os.pipe()
     os.close(reader)
     try:
-        return called(words, given, stdout=writer)
+        return call_launcher(words, given, stdout=writer)
     finally:
         os.close(writer)
 
@@ -80,9 +80,9 @@ FAILING = {INPUT: unreadable, FULL: full, GONE: unread, MEMORY: scarce}
 
 def devices() -> Iterator[Device]:
     """A call of each command with each device that it may meet, and one for each text in place of a report."""
-    hello = stored("hello")
-    large = changed(hello, DATA_SIZE, DATA_BYTES)
-    report = stored("hello", "report")
+    hello = stored_file("hello")
+    large = with_field(hello, DATA_SIZE, DATA_BYTES)
+    report = stored_file("hello", "report")
     behind = {"run": b"", "save": b"", "check": report, "steps": b"commit\n", "trace": b"commit\n"}
     for word, text in behind.items():
         yield Device((word,), b"", INPUT, UNREAD)
@@ -93,12 +93,12 @@ def devices() -> Iterator[Device]:
         for word, text in behind.items():
             yield Device((word,), hello + text, what, UNWRITTEN)
     for words, given in ((("rum",), b""), (("run",), b""), (("check",), hello), (("steps",), hello + b"halt\n"),
-                         (("trace",), hello + b"halt\n"), (("save", "--commits", "1"), stored("nested")),
-                         (("save", "--commits", "1"), stored("pipeline"))):
+                         (("trace",), hello + b"halt\n"), (("save", "--commits", "1"), stored_file("nested")),
+                         (("save", "--commits", "1"), stored_file("pipeline"))):
         yield Device(words, given, FULL, UNWRITTEN)
 
 
-def told_devices() -> tuple[list[tuple[str, Optional[str]]], set[tuple[str, int]]]:
+def device_answers() -> tuple[list[tuple[str, Optional[str]]], set[tuple[str, int]]]:
     """Each call with what is wrong with its answer, and the pairs of a command and a status that they show."""
     calls = list(devices())
     return [(call.name, call.fault()) for call in calls], {(call.words[0], call.status) for call in calls}

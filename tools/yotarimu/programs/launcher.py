@@ -14,7 +14,7 @@ RUNNING: set[subprocess.Popen[bytes]] = set()
 LOCK, ENDING = threading.Lock(), threading.Event()
 
 
-class Launched(NamedTuple):
+class LauncherAnswer(NamedTuple):
     """What a call of the launcher came to: its status, what it wrote, and what came on standard error where that was
     asked for."""
     status: int
@@ -22,7 +22,7 @@ class Launched(NamedTuple):
     errors: Optional[bytes]
 
 
-def launched(words: Sequence[str], data: bytes, errors: Optional[int] = None) -> Launched:
+def launch(words: Sequence[str], data: bytes, errors: Optional[int] = None) -> LauncherAnswer:
     """The status of a call, what it wrote, and what came on standard error where `errors` is a pipe for it."""
     # An interrupt at the terminal reaches the script alone, so that one sentence comes of it.
     process = subprocess.Popen([LAUNCHER, *words], stdin=subprocess.PIPE, stdout=subprocess.PIPE, stderr=errors,
@@ -40,7 +40,7 @@ def launched(words: Sequence[str], data: bytes, errors: Optional[int] = None) ->
     finally:
         with LOCK:
             RUNNING.discard(process)
-    return Launched(process.returncode, written, said)
+    return LauncherAnswer(process.returncode, written, said)
 
 
 def end(process: subprocess.Popen[bytes]) -> None:

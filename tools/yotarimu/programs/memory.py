@@ -58,7 +58,7 @@ def schedule_of(name: str, schedule: str) -> NamedCall:
     return NamedCall(schedule, (name, *words, *FEW), given)
 
 
-def fallen(name: str, program: pathlib.Path) -> tuple[collections.Counter[Optional[str]], list[str]]:
+def fall_of(name: str, program: pathlib.Path) -> tuple[collections.Counter[Optional[str]], list[str]]:
     """How many runs of a name's calls came to what, and what was wrong, a text each."""
     counts: collections.Counter[Optional[str]] = collections.Counter()
     faults = []

@@ -87,7 +87,7 @@ class Folder:
             number += 1
 
 
-def replayed(image: bytes, report: Report, name: FilePath) -> Machine:
+def replay(image: bytes, report: Report, name: FilePath) -> Machine:
     """The machine after the turns of a report."""
     machine = Machine(read_image(image, name))
     lost = machine.follow(report.entries)
@@ -102,7 +102,7 @@ def pending_of(machine: Machine) -> list[Task]:
     return sorted(tasks, key=lambda task: (task.name.creator, task.name.index))
 
 
-def held_against(machine: Machine, following: bytes, name: FilePath) -> list[Name]:
+def names_in(machine: Machine, following: bytes, name: FilePath) -> list[Name]:
     """The names of the tasks that pend, which are those of the saved image in its order; else a refusal."""
     saved, pending = read_image(following, name), pending_of(machine)
     if len(saved.tasks) != len(pending):
@@ -129,7 +129,7 @@ def next_cut(image: bytes, report: Report, after: int, name: FilePath) -> Option
     return None
 
 
-def joined(pieces: Sequence[Piece]) -> bytes:
+def join(pieces: Sequence[Piece]) -> bytes:
     """One report of pieces: the names of each in those of the first image, the outputs one after another, the window
     and the end of the last."""
     lines, output, turns = ["fractal 1"], [], 0
@@ -137,7 +137,7 @@ def joined(pieces: Sequence[Piece]) -> bytes:
     for piece in pieces:
         report = piece.report
         for entry in report.entries:
-            name = shifted(entry.name, names, turns)
+            name = name_in_whole(entry.name, names, turns)
             lines.append(f"{turns + entry.turn} {name} {entry.depth} {entry.timestamp}")
         output.append(report.output)
         if piece.is_last:
@@ -145,12 +145,12 @@ def joined(pieces: Sequence[Piece]) -> bytes:
             lines += [f"window {address:08x} {word:08x}" for address, word in report.window]
             lines.append(end_line(report, names, turns))
         else:
-            names = [shifted(name, names, turns) for name in piece.pending]
+            names = [name_in_whole(name, names, turns) for name in piece.pending]
             turns += len(report.entries)
     return "\n".join(lines).encode() + b"\n"
 
 
-def shifted(name: Name, names: Optional[Sequence[Name]], turns: int) -> Name:
+def name_in_whole(name: Name, names: Optional[Sequence[Name]], turns: int) -> Name:
     """A task's name in the joined run: the first image's own stay, those of a saved image are the pending ones."""
     if name.creator:
         return Name(turns + name.creator, name.index)
@@ -165,4 +165,4 @@ def end_line(report: Report, names: Optional[Sequence[Name]], turns: int) -> str
     if report.trap is None:
         return f"end {report.end}"
     trap = report.trap
-    return f"end trap {trap.cause} {trap.pc:08x} {shifted(trap.name, names, turns)}"
+    return f"end trap {trap.cause} {trap.pc:08x} {name_in_whole(trap.name, names, turns)}"

@@ -99,10 +99,10 @@ class Resumption:
         read, names = list(self.folder.pieces()), self.folder.name
         for piece in read:
             if not piece.is_last:
-                machine = pieces.replayed(piece.image, piece.report, names(pieces.IMAGE, piece.number))
+                machine = pieces.replay(piece.image, piece.report, names(pieces.IMAGE, piece.number))
                 following = self.folder.image(piece.number + 1)
-                piece.pending = pieces.held_against(machine, following, names(pieces.IMAGE, piece.number + 1))
-        report = pieces.joined(read)
+                piece.pending = pieces.names_in(machine, following, names(pieces.IMAGE, piece.number + 1))
+        report = pieces.join(read)
         turns = sum(len(piece.report.entries) for piece in read)
         if turns <= pieces.MOST_COMMITS:
             self.check(read[0].image, report, turns, "the joined report")

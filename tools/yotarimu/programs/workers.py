@@ -53,8 +53,8 @@ def fault_of_saved(program: pathlib.Path, commits: int, answer: Answer) -> Optio
     return fault and f"an image that was saved after {commits} commits {fault}"
 
 
-def tried(told: str, program: pathlib.Path, image: bytes, words: Sequence[str], runs: int, jobs: int,
-          fault_of_answer: Callable[[Answer], Optional[str]]) -> bool:
+def try_runs(told: str, program: pathlib.Path, image: bytes, words: Sequence[str], runs: int, jobs: int,
+             fault_of_answer: Callable[[Answer], Optional[str]]) -> bool:
     """Whether all runs of these words are right; a line tells."""
     counts = answers_of(program, image, words, runs, jobs, told)
     found = [(count, fault_of_answer(answer)) for answer, count in counts.items()]
@@ -72,10 +72,10 @@ def failures_of(name: str, program: pathlib.Path, runs: int, jobs: int) -> int:
     failed = 0
     for workers in WORKERS:
         told, by = f"{name} with {workers} workers", ["--workers", str(workers)]
-        failed += not tried(told, program, image, ["run", *by], runs, jobs,
-                            lambda answer: fault_of(program, image, answer))
+        failed += not try_runs(told, program, image, ["run", *by], runs, jobs,
+                               lambda answer: fault_of(program, image, answer))
         if commits:
-            failed += not tried(f"{told}, saved after {commits}", program, image,
-                                ["save", "--commits", str(commits), *by], runs, jobs,
-                                lambda answer: fault_of_saved(program, commits, answer))
+            failed += not try_runs(f"{told}, saved after {commits}", program, image,
+                                   ["save", "--commits", str(commits), *by], runs, jobs,
+                                   lambda answer: fault_of_saved(program, commits, answer))
     return failed

@@ -46,14 +46,14 @@ def reply_lines(replies: Sequence[Said]) -> list[str]:
     acts = "1 act" if len(replies) == 1 else f"{len(replies):,} acts"
     lines = [f"Replies to {acts} of a script; {back:,} tasks were taken back:", ""]
     if len(replies) <= MOST_REPLIES:
-        lines += [f"{number:>7}  {reply_told(said)}" for number, said in enumerate(replies, 1)]
+        lines += [f"{number:>7}  {reply_text(said)}" for number, said in enumerate(replies, 1)]
     else:
         kinds = dict.fromkeys(said.reply for said in replies)
         lines += [f"{sum(said.reply == kind for said in replies):>7,}  {kind}{meaning(kind)}" for kind in kinds]
     return [*lines, ""]
 
 
-def reply_told(said: Said) -> str:
+def reply_text(said: Said) -> str:
     back = f", {said.taken_back:,} taken back" if said.taken_back else ""
     return f"{said.reply}{meaning(said.reply)}{back}"
 
@@ -109,7 +109,7 @@ def state_lines(machine: Machine, listing: Listing, trap: Trap) -> list[str]:
     if not found:
         return []
     run, trapped = found
-    lines = [] if trapped.address is None else [f"  address {address_told(listing, machine.image, trapped.address)}"]
+    lines = [] if trapped.address is None else [f"  address {address_text(listing, machine.image, trapped.address)}"]
     registers = [f"{name} {value:08x}" for name, value in zip(REGISTERS, run.registers) if value]
     for first in range(0, len(registers), REGISTERS_IN_LINE):
         title = "" if first else "registers"
@@ -117,7 +117,7 @@ def state_lines(machine: Machine, listing: Listing, trap: Trap) -> list[str]:
     return [*lines, f"  {'':<9} all others are 0"]
 
 
-def address_told(listing: Listing, image: Image, address: int) -> str:
+def address_text(listing: Listing, image: Image, address: int) -> str:
     """An address, with what is there."""
     if TEXT <= address < TEXT + len(image.text):
         place = f"{listing.labelled(address)}, in the text"

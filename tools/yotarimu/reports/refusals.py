@@ -52,7 +52,7 @@ def line_of(text: bytes, number: int) -> Optional[bytes]:
     return lines[number - 1] if number <= len(lines) else None
 
 
-def shown(line: bytes) -> str:
+def quote(line: bytes) -> str:
     text = printable(line).replace('\\"', '"')
     return f"`{text}`" if len(text) <= MOST_SHOWN else f"`{text[:MOST_SHOWN]}...`"
 
@@ -104,11 +104,11 @@ def script_fault(line: bytes, tiles: int, cores: int) -> Optional[str]:
         return fault
     word, *numbers = line.decode("ascii").split(" ")
     if word not in NUMBERS:
-        return f"`{word[:MOST_SHOWN]}` is no act, which is {listed(NUMBERS)}"
+        return f"`{word[:MOST_SHOWN]}` is no act, which is {list_text(NUMBERS)}"
     places = ("tile", "core")[:NUMBERS[word]]
     if len(numbers) != len(places):
         wanted = " and ".join(f"a {place}" for place in places) or "nothing"
-        return f"behind `{word}` comes {wanted}, and not {counted(len(numbers))}"
+        return f"behind `{word}` comes {wanted}, and not {word_count(len(numbers))}"
     for place, number, count in zip(places, numbers, (tiles, cores)):
         if re.fullmatch("0|[1-9][0-9]*", number) and int(number[:20]) >= count:
             known = "the only one is 0" if count == 1 else f"they are 0 to {count - 1}"
@@ -118,11 +118,11 @@ def script_fault(line: bytes, tiles: int, cores: int) -> Optional[str]:
     return None
 
 
-def counted(words: int) -> str:
+def word_count(words: int) -> str:
     return "one word" if words == 1 else f"{words} words"
 
 
-def listed(names: Iterable[str]) -> str:
+def list_text(names: Iterable[str]) -> str:
     names = list(names)
     return f"{', '.join(names[:-1])} or {names[-1]}"
 
@@ -181,7 +181,7 @@ def shape_fault(kind: str, words: Sequence[str], number: int) -> Optional[str]:
 
 def entry_fault(words: Sequence[str], number: int) -> Optional[str]:
     if len(words) != 4:
-        return f"an entry is {SHAPES['an entry']}, and not {counted(len(words))}"
+        return f"an entry is {SHAPES['an entry']}, and not {word_count(len(words))}"
     turn, name, depth, timestamp = words
     if turn != str(number - 1):
         return f"the entries are numbered 1, 2, 3 and so on, so {number - 1} is wanted, and not {turn[:20]}"
@@ -212,7 +212,7 @@ def why(told: str, words: Sequence[str], data: bytes) -> str:
         fault = "the script has no such line"
     else:
         fault = script_fault(line, count_of("tiles", words), count_of("cores", words))
-    place = f"line {number:,} of the {what}{f', {shown(line)}' if line is not None else ''}"
+    place = f"line {number:,} of the {what}{f', {quote(line)}' if line is not None else ''}"
     return f"{place}: {fault or 'docs/guest/FORMATS.md has the grammar'}"
 
 
