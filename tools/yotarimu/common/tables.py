@@ -2,14 +2,15 @@
 from __future__ import annotations
 
 from collections.abc import Iterable, Sequence
+from typing import Optional
 
 
-def ratio(count: float, whole: float) -> str:
+def ratio(count: float, whole: Optional[float]) -> str:
     """A count for each of another, or a dash where there is none of that."""
     return f"{count / whole:.2f}" if whole else "-"
 
 
-def plain_ratio(count: float, whole: float) -> str:
+def plain_ratio(count: float, whole: Optional[float]) -> str:
     """The same for CSV, in more digits; empty where there is none of it."""
     return f"{count / whole:.6g}" if whole else ""
 

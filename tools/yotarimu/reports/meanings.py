@@ -2,7 +2,6 @@
 from __future__ import annotations
 
 import re
-from collections.abc import Mapping
 from typing import Optional
 
 from yotarimu.images.image import Limits
@@ -34,8 +33,9 @@ ENDS = {
     "open": "The end is open: a task is left, and nobody ran it.",
 }
 # The words of causes that an image's version decides, where that isn't known.
-EITHER = {"readable": "text, data and any stack", "writable": "data and any stack",
-          "stack": "more than a stack, if any", "depth": "8 or 16", "child": "65th, or in version 2 a 257th,"}
+EITHER: dict[str, object] = {
+    "readable": "text, data and any stack", "writable": "data and any stack",
+    "stack": "more than a stack, if any", "depth": "8 or 16", "child": "65th, or in version 2 a 257th,"}
 # What a reply says, where it isn't what was asked for.
 REPLIES = {
     "empty": "there is nothing to do it with",
@@ -90,7 +90,7 @@ def cause_told(cause: int, limits: Optional[Limits]) -> tuple[str, str]:
     """A cause in words, and what usually leads to it; without limits, those of either version."""
     if cause not in CAUSES:
         return "an unknown cause", "a newer program"
-    words: Mapping[str, object] = words_of(limits) if limits else EITHER
+    words = words_of(limits) if limits else EITHER
     meaning, usual = CAUSES[cause]
     return meaning.format(**words), usual.format(**words)
 
