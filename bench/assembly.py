@@ -1,5 +1,9 @@
 """Instructions of RV32I as words (RISC-V Unprivileged ISA 20191213, chapter 2), and texts that are laid out."""
+from __future__ import annotations
+
 import dataclasses
+from collections.abc import Sequence
+from typing import Protocol, Union
 
 from yotarimu.images.image import TEXT
 
@@ -15,54 +19,65 @@ SB, SH, SW = range(3)
 OTHER = 1 << 30
 
 
-def immediate(kind, rd, one, value):
+def immediate(kind: int, rd: int, one: int, value: int) -> int:
     """ADDI, SLTI, SLTIU, XORI, ORI, ANDI; of SLLI and SRLI the value is the shift."""
     return (value & 0xFFF) << 20 | one << 15 | kind << 12 | rd << 7 | 0x13
 
 
-def addi(rd, one, value):
+def addi(rd: int, one: int, value: int) -> int:
     return immediate(ADD, rd, one, value)
 
 
-def lui(rd, value):
+def lui(rd: int, value: int) -> int:
     return (value & 0xFFFFF) << 12 | rd << 7 | 0x37
 
 
-def auipc(rd, value):
+def auipc(rd: int, value: int) -> int:
     return (value & 0xFFFFF) << 12 | rd << 7 | 0x17
 
 
-def register(kind, rd, one, two):
+def register(kind: int, rd: int, one: int, two: int) -> int:
     return two << 20 | one << 15 | kind << 12 | rd << 7 | 0x33
 
 
-def branch(kind, one, two, offset):
+def branch(kind: int, one: int, two: int, offset: int) -> int:
     high = (offset >> 12 & 1) << 31 | (offset >> 5 & 0x3F) << 25
     low = (offset >> 1 & 0xF) << 8 | (offset >> 11 & 1) << 7
     return high | two << 20 | one << 15 | kind << 12 | low | 0x63
 
 
-def jal(rd, offset):
+def jal(rd: int, offset: int) -> int:
     high = (offset >> 20 & 1) << 31 | (offset >> 1 & 0x3FF) << 21
     return high | (offset >> 11 & 1) << 20 | (offset >> 12 & 0xFF) << 12 | rd << 7 | 0x6F
 
 
-def jalr(rd, one, value):
+def jalr(rd: int, one: int, value: int) -> int:
     return (value & 0xFFF) << 20 | one << 15 | rd << 7 | 0x67
 
 
-def load(kind, rd, one, value):
+def load(kind: int, rd: int, one: int, value: int) -> int:
     return (value & 0xFFF) << 20 | one << 15 | kind << 12 | rd << 7 | 0x03
 
 
-def store(kind, one, two, value):
+def store(kind: int, one: int, two: int, value: int) -> int:
     """Stores `two` at the address `one` plus the value."""
     return (value >> 5 & 0x7F) << 25 | two << 20 | one << 15 | kind << 12 | (value & 0x1F) << 7 | 0x23
 
 
-def number(rd, value):
+def number(rd: int, value: int) -> list[int]:
     """Loads a number, in two instructions."""
     return [lui(rd, value + 0x800 >> 12), addi(rd, rd, value)]
+
+
+class Reference(Protocol):
+    """A word that hangs on where it stands, and where the parts of the text begin."""
+
+    def word(self, _address: int, starts: Sequence[int]) -> int:
+        ...
+
+
+Word = Union[int, Reference]
+Words = Sequence[Word]
 
 
 @dataclasses.dataclass(frozen=True)
@@ -71,7 +86,7 @@ class High:
     rd: int
     part: int
 
-    def word(self, _address, starts):
+    def word(self, _address: int, starts: Sequence[int]) -> int:
         return lui(self.rd, starts[self.part] + 0x800 >> 12)
 
 
@@ -81,7 +96,7 @@ class Low:
     rd: int
     part: int
 
-    def word(self, _address, starts):
+    def word(self, _address: int, starts: Sequence[int]) -> int:
         return addi(self.rd, self.rd, starts[self.part])
 
 
@@ -91,7 +106,7 @@ class Call:
     rd: int
     part: int
 
-    def word(self, address, starts):
+    def word(self, address: int, starts: Sequence[int]) -> int:
         return jal(self.rd, starts[self.part] - address)
 
 
@@ -100,13 +115,14 @@ class Address:
     """The address of a part of a text, as a word."""
     part: int
 
-    def word(self, _address, starts):
+    def word(self, _address: int, starts: Sequence[int]) -> int:
         return starts[self.part]
 
 
-def laid_out(parts):
+def laid_out(parts: Sequence[Words]) -> tuple[list[int], list[int]]:
     """The words of the parts, one behind the other, and the address at which each begins."""
-    starts, address = [], TEXT
+    starts: list[int] = []
+    address = TEXT
     for part in parts:
         starts.append(address)
         address += 4 * len(part)

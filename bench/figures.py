@@ -1,12 +1,15 @@
 """What was measured, as rows of CSV; beside frozen figures, and what got slower from one file to another."""
+from __future__ import annotations
+
 import csv
 import dataclasses
 import io
 import math
 import os
 import pathlib
+from collections.abc import Iterator, Mapping
 
-from yotarimu.common.files import need_writable, read_written, write_whole
+from yotarimu.common.files import FilePath, need_writable, read_written, write_whole
 from yotarimu.common.outcome import Refused
 from yotarimu.common.tables import table
 
@@ -25,14 +28,14 @@ class Key:
     case: str
     figure: str
 
-    def __str__(self):
+    def __str__(self) -> str:
         return f"{self.case}: {self.figure}"
 
     @property
-    def is_counted(self):
+    def is_counted(self) -> bool:
         return self.figure.startswith(("host instructions", "exponent"))
 
-    def worse(self, old, new):
+    def worse(self, old: float, new: float) -> float:
         """How many times worse the new value is: below 1 where it is better."""
         old, new = max(old, 1e-9), max(new, 1e-9)
         return old / new if self.figure.endswith("a second") else new / old
@@ -41,32 +44,32 @@ class Key:
 class Figures:
     """Values by key, and how loaded the machine was."""
 
-    def __init__(self):
-        self.values = {}
+    def __init__(self) -> None:
+        self.values: dict[Key, float] = {}
         self.add(MACHINE, "", PROCESSORS, os.cpu_count() or 1)
         self.add(MACHINE, "", BEFORE, os.getloadavg()[0])
 
-    def add(self, table_name, case, figure, value):
+    def add(self, table_name: str, case: str, figure: str, value: float) -> float:
         """Notes a value, and gives it back."""
         self.values[Key(table_name, case, figure)] = value
         return value
 
-    def end(self):
+    def end(self) -> None:
         self.add(MACHINE, "", AFTER, os.getloadavg()[0])
 
-    def rows(self):
+    def rows(self) -> Iterator[list[str]]:
         yield HEAD
         for key, value in self.values.items():
             yield [key.table, key.case, key.figure, f"{value:.10g}"]
 
 
-def write(figures, path):
+def write(figures: Figures, path: FilePath) -> None:
     sink = io.StringIO()
     csv.writer(sink, lineterminator="\n").writerows(figures.rows())
     write_whole({need_writable(path): sink.getvalue().encode()})
 
 
-def rows_in(path):
+def rows_in(path: FilePath) -> Iterator[list[str]]:
     """The rows of a file."""
     rows = csv.reader(io.StringIO(read_written(path)))
     try:
@@ -75,9 +78,9 @@ def rows_in(path):
         raise Refused(f"{path}:{rows.line_num}: this is no row of CSV: {error}.") from None
 
 
-def read(path):
+def read(path: FilePath) -> dict[Key, float]:
     """The values of a file by key."""
-    values = {}
+    values: dict[Key, float] = {}
     for number, row in enumerate(rows_in(path), 1):
         if number == 1 and row != HEAD:
             raise Refused(f"{path}: these are no figures: the first line isn't `{','.join(HEAD)}`.")
@@ -99,21 +102,21 @@ def read(path):
     return values
 
 
-def load_told(values):
+def load_text(values: Mapping[Key, float]) -> str:
     """How loaded the machine was, as a sentence; empty where nobody noted it."""
     count, before, after = (values.get(Key(MACHINE, "", name)) for name in (PROCESSORS, BEFORE, AFTER))
-    if None in (count, before, after):
+    if count is None or before is None or after is None:
         return ""
     more = "; so its times tell little, and its counts are right" if max(before, after) > count else ""
     return f"{count:.0f} processors, a load of {before:.2f} before and of {after:.2f} after{more}"
 
 
-def shown(value):
+def number_text(value: float) -> str:
     """A number with as many digits as tell something."""
     return f"{value:,.0f}" if abs(value) >= 1_000 else f"{value:.4g}"
 
 
-def beside_frozen(values):
+def beside_frozen(values: Mapping[Key, float]) -> list[str]:
     """A table of the figures that also stand in a frozen file, with their ratios to those."""
     frozen = {path.stem.replace("_", " "): read(path) for path in sorted(FROZEN.glob("*.csv"))}
     rows = []
@@ -122,34 +125,35 @@ def beside_frozen(values):
             continue
         cells = []
         for old in frozen.values():
-            cells += [shown(old[key]), f"{value / old[key]:.2f}"] if old.get(key) else ["", ""]
-        rows.append([key.case, key.figure, shown(value), *cells])
+            cells += [number_text(old[key]), f"{value / old[key]:.2f}"] if old.get(key) else ["", ""]
+        rows.append([key.case, key.figure, number_text(value), *cells])
     head = [cell for name in frozen for cell in (name.capitalize(), "Ratio")]
     return table(["Case", "Figure", "Now", *head], rows) if rows else []
 
 
-def compared(old_path, new_path):
+def compare(old_path: FilePath, new_path: FilePath) -> tuple[list[str], bool]:
     """The lines on what got slower from one file to another, and whether anything did."""
     old, new = read(old_path), read(new_path)
     both = [key for key in old if key in new and key.table != MACHINE]
     if not both:
         raise Refused(f"{old_path} and {new_path} have no figure in common.")
     worse = {key: key.worse(old[key], new[key]) for key in both}
-    slower = sorted((key for key in both if worse[key] > 1 + allowed(key)), key=lambda key: -worse[key])
-    faster = [key for key in both if worse[key] < 1 / (1 + allowed(key))]
+    slower = sorted((key for key in both if worse[key] > 1 + tolerance(key)), key=lambda key: -worse[key])
+    faster = [key for key in both if worse[key] < 1 / (1 + tolerance(key))]
     lines = []
     if slower:
-        rows = [[key.case, key.figure, shown(old[key]), shown(new[key]), f"{worse[key]:.2f}"] for key in slower]
+        rows = [[key.case, key.figure, number_text(old[key]), number_text(new[key]), f"{worse[key]:.2f}"]
+                for key in slower]
         lines += [*table(["Case", "Figure", "Old", "New", "Times worse"], rows), ""]
     lines.append(f"Of {len(both)} figures {len(slower)} got worse, {len(faster)} better, by more than {COUNTED:.1%} of "
                  f"a count of instructions or {TIMED:.0%} of another.")
     for path, one, other in ((old_path, old, new), (new_path, new, old)):
         alone = sum(key not in other and key.table != MACHINE for key in one)
-        told = load_told(one)
+        told = load_text(one)
         lines.append(f"{path}: {told or 'nobody noted how loaded the machine was'}."
                      + (f" {alone} of its figures stand there alone." if alone else ""))
     return lines, bool(slower)
 
 
-def allowed(key):
+def tolerance(key: Key) -> float:
     return COUNTED if key.is_counted else TIMED

@@ -1,8 +1,12 @@
 """A case: some calls of the program, which follow from a seed and the case's number alone."""
-import dataclasses
+from __future__ import annotations
 
-from yotarimu.images.image import image_bytes
+import dataclasses
+from collections.abc import Generator, Mapping
+from typing import Callable, Optional
+
 from yotarimu.courses.schedules import Act, script_text
+from yotarimu.images.image import Image, image_bytes
 
 from cases import images, reports, scripts
 from cases.chance import Chance
@@ -25,23 +29,27 @@ MOST_SEED, LOADS = 0xFFFFFFFF, {"walk": 300, "nest": 100}
 @dataclasses.dataclass(frozen=True)
 class Call:
     """Words of the program and its standard input. With workers, a run's report may be another."""
-    words: tuple
+    words: tuple[str, ...]
     data: bytes = b""
 
     @property
-    def command(self):
+    def command(self) -> str:
         return self.words[0] if self.words else ""
 
-    def option(self, name):
+    def option(self, name: str) -> Optional[str]:
         """The value of an option as a word; None where it isn't given."""
         return next((word.partition("=")[2] for word in self.words if word.startswith(f"--{name}=")), None)
 
     @property
-    def has_workers(self):
+    def has_workers(self) -> bool:
         return self.command == "run" and self.option("workers") not in (None, "0")
 
 
-def theme_of(number):
+# Calls one after another. Each is answered by what the old program says to it.
+Calls = Generator[Call, bytes, None]
+
+
+def theme_of(number: int) -> str:
     if number % RARE_EVERY in RARE:
         return RARE[number % RARE_EVERY]
     rounds, place = divmod(number, len(CYCLE))
@@ -51,18 +59,19 @@ def theme_of(number):
     return f"trap {turn % len(TRAPS) + 1}"
 
 
-def calls_of(seed, number):
+def calls_of(seed: int, number: int) -> Calls:
     """The calls of a case, one after another. To each the old program's answer is sent, since some need it."""
     theme, chance = theme_of(number), Chance(seed << 32 | number)
-    special = {"malformed image": malformed_images, "malformed script": malformed_scripts, "load": loads,
-               "words": bad_words, "workers": with_workers, "saved": saved, "renumbering": renumbering, "crowd": crowd,
-               "long load": long_load}
+    special: dict[str, Callable[[Chance], Calls]] = {
+        "malformed image": malformed_images, "malformed script": malformed_scripts, "load": loads,
+        "words": bad_words, "workers": with_workers, "saved": saved, "renumbering": renumbering, "crowd": crowd,
+        "long load": long_load}
     yield from special[theme](chance) if theme in special else whole(chance, theme)
 
 
-def whole(chance, theme):
+def whole(chance: Chance, theme: str) -> Calls:
     """An image that is run and played, and one thing more that is done with it."""
-    image, options, acts = settled(chance, theme)
+    image, options, acts = settle(chance, theme)
     data, script = image_bytes(image), scripts.text_of(chance, acts).encode()
     said = yield Call(("steps", *options), data + script)
     report = yield Call(("run", *options), data)
@@ -70,7 +79,7 @@ def whole(chance, theme):
     if what == 0:
         yield Call(("trace", *options), data + script)
     elif what == 1:
-        yield Call(("check", *limits_in(options)), data + reports.altered(chance, report))
+        yield Call(("check", *limits_in(options)), data + reports.alter(chance, report))
     elif what == 2:
         # What a script leaves is a report of its own, as the old program's answer is.
         yield Call(("check", *limits_in(options)), data + reports.without_replies(said))
@@ -78,7 +87,7 @@ def whole(chance, theme):
         yield Call(("trace", *options), data + script_text([Act("advance")] * chance.between(5, 400)).encode())
 
 
-def settled(chance, theme):
+def settle(chance: Chance, theme: str) -> tuple[Image, tuple[str, ...], list[Act]]:
     """An image with a theme, options, and acts for as many tiles and cores."""
     shape = shape_of(theme, chance)
     image, numbers = images.image_of(chance, shape), numbers_of(chance, theme)
@@ -86,7 +95,7 @@ def settled(chance, theme):
     return image, options_of(numbers), acts
 
 
-def numbers_of(chance, theme):
+def numbers_of(chance: Chance, theme: str) -> dict[str, int]:
     """The options that are given, by name."""
     few = chance.is_one_of(3) or theme in ("queues", "wide", "tight")
     numbers = {"tiles": chance.pick((1, 1, 2, 2, 3, 4, 5, 8, 16)), "cores": chance.between(1, 4),
@@ -94,8 +103,9 @@ def numbers_of(chance, theme):
                "commit-queue": chance.between(1, 3) if few else chance.pick((4, 16, 64)),
                "line": chance.pick((4, 8, 16, 32, 64)), "quantum": chance.pick((1, 2, 5, 16, 64, 64, 1_024)),
                "commits": chance.between(1, 40), "budget": chance.between(20, 600), "phase": chance.between(1, 6)}
-    often = {"tiles": 1.3, "cores": 1.5, "task-queue": 1.5, "commit-queue": 1.7, "line": 2, "quantum": 1.7,
-             "commits": 9, "budget": 1 if theme == "trap 17" else 9, "phase": 3}
+    often: dict[str, float] = {
+        "tiles": 1.3, "cores": 1.5, "task-queue": 1.5, "commit-queue": 1.7, "line": 2, "quantum": 1.7,
+        "commits": 9, "budget": 1 if theme == "trap 17" else 9, "phase": 3}
     if few:
         often.update({"task-queue": 1, "commit-queue": 1})
     if theme == "tight":
@@ -108,56 +118,56 @@ def numbers_of(chance, theme):
     return chosen
 
 
-def options_of(numbers):
+def options_of(numbers: Mapping[str, int]) -> tuple[str, ...]:
     return tuple(f"--{name}={value}" for name, value in numbers.items())
 
 
-def limits_in(options):
+def limits_in(options: tuple[str, ...]) -> tuple[str, ...]:
     """The options that a check looks at."""
     return tuple(option for option in options if option.startswith(("--commits", "--budget")))
 
 
-def malformed_images(chance):
-    image, options, acts = settled(chance, "malformed image")
+def malformed_images(chance: Chance) -> Calls:
+    image, options, acts = settle(chance, "malformed image")
     fault = chance.pick(images.FAULTS)
-    data = images.malformed(chance, image, fault)
+    data = images.spoil(chance, image, fault)
     yield Call((chance.pick(("run", "check", "steps", "trace", "save")), *options), data)
-    yield Call(("run", *options), images.scrambled(chance, image_bytes(image)))
-    yield Call(("steps", *options), images.scrambled(chance, image_bytes(image)) + script_text(acts[:200]).encode())
+    yield Call(("run", *options), images.scramble(chance, image_bytes(image)))
+    yield Call(("steps", *options), images.scramble(chance, image_bytes(image)) + script_text(acts[:200]).encode())
 
 
-def malformed_scripts(chance):
-    image, options, acts = settled(chance, "mixed")
+def malformed_scripts(chance: Chance) -> Calls:
+    image, options, acts = settle(chance, "mixed")
     for command in ("steps", "trace"):
         yield Call((command, *options), image_bytes(image) + scripts.bad_text(chance, acts).encode())
     report = yield Call(("run", *options), image_bytes(image))
-    yield Call(("check", *limits_in(options)), image_bytes(image) + reports.altered(chance, report))
+    yield Call(("check", *limits_in(options)), image_bytes(image) + reports.alter(chance, report))
 
 
-def loads(chance):
+def loads(chance: Chance) -> Calls:
     kind = chance.pick(tuple(LOADS))
     words = ("load", kind, str(chance.below(MOST_SEED)), str(chance.between(1, LOADS[kind])))
     yield Call((*words, *options_of(numbers_of(chance, "mixed"))))
 
 
-def bad_words(chance):
-    image, options, _ = settled(chance, "mixed")
+def bad_words(chance: Chance) -> Calls:
+    image, options, _ = settle(chance, "mixed")
     wrong = chance.pick(BAD_WORDS).split(" ")
     yield Call((chance.pick(("run", "check", "steps")), *options, *wrong), image_bytes(image))
     yield Call((chance.pick(("", "walk", "load", "runs", "--tiles=2")), *options), image_bytes(image))
     yield Call(("load", chance.pick(("walk", "nest", "hop")), chance.pick(("0", "x", "4294967296")), "0"))
 
 
-def with_workers(chance):
-    image, options, _ = settled(chance, chance.pick(("mixed", "conflicts", "queues", "wide", "pointers")))
+def with_workers(chance: Chance) -> Calls:
+    image, options, _ = settle(chance, chance.pick(("mixed", "conflicts", "queues", "wide", "pointers")))
     for workers in (chance.between(1, 4), 0):
         yield Call(("run", *options, f"--workers={workers}"), image_bytes(image))
 
 
-def saved(chance):
+def saved(chance: Chance) -> Calls:
     """A run that is cut, and that goes on from there."""
     theme = chance.pick(("mixed", "conflicts", "wide", "deep", "deep", "chain", "trap 17", "trap 8"))
-    image, options, _ = settled(chance, theme)
+    image, options, _ = settle(chance, theme)
     options = tuple(option for option in options if not option.startswith("--commits"))
     first = yield Call(("save", *options, f"--commits={chance.between(1, 12)}"), image_bytes(image))
     if first.startswith(b"FRAC"):
@@ -166,18 +176,18 @@ def saved(chance):
     yield Call(("save", *options), image_bytes(image))
 
 
-def renumbering(chance):
+def renumbering(chance: Chance) -> Calls:
     """All dispatch numbers are given, and the state goes on."""
     acts = scripts.renumbering(DISPATCHES)
     yield Call(("steps", "--tiles=1", f"--cores={chance.between(2, 4)}"),
                image_bytes(images.two_tasks()) + script_text(acts).encode())
 
 
-def crowd(chance):
+def crowd(chance: Chance) -> Calls:
     data = image_bytes(images.crowd())
     yield Call(("save", f"--commits={chance.between(1, 2)}", "--task-queue=256"), data)
 
 
-def long_load(chance):
+def long_load(chance: Chance) -> Calls:
     """More dispatches than there are dispatch numbers."""
     yield Call(("load", "walk", str(chance.below(100)), "35000", f"--tiles={chance.between(1, 16)}"))

@@ -1,27 +1,34 @@
 """Choices that a seed makes."""
+from __future__ import annotations
+
 import random
+from collections.abc import Iterable, Mapping, Sequence
+from typing import TypeVar
+
+
+Item = TypeVar("Item")
 
 
 class Chance:
     """A generator's `random` alone gives the same numbers in all versions of Python, so all is made of it."""
 
-    def __init__(self, seed):
+    def __init__(self, seed: int) -> None:
         self.next = random.Random(seed).random
 
-    def below(self, count):
+    def below(self, count: int) -> int:
         return int(self.next() * count)
 
-    def between(self, least, most):
+    def between(self, least: int, most: int) -> int:
         return least + self.below(most - least + 1)
 
-    def is_one_of(self, count):
+    def is_one_of(self, count: float) -> bool:
         """True once in so many times."""
         return self.next() * count < 1
 
-    def pick(self, values):
+    def pick(self, values: Sequence[Item]) -> Item:
         return values[self.below(len(values))]
 
-    def weighted(self, weights):
+    def pick_weighted(self, weights: Mapping[str, float]) -> str:
         """A key of a dictionary, as often as its number says."""
         left = self.next() * sum(weights.values())
         for key, weight in weights.items():
@@ -30,15 +37,15 @@ class Chance:
                 return key
         return key
 
-    def mixed(self, values):
+    def shuffle(self, values: Iterable[Item]) -> list[Item]:
         """The values in random order."""
-        values = list(values)
-        for last in range(len(values) - 1, 0, -1):
+        drawn = list(values)
+        for last in range(len(drawn) - 1, 0, -1):
             place = self.below(last + 1)
-            values[last], values[place] = values[place], values[last]
-        return values
+            drawn[last], drawn[place] = drawn[place], drawn[last]
+        return drawn
 
-    def word(self):
+    def word(self) -> int:
         """A number of 32 bits; small ones, and those at the ends, come often."""
         kind = self.below(4)
         if kind == 0:

@@ -1,14 +1,17 @@
 """What came of the calls, counted by kind: how runs ended, what acts were answered, what was taken back, which
 instructions the tasks executed. Each kind is there from the start, so that one that never came shows as 0."""
+from __future__ import annotations
+
 import collections
 import re
 
 from yotarimu.common.outcome import Refused
-from yotarimu.images.image import image_bytes, read_image
-from yotarimu.images.serial_machine import CALL, Machine, Run, Trapped
-from yotarimu.reports.report import read_report
 from yotarimu.courses.schedules import read_replies
+from yotarimu.images.image import image_bytes, read_image
+from yotarimu.images.serial_machine import CALL, Machine, Run, Task, Trapped
+from yotarimu.reports.report import read_report
 
+from cases.case import Call
 from cases.images import FAULTS
 from cases.shape import TRAPS
 
@@ -54,18 +57,20 @@ TABLES = (
 RARE = {"Runs with workers": ("another report, that `check` accepts",),
         "Other answers": ("no answer in time", "an answer of no known form")}
 DISPATCH_NUMBERS = 65_536
+# How often each kind came, by tables.
+Counts = dict[str, "collections.Counter[str]"]
 
 
-def empty():
+def empty() -> Counts:
     return {title: collections.Counter(dict.fromkeys((*names, *RARE.get(title, ())), 0)) for title, names in TABLES}
 
 
-def missing(counts):
+def missing(counts: Counts) -> list[str]:
     """The kinds that never came."""
     return [f"{title}: {name}" for title, names in TABLES for name in names if not counts[title][name]]
 
 
-def count(counts, call, said):
+def count(counts: Counts, call: Call, said: bytes) -> None:
     """Adds what came of one call."""
     command = call.command if call.command in counts["Calls"] else "other words"
     counts["Calls"][command] += 1
@@ -77,32 +82,32 @@ def count(counts, call, said):
         counts["Other answers"]["an answer of no known form"] += 1
 
 
-def count_answer(counts, call, said):
+def count_answer(counts: Counts, call: Call, said: bytes) -> None:
     if said.startswith(b"fault "):
-        return count_fault(counts, said)
-    if call.command in ("run", "load", "save"):
-        return count_run(counts, call, said)
-    if call.command == "steps":
-        return count_steps(counts, call, said.decode("ascii", "replace"))
-    if call.command == "trace":
-        return count_trace(counts, said)
-    counts["Other answers"]["check ok"] += said.startswith(b"check ok")
-    return None
+        count_fault(counts, said)
+    elif call.command in ("run", "load", "save"):
+        count_run(counts, call, said)
+    elif call.command == "steps":
+        count_steps(counts, call, said.decode("ascii", "replace"))
+    elif call.command == "trace":
+        count_trace(counts, said)
+    else:
+        counts["Other answers"]["check ok"] += said.startswith(b"check ok")
 
 
-def count_fault(counts, said):
+def count_fault(counts: Counts, said: bytes) -> None:
     words = said.decode("ascii", "replace").split()
     name = " ".join(words[:3]) if words[1] == "image" else " ".join(words[:2])
     counts["Other answers"][name] += 1
 
 
-def end_in(said):
+def end_in(said: str) -> str:
     """The word behind `end` in the last line, with a trap's cause."""
     words = said.rstrip("\n").rpartition("\n")[2].split(" ")
     return " ".join(words[1:3]) if words[1:2] == ["trap"] else " ".join(words[1:2])
 
 
-def count_run(counts, call, said):
+def count_run(counts: Counts, call: Call, said: bytes) -> None:
     if said.startswith(b"FRAC"):
         counts["Other answers"]["a saved image"] += 1
         return
@@ -116,7 +121,7 @@ def count_run(counts, call, said):
     count_executed(counts, call.data, text)
 
 
-def count_executed(counts, data, text):
+def count_executed(counts: Counts, data: bytes, text: str) -> None:
     """Runs the tasks of a report again, as ./fractal explain does, and counts what they execute."""
     try:
         image, report = read_image(data, "image"), read_report(text, "report")
@@ -124,28 +129,29 @@ def count_executed(counts, data, text):
         return
     for entry in report.entries:
         counts["Images"][f"depth {entry.depth}"] += entry.depth in (8, 16)
-    machine, seen = Machine(image), collections.Counter()
+    machine = Machine(image)
+    seen: collections.Counter[tuple[int, int]] = collections.Counter()
     for entry in report.entries[:MOST_AGAIN]:
         task = machine.tasks.get(entry.name)
         if task is None or machine.steps > MOST_STEPS:
             break
         task.turn = entry.turn
         try:
-            Watched(machine, task, seen).go()
+            NotedRun(machine, task, seen).go()
         except Trapped:
             break
     for (word, place), times in seen.items():
         add_executed(counts["Executed instructions"], word, place, times)
 
 
-class Watched(Run):
+class NotedRun(Run):
     """A run that notes its instructions: each word, with the register of a call or what part of memory is loaded."""
 
-    def __init__(self, machine, task, seen):
+    def __init__(self, machine: Machine, task: Task, seen: collections.Counter[tuple[int, int]]) -> None:
         super().__init__(machine, task)
         self.seen = seen
 
-    def step(self, word):
+    def step(self, word: int) -> None:
         place, opcode = 0, word & 0x7F
         if word == 0x73:
             place = self.registers[CALL]
@@ -156,7 +162,7 @@ class Watched(Run):
         super().step(word)
 
 
-def add_executed(found, word, place, times):
+def add_executed(found: collections.Counter[str], word: int, place: int, times: int) -> None:
     opcode, kind = word & 0x7F, word >> 12 & 7
     if word == 0x73:
         found["ecall"] += times
@@ -165,7 +171,7 @@ def add_executed(found, word, place, times):
         return
     name = PLAIN.get(opcode) or BY_KIND.get(opcode, {}).get(kind)
     if word >> 30 & 1 and (opcode == 0x33 or (opcode, kind) == (0x13, 5)):
-        name = {"add": "sub", "srl": "sra", "srli": "srai"}.get(name, name)
+        name = {"add": "sub", "srl": "sra", "srli": "srai"}.get(name or "", name)
     if name:
         found[name] += times
     if opcode in (0x03, 0x23) and place != 1:
@@ -174,7 +180,7 @@ def add_executed(found, word, place, times):
             found[which] += times
 
 
-def count_steps(counts, call, text):
+def count_steps(counts: Counts, call: Call, text: str) -> None:
     replies, made = read_replies(text), 0
     for word, said in zip(words_played(call.data), replies):
         counts["Replies"][f"{word} {said.reply}"] += 1
@@ -185,13 +191,13 @@ def count_steps(counts, call, text):
     counts["Ends of `steps`"][end_in(text)] += 1
 
 
-def words_played(data):
+def words_played(data: bytes) -> list[str]:
     """The word of each act of the script that stands behind an image."""
     script = data[len(image_bytes(read_image(data, "image"))):]
     return [line.partition(b" ")[0].decode("ascii", "replace") for line in script.split(b"\n")]
 
 
-def count_trace(counts, said):
+def count_trace(counts: Counts, said: bytes) -> None:
     numbers = re.findall(rb"(?m)^[0-9]+$", said)
     # Tap 0 has five numbers an event, tap 1 seventeen in all.
     for kind in numbers[:len(numbers) - 17:5]:

@@ -1,7 +1,10 @@
 """Reports that are changed: some are still those of a run, most aren't."""
+from __future__ import annotations
+
+from cases.chance import Chance
 
 
-def altered(chance, report):
+def alter(chance: Chance, report: bytes) -> bytes:
     """The report with a change; bytes."""
     lines = report.split(b"\n")
     change, place = chance.below(9), chance.below(len(lines))
@@ -21,7 +24,7 @@ def altered(chance, report):
     elif change == 5:
         return report + chance.pick((b"\n", b" ", b"end normal\n", b"\x00"))
     elif change == 6:
-        return digit_changed(chance, report)
+        return change_digit(chance, report)
     elif change == 7:
         lines[place] += chance.pick((b" ", b"0", b"\r"))
     else:
@@ -29,7 +32,7 @@ def altered(chance, report):
     return b"\n".join(lines)
 
 
-def digit_changed(chance, report):
+def change_digit(chance: Chance, report: bytes) -> bytes:
     places = [place for place, byte in enumerate(report) if 0x30 <= byte <= 0x39]
     if not places:
         return report
@@ -37,7 +40,7 @@ def digit_changed(chance, report):
     return report[:place] + str(chance.below(10)).encode() + report[place + 1:]
 
 
-def without_replies(said):
+def without_replies(said: bytes) -> bytes:
     """What `steps` wrote, from the report on."""
     before, found, report = said.partition(b"fractal 1\n")
     return found + report

@@ -1,8 +1,13 @@
 """Generated scripts: random acts for all tiles and cores, also those that will be refused, and lockstep rounds."""
+from __future__ import annotations
+
+from collections.abc import Sequence
+
+from cases.chance import Chance
 from yotarimu.courses.schedules import Act, round_of, script_text
 
 # How often each act comes, by what a script is about.
-MOODS = {
+MOODS: dict[str, dict[str, float]] = {
     "mixed": {"dispatch": 6, "step": 14, "take": 2, "give": 2, "abort": 0.6, "commit": 2, "coalesce": 0.8,
               "split": 1.5, "advance": 2},
     "ahead": {"dispatch": 8, "step": 24, "commit": 0.5, "split": 1},
@@ -19,25 +24,25 @@ BAD_LINES = ("", "dispatch", "dispatch 99", "dispatch 00", "dispatch  0", " disp
              "\x00", "give 0 4")
 
 
-def act_of(chance, word, tiles, cores):
+def act_of(chance: Chance, word: str, tiles: int, cores: int) -> Act:
     if word in WITHOUT_TILE:
         return Act(word)
     return Act(word, chance.below(tiles), chance.below(cores) if word in WITH_CORE else None)
 
 
-def random_acts(chance, mood, tiles, cores, count):
-    return [act_of(chance, chance.weighted(MOODS[mood]), tiles, cores) for _ in range(count)]
+def random_acts(chance: Chance, mood: str, tiles: int, cores: int, count: int) -> list[Act]:
+    return [act_of(chance, chance.pick_weighted(MOODS[mood]), tiles, cores) for _ in range(count)]
 
 
-def rounds_of(chance, tiles, cores, count):
+def rounds_of(chance: Chance, tiles: int, cores: int, count: int) -> list[Act]:
     """Lockstep rounds; the acts of each are in order, or in random order."""
     acts, is_mixed = round_of(tiles, cores), chance.is_one_of(2)
-    return [act for _ in range(count) for act in (chance.mixed(acts) if is_mixed else acts)]
+    return [act for _ in range(count) for act in (chance.shuffle(acts) if is_mixed else acts)]
 
 
-def script_of(chance, tiles, cores):
+def script_of(chance: Chance, tiles: int, cores: int) -> list[Act]:
     """A script of some stretches, each of one mood."""
-    acts = []
+    acts: list[Act] = []
     for _ in range(chance.between(1, 4)):
         if chance.is_one_of(3):
             rounds = 1 + chance.below(600) // len(round_of(tiles, cores))
@@ -50,20 +55,20 @@ def script_of(chance, tiles, cores):
     return acts
 
 
-def text_of(chance, acts):
+def text_of(chance: Chance, acts: Sequence[Act]) -> str:
     """The text of a script, whose last newline may be missing."""
     text = script_text(acts)
     return text[:-1] if chance.is_one_of(8) else text
 
 
-def bad_text(chance, acts):
+def bad_text(chance: Chance, acts: Sequence[Act]) -> str:
     """A script with a line that is none."""
     lines = script_text(acts[:60]).split("\n")
     lines.insert(chance.below(len(lines)), chance.pick(BAD_LINES))
     return "\n".join(lines)
 
 
-def renumbering(times):
+def renumbering(times: int) -> list[Act]:
     """The second task is dispatched and taken back until all dispatch numbers were given, and more."""
     again = [Act("dispatch", 0), Act("abort", 0)] * times
     return [Act("dispatch", 0), *again, Act("dispatch", 0), *[Act("step", 0, core) for core in (0, 1)] * 6,

@@ -7,7 +7,7 @@ import struct
 from yotarimu.applications.catalogue import APPLICATIONS
 
 from tries.build import folder_with
-from tries.place import expect, one_sentence_each, written_tree
+from tries.place import Place, expect, one_sentence_each, written_tree
 
 CALL = "fractal applications"
 # A task that ends, and data with two variables: two words, and four bytes that begin as zeros.
@@ -33,7 +33,7 @@ esac
 """
 
 
-def applications_are_made(place):
+def applications_are_made(place: Place) -> None:
     """each application is made with its input, from anywhere, and ./fractal build makes the same image again"""
     before = written_tree(place.root)
     for name, application in APPLICATIONS.items():
@@ -52,7 +52,7 @@ def applications_are_made(place):
     place.is_clean()
 
 
-def applications_are_right(place):
+def applications_are_right(place: Place) -> None:
     """each small application leaves what plain programs find, by both compilers, and its reports are accepted"""
     place.needs_program()
     place.needs_second_program()
@@ -65,7 +65,7 @@ def applications_are_right(place):
     place.is_clean()
 
 
-def other_results_are_told(place):
+def other_results_are_told(place: Place) -> None:
     """memory that is wrong, runs that end otherwise and reports that are refused are told in a sentence"""
     folder = place.root / "made"
     expect(place.call(CALL, "make", "mis", str(folder), "--size", "100").status == 0, "it is made")
@@ -85,7 +85,7 @@ def other_results_are_told(place):
     place.is_clean()
 
 
-def applications_refuse_bad_words(place):
+def applications_refuse_bad_words(place: Place) -> None:
     """words that are no application, sizes out of range, and folders that are there are told in a sentence"""
     for program in (place.program, place.second_program):
         place.stub(program, "exit 5\n")
@@ -121,7 +121,7 @@ def applications_refuse_bad_words(place):
     place.is_clean()
 
 
-def applications_want_tools(place):
+def applications_want_tools(place: Place) -> None:
     """where a compiler or a program is missing that is told, and no folder is left"""
     folder = place.root / "made"
     place.call(CALL, "run", "mis").sentence("isn't built")
@@ -132,7 +132,7 @@ def applications_want_tools(place):
     expect(not folder.exists(), "no folder")
 
 
-def interrupted_applications_leave_nothing(place):
+def interrupted_applications_leave_nothing(place: Place) -> None:
     """an interrupt while an application is built is told in a sentence, and leaves no folder"""
     before, mark = written_tree(place.root), place.root / "started"
     place.stub_tool("riscv64-unknown-elf-gcc", f"touch '{mark}'; exec sleep 100\n")
@@ -145,7 +145,7 @@ def interrupted_applications_leave_nothing(place):
         expect(written_tree(place.root) - stubs == before, "no folder", written_tree(place.root) - before)
 
 
-def values_have_names(place):
+def values_have_names(place: Place) -> None:
     """variables are told by their names, whole and in pieces, as words, halves and bytes, from a memory in a file"""
     folder = folder_with(place, "pair", task=PAIR)
     expect(place.call("fractal build", str(folder)).status == 0, "an image")
@@ -167,7 +167,7 @@ def values_have_names(place):
     expect(answer.output.endswith(b"0: 5 6\nlast: 1 number of 4 bytes from 10000008 on\n       0: 0\n"), "both", answer)
 
 
-def values_refuse_bad_words(place):
+def values_refuse_bad_words(place: Place) -> None:
     """a name that isn't there, a place beyond it, and a memory of another size are told in a sentence"""
     folder = folder_with(place, "pair", task=PAIR)
     expect(place.call("fractal build", str(folder)).status == 0, "an image")

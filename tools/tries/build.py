@@ -2,13 +2,14 @@
 from __future__ import annotations
 
 import os
+import pathlib
 import signal
 import time
 
 from yotarimu.images.source import SUFFIXES
 from yotarimu.programs.examples import EXAMPLES, SCHEDULES, with_sources
 
-from tries.place import expect, one_sentence_each
+from tries.place import Place, expect, one_sentence_each
 
 # A task that ends, and the line that describes it.
 END = "main:\n    li a7, 0\n    ecall\n"
@@ -60,7 +61,7 @@ MISSHAPEN = (
 )
 
 
-def folder_with(place, name, **sources):
+def folder_with(place: Place, name: str, **sources: str) -> pathlib.Path:
     """A folder of sources, in a folder with a blank in its name."""
     folder = place.root / "my tasks" / name
     folder.mkdir(parents=True)
@@ -69,12 +70,12 @@ def folder_with(place, name, **sources):
     return folder
 
 
-def nothing_is_written(folder):
+def nothing_is_written(folder: pathlib.Path) -> None:
     left = sorted(path.name for path in folder.iterdir() if path.suffix not in SUFFIXES)
     expect(not left, "nothing written", left)
 
 
-def examples_are_rebuilt(place):
+def examples_are_rebuilt(place: Place) -> None:
     """the project's examples and schedules come out byte for byte, by name or all, with their listings; C's aside"""
     answer = place.call("fractal build", "--all")
     built = len(with_sources(EXAMPLES + SCHEDULES))
@@ -87,7 +88,7 @@ def examples_are_rebuilt(place):
     place.is_clean()
 
 
-def folders_are_anywhere(place):
+def folders_are_anywhere(place: Place) -> None:
     """a folder is taken by its relative or absolute path, with blanks in it, through a link, and from anywhere"""
     folder = folder_with(place, "one", task=GOOD)
     (place.root / "link").symlink_to(folder)
@@ -101,7 +102,7 @@ def folders_are_anywhere(place):
         (folder / "listing").unlink()
 
 
-def sources_are_linked(place):
+def sources_are_linked(place: Place) -> None:
     """several sources become one image, in the order of their names, and the listing tells each address"""
     first = "# image: task main\n    .globl main\nmain:\n    call other\n    li a7, 0\n    ecall\n"
     first += "    .data\n    .byte 7\n"
@@ -117,7 +118,7 @@ def sources_are_linked(place):
         expect(part in listing, f"`{part}` in the listing", listing)
 
 
-def sections_are_placed(place):
+def sections_are_placed(place: Place) -> None:
     """.rodata, .sdata and .bss are placed, and a program that adds them up has the right sum"""
     place.needs_program()
     folder = folder_with(place, "sections", task="# image: task main\n# image: window sum 1\n" + """
@@ -151,21 +152,21 @@ sum: .zero 4
     expect(answer.output.endswith(b"window 10000008 000004ce\nend normal\n"), "the sum 1230", answer)
 
 
-def other_sections_are_refused(place):
+def other_sections_are_refused(place: Place) -> None:
     """a section without a place in the image is refused, and nothing is written"""
     folder = folder_with(place, "section", task=GOOD + '    .section .mine, "aw"\n    .word 1\n')
     place.call("fractal build", str(folder)).sentence("task.s", ".mine", ".bss")
     nothing_is_written(folder)
 
 
-def sections_without_flags_are_refused(place):
+def sections_without_flags_are_refused(place: Place) -> None:
     """a section that the assembler would leave out of memory is refused, and nothing is written"""
     folder = folder_with(place, "flags", task=GOOD + "    .section .sdata\n    .word 1\n")
     place.call("fractal build", str(folder)).sentence("task.s", ".sdata", "flags")
     nothing_is_written(folder)
 
 
-def misshapen_lines_are_refused(place):
+def misshapen_lines_are_refused(place: Place) -> None:
     """each unknown or misshapen line is refused with its file and line, and nothing is written"""
     for number, (line, part) in enumerate(MISSHAPEN):
         folder = folder_with(place, f"line {number}", task=f"# image: task main\n{line}\n{END}{DATA}")
@@ -173,7 +174,7 @@ def misshapen_lines_are_refused(place):
         nothing_is_written(folder)
 
 
-def second_lines_are_refused(place):
+def second_lines_are_refused(place: Place) -> None:
     """a second line on the root, the data or the window is refused, as is a task's label that two sources have"""
     folder = folder_with(place, "twice", a="# image: root ordered\n" + GOOD, b="# image: root unordered\n")
     place.call("fractal build", str(folder)).sentence("b.s:1:", "a.s:1")
@@ -181,14 +182,14 @@ def second_lines_are_refused(place):
     place.call("fractal build", str(folder)).sentence("a.s:1:", "more than one source has a label `main`")
 
 
-def odd_windows_are_refused(place):
+def odd_windows_are_refused(place: Place) -> None:
     """a window at no multiple of 4 is refused with its file and line"""
     data = "    .data\n    .byte 1\nodd:\n    .word 1, 2\n"
     folder = folder_with(place, "odd", task=f"# image: window odd 1\n{GOOD}{data}")
     place.call("fractal build", str(folder)).sentence("task.s:1:", "multiple of 4")
 
 
-def missing_tasks_are_told(place):
+def missing_tasks_are_told(place: Place) -> None:
     """where no line tells a task it says where"""
     for name, text in (("no line", ""), ("no text", DATA)):
         place.call("fractal build", str(folder_with(place, name, task=text))).sentence("no line tells an initial task")
@@ -197,7 +198,7 @@ def missing_tasks_are_told(place):
     nothing_is_written(folder)
 
 
-def faults_of_the_source_are_told(place):
+def faults_of_the_source_are_told(place: Place) -> None:
     """what the assembler or the linker refuses is told with the source's path and line"""
     folder = folder_with(place, "fault", task=GOOD + "    mul a0, a0, a0\n")
     answer = place.call("fractal build", str(folder))
@@ -211,7 +212,7 @@ def faults_of_the_source_are_told(place):
     nothing_is_written(folder)
 
 
-def other_machines_are_refused(place):
+def other_machines_are_refused(place: Place) -> None:
     """a source that asks for more than RV32I is refused at its line, by attribute, option or instruction"""
     for number, (text, *parts) in enumerate((
             ('    .attribute arch, "rv32im"\n' + GOOD, ":1:", "rv32i", "_m"),
@@ -225,7 +226,7 @@ def other_machines_are_refused(place):
     expect(place.call("fractal build", str(folder)).status == 0, "words that are given as data, and a fence")
 
 
-def huge_sections_are_refused(place):
+def huge_sections_are_refused(place: Place) -> None:
     """a section that no image can have is refused before it is made, at the line that asks for it"""
     small = "    .data\n    .space 4096\n"
     for number, (text, line) in enumerate((
@@ -242,7 +243,7 @@ def huge_sections_are_refused(place):
         nothing_is_written(folder)
 
 
-def odd_names_are_kept(place):
+def odd_names_are_kept(place: Place) -> None:
     """a source whose name is no text, or none of the locale, is named in the listing as it is"""
     for number, name in enumerate((b"\xff.s", "t\u00e4sk.s".encode())):
         folder = folder_with(place, f"odd name {number}")
@@ -253,7 +254,7 @@ def odd_names_are_kept(place):
             expect(name in (folder / "listing").read_bytes(), "the source's name in the listing")
 
 
-def claimed_sizes_are_bounded(place):
+def claimed_sizes_are_bounded(place: Place) -> None:
     """a function that claims to be longer than the text costs no time"""
     folder = folder_with(place, "long", task=GOOD + "    .type main, @function\n    .size main, 0x7fffffff\n")
     start = time.monotonic()
@@ -261,7 +262,7 @@ def claimed_sizes_are_bounded(place):
     expect(time.monotonic() - start < 60, "an image at once")
 
 
-def bad_words_are_refused(place):
+def bad_words_are_refused(place: Place) -> None:
     """words that are no folder, folders without a source, and options are told in a sentence"""
     empty = folder_with(place, "empty")
     one_sentence_each([
@@ -276,14 +277,14 @@ def bad_words_are_refused(place):
     expect(b"usage:" in place.call("fractal build", "--help").output, "a help page")
 
 
-def missing_assembler_is_told(place):
+def missing_assembler_is_told(place: Place) -> None:
     """without an assembler for RISC-V it says which is wanted"""
     folder = folder_with(place, "alone", task=GOOD)
     place.without(*(prefix + "as" for prefix in ("riscv64-linux-gnu-", "riscv64-unknown-elf-", "riscv32-unknown-elf-")))
     place.call("fractal build", str(folder)).sentence("binutils-riscv64-linux-gnu")
 
 
-def unwritable_folders_are_told(place):
+def unwritable_folders_are_told(place: Place) -> None:
     """a folder that can't be read or written is told in a sentence, and nothing is left"""
     place.make_unwritable()
     place.call("fractal build", "hello").sentence("permission denied")
@@ -294,7 +295,7 @@ def unwritable_folders_are_told(place):
     expect(not any(place.temporary.iterdir()), "no temporary file")
 
 
-def interrupts_leave_nothing(place):
+def interrupts_leave_nothing(place: Place) -> None:
     """an interrupt is told in a sentence, and leaves neither an image nor a temporary file"""
     folder = folder_with(place, "slow", task=GOOD)
     mark = place.root / "started"

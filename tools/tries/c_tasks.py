@@ -4,14 +4,15 @@ from __future__ import annotations
 import pathlib
 import re
 import shutil
+from collections.abc import Sequence
 
 from yotarimu.images.compiler import CLANG, GCC
 from yotarimu.programs.examples import EXAMPLES
 
 from tries.build import folder_with, nothing_is_written
-from tries.place import expect, one_sentence_each
+from tries.place import Answer, Place, expect, one_sentence_each
 
-COMPILERS = ([], ["--clang"])
+COMPILERS: tuple[tuple[str, ...], ...] = ((), ("--clang",))
 IN_C = [name for name in EXAMPLES if name.startswith("c/")]
 # Programs whose tasks need no stack.
 WITHOUT_STACK = ("c/shortest_paths", "c/bank")
@@ -190,12 +191,12 @@ SILENT = {
 }
 
 
-def same_but_for_addresses(report):
+def same_but_for_addresses(report: bytes) -> bytes:
     """A report without the addresses of its window: each compiler places variables as it likes."""
     return re.sub(rb"(?m)^window [0-9a-f]{8} ", b"window ", report)
 
 
-def built(place, name, text, words=()):
+def built(place: Place, name: str, text: str, words: Sequence[str] = ()) -> tuple[pathlib.Path, Answer]:
     """A folder with an image of this source, and the answer of the call that made it."""
     folder = folder_in_c(place, name, text)
     answer = place.call("fractal build", *words, str(folder))
@@ -203,13 +204,13 @@ def built(place, name, text, words=()):
     return folder, answer
 
 
-def folder_in_c(place, name, text):
+def folder_in_c(place: Place, name: str, text: str) -> pathlib.Path:
     folder = folder_with(place, name)
     (folder / "task.c").write_text(text)
     return folder
 
 
-def run_of(place, folder, *words):
+def run_of(place: Place, folder: pathlib.Path, *words: str) -> bytes:
     image = (folder / "image.bin").read_bytes()
     answer = place.call("fractal", "run", *words, stdin=image)
     checked = place.call("fractal", "check", stdin=image + answer.output)
@@ -217,7 +218,7 @@ def run_of(place, folder, *words):
     return answer.output
 
 
-def examples_in_c_are_one_for_both_compilers(place):
+def examples_in_c_are_one_for_both_compilers(place: Place) -> None:
     """by gcc and by clang the examples in C have their reports but for addresses; with workers, reports are accepted"""
     place.needs_program()
     for name in IN_C:
@@ -232,14 +233,14 @@ def examples_in_c_are_one_for_both_compilers(place):
             run_of(place, folder, "--workers", "4")
 
 
-def c_and_assembly_are_one(place):
+def c_and_assembly_are_one(place: Place) -> None:
     """shortest paths by hand and in C have one report, byte by byte"""
     by_hand, in_c = [(place.clone / "examples" / name / "report").read_bytes()
                      for name in ("shortest_paths", "c/shortest_paths")]
     expect(by_hand == in_c, "one report", (by_hand, in_c))
 
 
-def what_needs_no_stack_runs_in_version_1(place):
+def what_needs_no_stack_runs_in_version_1(place: Place) -> None:
     """programs whose tasks need no stack have the same report in version 1, by both compilers"""
     place.needs_program()
     for name in WITHOUT_STACK:
@@ -253,7 +254,7 @@ def what_needs_no_stack_runs_in_version_1(place):
             expect(report == wanted, f"the report of {name}", report)
 
 
-def sources_are_mixed(place):
+def sources_are_mixed(place: Place) -> None:
     """two files of C and one of assembly are one program, and a label may be an argument"""
     place.needs_program()
     folder = folder_in_c(place, "mixed", """#include "task.h"
@@ -277,7 +278,7 @@ TASK(start, uint32_t n, uint32_t *to)
         expect(report.endswith(b"output 4243\nwindow 00000041\nwindow 00000042\nend normal\n"), "the numbers", report)
 
 
-def calls_keep_arguments_apart(place):
+def calls_keep_arguments_apart(place: Place) -> None:
     """products, quotients and calls as arguments of a child come out as they are, by both compilers"""
     place.needs_program()
     for words in COMPILERS:
@@ -302,7 +303,7 @@ TASK(start, uint32_t x, uint32_t y, uint32_t z, uint32_t ts)
         expect(seen == wanted, f"the numbers {wanted}", seen)
 
 
-def mistakes_in_c_are_refused(place):
+def mistakes_in_c_are_refused(place: Place) -> None:
     """what sources or the linked program show is refused in a sentence with file and line, and nothing is written"""
     whole = {name: (FIRST_LINES + text, *parts) for name, (text, *parts) in REFUSED.items()} | REFUSED_WHOLE
     for words in COMPILERS:
@@ -315,7 +316,7 @@ def mistakes_in_c_are_refused(place):
     expect(not any(place.temporary.iterdir()), "no temporary file")
 
 
-def doubts_in_c_are_noted(place):
+def doubts_in_c_are_noted(place: Place) -> None:
     """what may be wrong is told in a note, and built all the same"""
     for words in COMPILERS:
         for name, (text, *parts) in NOTED.items():
@@ -323,7 +324,7 @@ def doubts_in_c_are_noted(place):
             answer.tells("note: ", *parts)
 
 
-def traps_in_c_are_explained(place):
+def traps_in_c_are_explained(place: Place) -> None:
     """a trap in C is told with its task, arguments, file, line, address and registers"""
     place.needs_program()
     for words in COMPILERS:
@@ -335,7 +336,7 @@ def traps_in_c_are_explained(place):
                 expect(part in answer.output.decode(), f"`{part}` of {name} by {words or GCC}", answer.output.decode())
 
 
-def silent_mistakes_are_silent(place):
+def silent_mistakes_are_silent(place: Place) -> None:
     """mistakes that nothing tells come out as the guide says"""
     place.needs_program()
     for words in COMPILERS:
@@ -349,16 +350,17 @@ def silent_mistakes_are_silent(place):
                 expect(re.search(rb"window \w+ %08x\n" % word, report), f"the word {word} of {name}", report)
 
 
-def ties_come_in_any_order(place):
+def ties_come_in_any_order(place: Place) -> None:
     """a join at the timestamp of what it joins is accepted in each order, and leaves other sums by other settings"""
     place.needs_program()
     text = (place.clone / "examples" / "c" / "tree_of_sums" / "task.c").read_text()
     folder, _ = built(place, "ties", text.replace("enqueue_sub(join, 1,", "enqueue_sub(join, 0,"))
-    sums = {re.search(rb"window \w+ (\w+)", run_of(place, folder, "--tiles", str(tiles)))[1] for tiles in range(1, 8)}
+    reports = [run_of(place, folder, "--tiles", str(tiles)) for tiles in range(1, 8)]
+    sums = {found[1] for report in reports if (found := re.search(rb"window \w+ (\w+)", report))}
     expect(len(sums) > 1, "more than one sum", sums)
 
 
-def scratch_of_all_conflicts(place):
+def scratch_of_all_conflicts(place: Place) -> None:
     """tasks that fill one array of all are taken back, those that fill locals are not; their results are the same"""
     place.needs_program()
     place.needs_second_program()
@@ -376,7 +378,7 @@ def scratch_of_all_conflicts(place):
     expect(results[0] == results[1] and len(results[0]) == 16, "the same results", results)
 
 
-def packed_structs_are_read(place):
+def packed_structs_are_read(place: Place) -> None:
     """a packed struct is read at any address, by both compilers"""
     place.needs_program()
     source = """#include "task.h"
@@ -391,17 +393,17 @@ TASK(start) { seen = ((volatile struct odd *)&odd)->word; }
         expect(b" 12345678\n" in run_of(place, folder), "the word")
 
 
-def traps_are_explained_from_sources(place):
+def traps_are_explained_from_sources(place: Place) -> None:
     """a trap in C is explained from the listing, the folder and the source alike"""
     place.needs_program()
     folder, _ = built(place, "a trap", FIRST_LINES + "TASK(start)\n{\n    require(0);\n}\n")
     report = run_of(place, folder)
-    for source in ([], [str(folder)], [str(folder / "task.c")], [str(folder / "listing")]):
+    for source in ((), (folder,), (folder / "task.c",), (folder / "listing",)):
         answer = place.call("fractal explain", str(folder / "image.bin"), "-", *source, stdin=report)
         expect(b"task.c:5: require(0);" in answer.output, "the line", answer)
 
 
-def long_ways_are_counted(place):
+def long_ways_are_counted(place: Place) -> None:
     """the stack of thousands of functions that call one another is counted, and the sentence stays short"""
     text = "static __attribute__((noinline)) uint32_t f0(uint32_t x) { volatile uint32_t y = x; return y + 1; }\n"
     for number in range(1, 1_500):
@@ -414,7 +416,7 @@ def long_ways_are_counted(place):
     nothing_is_written(folder)
 
 
-def missing_compilers_are_told(place):
+def missing_compilers_are_told(place: Place) -> None:
     """without gcc, clang, or the library for products it says which package has it"""
     text = FIRST_LINES + "uint32_t x;\nTASK(start, uint32_t a, uint32_t b) { x = a / b; }\n"
     folder = folder_in_c(place, "alone", text)
@@ -424,7 +426,7 @@ def missing_compilers_are_told(place):
     nothing_is_written(folder)
 
 
-def missing_libgcc_is_told(place):
+def missing_libgcc_is_told(place: Place) -> None:
     """clang without gcc's library refuses a quotient, and builds what needs none"""
     text = FIRST_LINES + "uint32_t x;\nTASK(start, uint32_t a, uint32_t b) { x = a / b; }\n"
     folder = folder_in_c(place, "alone", text)
@@ -434,7 +436,7 @@ def missing_libgcc_is_told(place):
     expect(place.call("fractal build", "--clang", str(folder)).status == 0, "an image without a quotient")
 
 
-def large_programs_are_held_against_plain_ones(place):
+def large_programs_are_held_against_plain_ones(place: Place) -> None:
     """a network of roads and a circuit, made small, leave what plain programs do, and nothing is left but the folder"""
     place.needs_program()
     for name, size, words in (("roads", "90", 90), ("circuit", "3", 2 * (6 + 30))):
@@ -448,7 +450,7 @@ def large_programs_are_held_against_plain_ones(place):
     place.is_clean()
 
 
-def other_results_of_large_programs_are_told(place):
+def other_results_of_large_programs_are_told(place: Place) -> None:
     """a result that isn't the plain program's, and a report that is refused, are told in a sentence"""
     place.needs_program()
     real = place.root / "real"
@@ -465,7 +467,7 @@ def other_results_of_large_programs_are_told(place):
         answer.tells(part)
 
 
-def other_programs_of_large_are_told(place):
+def other_programs_of_large_are_told(place: Place) -> None:
     """a program that writes no report, or not the words that were asked for, is told in a sentence"""
     bytes_alone = place.stub(place.root / "bytes", "cat >/dev/null; printf '\\377\\n'\n")
     no_words = place.stub(place.root / "words", "cat >/dev/null; printf 'fractal 1\\noutput -\\nend normal\\n'\n")
@@ -474,7 +476,7 @@ def other_programs_of_large_are_told(place):
         place.call("fractal large", "roads", str(folder), "--size", "3", "--program", str(program)).sentence(part)
 
 
-def missing_compilers_leave_no_folder(place):
+def missing_compilers_leave_no_folder(place: Place) -> None:
     """without the compiler the folder isn't begun, so that the same words may come again"""
     program, folder = place.stub(place.root / "program", "exit 0\n"), place.root / "large"
     words = ("fractal large", "roads", str(folder), "--program", str(program))
@@ -484,7 +486,7 @@ def missing_compilers_leave_no_folder(place):
     expect(not folder.exists(), "no folder")
 
 
-def large_refuses_bad_words(place):
+def large_refuses_bad_words(place: Place) -> None:
     """bad words, a folder that isn't empty, and a missing program or compiler are told in a sentence"""
     large, empty = "fractal large", str(place.root / "large")
     one_sentence_each([

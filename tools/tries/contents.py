@@ -10,7 +10,7 @@ from yotarimu.images.compiler import GCC, LIBRARY
 
 from tries.build import END, folder_with, nothing_is_written
 from tries.c_tasks import COMPILERS, FIRST_LINES, folder_in_c, run_of
-from tries.place import expect
+from tries.place import Place, expect
 
 TASK = "# image: task main\n" + END
 # Two words with a byte before them, and five bytes that begin as zeros.
@@ -83,7 +83,7 @@ def initial_data(folder):
     return image[start:start + initial], image[start + initial:]
 
 
-def data_comes_from_files(place):
+def data_comes_from_files(place: Place) -> None:
     """a file's bytes, or the numbers of a text, stand where their label is, also where all began as zeros"""
     for number, (line, given, wanted) in enumerate((
             ("data first given.csv", b"-1, 0x10\n", b"\x09\0\0\0\xff\xff\xff\xff\x10\0\0\0"),
@@ -98,7 +98,7 @@ def data_comes_from_files(place):
         expect(initial_data(folder)[0] == wanted, f"the data of `{line}`", initial_data(folder)[0])
 
 
-def tasks_come_from_files(place):
+def tasks_come_from_files(place: Place) -> None:
     """initial tasks are rows of a text, with labels and numbers, or bytes as in an image, behind those of lines"""
     row = struct.Struct("<5I")
     text = "# image: tasks given.csv\n# image: tasks given.bin\n" + TASK + DATA
@@ -113,7 +113,7 @@ def tasks_come_from_files(place):
     expect(tasks == wanted, "the tasks", tasks)
 
 
-def odd_files_are_refused(place):
+def odd_files_are_refused(place: Place) -> None:
     """a file that doesn't fit, or has what is no number or task, is refused with the line, and nothing is written"""
     for number, (line, given, part) in enumerate(ODD_DATA):
         folder = folder_with(place, f"odd {number}", task=f"# image: {line}\n{TASK}{DATA}{SIZES}")
@@ -124,7 +124,7 @@ def odd_files_are_refused(place):
         expect(not left, "nothing written", left)
 
 
-def places_are_filled_once(place):
+def places_are_filled_once(place: Place) -> None:
     """two files for one place are refused, and so is a static variable, which a compiler may take as zeros"""
     text = f"# image: data first one.bin\n# image: data first two.bin\n{TASK}{DATA}{SIZES}"
     folder = folder_with(place, "twice", task=text)
@@ -138,7 +138,7 @@ def places_are_filled_once(place):
         place.call("fractal build", *words, str(folder)).sentence("task.c:3: `numbers` is static")
 
 
-def large_files_cost_little(place):
+def large_files_cost_little(place: Place) -> None:
     """16 MB of data from a file are built within seconds, and labels beyond what a listing shows are in it"""
     text = "// image: data table table.bin\nuint32_t table[4194304 - 8], after[4];\n"
     text += "TASK(start) { after[1] = table[7]; }\n"
@@ -152,7 +152,7 @@ def large_files_cost_little(place):
     expect("<table>:" in listing and "<after>:" in listing, "both labels in the listing")
 
 
-def data_from_files_is_read(place):
+def data_from_files_is_read(place: Place) -> None:
     """a program in C finds what a file gave, by both compilers"""
     place.needs_program()
     for words in COMPILERS:
@@ -163,7 +163,7 @@ def data_from_files_is_read(place):
         expect(b"\noutput 34333231\n" in run_of(place, folder), "4321")
 
 
-def cpp_is_built(place):
+def cpp_is_built(place: Place) -> None:
     """tasks in C++ are built by both compilers, and what they make is that of C"""
     for words in COMPILERS:
         folder = folder_with(place, "-".join(["cpp", *words]))
@@ -179,7 +179,7 @@ def cpp_is_built(place):
             nothing_is_written(folder)
 
 
-def cpp_runs(place):
+def cpp_runs(place: Place) -> None:
     """tasks in C++ run, and the children of a tree are all there once"""
     place.needs_program()
     for words in COMPILERS:
@@ -191,7 +191,7 @@ def cpp_runs(place):
         expect(report.count(b"\n") - 3 == 1 + 1 + 3 + 40, "45 tasks", report)
 
 
-def other_compilers_are_linked(place):
+def other_compilers_are_linked(place: Place) -> None:
     """what clang writes as assembly, as LLVM's own language and as an object is built, and runs alike"""
     place.needs_program()
     source = place.clone / "examples" / "c" / "breadth_first" / "task.c"
@@ -214,7 +214,7 @@ def other_compilers_are_linked(place):
         expect(report.splitlines()[:-8] == wanted.splitlines()[:-8], f"the report of .{suffix}", report)
 
 
-def odd_objects_are_refused(place):
+def odd_objects_are_refused(place: Place) -> None:
     """what is no object of the machine, and an object beside its source, are refused in a sentence"""
     folder = folder_with(place, "no object")
     (folder / "task.o").write_bytes(b"\x7fELF")
@@ -226,7 +226,7 @@ def odd_objects_are_refused(place):
     place.call("fractal build", str(folder)).sentence("task.o and task.s have one name")
 
 
-def llvm_wants_clang(place):
+def llvm_wants_clang(place: Place) -> None:
     """without clang a source of LLVM is told to want it, also where gcc compiles C"""
     folder = folder_with(place, "llvm")
     (folder / "task.ll").write_text("; image: task main\n")

@@ -6,7 +6,7 @@ import os
 
 from yotarimu.programs.examples import SCHEDULES
 
-from tries.others import picture_in
+from tries.files import picture_in
 from tries.place import expect, one_sentence_each
 from tries.schedules import written
 from tries.told_lines import Told

@@ -6,9 +6,10 @@ import os
 import signal
 import subprocess
 import time
+from collections.abc import Sequence
 
-from tries.others import files_of
-from tries.place import expect, written_tree
+from tries.files import files_of
+from tries.place import Place, expect, written_tree
 
 # A program that notes that it was started, and goes on until it is ended.
 ENDLESS = "touch '{}'; exec sleep 100\n"
@@ -31,7 +32,7 @@ CALLERS = (
 WRITERS = (("lockstep", "16", "4", "20000"), ("generate", "walk", "7", "20000"), ("shell", "man"))
 
 
-def words_of(place, words):
+def words_of(place: Place, words: Sequence[str]) -> list[str]:
     """The words of a call, with files of the clone in place of their names."""
     image, report = files_of(place, "pipeline")
     schedule = place.clone / "examples" / "schedules" / "stall"
@@ -40,7 +41,7 @@ def words_of(place, words):
     return [f"fractal {words[0]}", *(names.get(word, word) for word in words[1:])]
 
 
-def readers_are_interrupted(place):
+def readers_are_interrupted(place: Place) -> None:
     """a tool that is interrupted while it reads says so, and writes nothing"""
     for program in (place.program, place.second_program):
         place.stub(program, "exit 3\n")
@@ -49,7 +50,7 @@ def readers_are_interrupted(place):
         pipe = place.root / "a pipe"
         os.mkfifo(pipe)
         with contextlib.ExitStack() as opened:
-            def ready():
+            def ready() -> bool:
                 with contextlib.suppress(OSError):
                     opened.callback(os.close, os.open(pipe, os.O_WRONLY | os.O_NONBLOCK))
                     return True
@@ -64,8 +65,13 @@ def readers_are_interrupted(place):
     os.mkfifo(place.root / "a pipe")
     mark = place.root / "mark"
     script = 'touch "$2"; exec "$0" refusal "fault script 1" steps <>"$1"'
+
+    def has_begun() -> bool:
+        time.sleep(1)
+        return mark.exists()
+
     answer = place.interrupted("/bin/sh", "-c", script, str(place.clone / "fractal"),
-                               str(place.root / "a pipe"), str(mark), ready=lambda: mark.exists() and not time.sleep(1))
+                               str(place.root / "a pipe"), str(mark), ready=has_begun)
     answer.sentence("refusal: interrupted.", status=130)
     (place.root / "a pipe").unlink()
     mark.unlink()
@@ -73,7 +79,7 @@ def readers_are_interrupted(place):
     place.is_clean()
 
 
-def callers_are_interrupted(place):
+def callers_are_interrupted(place: Place) -> None:
     """a tool that is interrupted while the program runs says so, ends it, and leaves nothing"""
     mark = place.root / "mark"
     for program in (place.program, place.second_program):
@@ -89,7 +95,7 @@ def callers_are_interrupted(place):
     place.is_clean()
 
 
-def early_interrupts_are_borne(place):
+def early_interrupts_are_borne(place: Place) -> None:
     """an interrupt at any moment of a script's start leaves no traceback"""
     for words in WRITERS:
         command = [*place.command(f"fractal {words[0]}"), *words[1:]]

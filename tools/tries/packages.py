@@ -1,6 +1,7 @@
 """Tries of ./fractal package, what its archive installs, completions, the manual page, and the exercises."""
 from __future__ import annotations
 
+import pathlib
 import shutil
 import subprocess
 
@@ -8,20 +9,20 @@ from yotarimu.programs.program import PROGRAM, SECOND_PROGRAM
 from yotarimu.programs.table import Table
 
 from tries.launcher import HELLO, image_of
-from tries.place import Answer, expect, need_built, one_sentence_each
+from tries.place import Answer, Place, expect, need_built, one_sentence_each
 
 EXERCISES = ("journal", "abort", "stall", "false_conflict", "order")
 # An rt that builds a program, by the folder that it is called in, by copying.
 STUB_BUILD = """cat >/dev/null; mkdir -p out; cp '{}'/"${{PWD##*/}}"/out/"${{PWD##*/}}" out/\n"""
 
 
-def build(place):
+def build(place: Place) -> None:
     need_built(PROGRAM, SECOND_PROGRAM)
     place.stub_tool("rt", STUB_BUILD.format(PROGRAM.parents[2]))
     expect(place.call("fractal", "prove").status == 0, "a build")
 
 
-def archive_of(place):
+def archive_of(place: Place) -> pathlib.Path:
     folder = place.root / "given out"
     folder.mkdir(exist_ok=True)
     answer = place.call("fractal", "package", str(folder))
@@ -29,7 +30,7 @@ def archive_of(place):
     return next(folder.glob("*.tar.gz"))
 
 
-def packages_run_elsewhere(place):
+def packages_run_elsewhere(place: Place) -> None:
     """the archive has a version, a commit and checksums, is the same again, and runs without clone and toolchain"""
     build(place)
     archive = archive_of(place)
@@ -47,15 +48,15 @@ def packages_run_elsewhere(place):
     expect(place.call("fractal", "run", stdin=image_of(place, "hello")) == Answer(0, HELLO, ""), "a report")
     expect(place.call("fractal", "test").status == 0, "all examples")
     sums = (place.clone / "PACKAGE").read_text().partition("\n")[2]
-    done = subprocess.run(["sha256sum", "-c"], input=sums, text=True, cwd=place.clone, capture_output=True)
-    expect(done.returncode == 0 and done.stdout.count(": OK") == 2, "the checksums of both programs", done)
+    both = subprocess.run(["sha256sum", "-c"], input=sums, text=True, cwd=place.clone, capture_output=True)
+    expect(both.returncode == 0 and both.stdout.count(": OK") == 2, "the checksums of both programs", both)
     answer = place.call("fractal", "watch", "least", stdin=image_of(place, "hello"))
     expect(answer.output.startswith(b'{"watch":1,') and answer.errors == "", "the second program's lines", answer)
     for word in ("prove", "package"):
         expect(place.call("fractal", word).status == 69, f"that {word} wants a clone")
 
 
-def packages_are_installed(place):
+def packages_are_installed(place: Place) -> None:
     """`./install PREFIX` makes a command, completions and a manual page; it replaces its own, and nothing else"""
     build(place)
     archive = archive_of(place)
@@ -83,7 +84,7 @@ def packages_are_installed(place):
     ])
 
 
-def others_files_stay(place, install):
+def others_files_stay(place: Place, install: str) -> None:
     """Holds a file of another origin, or a folder, in the place of a link to be left as it is."""
     for number, file in enumerate(("bin/fractal", "share/man/man1/fractal.1", "share/zsh/site-functions/_fractal")):
         path = place.root / f"prefix {number}" / file
@@ -98,7 +99,7 @@ def others_files_stay(place, install):
         expect(not any((place.root / f"prefix {number}" / "lib").iterdir()), "nothing else")
 
 
-def packages_are_of_one_commit(place):
+def packages_are_of_one_commit(place: Place) -> None:
     """only programs that were built from exactly this commit are taken; else it says so, and leaves nothing"""
     place.call("fractal", "package").sentence("fractal_sim isn't built", status=70)
     place.needs_program()
@@ -135,7 +136,7 @@ def packages_are_of_one_commit(place):
     place.is_clean()
 
 
-def shells_are_helped(place):
+def shells_are_helped(place: Place) -> None:
     """completions and the manual page have each command, option and status, and their shells and groff read them"""
     table = Table()
     texts = {}
@@ -170,7 +171,7 @@ def shells_are_helped(place):
     ])
 
 
-def exercises_are_judged(place):
+def exercises_are_judged(place: Place) -> None:
     """the answer to each exercise is right, what it begins with is wrong, and other files are told in a sentence"""
     place.needs_program()
     exercise, folder = "fractal exercise", place.clone / "examples" / "exercises"
@@ -197,7 +198,7 @@ def exercises_are_judged(place):
     ])
 
 
-def wrong_files(place, exercise):
+def wrong_files(place: Place, exercise: str) -> None:
     """Holds wrong journals and scripts to be told so, with why."""
     stepped = "dispatch 0\ndispatch 1\nstep 1 0\nstep 0 0\nstep 0 0\n"
     for name, text, part in (
@@ -214,7 +215,7 @@ def wrong_files(place, exercise):
         expect(answer.status == 1 and told.startswith("wrong: ") and part in told, part, answer)
 
 
-def exercises_are_rebuilt(place):
+def exercises_are_rebuilt(place: Place) -> None:
     """the images and listings of the exercises are those of their sources"""
     for name in EXERCISES:
         place.call("fractal build", str(place.clone / "examples" / "exercises" / name))

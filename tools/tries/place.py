@@ -14,11 +14,18 @@ import subprocess
 import tempfile
 import termios
 import time
+from collections.abc import Iterable, Sequence
+from typing import Any, Callable, Optional, Union
 
 from yotarimu.common.outcome import Refused
 from yotarimu.common.places import HOME
 from yotarimu.programs.program import PROGRAM, SECOND_PROGRAM
 
+# A word of a call; a path is one too.
+Word = Union[str, "os.PathLike[str]"]
+Ready = Callable[[bytes], bool]
+# Keys, and what of a terminal's text has to hold before they are typed; None where nothing has to.
+Typing = tuple[Optional[Ready], bytes]
 NOBODY = 65534
 # A call that lasts longer has failed, also on a machine that is at much other work.
 MOST_SECONDS = 600
@@ -40,42 +47,42 @@ class Answer:
     output: bytes
     errors: str
 
-    def sentence(self, *parts, status=1):
+    def sentence(self, *parts: object, status: int = 1) -> None:
         """Holds the answer to be one sentence on standard error, with these parts, and a status other than 0."""
         expect(self.status == status, f"status {status}, and not {self.status}", self)
         lines = [line for line in self.errors.splitlines() if line.strip()]
         expect(len(lines) == 1, "one sentence on standard error", self)
         self.tells(*parts)
 
-    def tells(self, *parts):
+    def tells(self, *parts: object) -> None:
         """Holds these parts to stand on standard error, and no traceback."""
         expect("Traceback" not in self.errors, "no traceback", self)
         for part in parts:
             expect(str(part) in self.errors, f"`{part}` on standard error", self)
 
 
-def expect(is_so, what, seen=None):
+def expect(is_so: object, what: str, seen: object = None) -> None:
     if not is_so:
         raise Failed(f"expected {what}" + (f"; seen {seen}" if seen is not None else ""))
 
 
-def need_built(*programs):
+def need_built(*programs: pathlib.Path) -> None:
     if not all(program.exists() for program in programs):
         raise LeftOut("it wants the built program: ./fractal prove")
 
 
-def put_built(program, path):
+def put_built(program: pathlib.Path, path: pathlib.Path) -> None:
     need_built(program)
     path.parent.mkdir(parents=True, exist_ok=True)
     shutil.copy(program, path)
 
 
-def one_sentence_each(answers):
+def one_sentence_each(answers: Iterable[tuple[Answer, Iterable[object]]]) -> None:
     for answer, parts in answers:
         answer.sentence(*parts)
 
 
-def written_tree(folder):
+def written_tree(folder: pathlib.Path) -> set[pathlib.Path]:
     """All files and folders below a folder, but those that git keeps for itself."""
     return {path for path in folder.rglob("*") if ".git" not in path.parts}
 
@@ -83,7 +90,7 @@ def written_tree(folder):
 class Place:
     """A fresh clone, and a folder for temporary files that is to be empty in the end."""
 
-    def __init__(self):
+    def __init__(self) -> None:
         self.root = pathlib.Path(tempfile.mkdtemp(prefix="tries "))
         self.root.chmod(0o755)
         self.clone = self.root / "a clone"
@@ -100,27 +107,27 @@ class Place:
             self.remove()
             raise
 
-    def make_clone(self):
+    def make_clone(self) -> None:
         done = subprocess.run(["git", "clone", "-q", HOME, self.clone], stdin=subprocess.DEVNULL,
                               stderr=subprocess.PIPE, text=True, errors="replace")
         if done.returncode != 0:
             last = (done.stderr.strip().splitlines() or [f"git ended with status {done.returncode}"])[-1]
             raise Refused(f"{HOME}: it can't be cloned: {last}")
 
-    def remove(self):
+    def remove(self) -> None:
         if self.is_unwritable:
             subprocess.run(["chmod", "-R", "u+w", self.root], check=True)
         shutil.rmtree(self.root)
 
-    def needs_program(self):
+    def needs_program(self) -> None:
         """Puts the built program of the own clone into the fresh one."""
         put_built(PROGRAM, self.program)
 
-    def needs_second_program(self):
+    def needs_second_program(self) -> None:
         """The same with the second program."""
         put_built(SECOND_PROGRAM, self.second_program)
 
-    def stub(self, path, text):
+    def stub(self, path: Word, text: str) -> pathlib.Path:
         """Writes a script in a program's place."""
         path = pathlib.Path(path)
         path.parent.mkdir(parents=True, exist_ok=True)
@@ -128,14 +135,14 @@ class Place:
         path.chmod(0o755)
         return path
 
-    def stub_tool(self, name, text):
+    def stub_tool(self, name: str, text: str) -> None:
         """Puts a script of this name in front of the path."""
         folder = self.root / "stubs"
         self.stub(folder / name, text)
         if str(folder) not in self.environment["PATH"]:
             self.environment["PATH"] = f"{folder}:{self.environment['PATH']}"
 
-    def without(self, *names):
+    def without(self, *names: str) -> None:
         """Takes commands out of the path, by a folder of links to all others."""
         folder = self.root / "path"
         folder.mkdir()
@@ -146,7 +153,7 @@ class Place:
                     link.symlink_to(path)
         self.environment["PATH"] = str(folder)
 
-    def make_unwritable(self):
+    def make_unwritable(self) -> None:
         """Takes the right to write to the clone away; calls are made as nobody where root would keep it."""
         subprocess.run(["chmod", "-R", "a-w", self.clone], check=True)
         self.is_unwritable = True
@@ -154,34 +161,35 @@ class Place:
             self.environment["PATH"] = "/usr/local/bin:/usr/bin:/bin"
             self.environment["HOME"] = str(self.temporary)
 
-    def user(self):
+    def user(self) -> dict[str, Any]:
         if self.is_unwritable and os.getuid() == 0:
             return {"user": NOBODY, "group": NOBODY, "extra_groups": []}
         return {}
 
-    def call(self, *words, stdin=b"", cwd=None):
+    def call(self, *words: Word, stdin: bytes = b"", cwd: Optional[Word] = None) -> Answer:
         """Calls a script of the clone, or a command, with no terminal."""
         try:
-            done = subprocess.run([*self.command(words[0]), *words[1:]], input=stdin, capture_output=True,
+            done = subprocess.run([*self.command(words[0]), *map(str, words[1:])], input=stdin, capture_output=True,
                                   timeout=MOST_SECONDS, cwd=cwd or self.root, env=self.environment, **self.user())
         except subprocess.TimeoutExpired:
             raise Failed(f"expected an end of {words[0]} within {MOST_SECONDS} seconds") from None
         return Answer(done.returncode, done.stdout, done.stderr.decode("utf-8", "replace"))
 
-    def command(self, word):
+    def command(self, word: Word) -> list[str]:
         """A call: `fractal build` and `bench/run` are the clone's; one that begins with a slash is itself."""
         if str(word).startswith("/"):
-            return [word]
+            return [str(word)]
         path, *further = str(word).split(" ")
         return [str(self.clone / path), *further]
 
-    def by_shell(self, script, *words):
+    def by_shell(self, script: str, *words: Word) -> Answer:
         """Calls a script of the shell, in which `"$0"` is the launcher, and `"$1"` is the first of the words."""
         return self.call("/bin/sh", "-c", script, str(self.clone / "fractal"), *words)
 
-    def interrupted(self, *words, ready, number=signal.SIGINT, cwd=None):
+    def interrupted(self, *words: Word, ready: Callable[[], object], number: int = signal.SIGINT,
+                    cwd: Optional[Word] = None) -> Answer:
         """Sends a signal to a call and to all that it started, once `ready` holds."""
-        process = subprocess.Popen([*self.command(words[0]), *words[1:]], stdin=subprocess.DEVNULL,
+        process = subprocess.Popen([*self.command(words[0]), *map(str, words[1:])], stdin=subprocess.DEVNULL,
                                    stdout=subprocess.PIPE, stderr=subprocess.PIPE, cwd=cwd or self.root,
                                    env=self.environment, start_new_session=True)
         wait_for(lambda: process.poll() is not None or ready())
@@ -198,14 +206,15 @@ class Place:
             raise Failed(f"expected an end of {words[0]} once it is interrupted") from None
         return Answer(process.returncode, output, errors.decode("utf-8", "replace"))
 
-    def is_clean(self):
+    def is_clean(self) -> None:
         """Holds that no temporary file is left, and that the clone has no file that git doesn't know."""
         expect(not any(self.temporary.iterdir()), "no temporary file", list(self.temporary.iterdir()))
-        words = ["git", "-C", self.clone, "status", "--porcelain"]
+        words = ["git", "-C", str(self.clone), "status", "--porcelain"]
         said = subprocess.run(words, capture_output=True, check=True).stdout
         expect(said == b"", "a clean clone", said)
 
-    def on_terminal(self, *words, stdin=None, keys=b"", ready=None, then=()):
+    def on_terminal(self, *words: Word, stdin: Optional[bytes] = None, keys: bytes = b"", ready: Optional[Ready] = None,
+                    then: Sequence[Typing] = ()) -> Answer:
         """Calls a script with a terminal as standard error, and as standard input too unless bytes are given for it.
 
         Once `ready`, of what stood on the terminal so far, holds, the keys are typed; then others, each pair of a
@@ -215,11 +224,12 @@ class Place:
         own_input, given = terminal, None
         if stdin is not None:
             own_input, given = os.pipe()
-        process = subprocess.Popen([*self.command(words[0]), *words[1:]], stdin=own_input, stdout=subprocess.PIPE,
-                                   stderr=terminal, cwd=self.root, env=self.environment, start_new_session=True,
+        process = subprocess.Popen([*self.command(words[0]), *map(str, words[1:])], stdin=own_input,
+                                   stdout=subprocess.PIPE, stderr=terminal, cwd=self.root, env=self.environment,
+                                   start_new_session=True,
                                    preexec_fn=lambda: fcntl.ioctl(2, termios.TIOCSCTTY, 0))
         os.close(terminal)
-        if given is not None:
+        if given is not None and stdin is not None:
             os.close(own_input)
             os.write(given, stdin)
             os.close(given)
@@ -228,9 +238,10 @@ class Place:
         return Answer(process.wait(MOST_SECONDS), output, shown.decode("utf-8", "replace"))
 
 
-def follow_terminal(process, master, typed):
+def follow_terminal(process: subprocess.Popen[bytes], master: int, typed: list[Typing]) -> tuple[bytes, bytes]:
     """All that is shown on a terminal, and all that goes to standard output."""
     shown, output, end = b"", b"", time.monotonic() + MOST_SECONDS
+    assert process.stdout is not None
     sources = [master, process.stdout.fileno()]
     while sources:
         expect(time.monotonic() < end, "an end of the call", shown)
@@ -247,7 +258,7 @@ def follow_terminal(process, master, typed):
     return shown, output
 
 
-def read_some(source):
+def read_some(source: int) -> bytes:
     try:
         return os.read(source, 65536)
     except OSError as error:
@@ -257,7 +268,7 @@ def read_some(source):
         return b""
 
 
-def wait_for(ready):
+def wait_for(ready: Callable[[], object]) -> None:
     end = time.monotonic() + MOST_SECONDS
     while not ready():
         expect(time.monotonic() < end, "that the call comes so far")

@@ -9,22 +9,22 @@ import subprocess
 from yotarimu.images.image import image_bytes
 from yotarimu.images.loads import generated
 
-from tries.place import MOST_SECONDS_OF_ENDING, expect, one_sentence_each, wait_for
+from tries.place import MOST_SECONDS_OF_ENDING, Place, Word, expect, one_sentence_each, wait_for
 
 WALK = ("walk", 7, 2000)
 
 
-def example(place, name, file="image.bin"):
+def example(place: Place, name: str, file: str = "image.bin") -> pathlib.Path:
     return place.clone / "examples" / name / file
 
 
-def written_walk(place):
+def written_walk(place: Place) -> pathlib.Path:
     image = place.root / "walk.bin"
     image.write_bytes(image_bytes(generated(*WALK)))
     return image
 
 
-def pieces_join_to_one_run(place):
+def pieces_join_to_one_run(place: Place) -> None:
     """an image whose run is the only one gives the report of the run in one go, whatever the pieces' length"""
     place.needs_program()
     image, report = example(place, "pipeline"), example(place, "pipeline", "report").read_bytes()
@@ -35,7 +35,7 @@ def pieces_join_to_one_run(place):
         expect((folder / "report").read_bytes() == report, "the report of the run in one go", every)
 
 
-def uncut_runs_are_told(place):
+def uncut_runs_are_told(place: Place) -> None:
     """where a run can't be cut the fault is told, with the next count of commits at which it can"""
     place.needs_program()
     answer = place.call("fractal resume", example(place, "nested"), place.root / "pieces", "--every", "2")
@@ -44,7 +44,7 @@ def uncut_runs_are_told(place):
                  "after 6 commits the run can't be cut (fault nested 2); nor anywhere behind")
 
 
-def interrupted_pieces_go_on(place):
+def interrupted_pieces_go_on(place: Place) -> None:
     """an interrupt leaves whole pieces, the same words go on with them, and other words are refused"""
     place.needs_program()
     image, folder = written_walk(place), place.root / "pieces"
@@ -61,7 +61,7 @@ def interrupted_pieces_go_on(place):
     place.call(*words, "--budget", "60000").sentence("the pieces of another run")
 
 
-def changed_pieces_are_told(place):
+def changed_pieces_are_told(place: Place) -> None:
     """a saved image that isn't what the piece before left is refused"""
     place.needs_program()
     image, folder = example(place, "pipeline"), place.root / "pieces"
@@ -78,7 +78,7 @@ def changed_pieces_are_told(place):
     place.call(*words).sentence("has the task 0.99")
 
 
-def what_is_no_report_is_not_kept(place):
+def what_is_no_report_is_not_kept(place: Place) -> None:
     """without a program no folder is made, and what another program wrote isn't in the way of the next call"""
     image, folder = example(place, "hello"), place.root / "pieces"
     words = ("fractal resume", image, folder, "--every", "2")
@@ -93,7 +93,7 @@ def what_is_no_report_is_not_kept(place):
     expect((answer.status, (folder / "report").read_bytes()) == (0, report.read_bytes()), "the run", answer)
 
 
-def ended_calls_leave_no_program(place):
+def ended_calls_leave_no_program(place: Place) -> None:
     """a signal to the script alone ends the program that it called too"""
     mark, words = place.root / "started", (example(place, "hello"), place.root / "pieces", "--every", "2")
     program = place.stub(place.root / "program", f"echo $$ >'{mark}.part'; mv '{mark}.part' '{mark}'; exec sleep 100\n")
@@ -105,14 +105,14 @@ def ended_calls_leave_no_program(place):
     wait_for(lambda: not pathlib.Path("/proc", mark.read_text().strip(), "exe").exists())
 
 
-def resume_refuses_bad_words(place):
+def resume_refuses_bad_words(place: Place) -> None:
     """bad words, images and folders get one sentence, and no folder comes of them"""
     place.needs_program()
     image, folder = example(place, "hello"), place.root / "pieces"
     other = place.root / "other"
     other.mkdir()
     (other / "notes").write_text("mine")
-    one_sentence_each([(place.call("fractal resume", *words), parts) for words, parts in (
+    refusals: list[tuple[tuple[Word, ...], tuple[str, ...]]] = [
         ((image, folder), ("--every N",)),
         ((image, folder, "--every", "0"), ("1 to 1000000", "`0`")),
         ((image, folder, "--every", "2", "--workers", "2"), ("--workers takes 0 alone",)),
@@ -124,7 +124,8 @@ def resume_refuses_bad_words(place):
         ((example(place, "hello", "report"), folder, "--every", "2"), ("this is no image",)),
         ((image, other, "--every", "2"), ("holds other files",)),
         ((image, other / "notes", "--every", "2"), ("no folder",)),
-    )])
+    ]
+    one_sentence_each([(place.call("fractal resume", *words), parts) for words, parts in refusals])
     expect(not folder.exists(), "no folder of pieces")
 
 

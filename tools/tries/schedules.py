@@ -9,19 +9,19 @@ import xml.etree.ElementTree
 
 from yotarimu.programs.examples import SCHEDULES
 
-from tries.others import files_of, picture_in
-from tries.place import Answer, expect, one_sentence_each
+from tries.files import files_of, picture_in
+from tries.place import Answer, Place, expect, one_sentence_each
 
 # A program that answers each act of any script, and commits nothing.
 OPEN_REPORT = b"fractal 1\noutput -\nend open\n"
 
 
-def schedule(place, name):
+def schedule(place: Place, name: str) -> tuple[str, str]:
     folder = place.clone / "examples" / "schedules" / name
     return str(folder / "script"), str(folder / "said")
 
 
-def written(place, name, data):
+def written(place: Place, name: str, data: bytes) -> str:
     path = place.root / name
     path.write_bytes(data)
     return str(path)
@@ -30,7 +30,7 @@ def written(place, name, data):
 # ---- draw and tally
 
 
-def schedules_are_drawn(place):
+def schedules_are_drawn(place: Place) -> None:
     """each schedule of the project is drawn, with its words, answers and numbers, and commits by their names"""
     for name in SCHEDULES:
         answer = place.call("fractal draw", *schedule(place, name.partition("/")[2]))
@@ -43,9 +43,9 @@ def schedules_are_drawn(place):
     expect("6: step 1 0: ok, 2 tasks taken back" in texts, "what a mark tells when pointed at", texts)
 
 
-def long_schedules_are_drawn(place):
+def long_schedules_are_drawn(place: Place) -> None:
     """up to 400 acts have marks; a longer schedule is drawn by rounds, and a script without rounds by acts"""
-    def drawn(script, acts, tail=b""):
+    def drawn(script: str, acts: int, tail: bytes = b"") -> tuple[int, str]:
         answer = place.call("fractal draw", script, "-", stdin=b"empty 0\n" * acts + tail + OPEN_REPORT)
         root = xml.etree.ElementTree.fromstring(answer.output)
         return len([it for it in root.iter() if it.tag.endswith("title")]), " ".join(picture_in(answer.output))
@@ -62,7 +62,7 @@ def long_schedules_are_drawn(place):
     expect("501 acts; a column is 5 acts; " in drawn(script, 501)[1], "acts")
 
 
-def schedules_are_summed_up(place):
+def schedules_are_summed_up(place: Place) -> None:
     """a played schedule is summed up by act and answer, and several outputs stand side by side and in one plot"""
     script, said = schedule(place, "stall")
     answer = place.call("fractal tally", script, said)
@@ -75,19 +75,19 @@ def schedules_are_summed_up(place):
     expect("| Tasks taken back | 1 | 0 |" in answer.output.decode(), "both outputs", answer)
     expect("commits" in picture_in((place.root / "a plot.svg").read_bytes()), "the axis's name")
     script = written(place, "lockstep", place.call("fractal lockstep", "2", "1", "30").output)
-    said = b"empty 0\n" * 236 + b"ended 0\n" * 4 + OPEN_REPORT
-    answer = place.call("fractal tally", script, "-", "--csv", "t.csv", stdin=said)
+    given = b"empty 0\n" * 236 + b"ended 0\n" * 4 + OPEN_REPORT
+    answer = place.call("fractal tally", script, "-", "--csv", "t.csv", stdin=given)
     expect("| Rounds | 30 |" in answer.output.decode(), "rounds of a lockstep schedule", answer)
     (place.root / "link.csv").symlink_to("t.csv")
     for target in ("/dev/null", "link.csv"):
-        answer = place.call("fractal tally", script, "-", "--csv", target, stdin=said)
+        answer = place.call("fractal tally", script, "-", "--csv", target, stdin=given)
         expect((answer.status, answer.errors) == (0, ""), f"CSV to {target}", answer)
     expect((place.root / "link.csv").is_symlink() and pathlib.Path("/dev/null").is_char_device(), "a link and a device")
     row, = csv.DictReader((place.root / "t.csv").read_text().splitlines())
     expect((row["acts"], row["rounds"], row["split empty"], row["split ended"]) == ("236", "30", "58", "2"), "CSV", row)
 
 
-def other_outputs_are_refused(place):
+def other_outputs_are_refused(place: Place) -> None:
     """an output that isn't a script's, a script that is none, bad words and missing files are told in a sentence"""
     script, said = schedule(place, "conflict")
     for name in ("fractal draw", "fractal tally"):
@@ -118,7 +118,7 @@ def other_outputs_are_refused(place):
     place.is_clean()
 
 
-def inputs_are_kept(place):
+def inputs_are_kept(place: Place) -> None:
     """an output that is a file that is read, or another output, is refused before anything is written"""
     folder = place.clone / "examples" / "schedules" / "conflict"
     script, said = schedule(place, "conflict")
@@ -141,7 +141,7 @@ def inputs_are_kept(place):
     expect(not (place.root / "new").exists(), "no output")
 
 
-def odd_names_are_borne(place):
+def odd_names_are_borne(place: Place) -> None:
     """a name with bytes that are no text, or with controls, stands escaped in tables, CSV and a well-formed plot"""
     script, said = schedule(place, "conflict")
     other = written(place, "said\udcff\x01", pathlib.Path(said).read_bytes())
@@ -153,7 +153,7 @@ def odd_names_are_borne(place):
         expect(shown in text, f"`{shown}`", text)
 
 
-def odd_stored_words_are_told(place):
+def odd_stored_words_are_told(place: Place) -> None:
     """stored words or outputs that are none are told in a sentence by all that play them"""
     place.stub(place.program, "cat >/dev/null\n")
     place.stub(place.second_program, "cat >/dev/null; echo '[1'\n")
@@ -174,7 +174,7 @@ def odd_stored_words_are_told(place):
 # ---- lockstep and generate
 
 
-def lockstep_is_written(place):
+def lockstep_is_written(place: Place) -> None:
     """a lockstep schedule has its rounds, and with a seed the same acts in an order of that seed"""
     answer = place.call("fractal lockstep", "2", "1", "2")
     plain = b"dispatch 0\nstep 0 0\ndispatch 1\nstep 1 0\ncommit\ncommit\nsplit 0\nsplit 1\n"
@@ -195,7 +195,7 @@ def lockstep_is_written(place):
     ])
 
 
-def images_are_generated(place):
+def images_are_generated(place: Place) -> None:
     """a generated image runs as the load of the same words does, and other words are refused"""
     place.needs_program()
     for words in (("walk", "7", "200"), ("nest", "0", "8"), ("walk", "1", "1")):
@@ -214,7 +214,7 @@ def images_are_generated(place):
 # ---- study, workers and the bench
 
 
-def studies_are_made(place):
+def studies_are_made(place: Place) -> None:
     """a study has a line for each choice of options, whose runs end, and the same with several at once"""
     place.needs_second_program()
     image = written(place, "image", place.call("fractal generate", "walk", "7", "150").output)
@@ -249,7 +249,7 @@ def studies_are_made(place):
     expect(answer.status == 0 and "odd \\udcff" in (place.root / "x.csv").read_text(), "a name that is no text", answer)
 
 
-def studies_have_the_acts_of_schedules(place):
+def studies_have_the_acts_of_schedules(place: Place) -> None:
     """a study of a course in lockstep counts what the first program says to the script of the same acts"""
     place.needs_program()
     place.needs_second_program()
@@ -268,7 +268,7 @@ def studies_have_the_acts_of_schedules(place):
         expect(row[name] == other.get(same, "0"), f"the same {same}", (row, other))
 
 
-def endless_choices_are_rows(place):
+def endless_choices_are_rows(place: Place) -> None:
     """a choice without an end is a row that says so, with its numbers, and so is one that fails; CSV has numbers"""
     place.needs_second_program()
     image = written(place, "image", place.call("fractal generate", "walk", "7", "500").output)
@@ -310,7 +310,7 @@ All of it:
 """
 
 
-def pages_are_made_again(place):
+def pages_are_made_again(place: Place) -> None:
     """the tables of a page are held against what its commands tell, and replaced where that is asked for"""
     place.needs_second_program()
     path = written(place, "page.md", PAGE.encode())
@@ -333,7 +333,7 @@ def pages_are_made_again(place):
     place.is_clean()
 
 
-def odd_pages_are_refused(place):
+def odd_pages_are_refused(place: Place) -> None:
     """a page whose lines can't be called, that isn't text or that can't be written is told, and nothing is changed"""
     study, block = "fractal study", "```\n{}\n```\n\n| A |\n"
     other = place.root / "other"
@@ -352,7 +352,7 @@ def odd_pages_are_refused(place):
     place.is_clean()
 
 
-def lines_of_pages_end_as_they_did(place):
+def lines_of_pages_end_as_they_did(place: Place) -> None:
     """a page whose lines end as on another system keeps that, and one that is changed meanwhile isn't replaced"""
     command = place.clone / "tools" / "yotarimu" / "commands" / "shell.py"
     command.write_text("def main(words):\n    print('| 1 |')\n")
@@ -365,7 +365,7 @@ def lines_of_pages_end_as_they_did(place):
     expect((place.root / "page.md").read_bytes() == page.replace(b"0", b"1") + b"more\n", "what was added")
 
 
-def study_is_as_it_was(place):
+def study_is_as_it_was(place: Place) -> None:
     """the tables of the study's shortest runs, those of the queues and of one placer or another, come out again"""
     place.needs_second_program()
     study = (place.clone / "docs" / "machine" / "STUDY.md").read_text()
@@ -376,7 +376,7 @@ def study_is_as_it_was(place):
     expect((answer.status, told) == (0, ["as it was"] * 2), "both tables", answer)
 
 
-def threads_are_checked(place):
+def threads_are_checked(place: Place) -> None:
     """runs with host threads are checked, a report that isn't a run's fails, and so does another status"""
     place.needs_program()
     wanted = "".join(f"hello with {workers} workers: 3 runs accepted, one answer\n" for workers in (2, 4, 16))
@@ -395,7 +395,7 @@ def threads_are_checked(place):
     ])
 
 
-def swept_threads_are_checked(place):
+def swept_threads_are_checked(place: Place) -> None:
     """a sweep over host threads has each report checked for itself"""
     place.needs_program()
     answer = place.call("fractal sweep", files_of(place, "nested")[0], "--workers", "0,2,16", "--check")
@@ -403,7 +403,7 @@ def swept_threads_are_checked(place):
     expect(len(lines) == 4 and all(line.endswith(",0") for line in lines[1:]), "three accepted reports", answer)
 
 
-def scarce_memory_is_answered(place):
+def scarce_memory_is_answered(place: Place) -> None:
     """under a falling limit of address space each run answers whole or with status 5, and any other program fails"""
     place.needs_program()
     answer = place.call("fractal memory", "check", "load")
@@ -424,7 +424,7 @@ def scarce_memory_is_answered(place):
     ])
 
 
-def refused_allocations_are_answered(place):
+def refused_allocations_are_answered(place: Place) -> None:
     """each allocation of three schedules is refused in turn, and the program answers with status 5 or whole"""
     place.needs_program()
     answer = place.call("fractal allocations")
@@ -442,7 +442,7 @@ def refused_allocations_are_answered(place):
     ])
 
 
-def benches_are_told(place):
+def benches_are_told(place: Place) -> None:
     """the bench tells its words, refuses others, wants the built program, and tells what is worse in a second file"""
     expect(b"--lockstep" in place.call("bench/run", "--help").output, "a help page")
     before = place.clone / "bench" / "before"
@@ -467,7 +467,7 @@ def benches_are_told(place):
     place.call("bench/run", "--workers", "--csv=").sentence("folder")
 
 
-def programs_are_held_against_each_other(place):
+def programs_are_held_against_each_other(place: Place) -> None:
     """two programs that say the same are told so, by kinds; at the first difference both answers are kept"""
     one = str(place.stub(place.root / "one", "cat >/dev/null; echo fault usage; exit 1\n"))
     lying = "cat >/dev/null; echo fault usage; [ $1 = trace ]; exit $((2 - $?))\n"
@@ -495,7 +495,7 @@ def programs_are_held_against_each_other(place):
     ])
 
 
-def interrupted_plays_leave_nothing(place):
+def interrupted_plays_leave_nothing(place: Place) -> None:
     """a study, runs with threads or scarce memory, and a bench that are interrupted say so, and end their programs"""
     mark = place.root / "started"
     for program in (place.program, place.second_program):

@@ -6,7 +6,7 @@ import io
 import re
 from typing import Dict, List
 
-from tries.others import picture_in
+from tries.files import picture_in
 from tries.place import Place, expect, one_sentence_each
 from tries.schedules import written
 

@@ -3,14 +3,16 @@ from __future__ import annotations
 
 import concurrent.futures
 import os
+import pathlib
 import random
 import subprocess
+from collections.abc import Sequence
 
 from yotarimu.programs.examples import SCHEDULES
 from yotarimu.programs.table import Table
 
-from tries.others import picture_in
-from tries.place import Answer, expect, one_sentence_each
+from tries.files import picture_in
+from tries.place import Answer, Place, expect, one_sentence_each
 
 USAGE = b"fault usage\n"
 # Words that are refused, and what standard error tells of each.
@@ -43,26 +45,29 @@ REFUSED = (
     ("prove now", "`prove` stands alone", "`now`"),
     ("README.md", "no command"),
 )
+# Lines, each with what is told of it.
+Refusals = tuple[tuple[bytes, tuple[str, ...]], ...]
 # A line of a script that is refused, and why.
-LINES = (
-    (b"step 4 0", "`step 4 0`", "no tile 4", "0 to 3"), (b"step 0 2", "no core 2", "0 to 1"),
-    (b"commit ", "`commit `", "blank stands behind"), (b"commit\r", "CRLF"), (b"", "is empty"),
-    (b"step 01 0", "leading zero"), (b"step 0", "a tile and a core"), (b"commit 1", "nothing"),
-    (b"halt", "`halt` is no act"), (b"# now", "fractal play"), (b"step  0 0", "two blanks"),
-    (b"dispatch\t0", "tab"), (b"dispatch x", "no number"), (b"dispatch \xff", "byte ff"),
+LINES: Refusals = (
+    (b"step 4 0", ("`step 4 0`", "no tile 4", "0 to 3")), (b"step 0 2", ("no core 2", "0 to 1")),
+    (b"commit ", ("`commit `", "blank stands behind")), (b"commit\r", ("CRLF",)), (b"", ("is empty",)),
+    (b"step 01 0", ("leading zero",)), (b"step 0", ("a tile and a core",)), (b"commit 1", ("nothing",)),
+    (b"halt", ("`halt` is no act",)), (b"# now", ("fractal play",)), (b"step  0 0", ("two blanks",)),
+    (b"dispatch\t0", ("tab",)), (b"dispatch x", ("no number",)), (b"dispatch \xff", ("byte ff",)),
 )
 # What a report's line is changed to, and why that is refused.
-ENTRIES = (
-    (b"3 1.1 2 3", "no run has this task there"), (b"3 1.1 2 02", "leading zero"), (b"4 1.1 2 2", "3 is wanted"),
-    (b"3 1-1 2 2", "no name"), (b"3 1.1 2 2 ", "blank stands behind"), (b"3 1.1 2 2\r", "CRLF"), (b"", "is empty"),
-    (b"window 1", "an entry", "or the output"), (b"3 1.1 17 2", "1 to 16"),
+ENTRIES: Refusals = (
+    (b"3 1.1 2 3", ("no run has this task there",)), (b"3 1.1 2 02", ("leading zero",)),
+    (b"4 1.1 2 2", ("3 is wanted",)), (b"3 1-1 2 2", ("no name",)), (b"3 1.1 2 2 ", ("blank stands behind",)),
+    (b"3 1.1 2 2\r", ("CRLF",)), (b"", ("is empty",)), (b"window 1", ("an entry", "or the output")),
+    (b"3 1.1 17 2", ("1 to 16",)),
 )
 RANDOM_CALLS = 10_000
 # A call that goes on for so long was taken.
 LONG_ENOUGH = 2
 
 
-def refused_words_are_told(place):
+def refused_words_are_told(place: Place) -> None:
     """wrong words are refused at once in a clone that isn't built, and told in a sentence, built or not"""
     place.without("rt")
     for is_built in (False, True):
@@ -82,7 +87,7 @@ def refused_words_are_told(place):
     answer.tells("standard output takes no more")
 
 
-def own_words_are_told(place):
+def own_words_are_told(place: Place) -> None:
     """`--version` tells version and commit, `--help` behind a command the page, and a full device is told"""
     head = subprocess.run(["git", "-C", place.clone, "rev-parse", "HEAD"], capture_output=True, text=True, check=True)
     answer = place.call("fractal", "--version")
@@ -98,7 +103,7 @@ def own_words_are_told(place):
         answer.sentence("standard output takes no more", status=7)
 
 
-def random_words_are_judged_alike(place):
+def random_words_are_judged_alike(place: Place) -> None:
     """of 10,000 random calls the launcher refuses those that the program refuses, and no other"""
     place.needs_program()
     program = place.root / "program"
@@ -106,7 +111,7 @@ def random_words_are_judged_alike(place):
     place.without("rt")
     table = Table()
     calls = [random_call(random.Random(seed), table) for seed in range(RANDOM_CALLS)]
-    with concurrent.futures.ThreadPoolExecutor(2 * os.cpu_count()) as pool:
+    with concurrent.futures.ThreadPoolExecutor(2 * (os.cpu_count() or 1)) as pool:
         judged = pool.map(lambda words: judgements(place, program, words), calls)
         refused = 0
         for words, (by_launcher, by_program) in zip(calls, judged):
@@ -115,7 +120,7 @@ def random_words_are_judged_alike(place):
     expect(RANDOM_CALLS / 5 < refused < RANDOM_CALLS * 4 / 5, "calls of both kinds", refused)
 
 
-def judgements(place, program, words):
+def judgements(place: Place, program: pathlib.Path, words: Sequence[str]) -> tuple[bool, bool]:
     """Whether the launcher and the program refuse the words."""
     launched = place.call("fractal", *words)
     expect((launched.status, launched.output) in ((1, USAGE), (69, b"")), "a refusal, or that rt is missing", launched)
@@ -126,7 +131,7 @@ def judgements(place, program, words):
     return launched.status == 1, done.returncode == 1
 
 
-def random_call(chance, table):
+def random_call(chance: random.Random, table: Table) -> list[str]:
     """The words of a call, of which about half are wrong."""
     command = chance.choice([*table.commands, "load", "load"])
     words = [command]
@@ -146,14 +151,14 @@ def random_call(chance, table):
     return words if words and words[0] not in table.own else ["run", *words[1:]]
 
 
-def number(chance, least, most, values=()):
+def number(chance: random.Random, least: int, most: int, values: Sequence[int] = ()) -> str:
     """A number in a range, at its edges or beyond them, with leading zeros now and then."""
     value = chance.choice([least, most, most + 1, least - 1, chance.randint(least, most), *values])
     digits = chance.choice((0, 0, 0, 4, 10, 11))
     return f"{value:0{digits}}" if value >= 0 else str(value)
 
 
-def change(chance, words, table):
+def change(chance: random.Random, words: list[str], table: Table) -> None:
     """One change of a call, which may leave it right."""
     other = chance.choice(("", "-", "--", "---", "--=", "--tiles", "--tiles=2", "--line=16=", "-1", "+1", " 2", "2 ",
                            "١", "é", "1\n2", "0x2", "1e3", "walk", "run", "--Tiles", "--tiles ", "--help", "--version",
@@ -180,11 +185,11 @@ def change(chance, words, table):
 # ---- scripts and reports that are refused
 
 
-def refused_scripts_are_told(place):
+def refused_scripts_are_told(place: Place) -> None:
     """a script's refusal tells the line and what is wrong with it, where it comes from a file, and that from a pipe"""
     place.needs_program()
     image = (place.clone / "examples" / "pipeline" / "image.bin").read_bytes()
-    for line, *parts in LINES:
+    for line, parts in LINES:
         (place.root / "both").write_bytes(image + b"commit\n" + line + b"\ncommit\n")
         answer = from_file(place, "steps")
         answer.sentence("line 2 of the script", *parts, status=9)
@@ -198,12 +203,12 @@ def refused_scripts_are_told(place):
     answer.sentence("the script is refused", "< FILE", status=9)
 
 
-def refused_reports_are_told(place):
+def refused_reports_are_told(place: Place) -> None:
     """a report's refusal tells the line, and what the grammar or the run wants there"""
     place.needs_program()
     folder = place.clone / "examples" / "nested"
     image, report = (folder / "image.bin").read_bytes(), (folder / "report").read_bytes()
-    for line, *parts in ENTRIES:
+    for line, parts in ENTRIES:
         (place.root / "both").write_bytes(image + report.replace(b"3 1.1 2 2", line, 1))
         answer = from_file(place, "check")
         answer.sentence("line 4 of the report", *parts, status=8)
@@ -219,13 +224,13 @@ def refused_reports_are_told(place):
     place.call("fractal", "check", stdin=image + report[:20]).sentence("the report is refused", "< FILE", status=8)
 
 
-def from_file(place, words, start=""):
+def from_file(place: Place, words: str, start: str = "") -> Answer:
     """The answer to a call whose input is the file `both`, read on from where `start` leaves it."""
     script = f'{{ {start}"$0" {words}; }} < both'
     return place.call("/bin/sh", "-c", script, str(place.clone / "fractal"))
 
 
-def refusals_want_both(place):
+def refusals_want_both(place: Place) -> None:
     """./fractal refusal refuses other words and inputs in a sentence"""
     refusal = "fractal refusal"
     one_sentence_each([
@@ -240,7 +245,7 @@ def refusals_want_both(place):
 # ---- play
 
 
-def each_word_is_told(place):
+def each_word_is_told(place: Place) -> None:
     """`help WORD` tells how each word is called, and a word that isn't known is refused in a sentence"""
     table = Table()
     for word in (*table.commands, *table.own):
@@ -250,7 +255,7 @@ def each_word_is_told(place):
     place.call("fractal", "help", "rum").sentence("`rum` is no word", "./fractal help lists them")
 
 
-def scripts_are_played_beside_their_lines(place):
+def scripts_are_played_beside_their_lines(place: Place) -> None:
     """a script with comments, blank lines and CRLF is played, each reply beside its line, and drawn"""
     place.needs_program()
     for name in SCHEDULES:
@@ -272,7 +277,7 @@ def scripts_are_played_beside_their_lines(place):
     expect("3 acts; 0 commits" in " ".join(picture_in((place.root / "p.svg").read_bytes())), "a picture")
 
 
-def play_refuses_bad_words(place):
+def play_refuses_bad_words(place: Place) -> None:
     """a line that is none is told by its number in the file, and so are bad words and missing files"""
     folder = place.root / "mine"
     folder.mkdir()

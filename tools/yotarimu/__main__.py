@@ -14,11 +14,11 @@ NAME = "yotarimu"
 def call(words: List[str]) -> None:
     """Runs the command that the first word names on the others, and ends with its status."""
     if words and words[0] in commands.names():
-        run_script(words[0], lambda further: answered_by(words[0], further), words[1:])
-    run_script(NAME, refused, words)
+        run_script(words[0], lambda further: answer_by(words[0], further), words[1:])
+    run_script(NAME, refuse, words)
 
 
-def answered_by(name: str, words: List[str]) -> Optional[int]:
+def answer_by(name: str, words: List[str]) -> Optional[int]:
     """What a command makes of its words; `--help` anywhere, or `help` alone, tells its page."""
     command = importlib.import_module(f"{commands.__name__}.{name}")
     if "--help" in words or words == ["help"]:
@@ -28,7 +28,7 @@ def answered_by(name: str, words: List[str]) -> Optional[int]:
     return status
 
 
-def refused(words: List[str]) -> int:
+def refuse(words: List[str]) -> int:
     told = f"`{words[0]}` is no command, which is" if words else "it wants a command:"
     raise Refused(f"{told} {', '.join(commands.names())}.")
 

@@ -10,7 +10,7 @@ from yotarimu.applications.making import Made
 from yotarimu.applications.memory import Memory, Wrong
 from yotarimu.common.outcome import Refused
 from yotarimu.programs.calls import Calls
-from yotarimu.programs.comparison import said
+from yotarimu.programs.comparison import answer_of
 from yotarimu.programs.final_memory import memory_left
 
 
@@ -25,14 +25,14 @@ class Run:
 def run(calls: Calls, made: Made, options: Sequence[str]) -> Run:
     """Runs an image, and has its report checked."""
     start = time.monotonic()
-    report = said(calls, ["run", *options], made.image)
+    report = answer_of(calls, ["run", *options], made.image)
     seconds = time.monotonic() - start
     end = report[report.rfind(b"\nend "):].strip().decode("ascii", "replace")
     if end != "end normal":
         raise Refused(f"the run ended otherwise: `{end}`.")
     start = time.monotonic()
     commits = commits_of(report)
-    judged = said(calls, ["check", *options], made.image + report)
+    judged = answer_of(calls, ["check", *options], made.image + report)
     if judged != b"check ok %d\n" % commits:
         raise Refused(f"the report is refused: {judged.decode('ascii', 'replace').strip()}.")
     return Run(commits, seconds, time.monotonic() - start)

@@ -15,26 +15,23 @@ program, cc and the GNU C library, and stands beside the gate; it takes some sec
 """
 from __future__ import annotations
 
-import pathlib
-
 from yotarimu.common.outcome import Refused
-from yotarimu.common.words import take_option
-from yotarimu.programs.allocations import NAMES, Refusing, refused
-from yotarimu.programs.calls import built
+from yotarimu.common.words import Words
+from yotarimu.programs.allocations import NAMES, Refuser, refuse_each
+from yotarimu.programs.calls import program_at
 from yotarimu.programs.limits import KILLED, OUT_OF_MEMORY, WHOLE
-from yotarimu.programs.program import PROGRAM
 
 
-def main(words):
-    program, words = take_option(words, "--program")
-    program = built(PROGRAM if program is None else pathlib.Path(program))
-    for word in words:
+def main(words: list[str]) -> int:
+    given = Words("allocations", ["program"]).read(words)
+    program = program_at(given.values["program"])
+    for word in given.others:
         if word not in NAMES:
             raise Refused(f"`{word}` isn't known; it takes {', '.join(NAMES)}.")
     failed = 0
-    with Refusing() as library:
-        for name in words or NAMES:
-            count, counts, faults = refused(name, program, library)
+    with Refuser() as library:
+        for name in given.others or NAMES:
+            count, counts, faults = refuse_each(name, program, library)
             told = ", ".join(f"{counts[outcome]:,} {outcome}" for outcome in (OUT_OF_MEMORY, WHOLE, KILLED))
             print(f"{name}: {count:,} allocations, each refused once: {told}", *faults[:20], sep="\n  ", flush=True)
             failed += bool(faults)

@@ -26,12 +26,13 @@ import pathlib
 
 from yotarimu.common.outcome import Refused
 from yotarimu.common.places import EXAMPLES_FOLDER
+from yotarimu.common.words import Words
 from yotarimu.images.compiler import CLANG, GCC
 from yotarimu.images.folder import build
 from yotarimu.programs.examples import EXAMPLES, SCHEDULES, with_sources
 
 
-def folder_at(word):
+def folder_at(word: str) -> pathlib.Path:
     """The folder that a word means."""
     path = pathlib.Path(word)
     if word and path.is_dir():
@@ -41,15 +42,16 @@ def folder_at(word):
     raise Refused(f"`{word}`: there is no such folder.")
 
 
-def main(words):
-    names = [word for word in words if word not in ("--clang", "--all")]
+def main(words: list[str]) -> None:
+    given = Words("build", flags=["clang", "all"]).read(words)
+    names = given.others
     for word in names:
         if word.startswith("-"):
             raise Refused(f"`{word}` isn't known; ./fractal build --help tells the words.")
-    if not names and "--all" not in words:
+    if not names and "all" not in given.flags:
         raise Refused("it wants a FOLDER of sources, or --all; the programs are proved and built by ./fractal prove.")
-    if names and "--all" in words:
+    if names and "all" in given.flags:
         raise Refused("--all stands for all of the project's examples and schedules, so no FOLDER stands beside it.")
     for folder in [folder_at(word) for word in names or with_sources(EXAMPLES + SCHEDULES)]:
-        build(folder, CLANG if "--clang" in words else GCC)
+        build(folder, CLANG if "clang" in given.flags else GCC)
         print(folder / "image.bin")

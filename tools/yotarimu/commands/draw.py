@@ -14,12 +14,12 @@ much committed, by rounds; of a script without rounds by acts.
 from __future__ import annotations
 
 from yotarimu.common.files import read_text
-from yotarimu.common.words import need_words
+from yotarimu.common.words import Words
 from yotarimu.courses.schedules import read_played, read_script
 from yotarimu.pictures import lanes
 
 
-def main(words):
-    script, output = need_words(words, 2, "draw", "a SCRIPT and the OUTPUT of its playing")
+def main(words: list[str]) -> None:
+    script, output = Words("draw").read(words).need("a SCRIPT and the OUTPUT of its playing", 2)
     acts = read_script(read_text(script), script)
     print(lanes.drawn(read_played(acts, read_text(output), output)), end="")

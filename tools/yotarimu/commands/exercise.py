@@ -10,12 +10,12 @@ The numbers 1 to 5 stand for the names in this order. The status is 0 for a righ
 from __future__ import annotations
 
 from yotarimu.common.outcome import Refused
-from yotarimu.common.words import need_words
+from yotarimu.common.words import Words
 from yotarimu.courses.exercises import JUDGES, Wrong
 
 
-def main(words):
-    name, answer = need_words(words, 2, "exercise", "an exercise and the FILE or FOLDER of your answer")
+def main(words: list[str]) -> int:
+    name, answer = Words("exercise").read(words).need("an exercise and the FILE or FOLDER of your answer", 2)
     names = dict(zip("12345", JUDGES))
     name = names.get(name, name)
     if name not in JUDGES:

@@ -12,9 +12,11 @@ from __future__ import annotations
 
 import json
 import sys
+from typing import NamedTuple, Optional
 
 from yotarimu.common.files import read_bytes
 from yotarimu.common.outcome import Refused
+from yotarimu.common.words import Words
 from yotarimu.courses.schedules import read_replies
 from yotarimu.images.image import read_image
 from yotarimu.images.labels import listing_for
@@ -27,27 +29,35 @@ from yotarimu.reports.meanings import told_without_report
 from yotarimu.reports.plain_data import other_run
 from yotarimu.reports.report import read_report
 
-FORMS = ("--picture", "--json", "--csv")
+FORMS = ("picture", "json", "csv")
 
 
-def read_words(words):
+class Request(NamedTuple):
     """The files that are named, and the form that is asked for, if one is."""
-    forms = [word for word in words if word.startswith("--")]
-    files = [word for word in words if not word.startswith("--")]
-    if set(forms) - set(FORMS) or len(forms) > 1 or not 2 <= len(files) <= 3:
+    image: str
+    report: str
+    source: Optional[str]
+    form: Optional[str]
+
+
+def read_words(words: list[str]) -> Request:
+    given = Words("explain", flags=FORMS).known(words)
+    unknown = [word for word in given.others if word.startswith("--")]
+    if unknown or len(given.flags) > 1 or not 2 <= len(given.others) <= 3:
         raise Refused("it wants IMAGE REPORT [SOURCE] and one of --picture, --json and --csv, or none; "
                       "./fractal explain --help tells more.")
-    return files[0], files[1], files[2] if len(files) == 3 else None, forms[0] if forms else None
+    image, report, *source = given.others
+    return Request(image, report, source[0] if source else None, next(iter(given.flags), None))
 
 
-def explain_no_report(text, sentence, form):
+def explain_no_report(text: str, sentence: str, form: Optional[str]) -> None:
     """What the program said in a report's place."""
-    if form in ("--picture", "--csv"):
+    if form in ("picture", "csv"):
         raise Refused(f"`{text.strip()}` has no tasks. {sentence}")
     print(json.dumps({"said": text.strip(), "meaning": sentence}, indent=2) if form else sentence)
 
 
-def main(words):
+def main(words: list[str]) -> None:
     image_path, report_path, source, form = read_words(words)
     image = read_image(read_bytes(image_path), image_path)
     text = read_bytes(report_path).decode("ascii", "replace")
@@ -62,11 +72,11 @@ def main(words):
     if why := other_run(report, machine, lost):
         raise Refused(f"{report_path}: this is no report of a run of {image_path}: {why}.")
     remarks = [it for it in (remark, lost and f"Labels of later tasks aren't known: {lost}.") if it]
-    if form == "--picture":
+    if form == "picture":
         print(tree.drawn(nodes_of(report, machine, listing), len(report.entries)), end="")
-    elif form == "--json":
+    elif form == "json":
         print(json.dumps(plain_data.all_of(image_path, replies, report, machine, listing, remarks), indent=2))
-    elif form == "--csv":
+    elif form == "csv":
         plain_data.write_tasks(report, machine, listing, sys.stdout)
     else:
         print(*text_of(image_path, image, replies, report, machine, listing), sep="\n")

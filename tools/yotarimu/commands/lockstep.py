@@ -19,7 +19,7 @@ from __future__ import annotations
 from typing import Any
 
 from yotarimu.common.outcome import Refused
-from yotarimu.common.words import need_number, need_words, take_option
+from yotarimu.common.words import Words, need_number
 from yotarimu.courses.schedules import MOST_CORES, MOST_TILES, NUMBERS, Act, lockstep, script_text
 from yotarimu.lines.reader import open_watched
 
@@ -51,17 +51,19 @@ def script_of(path: str) -> str:
 
 
 def main(words: list[str]) -> None:
-    path, words = take_option(words, "--of")
+    given = Words("lockstep", ["of", "seed"]).read(words)
+    path = given.values["of"]
     if path is not None:
-        need_words(words, 0, "lockstep", "nothing beside --of LINES")
+        if given.values["seed"] is not None:
+            raise Refused("it wants nothing beside --of LINES; ./fractal lockstep --help tells more.")
+        given.need("nothing beside --of LINES", 0)
         print(script_of(path), end="")
         return
-    seed, words = take_option(words, "--seed")
-    tiles, cores, rounds = need_words(words, 3, "lockstep", "TILES, CORES and ROUNDS")
-    tiles = need_number("TILES", tiles, 1, MOST_TILES)
-    cores = need_number("CORES", cores, 1, MOST_CORES)
-    rounds = need_number("ROUNDS", rounds, 1, MOST_ROUNDS)
-    seed = 0 if seed is None else need_number("--seed", seed, 0, MOST_SEED)
+    words = given.need("TILES, CORES and ROUNDS", 3)
+    tiles = need_number("TILES", words[0], 1, MOST_TILES)
+    cores = need_number("CORES", words[1], 1, MOST_CORES)
+    rounds = need_number("ROUNDS", words[2], 1, MOST_ROUNDS)
+    seed = given.number("seed", 0, MOST_SEED, 0)
     if rounds * len(script_text(lockstep(tiles, cores, 1))) > MOST_BYTES:
         raise Refused(f"{rounds} rounds are more than {MOST_BYTES} bytes, the most that the program reads.")
     for act in lockstep(tiles, cores, rounds, seed):

@@ -15,25 +15,22 @@ never came. It wants Linux, and stands beside the gate: all of it takes a minute
 """
 from __future__ import annotations
 
-import pathlib
-
 from yotarimu.common.outcome import Refused
-from yotarimu.common.words import take_option
-from yotarimu.programs.calls import built
+from yotarimu.common.words import Words
+from yotarimu.programs.calls import program_at
 from yotarimu.programs.limits import OUTCOMES
-from yotarimu.programs.memory import NAMES, fallen
-from yotarimu.programs.program import PROGRAM
+from yotarimu.programs.memory import NAMES, fall_of
 
 
-def main(words):
-    program, words = take_option(words, "--program")
-    program = built(PROGRAM if program is None else pathlib.Path(program))
-    for word in words:
+def main(words: list[str]) -> int:
+    given = Words("memory", ["program"]).read(words)
+    program = program_at(given.values["program"])
+    for word in given.others:
         if word not in NAMES:
             raise Refused(f"`{word}` isn't known; it takes {', '.join(NAMES)}.")
     failed = 0
-    for name in words or NAMES:
-        counts, faults = fallen(name, program)
+    for name in given.others or NAMES:
+        counts, faults = fall_of(name, program)
         runs = ", ".join(f"{counts[outcome]:,} {outcome}" for outcome in OUTCOMES)
         print(f"{name}: {sum(counts.values()):,} runs: {runs}", *faults, sep="\n  ", flush=True)
         failed += bool(faults)

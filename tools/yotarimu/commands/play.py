@@ -16,64 +16,32 @@ The status is that of the program.
 """
 from __future__ import annotations
 
-import pathlib
-
 from yotarimu.common.files import need_outputs, write_whole
-from yotarimu.common.words import need_words, take_option
+from yotarimu.common.words import Words
 from yotarimu.courses.schedules import script_text
-from yotarimu.courses.scripts import acts_in, options_beside, options_in, play, read_lines
+from yotarimu.courses.scripts import acts_in, files_at, lines_beside, options_beside, options_of, play, read_lines
 from yotarimu.pictures import lanes
 from yotarimu.programs.table import Table
 
-WIDEST = 72
 
-
-def files_at(word, image):
-    """The script and the image that a word means."""
-    place = pathlib.Path(word)
-    if place.is_dir():
-        place = place / "script"
-    return place, pathlib.Path(image or place.parent / "image.bin")
-
-
-def told(lines, acts, said):
-    """Each line with its number, and behind an act its reply."""
-    replies = {number: answer for (number, _), answer in zip(acts, said)}
-    texts = [line.rstrip().decode("utf-8", "replace").expandtabs() for line in lines]
-    width = min(WIDEST, max(map(len, texts), default=0))
-    for number, text in enumerate(texts, 1):
-        answer = replies.get(number)
-        if answer is None:
-            yield f"{number:>5}  {text}".rstrip()
-            continue
-        back = f", {answer.taken_back} taken back" if answer.taken_back else ""
-        yield f"{number:>5}  {text:<{width}}  {answer.reply}{back}"
-
-
-def read_words(words, table):
-    """The word that names a folder or a script, the files that are named, and the program's options."""
-    named = {}
-    for name in ("image", "picture", "plain"):
-        named[name], words = take_option(words, f"--{name}")
-    options, words = options_in(words, table)
-    word, = need_words(words, 1, "play", "one FOLDER or SCRIPT")
-    return word, named, options
-
-
-def main(words):
+def main(words: list[str]) -> int:
     table = Table()
-    word, named, options = read_words(words, table)
-    place, image = files_at(word, named["image"])
-    need_outputs((named["picture"], named["plain"]), (place, image, place.parent / "words"))
-    options = {**options_beside(place.parent, table), **options}
-    lines = read_lines(place)
-    acts = acts_in(lines, place, options, table)
-    status, text, played = play(image, acts, options, str(place))
-    print(*told(lines, acts, played.said), "", text[text.index("fractal 1\n"):], sep="\n", end="")
-    files = {}
-    if named["picture"] is not None:
-        files[named["picture"]] = lanes.drawn(played).encode()
-    if named["plain"] is not None:
-        files[named["plain"]] = script_text(played.acts).encode()
+    given = Words("play", ["image", "picture", "plain", *table.options]).read(words)
+    options = options_of(given.values, table)
+    word, = given.need("one FOLDER or SCRIPT", 1)
+    script, image = files_at(word, given.values["image"])
+    picture, plain = given.values["picture"], given.values["plain"]
+    need_outputs((picture, plain), (script, image, script.parent / "words"))
+    options = {**options_beside(script.parent, table), **options}
+    lines = read_lines(script)
+    acts = acts_in(lines, script, options, table)
+    status, text, played = play(image, acts, options, str(script))
+    report = text[text.index("fractal 1\n"):]
+    print(*lines_beside(lines, acts, played.said), "", report, sep="\n", end="")
+    files: dict[str, bytes] = {}
+    if picture is not None:
+        files[picture] = lanes.drawn(played).encode()
+    if plain is not None:
+        files[plain] = script_text(played.acts).encode()
     write_whole(files)
     return status

@@ -14,7 +14,7 @@ from yotarimu.common.outcome import Refused
 from yotarimu.reports.refusals import why
 
 
-def main(words):
+def main(words: list[str]) -> int:
     if len(words) < 2:
         raise Refused("it wants what the program said, and its COMMAND; ./fractal refusal --help tells more.")
     print(why(words[0].strip(), words[1:], read_bytes("-")))

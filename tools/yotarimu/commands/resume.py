@@ -12,26 +12,23 @@ built program in place of the one of this clone.
 """
 from __future__ import annotations
 
-import pathlib
-
 from yotarimu.common.files import read_bytes
 from yotarimu.common.outcome import Refused
 from yotarimu.common.text import counted
-from yotarimu.common.words import need_number, number_in, take_option
+from yotarimu.common.words import Given, Words, need_number, number_in
 from yotarimu.courses.grid import MOST_VALUE
 from yotarimu.images.image import read_image
 from yotarimu.programs import pieces
-from yotarimu.programs.calls import Calls
-from yotarimu.programs.program import PROGRAM
-from yotarimu.programs.resumption import Resumed
+from yotarimu.programs.calls import Calls, program_at
+from yotarimu.programs.resumption import Resumption
 from yotarimu.programs.table import Table
 
 
-def options_of(words):
-    """The options for the program and the other words."""
-    table, options = Table(), []
+def options_of(given: Given, table: Table) -> list[str]:
+    """The options for the program, as its words."""
+    options = []
     for name, option in table.options.items():
-        value, words = take_option(words, f"--{name}")
+        value = given.values[name]
         if value is None:
             continue
         if name == "commits":
@@ -41,31 +38,26 @@ def options_of(words):
         if number_in(value, 0, MOST_VALUE) not in option.values:
             raise Refused(f"--{name} takes {option.told()}, and not `{value}`.")
         options.append(f"--{name}={value}")
-    return options, words
+    return options
 
 
-def main(words):
-    every, words = take_option(words, "--every")
-    program, words = take_option(words, "--program")
-    if every is None:
+def main(words: list[str]) -> int:
+    table = Table()
+    given = Words("resume", ["every", "program", *table.options]).read(words)
+    if given.values["every"] is None:
         raise Refused("it wants --every N, how many commits a piece has; ./fractal resume --help tells more.")
-    every = need_number("--every", every, 1, pieces.MOST_COMMITS)
-    options, words = options_of(words)
-    unknown = next((word for word in words if word.startswith("--")), None)
-    if unknown is not None:
-        raise Refused(f"`{unknown}` isn't known; ./fractal resume --help tells the words.")
-    if len(words) != 2:
-        raise Refused("it wants an image and a folder for its pieces; ./fractal resume --help tells more.")
-    if not words[1]:
+    every = need_number("--every", given.values["every"], 1, pieces.MOST_COMMITS)
+    options = options_of(given, table)
+    path, pieces_path = given.need("an image and a folder for its pieces", 2)
+    if not pieces_path:
         raise Refused("the name of the folder for the pieces is empty.")
-    image = read_bytes(words[0])
-    read_image(image, words[0])
-    program = PROGRAM if program is None else pathlib.Path(program)
-    calls = Calls(program)
-    folder = pieces.Folder(words[1], image, [f"--every={every}", *options])
-    resumed = Resumed(calls, options, every, folder)
-    resumed.run_all()
-    count, turns = resumed.join()
+    image = read_bytes(path)
+    read_image(image, path)
+    calls = Calls(program_at(given.values["program"]))
+    folder = pieces.Folder(pieces_path, image, [f"--every={every}", *options])
+    resumption = Resumption(calls, options, every, folder)
+    resumption.run_all()
+    count, turns = resumption.join()
     told = f"{counted(turns, 'commit')} in {counted(count, 'piece')}"
     print(f"{folder.name(pieces.REPORT)}: {told}; accepted by check.")
     return 0

@@ -7,13 +7,13 @@ usage: ./fractal shell bash > FILE     completion for bash: `. FILE` in ~/.bashr
 from __future__ import annotations
 
 from yotarimu.common.outcome import Refused
-from yotarimu.common.words import need_words
+from yotarimu.common.words import Words
 from yotarimu.programs.completion import KINDS
 from yotarimu.programs.table import Table
 
 
-def main(words):
-    kind, = need_words(words, 1, "shell", "bash, zsh or man")
+def main(words: list[str]) -> None:
+    kind, = Words("shell").read(words).need("bash, zsh or man", 1)
     if kind not in KINDS:
         raise Refused(f"it writes for bash, zsh and man, and not for `{kind}`.")
     print(KINDS[kind](Table()), end="")

@@ -15,26 +15,16 @@ The page stands alone: it needs no network, and PAGE#6 opens it at act 6. Up to 
 from __future__ import annotations
 
 from yotarimu.common.outcome import Refused
-from yotarimu.common.words import need_number, need_words, take_option
+from yotarimu.common.words import Words
 from yotarimu.pictures.page import page_of
 
 MOST_ACT = 2 ** 64 - 1
 
 
-def read_words(words):
-    """The files that are named, the acts from which and to which, and whether a cut text will do."""
-    named = {}
-    for name, unless_told in (("--from", 0), ("--to", MOST_ACT)):
-        word, words = take_option(words, name)
-        named[name] = unless_told if word is None else need_number(name, word, 0, MOST_ACT)
-    if named["--from"] > named["--to"]:
-        raise Refused(f"there is no act from {named['--from']} to {named['--to']}.")
-    is_cut_allowed = "--cut" in words
-    words = [word for word in words if word != "--cut"]
-    count = 2 if len(words) == 2 else 1
-    path, *listing = need_words(words, count, "show", "LINES and perhaps a LISTING")
-    return path, listing[0] if listing else None, named["--from"], named["--to"], is_cut_allowed
-
-
-def main(words):
-    print(page_of(*read_words(words)), end="")
+def main(words: list[str]) -> None:
+    given = Words("show", ["from", "to"], ["cut"]).read(words)
+    first, last = given.number("from", 0, MOST_ACT, 0), given.number("to", 0, MOST_ACT, MOST_ACT)
+    if first > last:
+        raise Refused(f"there is no act from {first} to {last}.")
+    path, *listing = given.need("LINES and perhaps a LISTING", 1, 2)
+    print(page_of(path, listing[0] if listing else None, first, last, "cut" in given.flags), end="")

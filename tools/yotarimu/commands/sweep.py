@@ -31,34 +31,31 @@ import pathlib
 
 from yotarimu.common.files import need_outputs, write_whole
 from yotarimu.common.outcome import Refused
-from yotarimu.common.words import need_number
+from yotarimu.common.words import Words
 from yotarimu.courses.grid import picture_of, shard_of, values_of
 from yotarimu.courses.sweep import NUMBERS, Request, failed, read_rows, written_rows
 from yotarimu.programs.calls import built
 from yotarimu.programs.table import Table
 
+MOST_JOBS = 1_024
 
-def read_words(words, table):
+
+def read_words(words: list[str], table: Table) -> Request:
     """The request that the words are."""
-    request, rest, seen = Request(), list(words), set()
-    while rest:
-        word, equals, value = rest.pop(0).partition("=")
-        if not word.startswith("--"):
-            if request.image is not None:
-                raise Refused(f"one image is swept at a time: `{request.image}` or `{word}`.")
-            request.image = word + equals + value
-            continue
-        if word in seen:
-            raise Refused(f"`{word}` stands twice.")
-        seen.add(word)
-        if word == "--check":
-            request.wants_check = True
-            continue
-        if not equals:
-            if not rest:
-                raise Refused(f"a value is missing after `{word}`.")
-            value = rest.pop(0)
-        read_option(request, table, word[2:], value)
+    names = ["csv", "rows", "program", "jobs", "shard", "plot", "log", "load"]
+    given = Words("sweep", [*names, *table.options], ["check"], more_help=", ./fractal help the options").read(words)
+    if len(given.others) > 1:
+        raise Refused(f"one image is swept at a time: `{given.others[0]}` or `{given.others[1]}`.")
+    told, request = given.values, Request(next(iter(given.others), None), wants_check="check" in given.flags)
+    request.csv, request.rows, request.plot, request.axes = (told[name] for name in ("csv", "rows", "plot", "log"))
+    request.values = {name: values_of(option, text) for name, option in table.options.items()
+                      if (text := told[name]) is not None}
+    request.jobs = given.number("jobs", 1, MOST_JOBS, 1)
+    request.shard = shard_of(told["shard"])
+    if (program := told["program"]) is not None:
+        request.program = pathlib.Path(program)
+    if (load := told["load"]) is not None:
+        request.load = load_of(table, load)
     if (request.image, request.load, request.rows).count(None) != 2:
         raise Refused("it wants an IMAGE, or --load KIND,SEED,SIZE, or --rows CSV; ./fractal sweep --help tells more.")
     if request.load and request.wants_check:
@@ -66,28 +63,7 @@ def read_words(words, table):
     return request
 
 
-def read_option(request, table, name, value):
-    if name in table.options:
-        request.values[name] = values_of(table.options[name], value)
-    elif name in ("csv", "rows"):
-        setattr(request, name, value)
-    elif name == "program":
-        request.program = pathlib.Path(value)
-    elif name == "jobs":
-        request.jobs = need_number("--jobs", value, 1, 1024)
-    elif name == "shard":
-        request.shard = shard_of(value)
-    elif name == "plot":
-        request.plot = value
-    elif name == "log":
-        request.axes = value
-    elif name == "load":
-        request.load = load_of(table, value)
-    else:
-        raise Refused(f"`--{name}` isn't known; ./fractal sweep --help tells the words, ./fractal help the options.")
-
-
-def load_of(table, text):
+def load_of(table: Table, text: str) -> list[str]:
     if "load" not in table.commands:
         raise Refused("the program generates no loads: it has no command `load` in ./fractal help.")
     words, names = text.split(","), table.commands["load"].split()
@@ -96,11 +72,11 @@ def load_of(table, text):
     return words
 
 
-def main(words):
+def main(words: list[str]) -> None:
     table = Table()
     request = read_words(words, table)
     picture = picture_of(request.plot, request.axes, NUMBERS, table.options)
-    need_outputs((request.csv, picture and picture.path), (request.image, request.rows, request.program))
+    need_outputs((request.csv, picture.path if picture else None), (request.image, request.rows, request.program))
     if request.rows is None:
         built(request.program)
     rows = written_rows(request, table) if request.rows is None else read_rows(request.rows)

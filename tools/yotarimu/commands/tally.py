@@ -15,16 +15,16 @@ import io
 from yotarimu.common.files import need_outputs, read_text, write_whole
 from yotarimu.common.outcome import Refused
 from yotarimu.common.text import without_controls
-from yotarimu.common.words import need_words, take_option
+from yotarimu.common.words import Words
 from yotarimu.courses.schedules import acts_a_round, read_played, read_script
 from yotarimu.figures.tally import Tally, acts_by_reply, plain_rows, summary
 from yotarimu.pictures import plot
 
 
-def main(words):
-    path, words = take_option(words, "--plot")
-    csv_path, words = take_option(words, "--csv")
-    script, *outputs = need_words(words, max(2, len(words)), "tally", "a SCRIPT and one OUTPUT of its playing or more")
+def main(words: list[str]) -> None:
+    given = Words("tally", ["plot", "csv"]).read(words)
+    path, csv_path = given.values["plot"], given.values["csv"]
+    script, *outputs = given.need("a SCRIPT and one OUTPUT of its playing or more", 2, len(words))
     if len(set(outputs)) < len(outputs):
         raise Refused("an OUTPUT stands twice.")
     need_outputs((path, csv_path), (script, *outputs))
@@ -37,7 +37,7 @@ def main(words):
     for name, tally in tallies.items():
         print("", f"Acts of {name} by reply:" if len(tallies) > 1 else "Acts by reply:", "", *acts_by_reply(tally),
               sep="\n")
-    files = {}
+    files: dict[str, bytes] = {}
     if path is not None:
         curves = {name if len(tallies) > 1 else "": tally.curve for name, tally in tallies.items()}
         files[path] = plot.drawn(curves, "acts", "commits").encode()

@@ -19,7 +19,7 @@ from yotarimu.programs.examples import EXAMPLES, SCHEDULES
 from yotarimu.programs.program import PROGRAM
 
 
-def main(words):
+def main(words: list[str]) -> int:
     known = (*EXAMPLES, *SCHEDULES, ANSWERS)
     for word in words:
         if word not in known:

@@ -10,21 +10,23 @@ from __future__ import annotations
 
 import collections
 import time
+from typing import Callable, Optional
 
 from yotarimu.common.outcome import Refused
 
 from tries import (
-    applications, build, c_tasks, contents, figures, interrupts, launcher, lockstep, others, packages, pages, resume,
-    schedules, studies, watch, words)
+    applications, build, c_tasks, contents, documents, explain, figures, gate, interrupts, launcher, lockstep,
+    packages, pages, resume, schedules, studies, sweep, watch, words)
 from tries.place import Failed, LeftOut, Place
 
-TRIES = (*launcher.TRIES, *words.TRIES, *packages.TRIES, *build.TRIES, *c_tasks.TRIES, *contents.TRIES,
-         *applications.TRIES, *others.TRIES, *resume.TRIES, *schedules.TRIES, *lockstep.TRIES, *studies.TRIES,
-         *watch.TRIES, *figures.TRIES, *pages.TRIES, *interrupts.TRIES)
+Attempt = Callable[[Place], None]
+PARTS = (launcher, words, packages, build, c_tasks, contents, applications, explain, gate, sweep, resume, schedules,
+         lockstep, studies, watch, figures, pages, interrupts, documents)
+TRIES: list[Attempt] = [attempt for part in PARTS for attempt in part.TRIES]
 OK, FAILED, LEFT_OUT = "ok", "FAILED", "left"
 
 
-def verdict_of(attempt):
+def verdict_of(attempt: Attempt) -> tuple[str, Optional[str]]:
     """How a try went, and why if it failed."""
     place = Place()
     try:
@@ -38,11 +40,11 @@ def verdict_of(attempt):
     return OK, None
 
 
-def main(told):
+def main(told: list[str]) -> int:
     chosen = [attempt for attempt in TRIES if not told or any(word in attempt.__name__ for word in told)]
     if not chosen:
         raise Refused("no try has such a name.")
-    counts = collections.Counter()
+    counts: collections.Counter[str] = collections.Counter()
     for attempt in chosen:
         start = time.monotonic()
         verdict, why = verdict_of(attempt)

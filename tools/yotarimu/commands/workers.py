@@ -11,40 +11,22 @@ takes some minutes.
 """
 from __future__ import annotations
 
-import pathlib
-
 from yotarimu.common.outcome import Refused
-from yotarimu.common.places import EXAMPLES_FOLDER
-from yotarimu.common.words import need_number, take_option
+from yotarimu.common.words import Words
+from yotarimu.programs.calls import program_at
 from yotarimu.programs.examples import EXAMPLES
-from yotarimu.programs.program import PROGRAM
-from yotarimu.programs.workers import WORKERS, fault_of, fault_of_saved, tried
+from yotarimu.programs.workers import failures_of
 
-MOST_RUNS = 100_000
+MOST_RUNS, MOST_JOBS = 100_000, 1_024
 RUNS = 200
 
 
-def main(words):
-    runs, words = take_option(words, "--runs")
-    jobs, words = take_option(words, "--jobs")
-    program, words = take_option(words, "--program")
-    runs = RUNS if runs is None else need_number("--runs", runs, 1, MOST_RUNS)
-    jobs = 1 if jobs is None else need_number("--jobs", jobs, 1, 1024)
-    program = PROGRAM if program is None else pathlib.Path(program)
-    for word in words:
+def main(words: list[str]) -> int:
+    given = Words("workers", ["runs", "jobs", "program"]).read(words)
+    runs, jobs = given.number("runs", 1, MOST_RUNS, RUNS), given.number("jobs", 1, MOST_JOBS, 1)
+    for word in given.others:
         if word not in EXAMPLES:
             raise Refused(f"`{word}` is none of the project's examples, which are {', '.join(EXAMPLES)}.")
-    failed = 0
-    for name in words or EXAMPLES:
-        image = (EXAMPLES_FOLDER / name / "image.bin").read_bytes()
-        # Half of the example's commits; none of an example with one. The first line of a report is no entry.
-        commits = ((EXAMPLES_FOLDER / name / "report").read_bytes().partition(b"output ")[0].count(b"\n") - 1) // 2
-        for workers in WORKERS:
-            told, by = f"{name} with {workers} workers", ["--workers", str(workers)]
-            failed += not tried(told, program, image, ["run", *by], runs, jobs,
-                                lambda answer: fault_of(program, image, answer))
-            if commits:
-                failed += not tried(f"{told}, saved after {commits}", program, image,
-                                    ["save", "--commits", str(commits), *by], runs, jobs,
-                                    lambda answer: fault_of_saved(program, commits, answer))
+    program = program_at(given.values["program"])
+    failed = sum(failures_of(name, program, runs, jobs) for name in given.others or EXAMPLES)
     return 1 if failed else 0

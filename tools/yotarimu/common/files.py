@@ -8,41 +8,48 @@ import re
 import stat
 import sys
 import tempfile
+from collections.abc import Iterable, Mapping
+from typing import Optional, TypeVar, Union
 
 from yotarimu.common.outcome import Refused
 
+FilePath = Union[str, "os.PathLike[str]"]
+AnyPath = TypeVar("AnyPath", bound=FilePath)
 # Nothing that the program takes or writes is longer.
 MOST_READ = 1 << 28
 
 
-def read_bytes(path):
+def read_bytes(path: FilePath) -> bytes:
     """The whole of a file; `-` is standard input."""
     if str(path) == "-" and sys.stdin is None:
         raise Refused("standard input is closed.")
-    with contextlib.nullcontext(sys.stdin.buffer) if str(path) == "-" else open(path, "rb") as file:
-        data = file.read(MOST_READ + 1)
+    if str(path) == "-":
+        data = sys.stdin.buffer.read(MOST_READ + 1)
+    else:
+        with open(path, "rb") as file:
+            data = file.read(MOST_READ + 1)
     if len(data) > MOST_READ:
         raise Refused(f"{path}: it has more than {MOST_READ:,} bytes.")
     return data
 
 
-def read_text(path):
+def read_text(path: FilePath) -> str:
     """The whole of a file as text; bytes that are no text are told apart by nothing."""
     return read_bytes(path).decode("utf-8", "replace")
 
 
-def read_written(path):
+def read_written(path: FilePath) -> str:
     """The whole of a text that people write: its lines may end as on any system."""
     return re.sub("\r\n?", "\n", read_text(path))
 
 
-def write_whole(files):
+def write_whole(files: Mapping[AnyPath, bytes]) -> None:
     """Writes bytes to paths, given as a dictionary. A plain file is there whole, or as it was before, and a symbolic
     link to it stays one. What is no plain file, such as a device, is written to and never replaced."""
     with contextlib.ExitStack() as cleanup:
         renames, streams = [], []
-        for path, data in files.items():
-            path = need_writable(path)
+        for named, data in files.items():
+            path = need_writable(named)
             if is_stream(path):
                 streams.append((path, data))
                 continue
@@ -58,7 +65,7 @@ def write_whole(files):
             os.replace(unfinished, path)
 
 
-def write_stream(path, data):
+def write_stream(path: pathlib.Path, data: bytes) -> None:
     """Writes to a device or a pipe; to what is standard output already, behind what was written there."""
     for own in filter(None, (sys.stdout, sys.stderr)):
         if os.path.samestat(path.stat(), os.fstat(own.fileno())):
@@ -70,7 +77,7 @@ def write_stream(path, data):
         file.write(data)
 
 
-def is_stream(path):
+def is_stream(path: pathlib.Path) -> bool:
     """Whether writing to a path is no matter of a plain file's bytes alone."""
     if not path.exists():
         return False
@@ -79,7 +86,7 @@ def is_stream(path):
         os.path.samestat(found, os.fstat(own.fileno())) for own in filter(None, (sys.stdout, sys.stderr)))
 
 
-def need_writable(path):
+def need_writable(path: FilePath) -> pathlib.Path:
     """The path of a file that can be written, behind all links; else a refusal, before any work is done for it."""
     path = pathlib.Path(path)
     if path.is_dir():
@@ -95,19 +102,19 @@ def need_writable(path):
     return path
 
 
-def need_outputs(outputs, inputs):
+def need_outputs(outputs: Iterable[Optional[FilePath]], inputs: Iterable[Optional[FilePath]]) -> None:
     """Holds files that can be written to be none of the files that are read, and none of each other; `-` is standard
     input, and a path that is None isn't asked for."""
-    outputs, inputs = ([path for path in paths if path is not None] for paths in (outputs, inputs))
-    for place, path in enumerate(outputs):
+    written, read = ([path for path in paths if path is not None] for paths in (outputs, inputs))
+    for place, path in enumerate(written):
         need_writable(path)
-        if any(is_same_file(path, other) for other in inputs):
+        if any(is_same_file(path, other) for other in read):
             raise Refused(f"{path}: this is read, so it isn't written too.")
-        if any(path == other != os.devnull or is_same_file(path, other) for other in outputs[:place]):
+        if any(path == other != os.devnull or is_same_file(path, other) for other in written[:place]):
             raise Refused(f"{path}: two outputs can't be one file.")
 
 
-def is_same_file(one, other):
+def is_same_file(one: FilePath, other: FilePath) -> bool:
     """Whether two paths lead to one file, also one that isn't there yet; what is written to no file is never one."""
     with contextlib.suppress(OSError):
         found = os.stat(one)
@@ -115,12 +122,12 @@ def is_same_file(one, other):
     return not os.path.exists(one) and os.path.realpath(one) == os.path.realpath(other)
 
 
-def encoded(text):
+def encoded(text: str) -> bytes:
     """A text as a file has it; bytes in names of files that are no text are told as on standard output."""
     return text.encode("utf-8", "backslashreplace")
 
 
-def umask():
+def umask() -> int:
     """The bits that a new file hasn't. They can't be read without being set."""
     bits = os.umask(0o077)
     os.umask(bits)

@@ -2,14 +2,19 @@
 from __future__ import annotations
 
 import contextlib
+import io
 import os
 import signal
 import sys
+import types
+from typing import Callable, NoReturn, Optional, Union
 
 from yotarimu.common.text import without_controls
 
 REFUSED = 1
 SIGNALS = (signal.SIGINT, signal.SIGTERM, signal.SIGHUP)
+# What is done with the words of a call; it may give back a status.
+Main = Callable[[list[str]], Optional[int]]
 
 
 class Refused(Exception):
@@ -19,12 +24,12 @@ class Refused(Exception):
 class Stopped(BaseException):
     """A signal asked for the end."""
 
-    def __init__(self, number):
+    def __init__(self, number: int) -> None:
         super().__init__(number)
         self.number = number
 
 
-def run_script(name, main, words=None):
+def run_script(name: str, main: Main, words: Optional[list[str]] = None) -> NoReturn:
     """Runs `main` on the words, those of the call where none are given, and ends with its status, or with one sentence
     and a status other than 0."""
     try:
@@ -32,7 +37,7 @@ def run_script(name, main, words=None):
             signal.signal(number, stop)
         # tools/start holds an interrupt back until Python can answer it.
         signal.pthread_sigmask(signal.SIG_UNBLOCK, SIGNALS)
-        status = answered(name, main, sys.argv[1:] if words is None else words)
+        status = answer(name, main, sys.argv[1:] if words is None else words)
         ignore_signals()
     except Stopped as stopped:
         say(name, "interrupted.")
@@ -40,22 +45,23 @@ def run_script(name, main, words=None):
     end(status)
 
 
-def answered(name, main, words):
+def answer(name: str, main: Main, words: list[str]) -> int:
     try:
         if sys.stdout is None:
             raise Refused("standard output is closed.")
-        sys.stdout.reconfigure(errors="backslashreplace")
+        if isinstance(sys.stdout, io.TextIOWrapper):
+            sys.stdout.reconfigure(errors="backslashreplace")
         status = main(words) or 0
         sys.stdout.flush()
         return status
     except Refused as refused:
         say(name, refused)
     except (OSError, MemoryError) as error:
-        say(name, told(error))
+        say(name, error_text(error))
     return REFUSED
 
 
-def end(status):
+def end(status: int) -> NoReturn:
     """Ends the script. What can't be written is dropped, since the interpreter would try, and tell, once more."""
     try:
         sys.stdout.flush()
@@ -64,17 +70,17 @@ def end(status):
     sys.exit(status)
 
 
-def stop(number, _frame):
+def stop(number: int, _frame: Optional[types.FrameType]) -> NoReturn:
     ignore_signals()
     raise Stopped(number)
 
 
-def ignore_signals():
+def ignore_signals() -> None:
     for number in SIGNALS:
         signal.signal(number, signal.SIG_IGN)
 
 
-def say(name, sentence):
+def say(name: str, sentence: object) -> None:
     if sys.stderr is None:
         return
     # A line of progress may stand on a terminal.
@@ -84,12 +90,12 @@ def say(name, sentence):
         print(f"{clear}{name}: {without_controls(sentence)}", file=sys.stderr, flush=True)
 
 
-def note(sentence):
+def note(sentence: str) -> None:
     """Tells what may be wrong, and stops nothing."""
     say("note", sentence)
 
 
-def told(error):
+def error_text(error: Union[OSError, MemoryError]) -> str:
     """An error of the system as a sentence."""
     if isinstance(error, MemoryError):
         return "out of memory."
@@ -99,6 +105,6 @@ def told(error):
     return f"{place}{(error.strerror or str(error)).lower()}."
 
 
-def is_at_terminal():
+def is_at_terminal() -> bool:
     """Whether a terminal shows standard error."""
     return sys.stderr is not None and sys.stderr.isatty()

@@ -4,7 +4,7 @@ from __future__ import annotations
 import sys
 
 
-def show_progress(name, done, total, more=""):
+def show_progress(name: str, done: int, total: int, more: str = "") -> None:
     """One line on the terminal, which is written again and again."""
     end = "\n" if done == total else ""
     print(f"\r\x1b[K{name}: {done} of {total} runs{more}", end=end, file=sys.stderr, flush=True)

@@ -2,17 +2,17 @@
 from __future__ import annotations
 
 
-def without_controls(text):
+def without_controls(text: object) -> str:
     """A text in which what isn't printable, such as a byte of a path that is no text, is written as in Python."""
     return "".join(it if it.isprintable() or it == "\n" else ascii(it)[1:-1] for it in str(text))
 
 
-def printable(data):
+def printable(data: bytes) -> str:
     """Bytes as text: what isn't printable ASCII is written as in C."""
     names = {0x0A: "\\n", 0x09: "\\t", 0x0D: "\\r", 0x5C: "\\\\", 0x22: '\\"'}
     return "".join(names.get(byte) or (chr(byte) if 0x20 <= byte < 0x7F else f"\\x{byte:02x}") for byte in data)
 
 
-def counted(count, what):
+def counted(count: int, what: str) -> str:
     """So many of what a word names."""
     return f"{count:,} {what}{'' if count == 1 else 's'}"

@@ -1,10 +1,17 @@
-"""Words of a call: numbers, options and the words between them."""
+"""Words of a call: numbers, options with a value, flags, and the words between them."""
 from __future__ import annotations
+
+import argparse
+import dataclasses
+from collections.abc import Iterable, Sequence
+from typing import NoReturn, Optional
 
 from yotarimu.common.outcome import Refused
 
+DOOR = "./fractal "
 
-def number_in(word, least, most):
+
+def number_in(word: str, least: int, most: int) -> Optional[int]:
     """The number that a word is, in decimal or in hexadecimal after 0x; None where it isn't one from least to most."""
     digits, base = (word[2:], 16) if word[:2] in ("0x", "0X") else (word, 10)
     allowed = "0123456789abcdefABCDEF" if base == 16 else "0123456789"
@@ -14,7 +21,7 @@ def number_in(word, least, most):
     return number if least <= number <= most else None
 
 
-def need_number(what, word, least, most):
+def need_number(what: str, word: str, least: int, most: int) -> int:
     """The number that a word is; else a refusal that tells what may stand there."""
     number = number_in(word, least, most)
     if number is None:
@@ -22,29 +29,80 @@ def need_number(what, word, least, most):
     return number
 
 
-def take_option(words, name):
+class Once(argparse.Action):
+    """An option with a value, which may stand once."""
+
+    def __call__(self, parser: argparse.ArgumentParser, namespace: argparse.Namespace, values: object,
+                 option_string: Optional[str] = None) -> None:
+        if getattr(namespace, self.dest) is not None:
+            raise Refused(f"`{option_string}` stands twice.")
+        setattr(namespace, self.dest, values)
+
+
+@dataclasses.dataclass(frozen=True)
+class Given:
+    """What the words of a call give: a value, or None, for each option, the flags that stand there, and the words
+    between them."""
+    call: str
+    values: dict[str, Optional[str]]
+    flags: frozenset[str]
+    others: list[str]
+
+    def need(self, what: str, least: int, most: Optional[int] = None) -> list[str]:
+        """The words between options, of which there are to be so many."""
+        if not least <= len(self.others) <= (least if most is None else most):
+            raise Refused(f"it wants {what}; {self.call} --help tells more.")
+        return self.others
+
+    def number(self, name: str, least: int, most: int, unless_given: int) -> int:
+        """The number that an option has."""
+        text = self.values[name]
+        return unless_given if text is None else need_number(f"--{name}", text, least, most)
+
+
+class Words(argparse.ArgumentParser):
+    """The words that a command takes: options with a value each, flags, and what stands between them. A word is never
+    cut short; `--help` is answered before these are read, by the page that the command's module begins with."""
+
+    def __init__(self, command: str, values: Iterable[str] = (), flags: Iterable[str] = (), door: str = DOOR,
+                 more_help: str = "") -> None:
+        super().__init__(prog=f"{door}{command}", add_help=False, allow_abbrev=False, exit_on_error=False)
+        self.value_names, self.flag_names, self.more_help = list(values), list(flags), more_help
+        for name in self.value_names:
+            self.add_argument(f"--{name}", dest=name, action=Once)
+        for name in self.flag_names:
+            self.add_argument(f"--{name}", dest=name, action="store_true")
+
+    def error(self, message: str) -> NoReturn:
+        raise Refused(f"{message}.")
+
+    def known(self, words: Sequence[str]) -> Given:
+        """What the words give; what isn't known stays among the words between options."""
+        try:
+            found, others = self.parse_known_args(list(words))
+        except argparse.ArgumentError as error:
+            name = error.argument_name or ""
+            is_flag = name.removeprefix("--") in self.flag_names
+            self.error(f"`{name}` takes no value" if is_flag else f"a value is missing after `{name}`")
+        values = {name: getattr(found, name) for name in self.value_names}
+        return Given(self.prog, values, frozenset(name for name in self.flag_names if getattr(found, name)), others)
+
+    def read(self, words: Sequence[str]) -> Given:
+        """What the words give, where each option among them is known."""
+        given = self.known(words)
+        unknown = next((word for word in given.others if word.startswith("--")), None)
+        if unknown is not None:
+            self.error(f"`{unknown}` isn't known; {self.prog} --help tells the words{self.more_help}")
+        return given
+
+
+def take_option(words: Sequence[str], name: str) -> tuple[Optional[str], list[str]]:
     """The value of an option that may stand once, as `NAME VALUE` or `NAME=VALUE`, and the other words."""
-    rest, values = [], []
-    remaining = iter(words)
-    for word in remaining:
-        if word == name:
-            values.append(next(remaining, None))
-        elif word.startswith(f"{name}="):
-            values.append(word.partition("=")[2])
-        else:
-            rest.append(word)
-    if len(values) > 1:
-        raise Refused(f"`{name}` stands twice.")
-    if values == [None]:
-        raise Refused(f"a value is missing after `{name}`.")
-    return (values or [None])[0], rest
+    option = name.removeprefix("--")
+    given = Words("", [option]).known(words)
+    return given.values[option], given.others
 
 
-def need_words(words, count, script, what, door="./fractal "):
+def need_words(words: Sequence[str], count: int, command: str, what: str, door: str = DOOR) -> list[str]:
     """Words of which there are to be so many, none of them an option."""
-    option = next((word for word in words if word.startswith("--")), None)
-    if option is not None:
-        raise Refused(f"`{option}` isn't known; {door}{script} --help tells the words.")
-    if len(words) != count:
-        raise Refused(f"it wants {what}; {door}{script} --help tells more.")
-    return words
+    return Words(command, door=door).read(words).need(what, count)

@@ -4,11 +4,15 @@ from __future__ import annotations
 
 import itertools
 import json
+import pathlib
 import subprocess
+from collections.abc import Iterable
+from typing import Optional
 
 from yotarimu.common.files import read_text
 from yotarimu.common.outcome import Refused
 from yotarimu.common.places import EXAMPLES_FOLDER
+from yotarimu.lines.fields import Line
 from yotarimu.programs.examples import SCHEDULES, watched_words_of
 from yotarimu.programs.program import SECOND_PROGRAM, STATUSES, end_of
 from yotarimu.reports.report import read_report
@@ -19,7 +23,7 @@ MADE = ("moved", "committed")
 STEPS = "steps"
 
 
-def replies_said(said, name):
+def replies_said(said: str, name: str) -> list[tuple[str, int]]:
     """The reply to each act, and how many tasks it took back, of what `steps` wrote before its report."""
     pairs = [line.split() for line in said.partition("fractal 1\n")[0].splitlines()]
     try:
@@ -28,7 +32,7 @@ def replies_said(said, name):
         raise Refused(f"{name}: what is stored isn't what `steps` says: a line is no reply with a number.") from None
 
 
-def lines_in(told):
+def lines_in(told: bytes) -> Optional[list[Line]]:
     """What each line of a text tells; None where there is none, or one that is no object in JSON."""
     try:
         lines = [json.loads(line) for line in told.splitlines()]
@@ -37,12 +41,12 @@ def lines_in(told):
     return lines if lines and all(isinstance(line, dict) for line in lines) else None
 
 
-def replies_told(lines):
+def replies_told(lines: Iterable[Line]) -> list[tuple[str, int]]:
     """The same of the second program's lines."""
     return [(line["reply"], line.get("aborted", 0)) for line in lines if "reply" in line]
 
 
-def worked_fault(folder, told):
+def worked_fault(folder: pathlib.Path, told: bytes) -> Optional[str]:
     """The first line that isn't the one worked out by hand; None where all are, or where a folder has none of these."""
     path = folder / "worked"
     worked = path.read_bytes() if path.exists() else told
@@ -54,7 +58,7 @@ def worked_fault(folder, told):
     return None
 
 
-def retold_fault(name):
+def retold_fault(name: str) -> Optional[str]:
     """What is wrong with what the second program tells of a schedule; None where it agrees with the first one, and with
     what was worked out by hand."""
     folder = EXAMPLES_FOLDER / name
@@ -78,6 +82,6 @@ def retold_fault(name):
     return None if made.returncode == status else f"the second program has the status {made.returncode}, not {status}"
 
 
-def retold_schedules():
+def retold_schedules() -> list[tuple[str, Optional[str]]]:
     """Each schedule with what is wrong with its lines; none where the second program isn't built."""
     return [(f"{name}, told act by act", retold_fault(name)) for name in SCHEDULES] if SECOND_PROGRAM.exists() else []

@@ -11,6 +11,7 @@ from yotarimu.common.files import encoded
 from yotarimu.common.outcome import Refused
 from yotarimu.common.words import number_in
 from yotarimu.pictures import plot
+from yotarimu.programs.table import Option, Table
 
 MOST_RUNS = 100_000
 MOST_VALUE = 2 ** 32 - 1
@@ -20,7 +21,7 @@ INPUTS = ("input", "image")
 Run = TypeVar("Run")
 
 
-def values_of(option, text):
+def values_of(option: Option, text: str) -> list[int]:
     """The values of a list such as `1,5..9,10..100..10`, each once."""
     values = [value for piece in text.split(",") for value in values_in(option, piece)]
     wrong = next((value for value in values if value not in option.values), None)
@@ -29,21 +30,22 @@ def values_of(option, text):
     return list(dict.fromkeys(values))
 
 
-def values_in(option, piece):
+def values_in(option: Option, piece: str) -> Sequence[int]:
     """The values of a number, FROM..TO or FROM..TO..STEP."""
     numbers = [number_in(part, 0, MOST_VALUE) for part in piece.split("..")]
-    if None in numbers or len(numbers) > 3 or numbers[2:] == [0]:
+    given = [number for number in numbers if number is not None]
+    if len(given) < len(numbers) or len(given) > 3 or given[2:] == [0]:
         raise Refused(f"--{option.name}: `{piece}` is no number, FROM..TO or FROM..TO..STEP.")
-    if len(numbers) == 1:
-        return numbers
-    first, last, step = [*numbers, 1][:3]
+    if len(given) == 1:
+        return given
+    first, last, step = [*given, 1][:3]
     values = range(first, last + 1, step)
     if len(values) > MOST_RUNS:
         raise Refused(f"--{option.name}: `{piece}` has {len(values):,} values, and {MOST_RUNS:,} are the most.")
     return values
 
 
-def cells_of(table, values, what="runs"):
+def cells_of(table: Table, values: Mapping[str, Sequence[int]], what: str = "runs") -> list[dict[str, int]]:
     """The cells of the grid: each choice of one value an option, where an option without values has its default."""
     count = math.prod(map(len, values.values()))
     if count > MOST_RUNS:

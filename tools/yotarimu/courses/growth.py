@@ -2,17 +2,22 @@
 from __future__ import annotations
 
 import io
+import pathlib
 import subprocess
+from collections.abc import Iterator, Sequence
+from typing import Optional
 
 from yotarimu.common.files import read_bytes
 from yotarimu.common.outcome import Refused
 from yotarimu.common.text import counted
+from yotarimu.courses.scripts import Options
 from yotarimu.images.image import read_image
 from yotarimu.images.labels import listing_for
-from yotarimu.lines.display import Standing
+from yotarimu.lines.display import Display
 from yotarimu.lines.reader import Watched
+from yotarimu.lines.replay import Machine, Told
 from yotarimu.lines.sentences import end_told, name_told, opening_told, sentence_of
-from yotarimu.programs.launcher import launched
+from yotarimu.programs.launcher import launch
 from yotarimu.programs.table import Table
 
 # The statuses of a script that was played.
@@ -24,40 +29,44 @@ MOST_SENTENCES = 12
 class Schedule:
     """An image, the program's options, and the acts so far."""
 
-    def __init__(self, path, options, table):
+    def __init__(self, path: pathlib.Path, options: Options, table: Table) -> None:
         self.path, self.options = path, options
         self.data = read_bytes(path)
         self.image = read_image(self.data, path)
         self.listing, self.remark = listing_for(path, self.image, None)
         self.tiles, self.cores = (options.get(name, table.options[name].default) for name in ("tiles", "cores"))
 
-    def lines_of(self, acts):
+    def lines_of(self, acts: Sequence[str]) -> bytes:
         """What the second program tells of these acts."""
         words = ["watch", "steps", *(f"--{name}={value}" for name, value in self.options.items())]
         script = "".join(f"{act}\n" for act in acts).encode()
-        status, written, said = launched(words, self.data + script, subprocess.PIPE)
+        status, written, said = launch(words, self.data + script, subprocess.PIPE)
         if status not in PLAYED:
-            raise Refused(why_not_played(status, written, said.decode("utf-8", "replace")))
+            raise Refused(why_not_played(status, written, (said or b"").decode("utf-8", "replace")))
         return written
 
-    def play(self, acts, first=None):
+    def play(self, acts: Sequence[str], first: Optional[int] = None) -> Performance:
         """Plays acts; the sentences of those from a place on are kept, or that of the last."""
-        return Playing(self, acts, len(acts) - 1 if first is None else first)
+        return Performance(self, acts, len(acts) - 1 if first is None else first)
 
 
-class Playing:
+class Performance:
     """Acts that were played: the sentences of those from one on, and what stands behind the last."""
 
-    def __init__(self, schedule, acts, first):
-        self.acts, self.lines, self.replies, self.sentences = acts, schedule.lines_of(acts), [], []
-        self.schedule, self.entries, self.output, self.last = schedule, [], b"", None
+    def __init__(self, schedule: Schedule, acts: Sequence[str], first: int) -> None:
+        self.schedule, self.acts, self.lines = schedule, list(acts), schedule.lines_of(acts)
+        self.replies: list[str] = []
+        self.sentences: list[str] = []
+        self.entries: list[str] = []
+        self.output = b""
+        self.last: Optional[Told] = None
         watched = Watched(io.BytesIO(self.lines), "the second program")
         for told in watched:
             if told.is_act():
                 self.note(told, watched.machine, len(self.replies) >= first)
         self.machine, self.end = watched.machine, watched.end
 
-    def note(self, told, machine, is_new):
+    def note(self, told: Told, machine: Machine, is_new: bool) -> None:
         line, limits = told.line, self.schedule.image.limits
         self.replies.append(line["reply"] + (f", {counted(len(told.taken), 'task')} taken back" if told.taken else ""))
         self.last = told
@@ -68,22 +77,22 @@ class Playing:
             act = f"{line['at']}: {self.acts[line['at'] - 1]}"
             self.sentences.append(f"{act}\n{sentence_of(told, machine, self.schedule.listing, limits)}")
 
-    def told(self):
+    def told(self) -> Iterator[str]:
         """What is written behind acts: their sentences, and the machine."""
         some = self.sentences[-MOST_SENTENCES:]
         if len(some) < len(self.sentences):
             yield f"({counted(len(self.sentences) - len(some), 'act')} before these)"
         yield from some or [opening_told(self.machine.head)]
-        if self.end["end"] != "open":
+        if self.end is not None and self.end["end"] != "open":
             yield end_told(self.end, self.schedule.listing, self.schedule.image.limits)
         yield ""
         yield from self.standing()
 
-    def standing(self):
-        return Standing(self.machine, self.last, self.entries, self.output, self.schedule.listing).lines()
+    def standing(self) -> Iterator[str]:
+        return Display(self.machine, self.last, self.entries, self.output, self.schedule.listing).lines()
 
 
-def why_not_played(status, written, said):
+def why_not_played(status: int, written: bytes, said: str) -> str:
     """Why the launcher or the program played nothing."""
     for line in reversed(said.strip().split("\n")):
         if line.strip():

@@ -9,6 +9,8 @@ import pathlib
 import shlex
 import subprocess
 import tempfile
+from collections.abc import Iterator, Sequence
+from typing import NamedTuple, Optional
 
 from yotarimu import commands
 from yotarimu.common.files import need_writable, read_bytes, write_whole
@@ -19,10 +21,17 @@ from yotarimu.programs.program import LAUNCHER
 FENCE, DOOR, INTO = "```", "./fractal", ">"
 
 
+class Table(NamedTuple):
+    """A table that was made again: its first line of the page, the one behind it, and its rows."""
+    first: int
+    end: int
+    rows: list[str]
+
+
 class Page:
     """The lines of a page."""
 
-    def __init__(self, path):
+    def __init__(self, path: str) -> None:
         self.path, self.data = path, read_bytes(path)
         try:
             text = self.data.decode()
@@ -31,7 +40,7 @@ class Page:
         self.newline = "\r\n" if 0 < text.count("\n") == text.count("\r\n") else "\n"
         self.lines = text.split(self.newline)
 
-    def blocks(self):
+    def blocks(self) -> Iterator[tuple[int, int]]:
         """The places of the first and behind the last line of each block of commands."""
         fences = [place for place, line in enumerate(self.lines) if line.startswith(FENCE)]
         for first, end in zip(fences[::2], fences[1::2]):
@@ -39,7 +48,7 @@ class Page:
             if inside and all(map(is_call, inside)):
                 yield first + 1, end
 
-    def table_behind(self, place):
+    def table_behind(self, place: int) -> Optional[tuple[int, int]]:
         """The places of the first and behind the last line of the next table, up to a headline or a block."""
         for first in range(place + 1, len(self.lines)):
             if self.lines[first].startswith(("#", FENCE)):
@@ -50,20 +59,23 @@ class Page:
                 return first, end
         return None
 
-    def write(self):
+    def differs_from(self, table: Table) -> bool:
+        return self.lines[table.first:table.end] != table.rows
+
+    def write(self) -> None:
         """Writes the lines, unless someone else wrote the page meanwhile."""
         if read_bytes(self.path) != self.data:
             raise Refused(f"{self.path}: it was changed while its commands were called, so it stays as it is.")
         write_whole({self.path: self.newline.join(self.lines).encode()})
 
 
-def is_call(line):
+def is_call(line: str) -> bool:
     """Whether a line calls a tool."""
     door, _, further = line.partition(" ")
     return door == DOOR and further.partition(" ")[0] in commands.names()
 
 
-def words_of(line):
+def words_of(line: str) -> list[str]:
     """The words of a line, as a shell takes them."""
     if "\0" in line:
         raise Refused(f"`{line}` has a byte 0, which no command takes.")
@@ -73,7 +85,7 @@ def words_of(line):
         raise Refused(f"`{line}` breaks off within quotation marks or behind a backslash.") from None
 
 
-def called(line, folder):
+def call_line(line: str, folder: pathlib.Path) -> list[str]:
     """What a line tells, unless it writes that to a file."""
     words = words_of(line)
     name = None
@@ -91,30 +103,30 @@ def called(line, folder):
     return []
 
 
-def told_lines(line, data):
+def told_lines(line: str, data: bytes) -> list[str]:
     try:
         return data.decode().splitlines()
     except UnicodeDecodeError:
         raise Refused(f"`{line}` tells no text; `{INTO} FILE` behind it writes that to a file.") from None
 
 
-def made(page, folder):
-    """Each table of a page with what its commands tell, from the last one to the first."""
-    tables = []
+def make_tables(page: Page, folder: pathlib.Path) -> list[Table]:
+    """Each table of a page as its commands tell it, from the last one to the first."""
+    tables: list[Table] = []
     for first, end in page.blocks():
-        told = [text for line in page.lines[first:end] for text in called(line, folder)]
+        told = [text for line in page.lines[first:end] for text in call_line(line, folder)]
         rows = [line for line in told if line.startswith("|")]
-        place = page.table_behind(end) if rows else None
-        if rows and place is None:
+        if not rows:
+            continue
+        place = page.table_behind(end)
+        if place is None:
             raise Refused(f"{page.path}:{end + 1}: no table stands behind these commands.")
-        if rows:
-            print(f"{page.path}:{place[0] + 1}: {'as it was' if page.lines[slice(*place)] == rows else 'differs'}",
-                  flush=True)
-            tables.append((place, rows))
+        tables.append(Table(*place, rows))
+        print(f"{page.path}:{place[0] + 1}: {'differs' if page.differs_from(tables[-1]) else 'as it was'}", flush=True)
     return tables[::-1]
 
 
-def main(path, words):
+def main(path: str, words: Sequence[str]) -> int:
     """Makes the tables of a page again. The status is 1 where one differs and isn't replaced."""
     is_written = "--write" in words
     need_words([word for word in words if word != "--write"], 0, "study", "nothing more beside --page PAGE and --write")
@@ -126,11 +138,11 @@ def main(path, words):
     if is_written:
         need_writable(path)
     with tempfile.TemporaryDirectory() as folder:
-        tables = made(page, pathlib.Path(folder))
-    different = [(place, rows) for place, rows in tables if page.lines[slice(*place)] != rows]
+        tables = make_tables(page, pathlib.Path(folder))
+    different = [table for table in tables if page.differs_from(table)]
     if is_written and different:
-        for place, rows in different:
-            page.lines[slice(*place)] = rows
+        for table in different:
+            page.lines[table.first:table.end] = table.rows
         page.write()
     if different and not is_written:
         say("study", f"{len(different)} of {len(tables)} tables differ; --write replaces them.")

@@ -5,9 +5,12 @@ import collections
 import dataclasses
 import itertools
 import re
+from collections.abc import Iterable, Iterator, Sequence
+from typing import Optional
 
+from yotarimu.common.files import FilePath
 from yotarimu.common.outcome import Refused
-from yotarimu.reports.report import Report, read_report
+from yotarimu.reports.report import Entry, Report, read_report
 
 MOST_TILES, MOST_CORES = 16, 4
 # How many numbers come after each act's word: a tile, and a core of it.
@@ -23,10 +26,10 @@ NUMBER = "(0|[1-9][0-9]?)"
 class Act:
     """A line of a script: its word, and the tile and the core where it names them."""
     word: str
-    tile: int = None
-    core: int = None
+    tile: Optional[int] = None
+    core: Optional[int] = None
 
-    def __str__(self):
+    def __str__(self) -> str:
         return " ".join(str(part) for part in (self.word, self.tile, self.core) if part is not None)
 
 
@@ -40,24 +43,24 @@ class Said:
 @dataclasses.dataclass
 class Played:
     """A script that was played: its acts, what each was answered, and the report."""
-    acts: list
-    said: list
+    acts: list[Act]
+    said: list[Said]
     report: Report
 
-    def pairs(self):
+    def pairs(self) -> Iterator[tuple[Act, Said]]:
         return zip(self.acts, self.said)
 
-    def commits(self):
+    def commits(self) -> dict[int, Entry]:
         """The entry of each act that committed a task, by the act's place."""
         places = (place for place, (act, said) in enumerate(self.pairs()) if is_commit(act, said))
         return dict(zip(places, self.report.entries))
 
 
-def is_commit(act, said):
+def is_commit(act: Act, said: Said) -> bool:
     return (act.word, said.reply) in (("commit", "ok"), ("advance", "committed"))
 
 
-def read_script(text, name):
+def read_script(text: str, name: FilePath) -> list[Act]:
     """The acts of a script, for a machine of any size."""
     lines = text.split("\n")
     if lines[-1] == "":
@@ -65,7 +68,7 @@ def read_script(text, name):
     return [read_act(line, f"{name}:{number}") for number, line in enumerate(lines, 1)]
 
 
-def read_act(line, place):
+def read_act(line: str, place: str) -> Act:
     word, *numbers = line.split(" ")
     if word not in NUMBERS or len(numbers) != NUMBERS[word] or not all(re.fullmatch(NUMBER, it) for it in numbers):
         raise Refused(f"{place}: `{line[:40]}` is no line of a script; docs/guest/FORMATS.md tells which are.")
@@ -75,7 +78,7 @@ def read_act(line, place):
     return Act(word, tile, core)
 
 
-def read_played(acts, text, name):
+def read_played(acts: list[Act], text: str, name: FilePath) -> Played:
     """What the program said to a script, and the report after it."""
     lines = text.split("\n")
     if lines[0].startswith("fault "):
@@ -89,7 +92,7 @@ def read_played(acts, text, name):
     return played
 
 
-def read_replies(text):
+def read_replies(text: str) -> list[Said]:
     """The replies before a report, as `steps` writes them; none where the text begins otherwise."""
     replies = []
     for line in text.split("\n"):
@@ -100,19 +103,19 @@ def read_replies(text):
     return replies
 
 
-def read_said(line, place):
+def read_said(line: str, place: str) -> Said:
     found = re.fullmatch(r"([a-z]+) ([0-9]{1,10})", line)
     if not found or found[1] not in DONE + REFUSALS:
         raise Refused(f"{place}: this is no answer to an act; `{line[:40]}` stands where one is wanted.")
     return Said(found[1], int(found[2]))
 
 
-def read_trace(text, name):
+def read_trace(text: str, name: FilePath) -> list[list[int]]:
     """The numbers of each tap, from what the program says to `trace`."""
     lines = iter(text.removesuffix("\n").split("\n"))
     if next(lines) != "trace 1":
         raise Refused(f"{name}: this is no trace, which begins with `trace 1`.")
-    taps = []
+    taps: list[list[int]] = []
     for line in lines:
         if line == "end trace" and next(lines, None) is None:
             return taps
@@ -124,7 +127,7 @@ def read_trace(text, name):
     raise Refused(f"{name}: this is no trace: after {len(taps)} taps it has something else.")
 
 
-def lockstep(tiles, cores, rounds, seed=0):
+def lockstep(tiles: int, cores: int, rounds: int, seed: int = 0) -> Iterator[Act]:
     """The acts of so many rounds, each shuffled by the seed; 0 shuffles nothing."""
     acts, shuffle = round_of(tiles, cores), Shuffle(seed)
     for _ in range(rounds):
@@ -135,10 +138,10 @@ def lockstep(tiles, cores, rounds, seed=0):
 class Shuffle:
     """The order of rounds by a seed, as docs/guest/FORMATS.md has it for the second program."""
 
-    def __init__(self, seed):
+    def __init__(self, seed: int) -> None:
         self.seed, self.x = seed, seed
 
-    def shuffled(self, acts):
+    def shuffled(self, acts: Sequence[Act]) -> list[Act]:
         """The acts of the next round, where these are those of the round before."""
         acts = list(acts)
         if self.seed:
@@ -149,7 +152,7 @@ class Shuffle:
         return acts
 
 
-def round_of(tiles, cores):
+def round_of(tiles: int, cores: int) -> list[Act]:
     """The acts of a round: tile after tile dispatches and each of its cores steps; then there is a commit for each
     tile, and each tile splits."""
     acts = []
@@ -158,7 +161,7 @@ def round_of(tiles, cores):
     return acts + [Act("commit")] * tiles + [Act("split", tile) for tile in range(tiles)]
 
 
-def acts_a_round(acts):
+def acts_a_round(acts: Sequence[Act]) -> Optional[int]:
     """How many acts a round of a lockstep schedule has, in whatever order within a round; None of other scripts."""
     tiles = 1 + max((act.tile for act in acts if act.tile is not None), default=-1)
     cores = 1 + max((act.core for act in acts if act.core is not None), default=-1)
@@ -173,5 +176,5 @@ def acts_a_round(acts):
     return len(whole)
 
 
-def script_text(acts):
+def script_text(acts: Iterable[Act]) -> str:
     return "".join(f"{act}\n" for act in acts)

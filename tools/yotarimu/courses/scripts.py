@@ -1,44 +1,76 @@
 """Scripts as people write them, with comments and blank lines, and how they are played by the launcher."""
 from __future__ import annotations
 
-from yotarimu.common.files import read_bytes, read_text
+import pathlib
+from collections.abc import Iterator, Mapping, Sequence
+from typing import NamedTuple, Optional
+
+from yotarimu.common.files import FilePath, read_bytes, read_text
 from yotarimu.common.outcome import Refused
-from yotarimu.common.words import number_in, take_option
-from yotarimu.courses.schedules import read_played, read_script
-from yotarimu.programs.launcher import launched
-from yotarimu.reports.refusals import script_fault, shown
+from yotarimu.common.words import Words, number_in
+from yotarimu.courses.schedules import Played, Said, read_played, read_script
+from yotarimu.programs.launcher import launch
+from yotarimu.programs.table import Table
+from yotarimu.reports.refusals import script_fault, quote
 
 MOST_VALUE = 2 ** 32 - 1
+# The width up to which a reply stands right behind its line.
+WIDEST = 72
+# The program's options by their names, without the dashes.
+Options = dict[str, int]
 
 
-def options_in(words, table):
-    """The program's options among the words, each with a value that it may have, and the other words."""
-    rest, options = list(words), {}
+class NumberedAct(NamedTuple):
+    """An act as a script has it, and the number of its line in the file that people wrote."""
+    line: int
+    text: str
+
+
+class Outcome(NamedTuple):
+    """A script that was played: the status of the program, what it wrote, and that as a schedule."""
+    status: int
+    text: str
+    played: Played
+
+
+def options_of(values: Mapping[str, Optional[str]], table: Table) -> Options:
+    """The program's options of which values are given, each one that it may have."""
+    options: Options = {}
     for name, option in table.options.items():
-        text, rest = take_option(rest, f"--{name}")
+        text = values[name]
         if text is not None:
-            options[name] = number_in(text, 0, MOST_VALUE)
-            if options[name] not in option.values:
+            number = number_in(text, 0, MOST_VALUE)
+            if number is None or number not in option.values:
                 raise Refused(f"--{name} takes {option.told()}, and not `{text}`.")
-    return options, rest
-
-
-def options_beside(place, table):
-    """The options that the file `words` of a folder has, if there is one; it may begin with a command."""
-    file = place / "words"
-    words = read_text(file).split() if file.is_file() else []
-    options, rest = options_in([word for word in words if word not in table.commands], table)
-    if rest:
-        raise Refused(f"{file}: `{rest[0]}` is neither a command nor an option with its value.")
+            options[name] = number
     return options
 
 
-def read_lines(path):
+def options_beside(place: pathlib.Path, table: Table) -> Options:
+    """The options that the file `words` of a folder has, if there is one; it may begin with a command."""
+    file = place / "words"
+    words = read_text(file).split() if file.is_file() else []
+    given = Words("", table.options).known([word for word in words if word not in table.commands])
+    options = options_of(given.values, table)
+    if given.others:
+        raise Refused(f"{file}: `{given.others[0]}` is neither a command nor an option with its value.")
+    return options
+
+
+def files_at(word: str, image: Optional[str]) -> tuple[pathlib.Path, pathlib.Path]:
+    """The script and the image that a word means: a folder that has both, or a script."""
+    place = pathlib.Path(word)
+    if place.is_dir():
+        place = place / "script"
+    return place, pathlib.Path(image or place.parent / "image.bin")
+
+
+def read_lines(path: FilePath) -> list[bytes]:
     """The lines of a script, which may end as on any system."""
     return read_bytes(path).replace(b"\r\n", b"\n").replace(b"\r", b"\n").removesuffix(b"\n").split(b"\n")
 
 
-def acts_in(lines, name, options, table):
+def acts_in(lines: Sequence[bytes], name: FilePath, options: Options, table: Table) -> list[NumberedAct]:
     """The acts of a script's lines, each with its number; a refusal where a line is neither an act nor empty."""
     tiles, cores = (options.get(option, table.options[option].default) for option in ("tiles", "cores"))
     acts = []
@@ -47,24 +79,38 @@ def acts_in(lines, name, options, table):
         if not text:
             continue
         if fault := script_fault(text, tiles, cores):
-            raise Refused(f"{name}:{number}: {shown(text)}: {fault}.")
-        acts.append((number, text.decode("ascii")))
+            raise Refused(f"{name}:{number}: {quote(text)}: {fault}.")
+        acts.append(NumberedAct(number, text.decode("ascii")))
     return acts
 
 
-def play(image, acts, options, name):
-    """The status of the program, what it wrote, and that as a schedule that was played."""
+def play(image: FilePath, acts: Sequence[NumberedAct], options: Options, name: str) -> Outcome:
+    """What comes of acts that the program plays."""
     words = ["steps", *(f"--{option}={value}" for option, value in options.items())]
     script = "".join(f"{text}\n" for _, text in acts)
     status, text = asked(words, image, script.encode())
-    return status, text, read_played(read_script(script, name), text, name)
+    return Outcome(status, text, read_played(read_script(script, name), text, name))
 
 
-def asked(words, image, behind=b""):
+def asked(words: Sequence[str], image: FilePath, behind: bytes = b"") -> tuple[int, str]:
     """The status of a call on an image and what comes behind it, and what the program wrote; a refusal in place of a
     fault."""
-    status, written, _ = launched(words, read_bytes(image) + behind)
+    status, written, _ = launch(words, read_bytes(image) + behind)
     text = written.decode("utf-8", "replace")
     if text.startswith("fault") or not text:
         raise Refused(f"{image}: the program refused it: {text.strip() or f'status {status}'}.")
     return status, text
+
+
+def lines_beside(lines: Sequence[bytes], acts: Sequence[NumberedAct], said: Sequence[Said]) -> Iterator[str]:
+    """Each line of a script with its number, and behind an act its reply."""
+    replies = {act.line: answer for act, answer in zip(acts, said)}
+    texts = [line.rstrip().decode("utf-8", "replace").expandtabs() for line in lines]
+    width = min(WIDEST, max(map(len, texts), default=0))
+    for number, text in enumerate(texts, 1):
+        answer = replies.get(number)
+        if answer is None:
+            yield f"{number:>5}  {text}".rstrip()
+            continue
+        back = f", {answer.taken_back} taken back" if answer.taken_back else ""
+        yield f"{number:>5}  {text:<{width}}  {answer.reply}{back}"

@@ -9,27 +9,36 @@ import pathlib
 import re
 import sys
 import time
+from collections.abc import Iterator, Sequence
+from typing import Optional
 
-from yotarimu.common.files import encoded, read_bytes, read_written, write_whole
+from yotarimu.common.files import FilePath, encoded, read_bytes, read_written, write_whole
 from yotarimu.common.outcome import Refused, is_at_terminal
 from yotarimu.common.progress import show_progress
 from yotarimu.courses.grid import Shard, cells_of
 from yotarimu.programs.calls import Calls
 from yotarimu.programs.program import PROGRAM
+from yotarimu.programs.table import Table
 
 # The end of a report: the output, the words of the window, and the last line.
 REPORT = re.compile(rb"\noutput (-|(?:[0-9a-f]{2})+)\n((?:window [0-9a-f]{8} [0-9a-f]{8}\n)*)end [^\n]+\n\Z")
 
 
+# The options of a run by name, and what it came to, by column.
+Cell = dict[str, int]
+Result = dict[str, object]
+
+
 class Runner(Calls):
     """Runs one command on one input with different options."""
 
-    def __init__(self, program, command, data, wants_check, shows_progress):
+    def __init__(self, program: pathlib.Path, command: Sequence[str], data: bytes, wants_check: bool,
+                 shows_progress: bool) -> None:
         super().__init__(program)
         self.command, self.data = command, data
         self.wants_check, self.shows_progress = wants_check, shows_progress
 
-    def run_all(self, cells, jobs):
+    def run_all(self, cells: Sequence[Cell], jobs: int) -> Iterator[tuple[Cell, Result]]:
         """Each cell with its result, in order."""
         failed = 0
         for done, (cell, result) in enumerate(self.each(self.result, cells, jobs), 1):
@@ -39,7 +48,7 @@ class Runner(Calls):
                 show_progress("sweep", done, len(cells), told_failed)
             yield cell, result
 
-    def result(self, cell):
+    def result(self, cell: Cell) -> Result:
         """The columns of one run."""
         options = [f"--{name}={value}" for name, value in cell.items()]
         start = time.monotonic()
@@ -51,7 +60,7 @@ class Runner(Calls):
         return columns
 
 
-def told(written):
+def told(written: bytes) -> Result:
     """What a report tells: how many commits, and digests of the output and of the window; nothing of other texts."""
     found = REPORT.search(written)
     if not found:
@@ -64,7 +73,7 @@ def told(written):
     return {"commits": commits, "output": digest(emitted), "window": digest(found[2])}
 
 
-def digest(data):
+def digest(data: bytes) -> str:
     return hashlib.sha256(data).hexdigest()[:16]
 
 
@@ -75,39 +84,40 @@ NUMBERS = ("status", "commits", "seconds", "check")
 @dataclasses.dataclass
 class Request:
     """What the words ask for."""
-    image: str = None
-    load: list = None
-    rows: str = None
-    csv: str = None
-    plot: str = None
-    axes: str = None
+    image: Optional[str] = None
+    load: Optional[list[str]] = None
+    rows: Optional[str] = None
+    csv: Optional[str] = None
+    plot: Optional[str] = None
+    axes: Optional[str] = None
     program: pathlib.Path = PROGRAM
     jobs: int = 1
     shard: Shard = Shard()
     wants_check: bool = False
-    values: dict = dataclasses.field(default_factory=dict)
+    values: dict[str, Sequence[int]] = dataclasses.field(default_factory=dict)
 
 
-def header(table):
+def header(table: Table) -> list[str]:
     return ["input", *(f"--{name}" for name in table.options), *RESULTS]
 
 
-def swept(request, table):
+def swept(request: Request, table: Table) -> Iterator[list[object]]:
     """The rows of the runs that are asked for, each as it comes, in the order of the grid."""
     cells = cells_of(table, request.values)
     command = ["load", *request.load] if request.load else ["run"]
     data = read_bytes(request.image) if request.image is not None else b""
-    is_apart = request.csv or not sys.stdout.isatty()
+    is_apart = request.csv is not None or not sys.stdout.isatty()
     runner = Runner(request.program, command, data, request.wants_check, is_at_terminal() and is_apart)
     name = request.image if request.image is not None else " ".join(command)
     for cell, result in runner.run_all(request.shard.of(cells), request.jobs):
         yield [name, *cell.values(), *(result[column] for column in RESULTS)]
 
 
-def written_rows(request, table):
+def written_rows(request: Request, table: Table) -> list[dict[str, str]]:
     """Runs all, writes each row as it comes, or all to a file in the end, and gives them back. Where the file can't be
     written, or the sweep is ended early, the rows that are there go to standard output."""
-    rows, text = [], io.StringIO()
+    text = io.StringIO()
+    rows: list[dict[str, str]] = []
     file = text if request.csv else sys.stdout
     sink = csv.writer(file, lineterminator="\n")
     try:
@@ -126,12 +136,12 @@ def written_rows(request, table):
     return rows
 
 
-def failed(row):
+def failed(row: dict[str, str]) -> bool:
     """Whether a run gave no report, or one that was refused."""
     return row["commits"] == "" or row["check"] not in ("", "0")
 
 
-def read_rows(path):
+def read_rows(path: FilePath) -> list[dict[str, str]]:
     text = read_written(path)
     try:
         rows = list(csv.DictReader(io.StringIO(text)))

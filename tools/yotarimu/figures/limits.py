@@ -360,8 +360,9 @@ class Limits:
 
     def commit(self, task: CommittedTask) -> None:
         """Takes the next task that commits."""
-        for plans in (self.whole, self.fine, self.by_step):
-            plans.commit(task)
+        self.whole.commit(task)
+        self.fine.commit(task)
+        self.by_step.commit(task)
         self.work = [so_far + more for so_far, more in zip(self.work, task.work)]
 
     def told(self) -> list[Limit]:

@@ -7,6 +7,7 @@ import gc
 from collections.abc import Callable, Iterator
 from typing import Any, Optional
 
+from yotarimu.common.files import FilePath
 from yotarimu.common.outcome import Refused
 from yotarimu.figures.limits import Call, Cells, CommittedTask, Limit, Limits, Manner, Point
 from yotarimu.figures.occupancy import Occupancy
@@ -136,7 +137,7 @@ class Summing:
         # In an unordered root domain each timestamp counts as 0.
         self.bounds.commit(done, task.time()[0][0])
 
-    def close(self, end: dict[str, Any], machine: Machine, name: str) -> Figures:
+    def close(self, end: dict[str, Any], machine: Machine, name: FilePath) -> Figures:
         """Takes the last line. All work is useful, wasted or left: else the lines don't go together."""
         it = self.figures
         it.end, it.events, it.commits = end["end"], machine.events, machine.commits

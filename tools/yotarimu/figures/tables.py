@@ -122,8 +122,9 @@ def entries(it: Figures, listing: Listing = NO_LISTING) -> list[str]:
 
 def accesses(it: Figures) -> list[str]:
     """Loads and stores that were made, by tile."""
-    return table(["Tile", "loads", "stores"], ([str(tile), counted(counts["load"]), counted(counts["store"])]
-                                              for tile, counts in enumerate(it.tasks.accesses)))
+    rows = [[str(tile), counted(counts["load"]), counted(counts["store"])]
+            for tile, counts in enumerate(it.tasks.accesses)]
+    return table(["Tile", "loads", "stores"], rows)
 
 
 def occupancy(it: Figures) -> list[str]:

@@ -2,9 +2,11 @@
 from __future__ import annotations
 
 import collections
+from collections.abc import Iterator, Mapping
+from typing import Callable, Optional
 
 from yotarimu.common.tables import plain_ratio, ratio, table
-from yotarimu.courses.schedules import DONE, NUMBERS, REFUSALS, is_commit
+from yotarimu.courses.schedules import DONE, NUMBERS, REFUSALS, Played, is_commit
 
 # The curve of commits has so many points at most.
 MOST_POINTS = 60
@@ -14,9 +16,9 @@ class Tally:
     """The acts of a played schedule by answer, the tasks that they took back, and the commits over acts. What was asked
     after the end of the run, and answered `ended`, is counted apart."""
 
-    def __init__(self, played, acts_a_round=None):
-        self.replies = {}
-        self.taken_back = collections.Counter()
+    def __init__(self, played: Played, acts_a_round: Optional[int] = None) -> None:
+        self.replies: dict[str, collections.Counter[str]] = {}
+        self.taken_back: collections.Counter[str] = collections.Counter()
         self.end = played.report.end
         self.acts = self.commits = 0
         step, self.curve = -(-len(played.acts) // MOST_POINTS), [(0, 0)]
@@ -32,35 +34,35 @@ class Tally:
         if self.curve[-1] != (self.acts, self.commits):
             self.curve.append((self.acts, self.commits))
         # None where the script has no rounds.
-        self.rounds = acts_a_round and -(-self.acts // acts_a_round)
+        self.rounds = -(-self.acts // acts_a_round) if acts_a_round else None
 
-    def count(self, word, reply):
+    def count(self, word: str, reply: str) -> int:
         return self.replies[word][reply] if word in self.replies else 0
 
-    def dispatches(self):
+    def dispatches(self) -> int:
         return self.count("dispatch", "ok")
 
-    def all_taken_back(self):
+    def all_taken_back(self) -> int:
         return sum(self.taken_back.values())
 
-    def stalls(self):
+    def stalls(self) -> dict[str, int]:
         return {word: self.count(word, "stall") for word in NUMBERS if self.count(word, "stall")}
 
-    def words(self):
+    def words(self) -> list[str]:
         """The acts that stand in the script, in the order in which documents list them."""
         return [word for word in NUMBERS if word in self.replies]
 
-    def answers(self):
+    def answers(self) -> list[str]:
         """The answers that were given."""
         return [reply for reply in DONE + REFUSALS if any(counts[reply] for counts in self.replies.values())]
 
 
-def by_act(counts):
+def by_act(counts: Mapping[str, int]) -> str:
     """Counts by act, as `step 12, split 3`; a dash where all are 0."""
     return ", ".join(f"{word} {count:,}" for word, count in counts.items() if count) or "-"
 
 
-ROWS = (
+ROWS: tuple[tuple[str, Callable[[Tally], str]], ...] = (
     ("Acts before the end", lambda it: f"{it.acts:,}"),
     ("Rounds", lambda it: f"{it.rounds:,}" if it.rounds else "-"),
     ("Commits", lambda it: f"{it.commits:,}"),
@@ -77,7 +79,7 @@ ROWS = (
 
 
 # The same for CSV, in plain numbers.
-PLAIN = (
+PLAIN: tuple[tuple[str, Callable[[Tally], object]], ...] = (
     ("acts", lambda it: it.acts),
     ("rounds", lambda it: it.rounds or ""),
     ("commits", lambda it: it.commits),
@@ -91,7 +93,7 @@ PLAIN = (
 )
 
 
-def plain_rows(tallies):
+def plain_rows(tallies: Mapping[str, Tally]) -> Iterator[list[object]]:
     """The tallies of a dictionary by name as rows of CSV, a row each, under their head; with how often each act had
     each answer, and how many tasks each took back."""
     pairs = [(word, reply) for word in NUMBERS for reply in DONE + REFUSALS
@@ -104,12 +106,12 @@ def plain_rows(tallies):
                *(it.taken_back[word] for word in words)]
 
 
-def summary(tallies):
+def summary(tallies: Mapping[str, Tally]) -> list[str]:
     """The tallies of a dictionary by name, a column each."""
     return table(["", *tallies], ([name, *(cell(it) for it in tallies.values())] for name, cell in ROWS))
 
 
-def acts_by_reply(tally):
+def acts_by_reply(tally: Tally) -> list[str]:
     """How often each act had each answer."""
     answers = tally.answers()
     rows = [[word, *(f"{tally.count(word, reply):,}" for reply in answers),

@@ -3,7 +3,9 @@ from __future__ import annotations
 
 import dataclasses
 import struct
+from typing import Optional
 
+from yotarimu.common.files import FilePath
 from yotarimu.common.outcome import Refused
 
 TEXT, DATA = 0x10000, 0x10000000
@@ -29,7 +31,7 @@ VERSIONS = {1: Limits(64, 8, 0), 2: Limits(256, 16, 1_024)}
 class InitialTask:
     entry: int
     timestamp: int
-    arguments: tuple
+    arguments: tuple[int, ...]
 
 
 @dataclasses.dataclass
@@ -40,27 +42,27 @@ class Image:
     size: int
     window_offset: int
     window_words: int
-    tasks: list
+    tasks: list[InitialTask]
     version: int = 1
 
     @property
-    def limits(self):
+    def limits(self) -> Limits:
         return VERSIONS[self.version]
 
-    def word(self, address):
+    def word(self, address: int) -> Optional[int]:
         """The word of the text at an address, or None outside the text."""
         place = address - TEXT
         return int.from_bytes(self.text[place:place + 4], "little") if 0 <= place < len(self.text) else None
 
 
-def image_bytes(image):
+def image_bytes(image: Image) -> bytes:
     header = HEADER.pack(b"FRAC", image.version, image.is_ordered, len(image.text) // 4, len(image.initial), image.size,
                          image.window_offset, image.window_words, len(image.tasks))
     tasks = (TASK.pack(task.entry, task.timestamp, *task.arguments) for task in image.tasks)
     return b"".join((header, image.text, image.initial, *tasks))
 
 
-def read_image(data, name):
+def read_image(data: bytes, name: FilePath) -> Image:
     """The image at the front of bytes, which came from the file `name`."""
     if len(data) < HEADER.size or data[:4] != b"FRAC":
         raise Refused(f"{name}: this is no image: it doesn't begin with the letters FRAC and a header of 32 bytes.")

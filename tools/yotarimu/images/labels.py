@@ -2,15 +2,16 @@
 from __future__ import annotations
 
 import pathlib
+from typing import Optional
 
-from yotarimu.common.files import read_written
+from yotarimu.common.files import FilePath, read_written
 from yotarimu.common.outcome import Refused
-from yotarimu.images.image import DATA
-from yotarimu.images.listing import NO_LISTING, listing_of, read_listing
+from yotarimu.images.image import DATA, Image
+from yotarimu.images.listing import NO_LISTING, Listing, listing_of, read_listing
 from yotarimu.images.source import SUFFIXES, assemble, source_at, sources_in
 
 
-def listing_for(image_path, image, source):
+def listing_for(image_path: FilePath, image: Image, source: Optional[FilePath]) -> tuple[Listing, Optional[str]]:
     """The listing that a word names, or the one beside the image, and a remark where that one doesn't serve."""
     if source is None:
         path = pathlib.Path(image_path).parent / "listing"
@@ -27,14 +28,14 @@ def listing_for(image_path, image, source):
     return listing, None
 
 
-def listing_at(path):
+def listing_at(path: pathlib.Path) -> Listing:
     if path.is_dir() or path.suffix in SUFFIXES:
         sources = sources_in(path) if path.is_dir() else [source_at(path)]
         return listing_of(sources, assemble(sources))
     return read_listing(read_written(path), path)
 
 
-def differs(listing, image):
+def differs(listing: Listing, image: Image) -> Optional[int]:
     """The first address at which a listing's instructions aren't the image's text; None where there is none."""
     words = {address: word for address, word in listing.words.items() if address < DATA}
     return next((address for address in sorted(words) if image.word(address) != words[address]), None)

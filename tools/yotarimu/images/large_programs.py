@@ -4,6 +4,8 @@ from __future__ import annotations
 import dataclasses
 import math
 import random
+from collections.abc import Sequence, Sized
+from typing import NamedTuple
 
 # How far apart the main roads of a network are, and the lengths of its roads.
 MAIN_ROADS = 10
@@ -19,20 +21,20 @@ NODES_OF_A_HINT = GATES_OF_A_HINT = 8
 class Chance:
     """Random numbers of a seed, the same in all versions of Python."""
 
-    def __init__(self, seed):
+    def __init__(self, seed: int) -> None:
         self.random = random.Random(seed).random
 
-    def number(self, least, most):
+    def number(self, least: int, most: int) -> int:
         return least + int(self.random() * (most - least + 1))
 
 
-def table(declaration, rows):
+def table(declaration: str, rows: Sequence[str]) -> str:
     """A constant table of C, some rows a line."""
     lines = [", ".join(rows[place:place + 10]) for place in range(0, len(rows), 10)]
     return f"static const {declaration} = {{\n    " + ",\n    ".join(lines) + ",\n};\n"
 
 
-def starts(lists):
+def starts(lists: Sequence[Sized]) -> list[int]:
     """Where each list begins in all lists one after another, and where the last ends."""
     places = [0]
     for it in lists:
@@ -43,10 +45,10 @@ def starts(lists):
 # ---- roads
 
 
-def roads(size, seed):
+def roads(size: int, seed: int) -> str:
     """A network like that of a country: crossings on a grid, some roads missing, and main roads that are short."""
     chance, width = Chance(seed), math.isqrt(size - 1) + 1
-    lists = [[] for _ in range(size)]
+    lists: list[list[tuple[int, int]]] = [[] for _ in range(size)]
     for node in range(size):
         for other, line in ((node + 1, node // width), (node + width, node % width)):
             if other >= size or other == node + 1 and other % width == 0 or chance.number(1, 100) <= MISSING:
@@ -65,26 +67,34 @@ def roads(size, seed):
 # ---- a circuit
 
 
+class Gate(NamedTuple):
+    """What it does, the two wires that it reads, and after how long its own changes."""
+    kind: str
+    one: int
+    other: int
+    delay: int
+
+
 @dataclasses.dataclass
 class Circuit:
     """Gates in an order in which each comes after what it reads. A wire is an input or, behind those, a gate's own."""
     inputs: int
-    gates: list
+    gates: list[Gate]
     chance: Chance
 
-    def add(self, kind, one, other):
-        self.gates.append((kind, one, other, self.chance.number(*DELAYS)))
+    def add(self, kind: str, one: int, other: int) -> int:
+        self.gates.append(Gate(kind, one, other, self.chance.number(*DELAYS)))
         return self.inputs + len(self.gates) - 1
 
-    def half_adder(self, one, other):
+    def half_adder(self, one: int, other: int) -> tuple[int, int]:
         return self.add("XOR", one, other), self.add("AND", one, other)
 
-    def full_adder(self, one, other, carry):
+    def full_adder(self, one: int, other: int, carry: int) -> tuple[int, int]:
         part, first = self.half_adder(one, other)
         total, second = self.half_adder(part, carry)
         return total, self.add("OR", first, second)
 
-    def longest(self):
+    def longest(self) -> int:
         """The time after which no wire changes any more."""
         times = [0] * self.inputs
         for _, one, other, delay in self.gates:
@@ -92,31 +102,32 @@ class Circuit:
         return max(times)
 
 
-def multiplier(bits, chance):
+def multiplier(bits: int, chance: Chance) -> tuple[Circuit, list[int]]:
     """A circuit that multiplies two numbers of so many bits, and the wires of the product."""
     circuit = Circuit(2 * bits, [], chance)
     rows = [[circuit.add("AND", one, bits + other) for one in range(bits)] for other in range(bits)]
-    outputs, total, carry = [], rows[0], None
+    outputs, total = [], rows[0]
+    # The wire of the last carry, where there is one.
+    carry: list[int] = []
     for row in rows[1:]:
         outputs.append(total[0])
-        above = total[1:] + ([carry] if carry is not None else [])
-        total, carry = [], None
+        above = total[1:] + carry
+        total, carry = [], []
         for place, wire in enumerate(row):
-            terms = [wire] + above[place:place + 1] + ([carry] if carry is not None else [])
+            terms = [wire, *above[place:place + 1], *carry]
             if len(terms) == 1:
                 total.append(wire)
                 continue
-            adder = circuit.half_adder if len(terms) == 2 else circuit.full_adder
-            sum_wire, carry = adder(*terms)
+            sum_wire, *carry = circuit.half_adder(*terms) if len(terms) == 2 else circuit.full_adder(*terms)
             total.append(sum_wire)
-    return circuit, outputs + total + [carry]
+    return circuit, outputs + total + carry
 
 
-def circuit(bits, seed):
+def circuit(bits: int, seed: int) -> str:
     """A multiplier, and the numbers that it is given one period after another."""
     chance = Chance(seed)
     made, outputs = multiplier(bits, chance)
-    readers = [[] for _ in range(made.inputs + len(made.gates))]
+    readers: list[list[int]] = [[] for _ in range(made.inputs + len(made.gates))]
     for gate, (_, one, other, _) in enumerate(made.gates):
         for wire in (one, other):
             readers[wire].append(gate)

@@ -5,11 +5,14 @@ import bisect
 import dataclasses
 import functools
 import re
+from collections.abc import Iterable, Sequence
+from typing import Optional
 
+from yotarimu.common.files import FilePath
 from yotarimu.common.outcome import Refused
 from yotarimu.common.text import printable
-from yotarimu.images.image import DATA, STACK, TEXT
-from yotarimu.images.source import Instruction
+from yotarimu.images.image import DATA, STACK, TEXT, Image
+from yotarimu.images.source import Assembled, Instruction, Source
 
 # How many bytes of data are shown at most.
 MOST_BYTES = 65_536
@@ -18,12 +21,12 @@ MOST_BYTES = 65_536
 @dataclasses.dataclass
 class Listing:
     """The labels of an image by address, the words of its text, and the instructions with their source lines."""
-    labels: dict
-    words: dict
-    instructions: dict
-    source_lines: dict
+    labels: dict[int, str]
+    words: dict[int, int]
+    instructions: dict[int, Instruction]
+    source_lines: dict[tuple[str, int], str]
 
-    def label(self, address):
+    def label(self, address: int) -> Optional[str]:
         """An address by its label, with the distance after it; None before all labels of its range."""
         place = bisect.bisect_right(self.places, address) - 1
         start = TEXT if address < DATA else DATA
@@ -32,26 +35,26 @@ class Listing:
         distance = address - self.places[place]
         return self.labels[self.places[place]] + (f"+{distance}" if distance else "")
 
-    def labelled(self, address):
+    def labelled(self, address: int) -> str:
         """An address by its label, or in hexadecimal where it has none."""
         return self.label(address) or f"{address:08x}"
 
-    def task_words(self, entry, arguments):
+    def task_words(self, entry: int, arguments: Iterable[int]) -> str:
         """A task's label and its arguments, without the zeros after the last that isn't."""
         arguments = list(arguments)
         while arguments and arguments[-1] == 0:
             arguments.pop()
         return " ".join([self.labelled(entry), *map(self.argument_word, arguments)])
 
-    def argument_word(self, argument):
+    def argument_word(self, argument: int) -> str:
         """An argument as a number, or as a label where it is the address of data that has one."""
         return DATA <= argument < STACK and self.label(argument) or str(argument)
 
     @functools.cached_property
-    def places(self):
+    def places(self) -> list[int]:
         return sorted(self.labels)
 
-    def place(self, address):
+    def place(self, address: int) -> Optional[str]:
         """The source's name, line and text of an instruction; None where they aren't known."""
         found = self.instructions.get(address)
         if not found or not found.line:
@@ -63,9 +66,9 @@ class Listing:
 NO_LISTING = Listing({}, {}, {}, {})
 
 
-def listing_of(sources, assembled):
+def listing_of(sources: Sequence[Source], assembled: Assembled) -> Listing:
     """The listing of assembled sources."""
-    labels = {}
+    labels: dict[int, str] = {}
     for label in assembled.labels:
         labels.setdefault(label.address, label.name)
     words = {TEXT + place: int.from_bytes(assembled.text[place:place + 4], "little")
@@ -74,7 +77,7 @@ def listing_of(sources, assembled):
     return Listing(labels, words, assembled.instructions, lines)
 
 
-def listing_text(sources, assembled, image):
+def listing_text(sources: Sequence[Source], assembled: Assembled, image: Image) -> str:
     """The listing as text, a line each for labels, instructions and up to 16 bytes of data."""
     listing = listing_of(sources, assembled)
     names = ", ".join(source.name for source in sources) + (f" by {assembled.compiler}" if assembled.compiler else "")
@@ -90,11 +93,11 @@ def listing_text(sources, assembled, image):
     return "\n".join(lines) + "\n"
 
 
-def label_lines(assembled, address):
+def label_lines(assembled: Assembled, address: int) -> list[str]:
     return [f"{address:08x} <{label.name}>:" for label in assembled.labels if label.address == address]
 
 
-def instruction_line(listing, address, word):
+def instruction_line(listing: Listing, address: int, word: int) -> str:
     found = listing.instructions.get(address, Instruction("", "", 0))
     before = listing.instructions.get(address - 4, Instruction("", "", 0))
     line = f"{address:08x}  {word:08x}  {found.words:<28}"
@@ -105,7 +108,7 @@ def instruction_line(listing, address, word):
     return line.rstrip()
 
 
-def data_lines(assembled, start, data, title):
+def data_lines(assembled: Assembled, start: int, data: bytes, title: str) -> list[str]:
     """Bytes in rows of at most 16 that begin at each label; of bytes beyond those that are shown the labels alone."""
     if not data:
         return []
@@ -127,7 +130,7 @@ def data_lines(assembled, start, data, title):
     return lines
 
 
-def zero_lines(assembled, start, end):
+def zero_lines(assembled: Assembled, start: int, end: int) -> list[str]:
     """The labels of what begins as zeros."""
     if start == end:
         return []
@@ -137,7 +140,7 @@ def zero_lines(assembled, start, end):
     return lines
 
 
-def read_listing(text, name):
+def read_listing(text: str, name: FilePath) -> Listing:
     """A listing from its text."""
     listing = Listing({}, {}, {}, {})
     for line in text.splitlines():
@@ -150,7 +153,7 @@ def read_listing(text, name):
     return listing
 
 
-def read_instruction(listing, address, word, rest):
+def read_instruction(listing: Listing, address: int, word: int, rest: str) -> None:
     words, *place = rest.split(" | ", 2)
     # A line of C has many instructions; its text stands beside the first of them.
     found = re.fullmatch("(.+):([0-9]{1,9})", place[0].removesuffix(" |")) if place else None

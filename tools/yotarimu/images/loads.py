@@ -26,16 +26,16 @@ NO_EDGE = 0xFFFFFFFF
 CELLS = 8
 
 
-def generated(kind, seed, size):
+def generated(kind: str, seed: int, size: int) -> Image:
     """The image of a kind, a seed and a size within its limits."""
     return (walk if kind == "walk" else nest)(seed, size)
 
 
-def program(text):
+def program(text: str) -> bytes:
     return b"".join(int(word, 16).to_bytes(4, "little") for word in text.split())
 
 
-def walk(seed, size):
+def walk(seed: int, size: int) -> Image:
     """Nodes of a binary tree in which each has one more edge, to a node that isn't after it."""
     words, number = [], seed
     for node in range(size):
@@ -48,7 +48,7 @@ def walk(seed, size):
                  [first])
 
 
-def nest(seed, size):
+def nest(seed: int, size: int) -> Image:
     """Additions of rising amounts, each to two of eight cells."""
     tasks = [InitialTask(TEXT, 0, (seed % 1_000 + place, DATA + 4 * (place % CELLS), DATA + 4 * ((place + 3) % CELLS)))
              for place in range(size)]

@@ -7,9 +7,11 @@ from __future__ import annotations
 
 import dataclasses
 import heapq
+from collections.abc import Iterable, Sequence
+from typing import Optional, Union
 
-from yotarimu.images.image import DATA, STACK, TEXT
-from yotarimu.reports.report import Name
+from yotarimu.images.image import DATA, STACK, TEXT, Image
+from yotarimu.reports.report import Entry, Name, Trap
 
 MASK = 0xFFFFFFFF
 # How many instructions are run at most, which takes some seconds.
@@ -31,7 +33,7 @@ class Lost(Exception):
 class Trapped(Exception):
     """A task traps: its cause, and the address of the load or store that does."""
 
-    def __init__(self, cause, address=None):
+    def __init__(self, cause: int, address: Optional[int] = None) -> None:
         super().__init__(cause)
         self.cause, self.address = cause, address
 
@@ -40,11 +42,11 @@ class Trapped(Exception):
 class Domain:
     depth: int
     is_ordered: bool
-    outer: "Domain" = None
+    outer: Optional[Domain] = None
     # The timestamp of the task that made it.
     floor: int = 0
     # The timestamps of its pending tasks, as a heap.
-    pending: list = dataclasses.field(default_factory=list)
+    pending: list[int] = dataclasses.field(default_factory=list)
 
 
 @dataclasses.dataclass
@@ -53,22 +55,22 @@ class Task:
     name: Name
     entry: int
     timestamp: int
-    arguments: tuple
+    arguments: tuple[int, ...]
     domain: Domain
     turn: int = 0
 
-    def is_told_by(self, entry):
+    def is_told_by(self, entry: Entry) -> bool:
         return (self.domain.depth, self.timestamp) == (entry.depth, entry.timestamp)
 
 
 class Machine:
     """The data memory, and all tasks that the image and the turns so far have made."""
 
-    def __init__(self, image):
+    def __init__(self, image: Image) -> None:
         self.image = image
         self.memory = bytearray(image.initial) + bytes(image.size - len(image.initial))
         self.steps = 0
-        self.tasks = {}
+        self.tasks: dict[Name, Task] = {}
         # What the tasks emitted, and whether a turn was none of this image.
         self.output, self.is_other = bytearray(), False
         root = Domain(1, image.is_ordered)
@@ -77,24 +79,23 @@ class Machine:
         for index, initial in enumerate(image.tasks):
             self.add(Name(0, index), initial.entry, initial.timestamp, initial.arguments, root)
 
-    def add(self, name, entry, timestamp, arguments, domain):
+    def add(self, name: Name, entry: int, timestamp: int, arguments: Iterable[int], domain: Domain) -> None:
         timestamp = timestamp if domain.is_ordered else 0
         self.tasks[name] = Task(name, entry, timestamp, tuple(arguments), domain)
         heapq.heappush(domain.pending, timestamp)
 
-    def is_next(self, task):
+    def is_next(self, task: Task) -> bool:
         """Whether a task is of the innermost domain that has one pending, and has the least timestamp there."""
         while len(self.domains) > 1 and not self.domains[-1].pending:
             self.domains.pop()
         domain = self.domains[-1]
         return task.domain is domain and task.timestamp == domain.pending[0]
 
-    def follow(self, entries):
+    def follow(self, entries: Iterable[Entry]) -> Optional[str]:
         """Takes the turns of these entries. It ends with None, or with a sentence on why it can't go on."""
         for entry in entries:
             task = self.tasks.get(entry.name)
-            is_known = task and not task.turn
-            if not is_known or not self.is_next(task) or not task.is_told_by(entry):
+            if task is None or task.turn or not self.is_next(task) or not task.is_told_by(entry):
                 self.is_other = True
                 return f"turn {entry.turn} isn't one that the image allows; ./fractal check says more"
             task.turn = entry.turn
@@ -111,7 +112,7 @@ class Machine:
                 self.domains.append(run.inner)
         return None
 
-    def trapped(self, trap):
+    def trapped(self, trap: Trap) -> Optional[tuple[Run, Trapped]]:
         """The run of a pending task at its trap, and the trap as it is found here; None where another one is."""
         task = self.tasks.get(trap.name)
         if not task or task.turn:
@@ -129,16 +130,18 @@ class Machine:
 class Run:
     """One task's run, up to its end call."""
 
-    def __init__(self, machine, task):
+    def __init__(self, machine: Machine, task: Task) -> None:
         self.machine, self.task, self.limits = machine, task, machine.image.limits
         self.stack = bytearray(self.limits.stack)
         self.registers = [0] * 32
         self.registers[STACK_POINTER] = STACK + len(self.stack) if self.stack else 0
         self.registers[10:13] = task.arguments
         self.registers[13] = task.timestamp
-        self.pc, self.inner, self.children, self.emitted, self.is_over = task.entry, None, 0, 0, False
+        self.pc, self.children, self.emitted, self.is_over = task.entry, 0, 0, False
+        # The subdomain that the task made.
+        self.inner: Optional[Domain] = None
 
-    def go(self):
+    def go(self) -> None:
         machine, last = self.machine, self.machine.steps + MOST_BUDGET
         while not self.is_over:
             if machine.steps == last:
@@ -151,7 +154,7 @@ class Run:
             self.step(word)
             machine.steps += 1
 
-    def step(self, word):
+    def step(self, word: int) -> None:
         opcode, registers = word & 0x7F, self.registers
         one, two = registers[word >> 15 & 31], registers[word >> 20 & 31]
         immediate, result, following = signed(word >> 20, 12), None, self.pc + 4
@@ -184,18 +187,18 @@ class Run:
             registers[word >> 7 & 31] = result & MASK
         self.pc = following & MASK
 
-    def load(self, kind, address):
+    def load(self, kind: int, address: int) -> int:
         width = 1 << (kind & 3)
         if address % width:
             raise Trapped(LOAD_MULTIPLE, address)
-        start, data = (TEXT, self.machine.image.text) if address < DATA else self.changing(address)
+        start, data = self.readable(address)
         place = address - start
         if not 0 <= place <= len(data) - width:
             raise Trapped(LOAD_RANGE, address)
         value = int.from_bytes(data[place:place + width], "little")
         return value if kind & 4 else signed(value, 8 * width)
 
-    def store(self, width, address, value):
+    def store(self, width: int, address: int, value: int) -> None:
         if address % width:
             raise Trapped(STORE_MULTIPLE, address)
         start, data = self.changing(address)
@@ -204,11 +207,15 @@ class Run:
             raise Trapped(STORE_RANGE, address)
         data[place:place + width] = (value & (1 << 8 * width) - 1).to_bytes(width, "little")
 
-    def changing(self, address):
+    def readable(self, address: int) -> tuple[int, Union[bytes, bytearray]]:
+        """The bytes that an address may be read from, and where they begin: the text, the stack, or the data."""
+        return (TEXT, self.machine.image.text) if address < DATA else self.changing(address)
+
+    def changing(self, address: int) -> tuple[int, bytearray]:
         """The bytes that an address may belong to, and where they begin: the task's stack, or the data."""
         return (STACK, self.stack) if address >= STACK else (DATA, self.machine.memory)
 
-    def call(self):
+    def call(self) -> None:
         number, registers = self.registers[CALL], self.registers
         if number == 0:
             self.is_over = True
@@ -224,7 +231,7 @@ class Run:
         else:
             raise Trapped(BAD_CALL)
 
-    def make_subdomain(self, is_ordered):
+    def make_subdomain(self, is_ordered: bool) -> None:
         own = self.task.domain
         if self.inner:
             raise Trapped(SECOND_SUBDOMAIN)
@@ -232,7 +239,7 @@ class Run:
             raise Trapped(TOO_DEEP)
         self.inner = Domain(own.depth + 1, is_ordered, own, self.task.timestamp)
 
-    def enqueue(self, number, entry, timestamp, arguments):
+    def enqueue(self, number: int, entry: int, timestamp: int, arguments: Sequence[int]) -> None:
         own = self.task.domain
         domain = {1: own, 2: self.inner, 3: own.outer}[number]
         if domain is None:
@@ -247,13 +254,13 @@ class Run:
         self.children += 1
 
 
-def signed(value, bits):
+def signed(value: int, bits: int) -> int:
     """The low bits of a value as a two's complement number."""
     value &= (1 << bits) - 1
     return value - (1 << bits) if value >> bits - 1 else value
 
 
-def computed(word, one, two, is_other):
+def computed(word: int, one: int, two: int, is_other: int) -> int:
     """The result of a register instruction, or of one with an immediate; `is_other` tells SUB and SRA."""
     kind = word >> 12 & 7
     if kind == 0:
@@ -271,7 +278,7 @@ def computed(word, one, two, is_other):
     return one | two if kind == 6 else one & two
 
 
-def is_met(kind, one, two):
+def is_met(kind: int, one: int, two: int) -> bool:
     """Whether a branch is taken."""
     if kind & 4:
         is_less = one < two if kind & 2 else signed(one, 32) < signed(two, 32)
@@ -279,10 +286,10 @@ def is_met(kind, one, two):
     return (one == two) != bool(kind & 1)
 
 
-def branch_offset(word):
+def branch_offset(word: int) -> int:
     return signed((word >> 31) << 12 | (word >> 7 & 1) << 11 | (word >> 25 & 0x3F) << 5 | (word >> 8 & 0xF) << 1, 13)
 
 
-def jump_offset(word):
+def jump_offset(word: int) -> int:
     bits = (word >> 31) << 20 | (word >> 12 & 0xFF) << 12 | (word >> 20 & 1) << 11 | (word >> 21 & 0x3FF) << 1
     return signed(bits, 21)

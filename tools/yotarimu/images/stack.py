@@ -3,10 +3,13 @@ from __future__ import annotations
 
 import bisect
 import dataclasses
+from typing import NamedTuple, Optional
 
 from yotarimu.common.outcome import Refused, note
-from yotarimu.images.image import TEXT
+from yotarimu.images.elf import Label
+from yotarimu.images.image import TEXT, Image
 from yotarimu.images.serial_machine import branch_offset, jump_offset, signed
+from yotarimu.images.source import Assembled
 
 RA, SP, FRAME = 1, 2, 8
 LUI, AUIPC, JAL, JALR, BRANCH, IMMEDIATE, REGISTER, SYSTEM = 0x37, 0x17, 0x6F, 0x67, 0x63, 0x13, 0x33, 0x73
@@ -19,16 +22,30 @@ MOST_PARTS = 16
 MOST_ABOVE = 8
 
 
+class Way(NamedTuple):
+    """A function with what it takes of the stack, and the way behind it."""
+    name: str
+    taken: int
+    behind: Optional[Way]
+
+
+class Need(NamedTuple):
+    """The bytes that a function needs with all that it calls, and the way there."""
+    size: int
+    way: Optional[Way]
+
+
 class Function:
     """A function of the text: how far below its caller's its stack goes, whom it calls with how much of it taken, and
     what can't be told."""
 
-    def __init__(self, label, text):
+    def __init__(self, label: Label, text: bytes) -> None:
         self.name, self.start, self.end = label.name, label.address, min(label.address + label.size, TEXT + len(text))
-        self.text, self.frame, self.calls = text, 0, []
+        self.text, self.frame = text, 0
+        self.calls: list[tuple[int, int]] = []
         self.is_open = self.calls_pointers = self.has_table = False
         # The bytes that are taken at each instruction. They are the same on each way to it.
-        self.taken = {}
+        self.taken: dict[int, int] = {}
         self.walk(self.start, 0)
         unreached = [at for at in range(self.start, self.end, 4) if at not in self.taken]
         if self.has_table and unreached:
@@ -37,10 +54,10 @@ class Function:
         else:
             self.calls_pointers |= self.has_table
 
-    def word(self, at):
+    def word(self, at: int) -> int:
         return int.from_bytes(self.text[at - TEXT:at - TEXT + 4], "little")
 
-    def walk(self, at, taken):
+    def walk(self, at: int, taken: int) -> None:
         """Follows all ways from an instruction on, with so many bytes taken there."""
         todo = [(at, taken)]
         while todo:
@@ -50,7 +67,7 @@ class Function:
                 self.frame = max(self.frame, taken)
                 todo += self.after(at, self.word(at), taken)
 
-    def after(self, at, word, taken):
+    def after(self, at: int, word: int, taken: int) -> list[tuple[int, int]]:
         """The instructions that may come after one, each with the bytes that are taken then."""
         opcode, rd = word & 0x7F, word >> 7 & 31
         if opcode == BRANCH:
@@ -62,10 +79,10 @@ class Function:
         if word == EBREAK:
             return []
         if rd == SP and opcode not in WRITES_NOTHING:
-            taken = self.moved(at, word, taken)
+            taken = self.after_change(at, word, taken)
         return [(at + 4, taken)]
 
-    def jump(self, at, target, rd, taken):
+    def jump(self, at: int, target: Optional[int], rd: int, taken: int) -> list[tuple[int, int]]:
         if rd == 0 and target is not None and self.start <= target < self.end:
             return [(target, taken)]
         if target is not None:
@@ -76,14 +93,14 @@ class Function:
             self.has_table = True
         return [(at + 4, taken)] if rd else []
 
-    def target(self, at, word):
+    def target(self, at: int, word: int) -> Optional[int]:
         """Where `jalr` leads after `auipc`; None where that isn't known."""
         above, register = self.word(at - 4), word >> 15 & 31
         if at == self.start or above & 0x7F != AUIPC or above >> 7 & 31 != register:
             return None
         return at - 4 + signed(above >> 12 << 12, 32) + signed(word >> 20, 12) & 0xFFFFFFFF
 
-    def moved(self, at, word, taken):
+    def after_change(self, at: int, word: int, taken: int) -> int:
         """The bytes that are taken once an instruction has changed the stack pointer."""
         opcode, rs1, rs2, immediate = word & 0x7F, word >> 15 & 31, word >> 20 & 31, signed(word >> 20, 12)
         if opcode == IMMEDIATE and word >> 12 & 7 == 0 and rs1 == SP:
@@ -98,7 +115,7 @@ class Function:
         self.is_open = True
         return taken
 
-    def number(self, at, register):
+    def number(self, at: int, register: int) -> Optional[int]:
         """What `lui` and `addi` right above make of a register; None where it is something else."""
         number = 0
         for above in range(at - 4, max(self.start, at - 4 * MOST_ABOVE) - 4, -4):
@@ -121,21 +138,22 @@ class Function:
 class Stacks:
     """The stacks of all functions of a linked program, in an image whose tasks have so many bytes each."""
 
-    def __init__(self, assembled, most):
+    def __init__(self, assembled: Assembled, most: int) -> None:
         self.assembled, self.most = assembled, most
         labels = sorted((label for label in assembled.labels
                          if label.is_function and label.size and label.section == ".text"),
                         key=lambda label: label.address)
         self.functions = [Function(label, assembled.text) for label in labels]
         self.starts = [function.start for function in self.functions]
-        self.needs, self.told = {}, set()
+        self.needs: dict[Function, Need] = {}
+        self.told: set[str] = set()
 
-    def function_at(self, address):
+    def function_at(self, address: int) -> Optional[Function]:
         place = bisect.bisect_right(self.starts, address) - 1
         found = self.functions[place] if place >= 0 else None
         return found if found and address < found.end else None
 
-    def tell(self, function, sentence):
+    def tell(self, function: Function, sentence: str) -> None:
         place = self.assembled.place(function.start)
         has = f"a task's stack has {self.most:,} bytes" if self.most else "a task has no stack"
         sentence = f"`{function.name}` {sentence}; {has}."
@@ -144,10 +162,9 @@ class Stacks:
             self.told.add(sentence)
             note(sentence)
 
-    def need(self, function):
-        """The bytes that a function needs with all that it calls, and the way there: its first function with its part,
-        and the way behind. Calls may be far too deep for the interpreter's own stack."""
-        calls = [] if function in self.needs else [self.begun(function)]
+    def need(self, function: Function) -> Need:
+        """What a function needs with all that it calls. Calls may be far too deep for the interpreter's own stack."""
+        calls = [] if function in self.needs else [self.begin(function)]
         while calls:
             top = calls[-1]
             if top.place == len(top.function.calls):
@@ -155,64 +172,65 @@ class Stacks:
                 continue
             callee = self.function_at(top.function.calls[top.place][1])
             if callee and callee not in self.needs and all(call.function is not callee for call in calls):
-                calls.append(self.begun(callee))
+                calls.append(self.begin(callee))
                 continue
             if callee and callee not in self.needs:
                 self.tell_ring(calls[[call.function for call in calls].index(callee):])
             if callee:
-                top.add(*self.needs.get(callee, (0, None)))
+                top.add(self.needs.get(callee, Need(0, None)))
             top.place += 1
         return self.needs[function]
 
-    def begun(self, function):
+    def begin(self, function: Function) -> Call:
         """A function whose calls are to be looked at, once what can't be told of it alone was noted."""
         if function.is_open:
             self.tell(function, "takes a part of the stack whose size is known only when it runs")
         if function.calls_pointers:
             self.tell(function, "calls by a pointer, and what that takes of the stack isn't counted")
-        return Call(function, (function.frame, ((function.name, function.frame), None)))
+        return Call(function, Need(function.frame, Way(function.name, function.frame, None)))
 
-    def tell_ring(self, ring):
+    def tell_ring(self, ring: list[Call]) -> None:
         others = ", ".join(f"`{call.function.name}`" for call in ring[1:])
         self.tell(ring[0].function, f"calls itself{others and ' by ' + others}, and takes "
-                                    f"{sum(call.taken() for call in ring):,} bytes each time")
+                                    f"{sum(call.bytes_taken() for call in ring):,} bytes each time")
 
 
 @dataclasses.dataclass
 class Call:
     """A function on the way to others: the most that it needs so far with the way there, and the call it is at."""
     function: Function
-    most: tuple
+    most: Need
     place: int = 0
 
-    def taken(self):
+    def bytes_taken(self) -> int:
         return self.function.calls[self.place][0]
 
-    def add(self, size, way):
+    def add(self, callee: Need) -> None:
         """What the call it is at needs."""
-        if self.taken() + size > self.most[0]:
-            self.most = self.taken() + size, ((self.function.name, self.taken()), way)
+        size = self.bytes_taken() + callee.size
+        if size > self.most.size:
+            self.most = Need(size, Way(self.function.name, self.bytes_taken(), callee.way))
 
 
-def parts_told(way):
+def parts_text(way: Optional[Way]) -> str:
     """The functions on a way that take a part of the stack."""
     parts = []
     while way:
-        (name, taken), way = way
-        if taken:
-            parts.append(f"{name} {taken:,}")
+        if way.taken:
+            parts.append(f"{way.name} {way.taken:,}")
+        way = way.behind
     more = [f"and {len(parts) - MOST_PARTS:,} more"] if len(parts) > MOST_PARTS else []
     return ", ".join(parts[:MOST_PARTS] + more)
 
 
-def check_stack(assembled, image):
+def check_stack(assembled: Assembled, image: Image) -> None:
     """Refuses a task of C that surely needs more stack than it has, and tells of what can't be counted."""
     stacks = Stacks(assembled, image.limits.stack)
     for task in assembled.tasks_of_c():
         entry = stacks.function_at(task.address)
-        size, way = stacks.need(entry)
-        if size > image.limits.stack:
+        size, way = stacks.need(entry) if entry else Need(0, None)
+        if entry and size > image.limits.stack:
             body = assembled.place(entry.calls[0][1])
             has = f"has {image.limits.stack:,}" if image.limits.stack else f"has none in version {image.version}"
             raise Refused(f"{body + ': ' if body else ''}the task `{task.name}` needs {size:,} bytes of stack, "
-                          f"and {has}: {parts_told(way)}.")
+                          f"and {has}: {parts_text(way)}.")

@@ -1,9 +1,14 @@
 """The machine as text, for people: tiles with queues, cores and blocks, the words that were touched, the journal."""
 from __future__ import annotations
 
+from collections.abc import Iterable, Iterator, Sequence
+from typing import Optional
+
 from yotarimu.common.text import counted, printable
 from yotarimu.images.image import DATA
-from yotarimu.lines.replay import TRAPPED
+from yotarimu.images.listing import Listing
+from yotarimu.lines.fields import Line
+from yotarimu.lines.replay import TRAPPED, Machine, Task, Told
 from yotarimu.lines.sentences import label_of, listed
 
 # Of longer lists the rest is counted.
@@ -11,14 +16,15 @@ MOST_TASKS, MOST_WORDS, MOST_ENTRIES = 16, 16, 8
 WIDTH = 14
 
 
-class Standing:
+class Display:
     """What stands behind an act: the machine, the act's line with what it did, the journal and the output so far."""
 
-    def __init__(self, machine, told, entries, output, listing):
+    def __init__(self, machine: Machine, told: Optional[Told], entries: Sequence[str], output: bytes,
+                 listing: Listing) -> None:
         self.machine, self.told, self.entries, self.output, self.listing = machine, told, entries, output, listing
         self.back = {id(taken.task) for taken in told.taken} if told else set()
 
-    def lines(self):
+    def lines(self) -> Iterator[str]:
         head = self.machine.head
         for tile in range(head["tiles"]):
             yield from self.tile_lines(tile, head)
@@ -27,7 +33,7 @@ class Standing:
 
     # ---- a tile
 
-    def tile_lines(self, tile, head):
+    def tile_lines(self, tile: int, head: Line) -> Iterator[str]:
         queue = [self.machine.tasks[number] for number in self.machine.queues[tile]]
         block = list(self.machine.blocks[tile].values())
         if not queue and not block:
@@ -43,7 +49,7 @@ class Standing:
         yield titled("commit queue", f"{len(finished)} of {head['commit_queue']}{labels}")
         yield titled("block", f"{counted(len(block), 'task')}{behind(label_of(task) for task in block)}")
 
-    def task_lines(self, queue):
+    def task_lines(self, queue: Sequence[Task]) -> Iterator[str]:
         rows = [self.task_row(task) for task in queue[:MOST_TASKS]]
         widths = [max(map(len, column)) for column in zip(*rows)]
         for row in rows:
@@ -51,14 +57,14 @@ class Standing:
         if len(queue) > MOST_TASKS:
             yield f"      and {len(queue) - MOST_TASKS:,} more"
 
-    def task_row(self, task):
+    def task_row(self, task: Task) -> tuple[str, ...]:
         """A task's mark, label, label in the text with arguments, timestamp and state."""
         mark = ">" if self.told and task in (self.told.task, self.told.arrived) else " "
         back = ", taken back" if id(task) in self.back else ""
         words = self.listing.task_words(task.entry, task.arguments)
         return mark, label_of(task), words, f"timestamp {task.timestamp}", f"{task.state}{back}"
 
-    def core_told(self, tile, core):
+    def core_told(self, tile: int, core: int) -> str:
         number = self.machine.cores[tile][core]
         if number is None:
             return "free"
@@ -68,7 +74,7 @@ class Standing:
 
     # ---- what all tiles share
 
-    def word_lines(self, size):
+    def word_lines(self, size: int) -> Iterator[str]:
         words = self.machine.memory.words()
         if not words:
             yield "memory: no word was touched"
@@ -83,7 +89,7 @@ class Standing:
         if len(words) > MOST_WORDS:
             yield f"       and {len(words) - MOST_WORDS:,} more"
 
-    def journal_lines(self):
+    def journal_lines(self) -> Iterator[str]:
         if self.entries:
             yield f"journal, {counted(len(self.entries), 'commit')}"
             for entry in self.entries[-MOST_ENTRIES:]:
@@ -94,16 +100,16 @@ class Standing:
             yield f"output: {printable(self.output)}"
 
 
-def titled(title, text):
+def titled(title: str, text: str) -> str:
     return f"  {title:<{WIDTH}}{text}"
 
 
-def behind(labels):
+def behind(labels: Iterable[str]) -> str:
     told = listed(list(labels))
     return f": {told}" if told else ""
 
 
-def nearest(words, address):
+def nearest(words: Sequence[tuple[int, int]], address: Optional[int]) -> Sequence[tuple[int, int]]:
     """So many words as are shown, with the one at an address among them."""
     if len(words) <= MOST_WORDS or address is None:
         return words[:MOST_WORDS]

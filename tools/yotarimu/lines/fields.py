@@ -7,6 +7,7 @@ from __future__ import annotations
 
 import json
 import re
+from typing import Any, Callable, Optional
 
 WORDS = ("dispatch", "step", "take", "give", "abort", "commit", "coalesce", "split", "advance")
 # Those that are events; the others are told under their own word where no event was handed in.
@@ -31,125 +32,128 @@ DIGITS = re.compile(f"[0-9]{{1,{MOST_DIGITS}}}")
 MOST_SKELETONS = 4_096
 MOST_SHOWN = 40
 DECODER = json.JSONDecoder()
+# A line as JSON has it. The tables below say which fields each has, and of which kinds they are.
+Line = dict[str, Any]
+# Whether a value is of a kind, and the fields of a line: a name each, with its kind.
+Kind = Callable[[object], bool]
+Fields = tuple[tuple[str, Kind], ...]
 
 
 class Wrong(Exception):
     """A line isn't what it has to be. Its text says why, without the place."""
 
 
-def is_number(value):
-    return type(value) is int and 0 <= value < 10 ** MOST_DIGITS
+def is_number(value: object) -> bool:
+    return isinstance(value, int) and not isinstance(value, bool) and 0 <= value < 10 ** MOST_DIGITS
 
 
-def is_number_or_null(value):
+def is_number_or_null(value: object) -> bool:
     return value is None or is_number(value)
 
 
-def is_hex(value):
-    return type(value) is str and len(value) % 2 == 0 and not value.strip("0123456789abcdef")
+def is_hex(value: object) -> bool:
+    return isinstance(value, str) and len(value) % 2 == 0 and not value.strip("0123456789abcdef")
 
 
-def is_list(value):
-    return type(value) is list
+def one_of(*words: str) -> Kind:
+    return lambda value: isinstance(value, str) and value in words
 
 
-def one_of(*words):
-    return lambda value: type(value) is str and value in words
-
-
-def numbers(count=None):
+def numbers(count: Optional[int] = None) -> Kind:
     """Lists of numbers, of so many where a count is given."""
-    return lambda value: is_list(value) and count in (None, len(value)) and all(map(is_number, value))
+    return lambda value: isinstance(value, list) and count in (None, len(value)) and all(map(is_number, value))
 
 
-def rows(count):
+def rows(count: int) -> Kind:
     """Lists of at least one list of so many numbers."""
     is_row = numbers(count)
-    return lambda value: is_list(value) and value != [] and all(map(is_row, value))
+    return lambda value: isinstance(value, list) and value != [] and all(map(is_row, value))
 
 
-def is_queued(value):
+def is_queued(value: object) -> bool:
     """A task in a queue of a view: its id, state, timestamp, and dispatch number or null."""
-    return (is_list(value) and len(value) == 4 and is_number(value[0]) and value[1] in STATES
+    return (isinstance(value, list) and len(value) == 4 and is_number(value[0]) and value[1] in STATES
             and is_number(value[2]) and is_number_or_null(value[3]))
 
 
-def is_tile(value):
+def is_tile(value: object) -> bool:
     """A tile of a view."""
-    return (type(value) is dict and list(value) == ["queue", "cores", "finished", "block"]
-            and is_list(value["queue"]) and all(map(is_queued, value["queue"]))
-            and is_list(value["cores"]) and all(map(is_number_or_null, value["cores"]))
+    return (isinstance(value, dict) and list(value) == ["queue", "cores", "finished", "block"]
+            and isinstance(value["queue"], list) and all(map(is_queued, value["queue"]))
+            and isinstance(value["cores"], list) and all(map(is_number_or_null, value["cores"]))
             and numbers()(value["finished"]) and is_number(value["block"]))
 
 
-def is_tiles(value):
-    return is_list(value) and all(map(is_tile, value))
+def is_tiles(value: object) -> bool:
+    return isinstance(value, list) and all(map(is_tile, value))
 
 
 PAIR, TRIPLE = numbers(2), numbers(3)
 # Fields that may be missing have a mark behind their name.
 MAYBE = "?"
 NUMBER = is_number
-CHILD = (("to", one_of("same", "sub", "super")), ("entry", NUMBER), ("ts", NUMBER), ("args", TRIPLE), ("hint", NUMBER))
-ACCESS = (("addr", NUMBER), ("bytes", NUMBER))
+CHILD: Fields = (
+    ("to", one_of("same", "sub", "super")), ("entry", NUMBER), ("ts", NUMBER), ("args", TRIPLE), ("hint", NUMBER))
+ACCESS: Fields = (("addr", NUMBER), ("bytes", NUMBER))
 # What comes behind `asks`.
-ASKED = {
+ASKED: dict[str, Fields] = {
     "go": (), "load": ACCESS, "store": (*ACCESS, ("value", NUMBER)), "enqueue": CHILD, "ordered": (), "unordered": (),
     "emit": (("byte", NUMBER),), "end": (), "trap": (("cause", NUMBER),),
 }
 # What an act has before its reply, without its leg.
-PLACES = {
+PLACES: dict[str, Fields] = {
     "dispatch": (("tile", NUMBER), ("task?", NUMBER)), "step": (("tile", NUMBER), ("core", NUMBER), ("task?", NUMBER)),
     "take": (("tile", NUMBER), ("core", NUMBER)), "give": (("tile", NUMBER), ("core", NUMBER)),
     "abort": (("tile", NUMBER), ("task?", NUMBER)), "commit": (("task?", NUMBER),), "coalesce": (("tile", NUMBER),),
     "split": (("tile", NUMBER),), "advance": (),
 }
-MOVED = (("aborted?", NUMBER), ("back?", rows(2)), ("gone?", numbers()), ("spilled?", rows(3)))
-ARRIVED = (("new", NUMBER), ("in", NUMBER))
+MOVED: Fields = (("aborted?", NUMBER), ("back?", rows(2)), ("gone?", numbers()), ("spilled?", rows(3)))
+ARRIVED: Fields = (("new", NUMBER), ("in", NUMBER))
 # What an event changed beside the tasks that it took back or spilled; of a step by what its task asks for.
-OWN = {
+OWN: dict[str, Fields] = {
     "dispatch": (("core", NUMBER), ("number", NUMBER)), "split": (*ARRIVED, ("name", PAIR)),
     "commit": (("name", PAIR), ("depth", NUMBER), ("ts", NUMBER), ("output?", is_hex)),
     "load": (("old", NUMBER),), "store": (("old", NUMBER),), "enqueue": ARRIVED,
 }
-PLACED = (("at", NUMBER), ("do", one_of("place")), ("tile", NUMBER), ("new?", NUMBER), ("name", PAIR),
-          ("entry", NUMBER), ("ts", NUMBER), ("args", TRIPLE), ("hint", NUMBER))
-VIEW = (("view", NUMBER), ("next", NUMBER), ("tiles", is_tiles))
-FAULT = (("fault", one_of("usage", "image", "script", "long")), ("number?", NUMBER), ("offset?", NUMBER),
-         ("line?", NUMBER))
+PLACED: Fields = (
+    ("at", NUMBER), ("do", one_of("place")), ("tile", NUMBER), ("new?", NUMBER), ("name", PAIR),
+    ("entry", NUMBER), ("ts", NUMBER), ("args", TRIPLE), ("hint", NUMBER))
+VIEW: Fields = (("view", NUMBER), ("next", NUMBER), ("tiles", is_tiles))
+FAULT: Fields = (
+    ("fault", one_of("usage", "image", "script", "long")), ("number?", NUMBER), ("offset?", NUMBER), ("line?", NUMBER))
 
 
-def head_fields(line):
+def head_fields(line: Line) -> Fields:
     rounds = (("rounds", NUMBER), ("seed", NUMBER), ("barren", NUMBER)) if line.get("course") == "lockstep" else ()
     return (("watch", NUMBER), ("course", one_of(*COURSES)), *rounds, *((name, NUMBER) for name in SETTINGS),
             ("root", one_of(*KINDS)), ("text", NUMBER), ("data", NUMBER), ("window", PAIR), ("tasks", NUMBER))
 
 
-def end_fields(line):
+def end_fields(line: Line) -> Fields:
     trap = (("cause", NUMBER), ("pc", NUMBER), ("name", PAIR)) if line["end"] == "trap" else ()
     return (("end", one_of(*ENDS)), *trap, ("n", NUMBER), ("journal", NUMBER), ("output", is_hex),
             ("window", numbers()))
 
 
-def leg_fields(line):
+def leg_fields(line: Line) -> Fields:
     if line["do"] != "step" or "leg" not in line:
         return ()
-    asks = line.get("asks")
+    asks = line.get("asks", "")
     return (("leg", NUMBER), ("pc", NUMBER), ("asks", one_of(*ASKED)), *ASKED.get(asks, ()))
 
 
-def replies_of(line):
+def replies_of(line: Line) -> tuple[str, ...]:
     stall = ("stall",) if line["do"] == "step" and line.get("asks") in STALLING else ()
     return (*REPLIES[line["do"]], *stall, ENDED)
 
 
-def change_fields(line):
+def change_fields(line: Line) -> Fields:
     if line.get("reply") != "ok" or line["do"] not in EVENTS:
         return ()
-    return (*MOVED, *OWN.get(line.get("asks") if line["do"] == "step" else line["do"], ()))
+    return (*MOVED, *OWN.get(line.get("asks", "") if line["do"] == "step" else line["do"], ()))
 
 
-def act_fields(line):
+def act_fields(line: Line) -> Fields:
     word = line.get("do")
     if word == "place":
         return PLACED
@@ -159,7 +163,7 @@ def act_fields(line):
             ("reply", one_of(*replies_of(line))), ("n", NUMBER), *change_fields(line))
 
 
-def fields_of(line):
+def fields_of(line: Line) -> Fields:
     """The fields that a line has to have, by what kind of line it is."""
     first = next(iter(line), None)
     if first == "at":
@@ -175,7 +179,7 @@ def fields_of(line):
     raise Wrong("it is no line that the second program tells")
 
 
-def need_fields(line):
+def need_fields(line: Line) -> None:
     """Refuses a line whose fields aren't these, in this order."""
     names = list(line)
     place = 0
@@ -191,7 +195,7 @@ def need_fields(line):
         raise Wrong(f"`{names[place]}` stands where it mustn't")
 
 
-def shown(value):
+def shown(value: object) -> str:
     """The beginning of a value, for a sentence."""
     text = value if isinstance(value, str) else json.dumps(value)
     return text if len(text) <= MOST_SHOWN else f"{text[:MOST_SHOWN]}.."
@@ -202,28 +206,29 @@ class Shapes:
 
     __slots__ = ("known",)
 
-    def __init__(self):
-        self.known = set()
+    def __init__(self) -> None:
+        self.known: set[str] = set()
 
-    def line_of(self, text):
+    def line_of(self, text: str) -> Line:
         """The fields of a line, without its newline; Wrong where it is none."""
         try:
-            line, end = DECODER.raw_decode(text)
+            decoded, end = DECODER.raw_decode(text)
         except ValueError:
             raise Wrong(f"`{shown(text)}` is no JSON") from None
         except RecursionError:
             raise Wrong("it is nested too deep") from None
         skeleton = DIGITS.sub("0", text)
         if skeleton not in self.known or end != len(text):
-            need_shape(text, line)
+            need_shape(text, decoded)
             # The digits of bytes in hexadecimal are no numbers.
-            if len(self.known) < MOST_SKELETONS and "output" not in line:
+            if len(self.known) < MOST_SKELETONS and "output" not in decoded:
                 self.known.add(skeleton)
+        line: Line = decoded
         return line
 
 
-def need_shape(text, line):
-    if type(line) is not dict:
+def need_shape(text: str, line: object) -> None:
+    if not isinstance(line, dict):
         raise Wrong("it is no object of JSON")
     need_fields(line)
     if json.dumps(line, separators=(",", ":")) != text:

@@ -16,11 +16,13 @@ from __future__ import annotations
 
 import contextlib
 import sys
+from typing import IO, Iterator, Optional
 
-from yotarimu.common.files import MOST_READ
+from yotarimu.common.files import MOST_READ, FilePath
 from yotarimu.common.outcome import Refused
 from yotarimu.courses.schedules import MOST_CORES, MOST_TILES
-from yotarimu.lines.fields import Shapes, Wrong
+from yotarimu.images.image import Image
+from yotarimu.lines.fields import Line, Shapes, Wrong
 from yotarimu.lines.replay import Machine, Told
 
 # The values that the numbers of a head may have: docs/guest/FORMATS.md.
@@ -38,14 +40,17 @@ MOST_WINDOW = 4_096
 class Watched:
     """A text that is read, line by line. `is_cut_allowed` says whether it may break off before its end."""
 
-    def __init__(self, file, name, is_cut_allowed=False, image=None):
+    def __init__(self, file: IO[bytes], name: FilePath, is_cut_allowed: bool = False,
+                 image: Optional[Image] = None) -> None:
         self.file, self.name, self.is_cut_allowed = file, name, is_cut_allowed
-        self.number, self.shapes, self.end = 0, Shapes(), None
+        self.number, self.shapes = 0, Shapes()
+        # The last line, once it was read; None where the text was cut before it.
+        self.end: Optional[Line] = None
         self.head = self.read_head()
         with self.place_told():
             self.machine = Machine(self.head, image)
 
-    def read_head(self):
+    def read_head(self) -> Line:
         text = self.next_text()
         if text is None:
             raise Refused(f"{self.name}: it has no whole line, so it isn't what the second program tells.")
@@ -54,7 +59,7 @@ class Watched:
             need_head(head)
         return head
 
-    def __iter__(self):
+    def __iter__(self) -> Iterator[Told]:
         follow, line_of = self.machine.follow, self.shapes.line_of
         with self.place_told():
             while (text := self.next_text()) is not None:
@@ -72,7 +77,7 @@ class Watched:
         if self.end is None and not self.is_cut_allowed:
             raise Refused(f"{self.name}: it has no end: it was cut behind line {self.number}.")
 
-    def next_text(self):
+    def next_text(self) -> Optional[str]:
         """The next line without its newline; None where there is no whole line any more."""
         data = self.file.readline(MOST_READ)
         if not data.endswith(b"\n"):
@@ -83,7 +88,7 @@ class Watched:
         return data[:-1].decode("ascii", "replace")
 
     @contextlib.contextmanager
-    def place_told(self):
+    def place_told(self) -> Iterator[None]:
         """Tells what is wrong with the line that was read last, with its number."""
         try:
             yield
@@ -91,7 +96,7 @@ class Watched:
             raise Refused(f"{self.name}:{self.number}: {wrong}.") from None
 
 
-def need_head(head):
+def need_head(head: Line) -> None:
     """Refuses a first line that is no head, or is that of no machine."""
     if "fault" in head:
         told = " ".join(str(value) for value in head.values())
@@ -109,9 +114,12 @@ def need_head(head):
 
 
 @contextlib.contextmanager
-def open_watched(path, is_cut_allowed=False, image=None):
+def open_watched(path: FilePath, is_cut_allowed: bool = False, image: Optional[Image] = None) -> Iterator[Watched]:
     """Opens a text that the second program told; `-` is standard input."""
-    if str(path) == "-" and sys.stdin is None:
+    if str(path) != "-":
+        with open(path, "rb") as file:
+            yield Watched(file, path, is_cut_allowed, image)
+        return
+    if sys.stdin is None:
         raise Refused("standard input is closed.")
-    with contextlib.nullcontext(sys.stdin.buffer) if str(path) == "-" else open(path, "rb") as file:
-        yield Watched(file, path, is_cut_allowed, image)
+    yield Watched(sys.stdin.buffer, path, is_cut_allowed, image)

@@ -9,15 +9,19 @@ from __future__ import annotations
 
 import hashlib
 import itertools
-from typing import Iterator, NamedTuple
+from collections.abc import Sequence
+from typing import Callable, Iterator, NamedTuple, Optional
 
+from yotarimu.images.image import Image
 from yotarimu.lines.dispatch_numbers import DispatchNumbers
-from yotarimu.lines.fields import EVENTS, Wrong
+from yotarimu.lines.fields import EVENTS, Line, Wrong
 from yotarimu.lines.legs import Legs
 from yotarimu.lines.memory import DATA_START, Memory
 from yotarimu.lines.rounds import Rounds
 from yotarimu.lines.times import UNDISPATCHED, Domain, Time, root
 
+# Of a task: which turn created it, and its place among those children.
+Pair = tuple[int, int]
 IDLE, RUNNING, TRAPPED, FINISHED = "idle", "running", "trapped", "finished"
 ORDERED = "ordered"
 SPILLED, COMMITTED, GONE = "spilled", "committed", "gone"
@@ -54,13 +58,15 @@ class Task:
                  "hint", "domain", "made_at", "made_step", "number", "dispatch", "work", "steps", "pc", "accesses",
                  "children", "subdomain", "emitted")
 
-    def __init__(self, line, creator, index, domain):
-        self.id = line.get("new")
-        self.tile = line["tile"] if creator is None else line["in"]
+    def __init__(self, line: Line, creator: Optional[Task], index: int, domain: Domain) -> None:
+        self.id: Optional[int] = line.get("new")
+        self.tile: int = line["tile"] if creator is None else line["in"]
         self.creator, self.index, self.domain = creator, index, domain
-        self.name = (0, index) if creator is None else None
-        self.entry, self.timestamp = line["entry"], line["ts"]
-        self.arguments, self.hint = line["args"], line["hint"]
+        self.name: Optional[Pair] = (0, index) if creator is None else None
+        self.entry: int = line["entry"]
+        self.timestamp: int = line["ts"]
+        self.arguments: list[int] = line["args"]
+        self.hint: int = line["hint"]
         self.made_at, self.made_step = (0, 0) if creator is None else (creator.work, creator.steps)
         self.wait()
 
@@ -82,17 +88,22 @@ class Task:
             return self.domain.inner(self.time(), self.subdomain == ORDERED)
         return self.domain.outer() if to == "super" else self.domain
 
-    def wait(self):
+    def wait(self) -> None:
         """It is idle, with nothing done."""
-        self.state, self.core, self.number, self.pc = IDLE, None, None, self.entry
-        self.dispatch = UNDISPATCHED
-        self.work, self.steps, self.accesses, self.children, self.subdomain, self.emitted = 0, 0, [], [], None, []
+        self.state, self.pc, self.dispatch = IDLE, self.entry, UNDISPATCHED
+        self.core: Optional[int] = None
+        self.number: Optional[int] = None
+        self.work = self.steps = 0
+        self.accesses: list[Access] = []
+        self.children: list[Task] = []
+        self.subdomain: Optional[str] = None
+        self.emitted: list[int] = []
 
-    def told_name(self):
+    def told_name(self) -> str:
         """Its name as in a report; of a task that has none, its place among the children of its creator."""
         if self.name is not None:
             return f"{self.name[0]}.{self.name[1]}"
-        if self.creator.name is not None:
+        if self.creator is not None and self.creator.name is not None:
             return f"child {self.index} of {self.creator.told_name()}"
         return f"child {self.index} of a task without a name"
 
@@ -102,10 +113,10 @@ class Taken(NamedTuple):
     task: Task
     time: Time
     work: int
-    accesses: list
-    children: list
+    accesses: list[Access]
+    children: list[Task]
     state: str
-    core: int
+    core: Optional[int]
     is_gone: bool
 
 
@@ -115,12 +126,17 @@ class Told:
 
     __slots__ = ("number", "line", "is_made", "task", "taken", "gone", "spilled", "arrived", "committed", "access")
 
-    def __init__(self, number, line):
+    def __init__(self, number: int, line: Line) -> None:
         self.number, self.line, self.is_made = number, line, False
-        self.task = self.arrived = self.committed = self.access = None
-        self.taken = self.gone = self.spilled = ()
+        self.task: Optional[Task] = None
+        self.arrived: Optional[Task] = None
+        self.committed: Optional[Task] = None
+        self.access: Optional[Access] = None
+        self.taken: Sequence[Taken] = ()
+        self.gone: Sequence[Task] = ()
+        self.spilled: Sequence[Task] = ()
 
-    def is_act(self):
+    def is_act(self) -> bool:
         """Whether it tells an act, and neither where a task was placed nor a view."""
         return "reply" in self.line
 
@@ -131,7 +147,7 @@ class Machine:
     committed; how many `queued`, `running`, `waiting` (finished) and `spilled` tasks there are. `memory` has the bytes
     of the data that were touched, by address, where they are kept, and is None else."""
 
-    def __init__(self, head, image=None):
+    def __init__(self, head: Line, image: Optional[Image] = None) -> None:
         self.head, tiles = head, range(head["tiles"])
         self.root, self.numbers = root(head["root"] == ORDERED), DispatchNumbers()
         self.memory = Memory(None if image is None else image.initial)
@@ -139,10 +155,11 @@ class Machine:
         self.rounds = Rounds(head) if head["course"] == "lockstep" else None
         # Those that trapped, with the cause.
         self.traps: dict[Task, int] = {}
-        self.tasks = {}
-        self.queues, self.finished = [[] for _ in tiles], [[] for _ in tiles]
-        self.cores = [[None] * head["cores"] for _ in tiles]
-        self.blocks = [{} for _ in tiles]
+        self.tasks: dict[int, Task] = {}
+        self.queues: list[list[int]] = [[] for _ in tiles]
+        self.finished: list[list[int]] = [[] for _ in tiles]
+        self.cores: list[list[Optional[int]]] = [[None] * head["cores"] for _ in tiles]
+        self.blocks: list[dict[Pair, Task]] = [{} for _ in tiles]
         self.events = self.commits = self.acts = self.dispatches = 0
         self.queued = self.running = self.waiting = self.spilled = 0
         self.output = hashlib.sha256()
@@ -154,49 +171,51 @@ class Machine:
 
     # Lists of ids, and where tasks stand in them.
 
-    def arrive(self, task):
-        """A task comes last into the task queue of its tile."""
-        if task.id in self.tasks:
-            raise Wrong(f"id {task.id} is that of a task which is still there")
+    def arrive(self, task: Task, number: int) -> None:
+        """A task comes last into the task queue of its tile, with an id."""
+        if number in self.tasks:
+            raise Wrong(f"id {number} is that of a task which is still there")
         need_below(task.tile, self.head["tiles"], "a tile")
         queue = self.queues[task.tile]
         if len(queue) >= self.head["task_queue"]:
             raise Wrong(f"the task queue of tile {task.tile} is full")
-        self.tasks[task.id] = task
-        queue.append(task.id)
+        self.tasks[number] = task
+        queue.append(number)
         self.queued += 1
 
-    def leave(self, task, state):
+    def leave(self, task: Task, state: str) -> None:
         """A task leaves the task queue of its tile."""
         self.put_off(task)
-        self.queues[task.tile].remove(task.id)
-        del self.tasks[task.id]
+        number = id_of(task)
+        self.queues[task.tile].remove(number)
+        del self.tasks[number]
         self.queued -= 1
         task.state = state
 
-    def put_off(self, task):
+    def put_off(self, task: Task) -> None:
         """A task leaves its core, or the commit queue."""
         if task.core is not None:
             self.cores[task.tile][task.core] = None
             self.running -= 1
             task.core = None
         elif task.state is FINISHED:
-            self.finished[task.tile].remove(task.id)
+            self.finished[task.tile].remove(id_of(task))
             self.waiting -= 1
 
-    def task_at(self, number):
+    def task_at(self, number: int) -> Task:
         task = self.tasks.get(number)
         if task is None:
             raise Wrong(f"no task has the id {number}")
         return task
 
-    def need_tile(self, line):
-        need_below(line["tile"], self.head["tiles"], "a tile")
-        return line["tile"]
+    def need_tile(self, line: Line) -> int:
+        tile: int = line["tile"]
+        need_below(tile, self.head["tiles"], "a tile")
+        return tile
 
     # Lines.
 
-    def follow(self, told):
+    def follow(self, told: Told) -> None:
         """Does what a line tells."""
         line = told.line
         if "view" in line:
@@ -208,7 +227,7 @@ class Machine:
         if self.legs is not None:
             self.legs.note(told)
 
-    def place(self, told, line):
+    def place(self, told: Told, line: Line) -> None:
         """A task of the image stands in a queue, or in a block."""
         if self.acts or line["at"] or line["name"][0] or self.placed == self.head["tasks"]:
             raise Wrong("no task of the image is placed here")
@@ -218,11 +237,11 @@ class Machine:
         task = told.arrived = Task(line, None, line["name"][1], self.root)
         self.placed += 1
         if task.id is None:
-            self.spill(task, tile)
+            self.spill(task, tile, (0, task.index))
         else:
-            self.arrive(task)
+            self.arrive(task, task.id)
 
-    def act(self, told, line):
+    def act(self, told: Told, line: Line) -> None:
         self.count_act(line)
         told.is_made = line["reply"] == "ok" and line["do"] in EVENTS
         if line["n"] != self.events + told.is_made:
@@ -233,11 +252,11 @@ class Machine:
             need_below(line["core"], self.head["cores"], "a core")
         if "task" in line:
             told.task = self.task_at(line["task"])
-        if "leg" in line and told.task is None:
-            raise Wrong("no task is told that takes this leg")
         if line["do"] == "take" and line["reply"] == "ok" and self.cores[line["tile"]][line["core"]] is None:
             raise Wrong(f"core {line['core']} of tile {line['tile']} holds no task")
         if "leg" in line:
+            if told.task is None:
+                raise Wrong("no task is told that takes this leg")
             self.need_leg(told.task, line)
         reasons = REFUSALS.get(line["do"], {})
         if line["reply"] in reasons and not reasons[line["reply"]](self, line["tile"]):
@@ -249,7 +268,7 @@ class Machine:
         if self.rounds is not None:
             self.rounds.note_commits(self.commits)
 
-    def need_leg(self, task, line):
+    def need_leg(self, task: Task, line: Line) -> None:
         """A leg of a whole quantum goes on, whatever stands next, and no other does. None goes beyond the budget."""
         leg, asks = line["leg"], line["asks"]
         if leg > self.head["quantum"] or (leg == self.head["quantum"]) != (asks == "go"):
@@ -258,19 +277,19 @@ class Machine:
         if left < (asks not in NOT_EXECUTED) or asks == "trap" and (line["cause"] == OVER_BUDGET) != (left == 0):
             raise Wrong(f"of {self.head['budget']} instructions that a task may execute {left} would be left")
 
-    def has_no_idle(self, tile):
+    def has_no_idle(self, tile: int) -> bool:
         return all(self.tasks[number].state is not IDLE for number in self.queues[tile])
 
-    def has_no_core(self, tile):
+    def has_no_core(self, tile: int) -> bool:
         return None not in self.cores[tile] and not self.has_no_idle(tile)
 
-    def has_no_block(self, tile):
+    def has_no_block(self, tile: int) -> bool:
         return not self.blocks[tile]
 
-    def has_no_room(self, tile):
+    def has_no_room(self, tile: int) -> bool:
         return bool(self.blocks[tile]) and len(self.queues[tile]) == self.head["task_queue"]
 
-    def count_act(self, line):
+    def count_act(self, line: Line) -> None:
         if self.placed < self.head["tasks"]:
             raise Wrong(f"{self.placed} of {self.head['tasks']} tasks of the image are placed before the first act")
         is_next = line["at"] == self.acts + 1 if self.rounds is None else line["at"] > self.acts
@@ -280,7 +299,7 @@ class Machine:
             self.rounds.need(line)
         self.acts = line["at"]
 
-    def force(self, told, line):
+    def force(self, told: Told, line: Line) -> None:
         """What an event forces: tasks are taken back, some of them leave, and tasks are spilled."""
         if "back" in line:
             self.take_back(told, line)
@@ -289,7 +308,7 @@ class Machine:
         if "spilled" in line:
             told.spilled = [self.spill_by_name(*row) for row in line["spilled"]]
 
-    def take_back(self, told, line):
+    def take_back(self, told: Told, line: Line) -> None:
         if line.get("asks", line["do"]) not in TAKING_BACK:
             raise Wrong("such an act takes no task back")
         gone, back = set(line.get("gone", ())), {row[0] for row in line["back"]}
@@ -306,32 +325,34 @@ class Machine:
             self.traps.pop(taken.task, None)
         told.gone = [taken.task for taken in told.taken if taken.is_gone]
 
-    def taken_of(self, number, work, is_gone):
+    def taken_of(self, number: int, work: int, is_gone: bool) -> Taken:
         task = self.task_at(number)
         if task.work != work:
             raise Wrong(f"task {number} executed {task.work} instructions, and not {work}")
         return Taken(task, task.time(), task.work, task.accesses, task.children, task.state, task.core, is_gone)
 
-    def spill_by_name(self, number, creator, index):
+    def spill_by_name(self, number: int, creator: int, index: int) -> Task:
         task = self.task_at(number)
         is_heirs = task.name is None and creator == self.commits + 1
         if task.state is not IDLE or not (task.name == (creator, index) or is_heirs and task.index == index):
             raise Wrong(f"task {number} can't be spilled as {creator}.{index}")
         self.leave(task, SPILLED)
-        task.name, task.id = (creator, index), None
-        self.spill(task, task.tile)
+        task.id = None
+        self.spill(task, task.tile, (creator, index))
         return task
 
-    def spill(self, task, tile):
-        if task.name in self.blocks[tile]:
+    def spill(self, task: Task, tile: int, name: Pair) -> None:
+        """A task stands in a block, by its name."""
+        task.name = name
+        if name in self.blocks[tile]:
             raise Wrong(f"task {task.told_name()} is in that block already")
         task.state = SPILLED
-        self.blocks[tile][task.name] = task
+        self.blocks[tile][name] = task
         self.spilled += 1
 
     # Events, behind what they force.
 
-    def dispatch(self, told, line):
+    def dispatch(self, told: Told, line: Line) -> None:
         task, core = told.task, line["core"]
         if task is None or task.state is not IDLE or task.tile != line["tile"]:
             raise Wrong("it dispatches no idle task of its tile")
@@ -347,7 +368,7 @@ class Machine:
         self.cores[task.tile][core] = task.id
         self.running += 1
 
-    def step(self, told, line):
+    def step(self, told: Told, line: Line) -> None:
         task, asks = told.task, line.get("asks")
         if asks is None or task is None or task.state is not RUNNING:
             raise Wrong("no task runs that takes this leg")
@@ -359,7 +380,7 @@ class Machine:
         if asks in REQUESTS:
             REQUESTS[asks](self, told, task, line)
 
-    def load_or_store(self, told, task, line):
+    def load_or_store(self, told: Told, task: Task, line: Line) -> None:
         """An access. A load makes the bytes known that stand there, a store those that it leaves."""
         is_store = line["asks"] == "store"
         address, count, old = line["addr"], line["bytes"], line["old"]
@@ -375,42 +396,42 @@ class Machine:
         if is_store:
             self.memory.write(address, count, value)
 
-    def enqueue(self, told, task, line):
+    def enqueue(self, told: Told, task: Task, line: Line) -> None:
         child = told.arrived = Task(line, task, len(task.children), task.domain_of_child(line["to"]))
-        self.arrive(child)
+        self.arrive(child, line["new"])
         task.children.append(child)
 
-    def make_subdomain(self, _told, task, line):
+    def make_subdomain(self, _told: Told, task: Task, line: Line) -> None:
         if task.subdomain is not None:
             raise Wrong(f"task {task.id} has a subdomain already")
         task.subdomain = line["asks"]
 
-    def emit(self, _told, task, line):
+    def emit(self, _told: Told, task: Task, line: Line) -> None:
         if line["byte"] > 0xFF:
             raise Wrong(f"{line['byte']} is no byte")
         task.emitted.append(line["byte"])
 
-    def finish(self, _told, task, _line):
+    def finish(self, _told: Told, task: Task, _line: Line) -> None:
         self.put_off(task)
         if len(self.finished[task.tile]) == self.head["commit_queue"]:
             raise Wrong(f"the commit queue of tile {task.tile} is full")
         task.state = FINISHED
-        self.finished[task.tile].append(task.id)
+        self.finished[task.tile].append(id_of(task))
         self.waiting += 1
 
-    def trap(self, _told, task, line):
+    def trap(self, _told: Told, task: Task, line: Line) -> None:
         task.state = TRAPPED
         self.traps[task] = line["cause"]
 
-    def split(self, told, line):
-        task = told.arrived = self.blocks[line["tile"]].pop(tuple(line["name"]), None)
+    def split(self, told: Told, line: Line) -> None:
+        task = told.arrived = self.blocks[line["tile"]].pop((line["name"][0], line["name"][1]), None)
         if task is None or line["in"] != line["tile"]:
             raise Wrong(f"no such task is in the block of tile {line['tile']}")
         self.spilled -= 1
         task.id, task.state = line["new"], IDLE
-        self.arrive(task)
+        self.arrive(task, line["new"])
 
-    def commit(self, told, line):
+    def commit(self, told: Told, line: Line) -> None:
         task = told.committed = told.task
         if task is None or task.state is not FINISHED:
             raise Wrong("it commits no finished task")
@@ -426,16 +447,16 @@ class Machine:
         for child in task.children:
             child.name, child.creator = (self.commits, child.index), None
 
-    def abort(self, told, _line):
+    def abort(self, told: Told, _line: Line) -> None:
         if told.task is None:
             raise Wrong("it takes no task back")
 
-    def nothing_more(self, _told, _line):
+    def nothing_more(self, _told: Told, _line: Line) -> None:
         """An event that is whole with what it forces."""
 
     # The whole.
 
-    def compare(self, line):
+    def compare(self, line: Line) -> None:
         """Holds a view against the machine."""
         if line["next"] != self.numbers.next:
             raise Wrong(f"the next dispatch number is {self.numbers.next}, and {line['next']} is told")
@@ -448,7 +469,7 @@ class Machine:
             if whole != (rows, self.cores[tile], self.finished[tile], len(self.blocks[tile])):
                 raise Wrong(f"in tile {tile} the view isn't what the lines before it leave")
 
-    def close(self, line):
+    def close(self, line: Line) -> None:
         """Holds the last line against the machine."""
         self.need_end(line)
         if (line["n"], line["journal"]) != (self.events, self.commits):
@@ -463,7 +484,7 @@ class Machine:
         memory.undo(access for task in self.tasks.values() for access in task.accesses)
         memory.need_window(DATA_START + self.head["window"][0], line["window"])
 
-    def need_end(self, line):
+    def need_end(self, line: Line) -> None:
         """Holds how a run ended against what is left."""
         end, left = line["end"], len(self.tasks) + self.spilled
         if (end == "normal") != (left == 0):
@@ -478,15 +499,25 @@ class Machine:
 
 
 # Whether a tile may refuse so, by the event and the reply.
-REFUSALS = {"dispatch": {"empty": Machine.has_no_idle, "busy": Machine.has_no_core},
-            "split": {"empty": Machine.has_no_block, "stall": Machine.has_no_room}}
-MADE = {"dispatch": Machine.dispatch, "step": Machine.step, "abort": Machine.abort, "commit": Machine.commit,
-        "coalesce": Machine.nothing_more, "split": Machine.split}
-REQUESTS = {"load": Machine.load_or_store, "store": Machine.load_or_store, "enqueue": Machine.enqueue,
-            "ordered": Machine.make_subdomain, "unordered": Machine.make_subdomain, "emit": Machine.emit,
-            "end": Machine.finish, "trap": Machine.trap}
+REFUSALS: dict[str, dict[str, Callable[[Machine, int], bool]]] = {
+    "dispatch": {"empty": Machine.has_no_idle, "busy": Machine.has_no_core},
+    "split": {"empty": Machine.has_no_block, "stall": Machine.has_no_room}}
+MADE: dict[str, Callable[[Machine, Told, Line], None]] = {
+    "dispatch": Machine.dispatch, "step": Machine.step, "abort": Machine.abort, "commit": Machine.commit,
+    "coalesce": Machine.nothing_more, "split": Machine.split}
+REQUESTS: dict[str, Callable[[Machine, Told, Task, Line], None]] = {
+    "load": Machine.load_or_store, "store": Machine.load_or_store, "enqueue": Machine.enqueue,
+    "ordered": Machine.make_subdomain, "unordered": Machine.make_subdomain, "emit": Machine.emit,
+    "end": Machine.finish, "trap": Machine.trap}
 
 
-def need_below(number, count, what):
+def need_below(number: int, count: int, what: str) -> None:
     if number >= count:
         raise Wrong(f"{number} is {what} that the machine hasn't")
+
+
+def id_of(task: Task) -> int:
+    """The id of a task that stands in a queue."""
+    if task.id is None:
+        raise Wrong("a task of a block is in no queue")
+    return task.id

@@ -3,9 +3,11 @@ how much was done, stalled and taken back there."""
 from __future__ import annotations
 
 import dataclasses
+from collections.abc import Iterable, Iterator
+from typing import Callable
 from xml.sax.saxutils import escape
 
-from yotarimu.courses.schedules import DONE, acts_a_round, is_commit
+from yotarimu.courses.schedules import DONE, Act, Played, Said, acts_a_round, is_commit
 
 MOST_COLUMNS = 120
 MARGIN, TOP, FOOT, COLUMN, LANE, COMMIT_LANE, GAP = 96, 40, 78, 9, 34, 60, 6
@@ -25,17 +27,17 @@ class Cell:
     taken_back: int = 0
     commits: int = 0
 
-    def add(self, act, said):
+    def add(self, act: Act, said: Said) -> None:
         self.taken_back += said.taken_back
         self.commits += is_commit(act, said)
         self.done += said.reply in DONE
         self.stalled += said.reply == "stall"
         self.idle += said.reply not in DONE and said.reply != "stall"
 
-    def asked(self):
+    def all_acts(self) -> int:
         return self.done + self.stalled + self.idle
 
-    def told(self):
+    def told(self) -> str:
         return (f"{self.done:,} done, {self.stalled:,} stalled, {self.idle:,} with nothing to do, "
                 f"{self.taken_back:,} taken back")
 
@@ -43,7 +45,7 @@ class Cell:
 class Grid:
     """The cells of a schedule, by lane and column; acts without a tile are in the last lane."""
 
-    def __init__(self, played):
+    def __init__(self, played: Played) -> None:
         self.round = acts_a_round(played.acts)
         # Where the script has no rounds, columns go by acts.
         self.unit, self.name = (self.round, "round") if self.round else (1, "act")
@@ -58,16 +60,16 @@ class Grid:
             lane = self.tiles if act.tile is None else act.tile
             self.cells[lane][place // (self.unit * self.units_a_column)].add(act, said)
 
-    def span(self, column):
+    def span(self, column: int) -> str:
         first, last = column * self.units_a_column + 1, (column + 1) * self.units_a_column
         return f"{self.name} {first:,}" if first == last else f"{self.name}s {first:,} to {last:,}"
 
-    def most(self, what):
+    def most(self, what: Callable[[Cell], int]) -> int:
         """The greatest number of a tile's cells, and at least 1."""
         return max(1, *(what(cell) for lane in self.cells[:-1] for cell in lane))
 
 
-def drawn(played):
+def drawn(played: Played) -> str:
     """The picture of a played schedule."""
     grid = Grid(played)
     width = MARGIN + COLUMN * max(grid.columns, 60) + 16
@@ -76,7 +78,7 @@ def drawn(played):
     parts = [f'<svg xmlns="http://www.w3.org/2000/svg" width="{width}" height="{height}" '
              f'viewBox="0 0 {width} {height}" font-family="sans-serif" font-size="12">',
              f'<rect width="{width}" height="{height}" fill="white"/>', *axis(grid)]
-    asked, taken = grid.most(Cell.asked), grid.most(lambda cell: cell.taken_back)
+    asked, taken = grid.most(Cell.all_acts), grid.most(lambda cell: cell.taken_back)
     for tile in range(grid.tiles):
         parts += lane_of(grid, tile, TOP + (LANE + GAP) * tile, asked, taken, width)
     parts += commits_of(grid, TOP + (LANE + GAP) * grid.tiles, width)
@@ -84,7 +86,7 @@ def drawn(played):
     return "\n".join(parts) + "\n"
 
 
-def axis(grid):
+def axis(grid: Grid) -> Iterator[str]:
     """The number of the first round of every tenth column."""
     for column in range(0, grid.columns, 10):
         x = MARGIN + COLUMN * column
@@ -93,7 +95,7 @@ def axis(grid):
     yield text(12, TOP - 10, grid.name, "#777777", 11)
 
 
-def lane_of(grid, tile, y, asked, taken, width):
+def lane_of(grid: Grid, tile: int, y: float, asked: int, taken: int, width: int) -> Iterator[str]:
     yield band(y, LANE, width, LANE_COLOUR)
     yield ground(y + LANE, width)
     yield text(12, y + LANE / 2 + 4, f"tile {tile}", "#333333", 12, True)
@@ -102,21 +104,21 @@ def lane_of(grid, tile, y, asked, taken, width):
         scale = ASKED_PART * LANE / asked
         bars = [(y + LANE - scale * cell.done, scale * cell.done, DONE_COLOUR),
                 (y + LANE - scale * (cell.done + cell.stalled), scale * cell.stalled, STALLED_COLOUR),
-                (y + LANE - scale * cell.asked(), scale * cell.idle, IDLE_COLOUR),
+                (y + LANE - scale * cell.all_acts(), scale * cell.idle, IDLE_COLOUR),
                 (y, TAKEN_PART * LANE * cell.taken_back / taken, TAKEN_COLOUR)]
         yield from cell_of(x, bars, f"{grid.span(column)}, tile {tile}: {cell.told()}")
 
 
-def band(y, height, width, colour):
+def band(y: float, height: int, width: int, colour: str) -> str:
     return f'<rect x="{MARGIN}" y="{y}" width="{width - MARGIN - 16}" height="{height}" fill="{colour}"/>'
 
 
-def ground(y, width):
+def ground(y: float, width: int) -> str:
     """The line on which the bars of a lane stand: what is below it belongs to the next lane."""
     return f'<rect x="{MARGIN}" y="{y}" width="{width - MARGIN - 16}" height="1" fill="{GROUND_COLOUR}"/>'
 
 
-def commits_of(grid, y, width):
+def commits_of(grid: Grid, y: float, width: int) -> Iterator[str]:
     yield band(y, COMMIT_LANE, width, COMMIT_LANE_COLOUR)
     yield ground(y + COMMIT_LANE, width)
     yield text(12, y + COMMIT_LANE / 2 + 4, "commits", "#333333", 12, True)
@@ -128,7 +130,7 @@ def commits_of(grid, y, width):
         yield from cell_of(MARGIN + COLUMN * column, [(y + COMMIT_LANE - size, size, COMMIT_COLOUR)], told)
 
 
-def cell_of(x, bars, told):
+def cell_of(x: float, bars: Iterable[tuple[float, float, str]], told: str) -> Iterator[str]:
     """Bars that stand at one column, and what they tell when pointed at."""
     bars = [(y, height, colour) for y, height, colour in bars if height > 0]
     if not bars:
@@ -141,7 +143,7 @@ def cell_of(x, bars, told):
     yield "</g>"
 
 
-def footer(played, grid, taken):
+def footer(played: Played, grid: Grid, taken: int) -> Iterator[str]:
     """The whole in numbers, and what the bars mean."""
     commits, back = len(played.report.entries), sum(said.taken_back for said in played.said)
     most = max(cell.commits for cell in grid.cells[-1])
@@ -161,6 +163,6 @@ def footer(played, grid, taken):
         x += 42 + 6 * len(meaning)
 
 
-def text(x, y, words, colour, size, is_bold=False):
+def text(x: float, y: float, words: str, colour: str, size: int, is_bold: bool = False) -> str:
     weight = ' font-weight="bold"' if is_bold else ""
     return f'<text x="{x:.1f}" y="{y:.1f}" fill="{colour}" font-size="{size}"{weight}>{escape(words)}</text>'

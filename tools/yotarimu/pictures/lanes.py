@@ -2,11 +2,14 @@
 from __future__ import annotations
 
 import dataclasses
+from collections.abc import Iterator, Sequence
+from typing import Optional
 from xml.sax.saxutils import escape
 
 from yotarimu.common.text import counted
-from yotarimu.courses.schedules import DONE, NUMBERS
+from yotarimu.courses.schedules import DONE, NUMBERS, Act, Played, Said
 from yotarimu.pictures import density
+from yotarimu.reports.report import Entry
 
 # Up to so many acts have words at their marks; those of a longer schedule are small, and tell them when pointed at. Of
 # more acts than that no mark is drawn, but how many were done, refused and taken back in which rounds.
@@ -45,33 +48,33 @@ SMALL = Style(9, 130, 3, 14, False)
 class Mark:
     """An act as it is drawn."""
     number: int
-    act: object
-    said: object
-    entry: object
+    act: Act
+    said: Said
+    entry: Optional[Entry]
 
-    def title(self):
+    def title(self) -> str:
         taken = f", {counted(self.said.taken_back, 'task')} taken back" if self.said.taken_back else ""
         name = f", commit {self.entry.turn}: {self.entry.name}" if self.entry else ""
         return f"{self.number}: {self.act}: {self.said.reply}{taken}{name}"
 
-    def colour(self):
+    def colour(self) -> str:
         if self.said.reply not in DONE:
             return REFUSED_COLOUR
         return COMMIT_COLOUR if self.entry else DONE_COLOUR
 
-    def paint(self):
+    def paint(self) -> str:
         """An act that was done is filled, a leg that is held back pale, and what was refused hollow."""
         fill = self.colour() if self.said.reply in DONE else "white"
         if self.act.word == "take" and self.said.reply in DONE:
             fill = TAKEN_LEG_COLOUR
-        return painted(fill, self.colour())
+        return paint_of(fill, self.colour())
 
 
-def painted(fill, stroke):
+def paint_of(fill: str, stroke: str) -> str:
     return f'fill="{fill}" stroke="{stroke}" stroke-width="1.6"'
 
 
-def drawn(played):
+def drawn(played: Played) -> str:
     """The picture of a played schedule."""
     if len(played.acts) > MOST_WITH_MARKS:
         return density.drawn(played)
@@ -93,31 +96,31 @@ def drawn(played):
     return "\n".join(parts) + "\n"
 
 
-def drawn_band(marks, tiles, width, style):
+def drawn_band(marks: Sequence[Mark], tiles: int, width: int, style: Style) -> Iterator[str]:
     """Some acts, one beside the other, each in its lane."""
     bottom = TOP + style.lane * (tiles + 1)
     for lane in range(tiles + 1):
         y, colour = TOP + style.lane * lane, LANE_COLOURS[lane % 2] if lane < tiles else COMMIT_LANE_COLOUR
         yield f'<rect x="0" y="{y}" width="{width}" height="{style.lane}" fill="{colour}"/>'
     for place, mark in enumerate(marks):
-        x = MARGIN + style.column * place
+        left = MARGIN + style.column * place
         if mark.said.taken_back:
-            yield (f'<rect x="{x}" y="{TOP}" width="{style.column}" height="{bottom - TOP}" '
+            yield (f'<rect x="{left}" y="{TOP}" width="{style.column}" height="{bottom - TOP}" '
                    f'fill="{TAKEN_LANE_COLOUR}"/>')
         if style.has_words or mark.number % 10 == 1:
-            yield text(x + style.column / 2, TOP - 8, f"{mark.number:,}", "#777777", 11, "middle")
+            yield text(left + style.column / 2, TOP - 8, f"{mark.number:,}", "#777777", 11, "middle")
     for lane in range(tiles + 1):
         name, size = f"tile {lane}" if lane < tiles else "least task", 13 if style.has_words else 9
         yield text(12, TOP + style.lane * (lane + 0.5) + 4, name, "#333333", size, "start", True)
     for place, mark in enumerate(marks):
         lane = tiles if mark.act.tile is None else mark.act.tile
-        x, y = MARGIN + style.column * (place + 0.5), TOP + style.lane * (lane + 0.5)
+        x, middle = MARGIN + style.column * (place + 0.5), TOP + style.lane * (lane + 0.5)
         yield f"<g><title>{escape(mark.title())}</title>"
-        yield from drawn_mark(mark, x, y - 6 if style.has_words else y, style)
+        yield from drawn_mark(mark, x, middle - 6 if style.has_words else middle, style)
         yield "</g>"
 
 
-def drawn_mark(mark, x, y, style):
+def drawn_mark(mark: Mark, x: float, y: float, style: Style) -> Iterator[str]:
     """A mark with its act above it, and the answer below."""
     size = style.size
     if mark.said.taken_back:
@@ -138,12 +141,12 @@ def drawn_mark(mark, x, y, style):
         yield text(x, y + 31 + 13 * place, words, colour, 11, "middle", place == 0)
 
 
-def inner(mark, x, y, words):
+def inner(mark: Mark, x: float, y: float, words: str) -> str:
     colour = "white" if mark.said.reply in DONE and mark.act.word != "take" else mark.colour()
     return text(x, y + 4, words, colour, 12 if len(words) < 3 else 9, "middle", True)
 
 
-def shape(word, paint, x, y, size):
+def shape(word: str, paint: str, x: float, y: float, size: int) -> str:
     """A triangle that points at what happens to a task, a circle for a leg, a diamond for a commit."""
     if word not in CORNERS:
         dashes = ' stroke-dasharray="4 2"' if word == "take" else ""
@@ -152,24 +155,24 @@ def shape(word, paint, x, y, size):
     return f'<polygon points="{points}" {paint}/>'
 
 
-def text(x, y, words, colour, size, anchor, is_bold=False):
+def text(x: float, y: float, words: str, colour: str, size: int, anchor: str, is_bold: bool = False) -> str:
     weight = ' font-weight="bold"' if is_bold else ""
     return (f'<text x="{x:.1f}" y="{y:.1f}" fill="{colour}" font-size="{size}" text-anchor="{anchor}"{weight}>'
             f"{escape(words)}</text>")
 
 
-def footer(played, style):
+def footer(played: Played, style: Style) -> Iterator[str]:
     """The whole in numbers, and what the marks mean."""
     taken = sum(said.taken_back for said in played.said)
     commits = len(played.report.entries)
     told = [counted(len(played.acts), "act"), counted(commits, "commit"), f"{counted(taken, 'task')} taken back",
             f"end {played.report.end}"]
     yield text(12, 14, "; ".join(told), "#333333", 12, "start", True)
-    blue = painted(DONE_COLOUR, DONE_COLOUR)
+    blue = paint_of(DONE_COLOUR, DONE_COLOUR)
     kinds = [("step", blue, "done; a leg has its core's number" if style.has_words else "done"),
-             ("step", painted("white", REFUSED_COLOUR), "refused"),
-             ("commit", painted(COMMIT_COLOUR, COMMIT_COLOUR), "a commit"),
-             ("step", painted("none", TAKEN_COLOUR), "tasks are taken back")]
+             ("step", paint_of("white", REFUSED_COLOUR), "refused"),
+             ("commit", paint_of(COMMIT_COLOUR, COMMIT_COLOUR), "a commit"),
+             ("step", paint_of("none", TAKEN_COLOUR), "tasks are taken back")]
     if not style.has_words:
         used = {act.word for act in played.acts}
         kinds += [(word, blue, word) for word in NUMBERS if word in used and word != "commit"]

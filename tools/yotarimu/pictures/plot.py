@@ -2,7 +2,7 @@
 from __future__ import annotations
 
 import math
-from collections.abc import Iterable, Mapping, Sequence
+from collections.abc import Iterable, Iterator, Mapping, Sequence
 from xml.sax.saxutils import escape
 
 from yotarimu.common.outcome import Refused
@@ -28,18 +28,18 @@ class Axis:
         self.ticks = decades(least, most) if self.is_logarithmic else steps(least, most)
         self.least, self.most = self.scaled(min(least, self.ticks[0])), self.scaled(max(most, self.ticks[-1]))
 
-    def scaled(self, value):
+    def scaled(self, value: float) -> float:
         return math.log10(value) if self.is_logarithmic else value
 
-    def place(self, value):
+    def place(self, value: float) -> float:
         return self.start + (self.scaled(value) - self.least) / (self.most - self.least) * (self.end - self.start)
 
 
-def decades(least, most):
+def decades(least: float, most: float) -> list[float]:
     return [10 ** power for power in range(math.floor(math.log10(least)), math.ceil(math.log10(most)) + 1)]
 
 
-def steps(least, most):
+def steps(least: float, most: float) -> list[float]:
     """Some five round numbers that hold the values between them."""
     if least == most:
         least, most = (0, most) if most > 0 else (least, least + 1)
@@ -77,20 +77,20 @@ def framed(x_axis: Axis, y_axis: Axis, x_name: str, y_name: str, parts: Iterable
     return "\n".join([*frame, *parts, "</svg>"]) + "\n"
 
 
-def scale(axis):
+def scale(axis: Axis) -> str:
     return " (logarithmic)" if axis.is_logarithmic else ""
 
 
-def text(x, y, words, anchor="start"):
+def text(x: float, y: float, words: str, anchor: str = "start") -> str:
     # No picture may have other characters, though a name of a file may.
     return f'<text x="{x:.1f}" y="{y:.1f}" text-anchor="{anchor}">{escape(without_controls(words))}</text>'
 
 
-def number(value):
+def number(value: float) -> str:
     return f"{value:,.0f}" if value >= 1000 or value == int(value) else f"{value:.6g}"
 
 
-def grid(x_axis, y_axis):
+def grid(x_axis: Axis, y_axis: Axis) -> Iterator[str]:
     for tick in x_axis.ticks:
         x = x_axis.place(tick)
         yield f'<line x1="{x:.1f}" y1="{TOP}" x2="{x:.1f}" y2="{HEIGHT - BOTTOM}" stroke="#e4e4e4"/>'
@@ -101,9 +101,9 @@ def grid(x_axis, y_axis):
         yield text(LEFT - 8, y + 4, number(tick), "end")
 
 
-def line(points, x_axis, y_axis, colour):
+def line(points: Sequence[tuple[float, float]], x_axis: Axis, y_axis: Axis, colour: str) -> Iterator[str]:
     """The points, and a line through the mean of those at each place."""
-    columns = {}
+    columns: dict[float, list[float]] = {}
     for x, y in points:
         columns.setdefault(x, []).append(y)
     means = [(x, sum(columns[x]) / len(columns[x])) for x in sorted(columns)]
@@ -113,7 +113,7 @@ def line(points, x_axis, y_axis, colour):
         yield f'<circle cx="{x_axis.place(x):.1f}" cy="{y_axis.place(y):.1f}" r="3" fill="{colour}"/>'
 
 
-def legend(name, place):
+def legend(name: str, place: int) -> Iterator[str]:
     y = TOP + 20 * place + 8
     yield f'<circle cx="{WIDTH - RIGHT + 24}" cy="{y}" r="4" fill="{COLOURS[place % len(COLOURS)]}"/>'
     yield text(WIDTH - RIGHT + 34, y + 4, name)

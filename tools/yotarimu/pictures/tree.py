@@ -3,7 +3,12 @@ from __future__ import annotations
 
 import dataclasses
 import math
+from collections.abc import Iterator, Sequence
 from xml.sax.saxutils import escape
+
+from yotarimu.images.listing import Listing
+from yotarimu.images.serial_machine import Domain, Machine, Task
+from yotarimu.reports.report import Report
 
 # Up to so many tasks are boxes with their labels, the others of a larger run are dots that tell them when pointed at.
 MOST_BOXES, MOST_DOTS = 40, 500
@@ -22,7 +27,7 @@ class Node:
     depth: int
     colour: str
     creator: int
-    domain: object
+    domain: Domain
 
 
 @dataclasses.dataclass
@@ -34,7 +39,7 @@ class Style:
     has_labels: bool
 
 
-def drawn(nodes, total):
+def drawn(nodes: Sequence[Node], total: int) -> str:
     """The picture of the first tasks of a run that has `total`; `creator` is a place in the list, or -1."""
     style = style_of(nodes)
     depths = max((node.depth for node in nodes), default=1)
@@ -54,7 +59,7 @@ def drawn(nodes, total):
     return "\n".join(parts) + "\n"
 
 
-def style_of(nodes):
+def style_of(nodes: Sequence[Node]) -> Style:
     if len(nodes) > MOST_BOXES:
         step = min(18, DOTS_WIDTH / len(nodes))
         return Style(step, step * 0.8, step * 0.8, False)
@@ -62,20 +67,20 @@ def style_of(nodes):
     return Style(7.2 * longest + 44, 7.2 * longest + 16, 44, True)
 
 
-def text(x, y, words, more=""):
+def text(x: float, y: float, words: str, more: str = "") -> str:
     return f'<text x="{x:.1f}" y="{y:.1f}"{more}>{escape(words)}</text>'
 
 
-def middle(place, style):
+def middle(place: int, style: Style) -> float:
     return MARGIN + style.step * (place + 0.5)
 
 
-def level(depth):
+def level(depth: int) -> float:
     """The middle of a depth's row."""
     return TOP + ROW * (depth - 0.5)
 
 
-def rows(depths, width):
+def rows(depths: int, width: float) -> Iterator[str]:
     for depth in range(1, depths + 1):
         if depth > 1:
             y = level(depth) - ROW / 2
@@ -83,9 +88,9 @@ def rows(depths, width):
         yield text(12, level(depth) + 4, f"depth {depth}", ' fill="#555555"')
 
 
-def domains(nodes, style):
+def domains(nodes: Sequence[Node], style: Style) -> Iterator[tuple[str, str]]:
     """A frame round the tasks of each domain, and the name of its kind."""
-    places = {}
+    places: dict[int, tuple[Domain, list[int]]] = {}
     for place, node in enumerate(nodes):
         places.setdefault(id(node.domain), (node.domain, []))[1].append(place)
     # A line may cross the name of a kind, which therefore stands above it, with a rim of the frame's colour.
@@ -99,7 +104,7 @@ def domains(nodes, style):
                'stroke="#b8c4d6"/>', text(x + 8, y + 2 * FRAME - 8, kind, rim) if style.has_labels else "")
 
 
-def edge(nodes, place, style):
+def edge(nodes: Sequence[Node], place: int, style: Style) -> str:
     """A line from a task's creator to it."""
     creator = nodes[place].creator
     start, end = middle(creator, style), middle(place, style)
@@ -116,7 +121,7 @@ def edge(nodes, place, style):
     return f'<path d="{path}" fill="none" stroke="#8899aa" stroke-opacity="0.7"/>'
 
 
-def task(node, place, style):
+def task(node: Node, place: int, style: Style) -> str:
     x, y = middle(place, style), level(node.depth)
     if not style.has_labels:
         return (f'<circle cx="{x:.1f}" cy="{y}" r="{style.width / 2:.1f}" fill="{node.colour}">'
@@ -127,23 +132,24 @@ def task(node, place, style):
     return box + text(x, y - 5, node.title, centred + ' font-weight="bold"') + text(x, y + 13, node.label, centred)
 
 
-def nodes_of(report, machine, listing):
+def nodes_of(report: Report, machine: Machine, listing: Listing) -> list[Node]:
     """The tasks as the picture shows them, the one that traps at the end."""
-    colours, nodes = {}, []
-    shown = [machine.tasks.get(entry.name) for entry in report.entries[:MOST_DOTS]]
-    shown = [task for task in shown if task and task.turn]
+    colours: dict[str, str] = {}
+    nodes: list[Node] = []
+    found = (machine.tasks.get(entry.name) for entry in report.entries[:MOST_DOTS])
+    shown = [task for task in found if task and task.turn]
     for task in shown:
         label = listing.labelled(task.entry)
         colour = colours.setdefault(label, COLOURS[len(colours) % len(COLOURS)])
         nodes.append(node(task, f"{task.turn}: {task.name}", listing, colour, len(nodes)))
     trapped = machine.tasks.get(report.trap.name) if report.trap else None
-    if trapped and not trapped.turn and len(shown) == len(report.entries):
+    if report.trap and trapped and not trapped.turn and len(shown) == len(report.entries):
         title = f"trap {report.trap.cause}: {trapped.name}"
         nodes.append(node(trapped, title, listing, TRAP_COLOUR, len(nodes)))
     return nodes
 
 
-def node(task, title, listing, colour, place):
+def node(task: Task, title: str, listing: Listing, colour: str, place: int) -> Node:
     creator = task.name.creator - 1
     label = listing.task_words(task.entry, task.arguments)
     return Node(title, label, task.domain.depth, colour, creator if creator < place else -1, task.domain)

@@ -5,6 +5,8 @@ from __future__ import annotations
 
 import dataclasses
 import functools
+from collections.abc import Iterator, Mapping, Sequence
+from typing import Optional, Union
 
 from yotarimu.common.places import EXAMPLES_FOLDER
 from yotarimu.images.image import DATA, TEXT, Image, InitialTask, image_bytes, read_image
@@ -34,38 +36,38 @@ DISPATCH, ACCESS, CALL, GOES_ON, ABORT, COMMIT, COALESCING, SPLIT = range(1, 9)
 class Case:
     """A call of the program: its words, what it reads, the status and the text that it is to answer."""
     name: str
-    words: tuple
+    words: tuple[str, ...]
     given: bytes
     status: int
     text: bytes
 
 
-def answer(name, words, given, status, text):
+def answer(name: str, words: str, given: bytes, status: int, text: Union[bytes, str]) -> Case:
     return Case(name, tuple(words.split()), given, status, text if isinstance(text, bytes) else f"{text}\n".encode())
 
 
 @functools.lru_cache(maxsize=None)
-def stored(name, file="image.bin"):
+def stored_file(name: str, file: str = "image.bin") -> bytes:
     return (EXAMPLES_FOLDER / name / file).read_bytes()
 
 
-def changed(data, offset, number, size=4):
+def with_field(data: bytes, offset: int, number: int, size: int = 4) -> bytes:
     """An image with one field of its header changed."""
     return data[:offset] + number.to_bytes(size, "little") + data[offset + size:]
 
 
-def all_answers():
+def all_answers() -> list[Case]:
     return [*of_words(), *of_images(), *of_runs(), *of_loads(), *of_checks(), *of_scripts(), *of_ends(), *of_traces(),
             *of_saves()]
 
 
-def unshown(shown):
+def missing_statuses(shown: set[tuple[str, int]]) -> list[str]:
     """A sentence on each status of a command that none of these pairs of a command and a status shows."""
     return [f"no call of `{word}` shows the status {status}" for word, statuses in SHOWN.items() for status in statuses
             if (word, status) not in shown]
 
 
-def of_words():
+def of_words() -> Iterator[Case]:
     """Words that are refused: nothing is read."""
     for words in ("rum", "--tiles 2 run", "run --tiles 17", "run --tiles 0", "run --tiles 2 --tiles 2", "run --tiles",
                   "run --tiles --cores 2", "run --tiles=00000000002", "run --line 12", "run --tower 2", "run --",
@@ -74,22 +76,23 @@ def of_words():
         yield answer(f"words: {words}", words, b"", 1, USAGE)
 
 
-def of_images():
+def of_images() -> Iterator[Case]:
     """Inputs that begin with no image."""
-    hello = stored("hello")
+    hello = stored_file("hello")
     for name, given, fault in (
             ("no byte", b"", "1 0"), ("31 bytes", hello[:31], "1 31"), ("a byte too few", hello[:-1], "1 105"),
-            ("other letters", b"F" * 40, "2 0"), ("version 0", changed(hello, 4, 0, 2), "3 4"),
-            ("version 9", changed(hello, 4, 9, 2), "3 4"), ("a third kind of root", changed(hello, 6, 2, 2), "4 6"),
-            ("too many words", changed(hello, 8, 65_537), "5 8"),
-            ("too much initial data", changed(hello, 12, 17), "5 12"),
-            ("too much data", changed(hello, 16, 16_777_217), "5 16"),
-            ("too large a window", changed(hello, 24, 4_097), "5 24"),
-            ("too many tasks", changed(hello, 28, MOST_TASKS + 1), "5 28"),
-            ("an odd window", changed(hello, 20, 2), "6 20"),
-            ("a window behind the data", changed(changed(hello, 20, 16), 24, 1), "6 20"),
-            ("no task", changed(hello, 28, 0), "7 28"),
-            ("two faults", changed(changed(hello, 16, 16_777_217), 12, 16_777_218), "5 16")):
+            ("other letters", b"F" * 40, "2 0"), ("version 0", with_field(hello, 4, 0, 2), "3 4"),
+            ("version 9", with_field(hello, 4, 9, 2), "3 4"),
+            ("a third kind of root", with_field(hello, 6, 2, 2), "4 6"),
+            ("too many words", with_field(hello, 8, 65_537), "5 8"),
+            ("too much initial data", with_field(hello, 12, 17), "5 12"),
+            ("too much data", with_field(hello, 16, 16_777_217), "5 16"),
+            ("too large a window", with_field(hello, 24, 4_097), "5 24"),
+            ("too many tasks", with_field(hello, 28, MOST_TASKS + 1), "5 28"),
+            ("an odd window", with_field(hello, 20, 2), "6 20"),
+            ("a window behind the data", with_field(with_field(hello, 20, 16), 24, 1), "6 20"),
+            ("no task", with_field(hello, 28, 0), "7 28"),
+            ("two faults", with_field(with_field(hello, 16, 16_777_217), 12, 16_777_218), "5 16")):
         yield answer(f"image: {name}", "run", given, 2, f"fault image {fault}")
     long = hello + bytes(MOST_INPUT + 1 - len(hello))
     for word in READERS:
@@ -97,20 +100,20 @@ def of_images():
         yield answer(f"input of {word}: too long", word, long, 10, "fault long")
 
 
-def of_runs():
+def of_runs() -> Iterator[Case]:
     """Runs to each end, by each limit, and with host threads."""
-    hello, report = stored("hello"), stored("hello", "report")
+    hello, report = stored_file("hello"), stored_file("hello", "report")
     yield answer("run: bytes behind the image", "run", hello + b"more", 0, report)
     yield answer("run: two host threads", "run --workers 2", hello, 0, report)
     yield answer("run: a small machine", "run --tiles=1 --cores 0001 --task-queue=4 --commit-queue 1", hello, 0, report)
     yield answer("run: three instructions", "run --budget 3", hello, 3,
                  "fractal 1\noutput -\nend trap 17 0001000c 0.0")
-    yield answer("run: two commits", "run --commits 2", stored("pipeline"), 4,
+    yield answer("run: two commits", "run --commits 2", stored_file("pipeline"), 4,
                  "fractal 1\n1 0.0 1 0\n2 1.0 1 1\noutput -\nend limit")
-    yield answer("run: all commits", "run --commits 9", stored("pipeline"), 0, stored("pipeline", "report"))
+    yield answer("run: all commits", "run --commits 9", stored_file("pipeline"), 0, stored_file("pipeline", "report"))
 
 
-def of_loads():
+def of_loads() -> Iterator[Case]:
     """Generated images of one node and of one addition."""
     walk = "load walk 7 1\ncommits 2\noutput -\nwindow 1000000c 00000001\nend normal"
     yield answer("load: a walk", "load walk 7 1", b"", 0, walk)
@@ -124,11 +127,12 @@ def of_loads():
                  f"load nest 5 1\ncommits 3\noutput -\n{cells}\nend normal")
 
 
-def of_checks():
+def of_checks() -> Iterator[Case]:
     """Reports that are accepted, and one that is refused for each of its lines."""
-    image, report = stored("nested"), stored("nested", "report")
+    image, report = stored_file("nested"), stored_file("nested", "report")
     yield answer("check: no last newline", "check", image + report[:-1], 0, "check ok 8")
-    yield answer("check: nobody ran it", "check", stored("hello") + b"fractal 1\noutput -\nend open\n", 0, "check ok 0")
+    yield answer("check: nobody ran it", "check", stored_file("hello") + b"fractal 1\noutput -\nend open\n", 0,
+                 "check ok 0")
     for name, words, old, new, line in (
             ("another first line", "check", b"fractal 1", b"fractal 2", 1),
             ("a wrong timestamp", "check", b"3 1.1 2 2", b"3 1.1 2 3", 4),
@@ -148,9 +152,9 @@ def of_checks():
     yield answer("check: no report", "check", image, 8, "fault journal 1")
 
 
-def of_scripts():
+def of_scripts() -> Iterator[Case]:
     """Scripts that are played, and lines that are none."""
-    hello, open_report = stored("hello"), "fractal 1\noutput -\nend open"
+    hello, open_report = stored_file("hello"), "fractal 1\noutput -\nend open"
     yield answer("steps: no act", "steps", hello, 0, open_report)
     yield answer("steps: refused acts", "steps --tiles 2", hello + b"commit\nstep 1 0\ngive 0 1\nsplit 1", 0,
                  f"empty 0\nstale 0\nstale 0\nempty 0\n{open_report}")
@@ -161,21 +165,21 @@ def of_scripts():
                  f"empty 0\n{open_report}")
 
 
-def of_ends():
+def of_ends() -> Iterator[Case]:
     """Scripts after which the run is over: in a trap, and at its limit. `trace` tells no end."""
-    hello, two = stored("hello"), stored("schedules/commit_queue")
+    hello, two = stored_file("hello"), stored_file("schedules/commit_queue")
     trap = "end trap 17 0001000c 0.0"
     yield answer("steps: to a trap", "steps --budget 3", hello + b"advance\nadvance\nadvance\n", 3,
                  f"moved 0\nmoved 0\nended 0\nfractal 1\noutput -\n{trap}")
     yield answer("steps: to the limit", "steps --commits 1", two + b"advance\n" * 4, 4,
                  "moved 0\nmoved 0\ncommitted 0\nended 0\nfractal 1\n1 0.0 1 1\noutput -\nend limit")
     yield answer("trace: to a trap", "trace --budget 3", hello + b"advance\n" * 3, 0,
-                 traced([(DISPATCH, 0, 0, 0, 0), (GOES_ON, 0, 0, 0, 0)]))
+                 trace_text([(DISPATCH, 0, 0, 0, 0), (GOES_ON, 0, 0, 0, 0)]))
     yield answer("trace: to the limit", "trace --commits 1", two + b"advance\n" * 4, 0,
-                 traced([(DISPATCH, 0, 0, 0, 0), (CALL, 0, 0, 0, 0), (COMMIT, 0, 0, 0, 1)]))
+                 trace_text([(DISPATCH, 0, 0, 0, 0), (CALL, 0, 0, 0, 0), (COMMIT, 0, 0, 0, 1)]))
 
 
-def traced(events, taken_back=None):
+def trace_text(events: Sequence[tuple[int, ...]], taken_back: Optional[Mapping[int, int]] = None) -> str:
     """What `trace` writes of these events: five numbers of each of the last 16, and how many tasks were taken back by
     accesses to each of the first 16 lines, by their numbers; 16 stands for all further lines."""
     numbers = [number for event in events[-16:] for number in event]
@@ -183,11 +187,11 @@ def traced(events, taken_back=None):
     return "\n".join(map(str, ["trace 1", f"tap 0 {len(numbers)}", *numbers, "tap 1 17", *lines, "end trace"]))
 
 
-def of_traces():
+def of_traces() -> Iterator[Case]:
     """What the program's two taps note of each kind of event, and where its three placers put tasks."""
-    hello, conflict, stall = (stored(name) for name in ("hello", "schedules/conflict", "schedules/stall"))
-    yield answer("trace: no act", "trace", hello, 0, traced([]))
-    yield answer("trace: a dispatch", "trace", hello + b"dispatch 0\n", 0, traced([(DISPATCH, 0, 0, 0, 0)]))
+    hello, conflict, stall = (stored_file(name) for name in ("hello", "schedules/conflict", "schedules/stall"))
+    yield answer("trace: no act", "trace", hello, 0, trace_text([]))
+    yield answer("trace: a dispatch", "trace", hello + b"dispatch 0\n", 0, trace_text([(DISPATCH, 0, 0, 0, 0)]))
     before = [(DISPATCH, 0, 0, 0), (ACCESS, 0, 1, 0), (ACCESS, 0, 1, 0), (CALL, 0, 0, 0), (DISPATCH, 1, 0, 0),
               (ACCESS, 1, 1, 2), (CALL, 1, 0, 0)]
     behind = [(COMMIT, 1, 0, 0), (DISPATCH, 0, 0, 0), (ACCESS, 0, 1, 0), (ACCESS, 0, 1, 0), (CALL, 0, 0, 0),
@@ -195,23 +199,24 @@ def of_traces():
     last = [(COMMIT, 0, 0, 0), (DISPATCH, 0, 0, 0), (CALL, 0, 0, 0)]
     told = [(*event, commits) for commits, events in enumerate((before, behind, last, [(COMMIT, 0, 0, 0)]))
             for event in events]
-    yield answer("trace: 17 events", "trace --tiles 2 --cores 1", conflict + stored("schedules/conflict", "script"), 0,
-                 traced(told, {0: 2}))
+    yield answer("trace: 17 events", "trace --tiles 2 --cores 1",
+                 conflict + stored_file("schedules/conflict", "script"), 0, trace_text(told, {0: 2}))
     yield answer("trace: a coalescing and a split", "trace --tiles 2 --cores 1 --task-queue 4",
-                 stall + stored("schedules/stall", "script"), 0,
-                 traced([(DISPATCH, 0, 0, 0, 0), *[(CALL, 0, 0, 0, 0)] * 3, (DISPATCH, 1, 0, 0, 0), (CALL, 1, 0, 0, 0),
-                         (COMMIT, 1, 0, 0, 1), (CALL, 0, 0, 0, 1), (COALESCING, 0, 0, 0, 1), (SPLIT, 0, 0, 0, 1)]))
+                 stall + stored_file("schedules/stall", "script"), 0,
+                 trace_text([(DISPATCH, 0, 0, 0, 0), *[(CALL, 0, 0, 0, 0)] * 3, (DISPATCH, 1, 0, 0, 0),
+                             (CALL, 1, 0, 0, 0), (COMMIT, 1, 0, 0, 1), (CALL, 0, 0, 0, 1),
+                             (COALESCING, 0, 0, 0, 1), (SPLIT, 0, 0, 0, 1)]))
     yield answer("trace: an abort", "trace --tiles 2 --quantum 1", conflict + b"dispatch 0\nstep 0 0\nabort 0\n", 0,
-                 traced([(DISPATCH, 0, 0, 0, 0), (GOES_ON, 0, 0, 0, 0), (ABORT, 0, 0, 1, 0)]))
+                 trace_text([(DISPATCH, 0, 0, 0, 0), (GOES_ON, 0, 0, 0, 0), (ABORT, 0, 0, 1, 0)]))
     # The writer's first word becomes auipc t0, 0xfff4: it stores to the reader's word, in the line 1,024.
-    far = changed(stored("schedules/two_lines"), 52, 0x0fff4297) + stored("schedules/two_lines", "script")
+    far = with_field(stored_file("schedules/two_lines"), 52, 0x0fff4297) + stored_file("schedules/two_lines", "script")
     yield answer("trace: a far line", "trace --tiles 2 --cores 1", far, 0,
-                 traced([(DISPATCH, 0, 0, 0, 0), (ACCESS, 0, 1_025, 0, 0), (DISPATCH, 1, 0, 0, 0),
-                         (ACCESS, 1, 1_025, 1, 0)], {16: 1}))
+                 trace_text([(DISPATCH, 0, 0, 0, 0), (ACCESS, 0, 1_025, 0, 0), (DISPATCH, 1, 0, 0, 0),
+                             (ACCESS, 1, 1_025, 1, 0)], {16: 1}))
     yield from of_placers()
 
 
-def of_placers():
+def of_placers() -> Iterator[Case]:
     """A chain of four tasks beside a task in tile 0, each with the hint 3: the first stands in tile 1 by its place in
     the image, and makes the second before any commit, that the third after one commit, and that the last after two."""
     text = b"".join(word.to_bytes(4, "little") for word in CHAIN)
@@ -223,30 +228,30 @@ def of_placers():
                 for kind in (DISPATCH, CALL, CALL, COMMIT)]
         # The last task makes no child.
         del told[-2]
-        yield answer(f"{words}: placers", words, chain, 0, traced(told))
+        yield answer(f"{words}: placers", words, chain, 0, trace_text(told))
 
 
-def of_saves():
+def of_saves() -> Iterator[Case]:
     """Runs that end before their limit, and one at each limit."""
-    yield answer("save: a normal end", "save", stored("hello"), 0, stored("hello", "report"))
-    yield answer("save: a trap", "save", stored("trap"), 3, stored("trap", "report"))
+    yield answer("save: a normal end", "save", stored_file("hello"), 0, stored_file("hello", "report"))
+    yield answer("save: a trap", "save", stored_file("trap"), 3, stored_file("trap", "report"))
     for commits in range(1, 9):
-        yield answer(f"save: pipeline at {commits}", f"save --commits {commits}", stored("pipeline"), 4,
-                     saved("pipeline", commits))
-    yield answer("save: nested at 4", "save --commits 4", stored("nested"), 4, saved("nested", 4))
+        yield answer(f"save: pipeline at {commits}", f"save --commits {commits}", stored_file("pipeline"), 4,
+                     saved_image("pipeline", commits))
+    yield answer("save: nested at 4", "save --commits 4", stored_file("nested"), 4, saved_image("nested", 4))
     for commits, depth in ((1, 2), (2, 2), (3, 3), (5, 2)):
-        yield answer(f"save: nested at {commits}", f"save --commits {commits}", stored("nested"), 12,
+        yield answer(f"save: nested at {commits}", f"save --commits {commits}", stored_file("nested"), 12,
                      f"fault nested {depth}")
     twins = image_bytes(Image(False, b"".join(word.to_bytes(4, "little") for word in TWINS), b"", 0, 0, 0,
                               [InitialTask(TEXT, 0, (0, 0, 0))] * MOST_TASKS))
     yield answer("save: too many tasks", "save --commits 1", twins, 13, f"fault tasks {MOST_TASKS + 1}")
 
 
-def saved(name, commits):
+def saved_image(name: str, commits: int) -> bytes:
     """The image from which a stored run goes on behind so many commits."""
-    image = read_image(stored(name), name)
+    image = read_image(stored_file(name), name)
     machine = Machine(image)
-    machine.follow(read_report(stored(name, "report").decode("utf-8", "replace"), name).entries[:commits])
+    machine.follow(read_report(stored_file(name, "report").decode("utf-8", "replace"), name).entries[:commits])
     left = sorted((task for task in machine.tasks.values() if not task.turn),
                   key=lambda task: (task.name.creator, task.name.index))
     tasks = [InitialTask(task.entry, task.timestamp, task.arguments) for task in left]

@@ -12,12 +12,14 @@ import sys
 import tempfile
 import threading
 import time
+from collections.abc import Iterator, Sequence
+from typing import IO, Optional
 
 from yotarimu.common.outcome import Refused, is_at_terminal, say
 from yotarimu.common.places import EXAMPLES_FOLDER
 from yotarimu.programs.answers import Case
 from yotarimu.programs.examples import SCHEDULES, words_of
-from yotarimu.programs.launcher import end_all, launched
+from yotarimu.programs.launcher import end_all, launch
 from yotarimu.programs.program import PROGRAM, STATUSES, end_of
 from yotarimu.reports.report import read_report
 
@@ -28,7 +30,7 @@ CRATE = PROGRAM.parent.parent
 MOST_LINES = 20
 
 
-def cases_of(name):
+def cases_of(name: str) -> Iterator[Case]:
     """The calls of an example or a schedule: it is played, and its report handed back to be checked."""
     folder = EXAMPLES_FOLDER / name
     image = (folder / "image.bin").read_bytes()
@@ -43,7 +45,7 @@ def cases_of(name):
     yield Case(f"{name}: its report is checked", ("check",), image + report, 0, f"check ok {count}\n".encode())
 
 
-def fault_of(case, status, text):
+def fault_of(case: Case, status: int, text: bytes) -> Optional[str]:
     """What is wrong with an answer; None where it is the one that is wanted."""
     if text != case.text:
         pairs = itertools.zip_longest(text.split(b"\n"), case.text.split(b"\n"))
@@ -55,14 +57,15 @@ def fault_of(case, status, text):
 # ---- the built program
 
 
-def played_built(cases):
+def play_built(cases: Sequence[Case]) -> Iterator[tuple[Case, Optional[str]]]:
     """Each case with what is wrong with its answer, in order. What the launcher says of the program is told once."""
-    already_told, lock = set(), threading.Lock()
+    already_told: set[bytes] = set()
+    lock = threading.Lock()
 
-    def play(case):
-        status, text, errors = launched(case.words, case.given, subprocess.PIPE)
+    def play(case: Case) -> Optional[str]:
+        status, text, errors = launch(case.words, case.given, subprocess.PIPE)
         with lock:
-            if errors not in already_told and status not in (8, 9, 1):
+            if errors is not None and errors not in already_told and status not in (8, 9, 1):
                 already_told.add(errors)
                 sys.stderr.buffer.write(errors)
                 sys.stderr.flush()
@@ -81,7 +84,7 @@ def played_built(cases):
 # ---- one unproved run
 
 
-def played_unproved(cases):
+def play_unproved(cases: Sequence[Case]) -> Iterator[tuple[Case, Optional[str]]]:
     """Each case with what is wrong with its answer, by one run of rt that proves nothing."""
     if shutil.which("rt") is None:
         raise Refused("the program isn't built, and that wants the command rt of the Rattle toolchain, which isn't in "
@@ -93,16 +96,16 @@ def played_unproved(cases):
             place.write_bytes(case.given)
             place.with_suffix(".args").write_text("".join(f"{word}\n" for word in case.words))
             place.with_suffix(".stdout").write_bytes(case.text)
-        said = tried(folder)
+        said = try_cases(folder)
         found = dict(re.findall(r"^case=(case[0-9]{4}) run=(.*)$", said, re.MULTILINE))
         if not found:
             raise Refused("\n".join(["the unproved run gave no answer; this is the last of what rt said:",
                                      *said.splitlines()[-MOST_LINES:]]))
         for name, case in names.items():
-            yield case, fault_told(case, found.get(name, "nothing"))
+            yield case, fault_in_line(case, found.get(name, "nothing"))
 
 
-def fault_told(case, told):
+def fault_in_line(case: Case, told: str) -> Optional[str]:
     """What is wrong with an answer, from the line that rt wrote of it."""
     status = re.match("ended status=([0-9]+) ", told)
     if not status:
@@ -112,7 +115,7 @@ def fault_told(case, told):
     return fault_of(case, int(status[1]), case.text)
 
 
-def tried(folder):
+def try_cases(folder: str) -> str:
     """What rt says of the cases of a folder."""
     say("check", "the program isn't built, so one unproved run plays all.")
     # What it says goes to a file, so that neither side waits for the other.
@@ -133,7 +136,7 @@ def tried(folder):
         return log.read().decode("utf-8", "replace")
 
 
-def show_seconds(seconds, log):
+def show_seconds(seconds: Optional[float], log: IO[bytes]) -> None:
     """On a terminal one line, which is written again and again, and is cleared in the end."""
     if not is_at_terminal():
         return

@@ -1,10 +1,13 @@
 """The project's examples, its schedules and its table of answers, each held against what is stored."""
 from __future__ import annotations
 
+from collections.abc import Sequence
+from typing import Optional
+
 from yotarimu.courses.agreement import retold_schedules
-from yotarimu.programs.answers import MOST_UNPROVED, all_answers, unshown
-from yotarimu.programs.cases import cases_of, played_built, played_unproved
-from yotarimu.programs.devices import told_devices
+from yotarimu.programs.answers import MOST_UNPROVED, Case, all_answers, missing_statuses
+from yotarimu.programs.cases import cases_of, play_built, play_unproved
+from yotarimu.programs.devices import device_answers
 
 ANSWERS = "answers"
 UNPROVED = ("Nothing was proved: the program was compiled without its proofs. ./fractal prove proves and builds it; "
@@ -12,27 +15,27 @@ UNPROVED = ("Nothing was proved: the program was compiled without its proofs. ./
 BUILT = "Nothing was proved by this: ./fractal prove proves the program, and rt ci proves all."
 
 
-def answers_told(faults):
+def answer_lines(faults: Sequence[tuple[str, Optional[str]]]) -> list[str]:
     """The table of answers in a line, with a line for each that went otherwise."""
     wrong = [f"  {name}: {fault}" for name, fault in faults if fault]
     told = f"{len(faults) - len(wrong)} of {len(faults)} as stored" if wrong else f"{len(faults)} accepted"
     return [f"{ANSWERS}: {told}", *wrong]
 
 
-def of_built(answers):
+def of_built(answers: Sequence[Case]) -> list[tuple[str, Optional[str]]]:
     """The answers that only built programs give, and whether with these each status of each command was shown."""
-    faults, shown = told_devices()
-    lacking = unshown(shown | {(case.words[0], case.status) for case in answers})
+    faults, shown = device_answers()
+    lacking = missing_statuses(shown | {(case.words[0], case.status) for case in answers})
     return [*faults, *retold_schedules(), ("each status of each command", "; ".join(lacking) or None)]
 
 
-def check(names, is_built):
+def check(names: Sequence[str], is_built: bool) -> tuple[int, int]:
     """Writes a line for each name, and gives back how many calls were made, and how many went otherwise."""
     answers = [it for it in all_answers() if is_built or len(it.given) <= MOST_UNPROVED] if ANSWERS in names else []
     cases = [(name, case) for name in names if name != ANSWERS for case in cases_of(name)]
     cases += [(ANSWERS, case) for case in answers]
-    found = {}
-    played = (played_built if is_built else played_unproved)([case for _, case in cases])
+    found: dict[str, list[tuple[str, Optional[str]]]] = {}
+    played = (play_built if is_built else play_unproved)([case for _, case in cases])
     for (name, _), (case, fault) in zip(cases, played):
         found.setdefault(name, []).append((case.name, fault))
         if name != ANSWERS and len(found[name]) == 2:
@@ -40,6 +43,6 @@ def check(names, is_built):
             print(f"{name}: {wrong or 'accepted'}", flush=True)
     if answers:
         found[ANSWERS] += of_built(answers) if is_built else ()
-        print(*answers_told(found[ANSWERS]), sep="\n")
+        print(*answer_lines(found[ANSWERS]), sep="\n")
     faults = [fault for calls in found.values() for _, fault in calls]
     return len(faults), sum(fault is not None for fault in faults)

@@ -3,15 +3,22 @@ from __future__ import annotations
 
 import dataclasses
 import pathlib
+import shutil
 import subprocess
 import tempfile
+from collections.abc import Sequence
+from typing import Callable
 
 from yotarimu.common.files import write_whole
 from yotarimu.common.outcome import Refused
 from yotarimu.common.places import EXAMPLES_FOLDER
 from yotarimu.images import large_programs
-from yotarimu.images.image import DATA, WINDOW_WORDS, image_bytes
-from yotarimu.reports.report import read_report
+from yotarimu.images.compiler import need_compiler
+from yotarimu.images.elf import Label
+from yotarimu.images.image import DATA, WINDOW_WORDS, Image, image_bytes
+from yotarimu.images.source import tool_prefix
+from yotarimu.programs.calls import Calls
+from yotarimu.reports.report import Report, read_report
 
 MOST_ADVANCES = 6_000_000
 HOST_COMPILER = "cc"
@@ -21,7 +28,7 @@ HOST_COMPILER = "cc"
 class Kind:
     """A large program: the name of its data, the one that makes it, sizes, and the variable with the result."""
     data: str
-    made: callable
+    made: Callable[[int, int], str]
     sizes: range
     size: int
     result: str
@@ -34,7 +41,15 @@ KINDS = {
 }
 
 
-def write_sources(name, kind, folder, size, seed):
+def need_tools(compiler: str) -> None:
+    """Refuses where what compiles the tasks or the plain program isn't there."""
+    if not shutil.which(HOST_COMPILER):
+        raise Refused(f"{HOST_COMPILER} isn't in the path; it compiles the plain program for this machine.")
+    need_compiler(compiler)
+    tool_prefix()
+
+
+def write_sources(name: str, kind: Kind, folder: pathlib.Path, size: int, seed: int) -> None:
     if folder.exists() and (not folder.is_dir() or any(folder.iterdir())):
         raise Refused(f"{folder}: it is there and not empty.")
     (folder / "plain").mkdir(parents=True, exist_ok=True)
@@ -44,50 +59,51 @@ def write_sources(name, kind, folder, size, seed):
                  folder / "plain" / "plain.c": (sources / f"{name}_plain.c").read_bytes()})
 
 
-def plain_words(folder):
+def plain_words(folder: pathlib.Path) -> list[int]:
     """The words that the plain program writes."""
     # A path that begins with a slash is no option.
     folder = folder.absolute()
     with tempfile.TemporaryDirectory() as place:
-        program = pathlib.Path(place) / "plain"
-        for words in ([HOST_COMPILER, "-O2", "-I", folder, "-o", program, folder / "plain" / "plain.c"], [program]):
+        program, source = str(pathlib.Path(place) / "plain"), folder / "plain" / "plain.c"
+        for words in ([HOST_COMPILER, "-O2", "-I", str(folder), "-o", program, str(source)], [program]):
             done = subprocess.run(words, capture_output=True, text=True, errors="replace", stdin=subprocess.DEVNULL)
             if done.returncode != 0:
-                raise Refused(f"{folder / 'plain' / 'plain.c'}: {done.stderr.strip() or done.returncode}")
+                raise Refused(f"{source}: {done.stderr.strip() or done.returncode}")
     return [int(word, 16) for word in done.stdout.split()]
 
 
-def words_left(calls, image, label):
+def words_left(calls: Calls, image: Image, label: Label) -> tuple[list[int], Report]:
     """The words that a run leaves from a label on, one window after another, and the report of the last."""
-    words, whole = [], -(-label.size // 4)
+    words: list[int] = []
+    whole = -(-label.size // 4)
     while len(words) < whole:
         image.window_offset = label.address - DATA + 4 * len(words)
         image.window_words = min(WINDOW_WORDS, whole - len(words))
-        written = said(calls, ["run"], image_bytes(image))
+        written = answer_of(calls, ["run"], image_bytes(image))
         report = read_report(written.decode("ascii", "replace"), "run")
         if report.end != "normal":
             raise Refused(f"the run ended otherwise: {written.splitlines()[-1].decode('ascii')}.")
         if len(report.window) != image.window_words:
             raise Refused(f"the run tells {len(report.window):,} words, and not {image.window_words:,}.")
         words += [value for _, value in report.window]
-    told = said(calls, ["check"], image_bytes(image) + written)
+    told = answer_of(calls, ["check"], image_bytes(image) + written)
     if told != b"check ok %d\n" % len(report.entries):
         raise Refused(f"the report is refused: {told.decode('ascii', 'replace').strip()}.")
     return words, report
 
 
-def said(calls, words, data):
+def answer_of(calls: Calls, words: Sequence[str], data: bytes) -> bytes:
     status, written = calls.call(words, data)
     if status != 0 or written.startswith(b"fault"):
         raise Refused(f"`{' '.join(words)}` ended with status {status}.")
     return written
 
 
-def events_of(calls, image, commits):
+def events_of(calls: Calls, image: Image, commits: int) -> int:
     """How many events the run has: so many acts `advance` are answered otherwise than that it is over."""
     advances = 16 * commits
     while advances <= MOST_ADVANCES:
-        written = said(calls, ["steps"], image_bytes(image) + b"advance\n" * advances)
+        written = answer_of(calls, ["steps"], image_bytes(image) + b"advance\n" * advances)
         replies, head, _ = written.partition(b"fractal 1\n")
         if not head:
             raise Refused("`steps` wrote no report.")
@@ -95,3 +111,17 @@ def events_of(calls, image, commits):
             return advances - ended
         advances *= 2
     raise Refused(f"the run has no end within {MOST_ADVANCES:,} events.")
+
+
+def compare(calls: Calls, image: Image, result: Label, folder: pathlib.Path) -> None:
+    """Runs a large program, tells how long its run is, and holds each word of its result against the plain program."""
+    words, report = words_left(calls, image, result)
+    events = events_of(calls, image, len(report.entries))
+    print(f"{len(report.entries):,} tasks took their turns, in {events:,} events; `check` accepts the report.")
+    plain = plain_words(folder)
+    if len(plain) != len(words):
+        raise Refused(f"the plain program tells {len(plain):,} words, and not {len(words):,}.")
+    for place, (word, other) in enumerate(zip(words, plain)):
+        if word != other:
+            raise Refused(f"the word {place} of `{result.name}` is {word:08x}, and {other:08x} by the plain program.")
+    print(f"{len(words):,} words of `{result.name}` are those of the plain program.")

@@ -1,6 +1,8 @@
 """The launcher's completion for a shell and its manual page, made of its table."""
 from __future__ import annotations
 
+from yotarimu.programs.table import Option, Table
+
 # A range of so many values is completed by each, a larger one by its ends and what stands unless given.
 MOST_VALUES = 16
 NAME = "fractal"
@@ -69,14 +71,14 @@ esac
 """
 
 
-def values_of(option):
+def values_of(option: Option) -> str:
     """The values of an option that are offered."""
     values = list(option.values)
     offered = values if len(values) <= MOST_VALUES + 1 else [values[0], option.default, values[-1]]
     return " ".join(map(str, dict.fromkeys(offered)))
 
 
-def bash(table):
+def bash(table: Table) -> str:
     values = "\n".join(f"            --{name}) words='{values_of(it)}' ;;" for name, it in table.options.items())
     return BASH.format(name=NAME, first=" ".join([*table.commands, *table.own]), values=values,
                        options=" ".join(f"--{name}" for name in table.options), kinds=" ".join(table.kinds),
@@ -84,29 +86,29 @@ def bash(table):
                        leading=leading_words(table), courses=" ".join(table.course_rows))
 
 
-def zsh(table):
+def zsh(table: Table) -> str:
     purposes = {**{name: row[2] for name, row in table.command_rows.items()}, **table.own}
     described = "\n".join(f"    {zsh_text(f'{name}:{purpose}')}" for name, purpose in purposes.items())
-    options = " \\\n".join(f"            {zsh_text(option_told(option))}" for option in table.options.values())
+    options = " \\\n".join(f"            {zsh_text(option_text(option))}" for option in table.options.values())
     kinds = "'1:kind:({})' '2:seed:' '3:size:'".format(" ".join(table.kinds))
     return ZSH.format(name=NAME, described=described, commands="|".join(table.commands), options=options, further=kinds,
                       leading=leading_words(table))
 
 
-def leading_words(table):
+def leading_words(table: Table) -> str:
     """What may stand right behind `watch`."""
     return " ".join([*table.course_rows, "views"])
 
 
-def option_told(option):
+def option_text(option: Option) -> str:
     return f"--{option.name}=[{option.purpose}]:{option.told()}:({values_of(option)})"
 
 
-def zsh_text(text):
+def zsh_text(text: str) -> str:
     return "'" + text.replace("'", "'\\''") + "'"
 
 
-def man(table):
+def man(table: Table) -> str:
     """The manual page in the macros of man."""
     lines = [f'.TH {NAME.upper()} 1 "" "{NAME} {table.version}" ""', ".SH NAME",
              f"{NAME} \\- simulates a machine that runs tasks ahead of their turn and commits them in order",
@@ -130,16 +132,16 @@ def man(table):
     lines.append(".SH EXIT STATUS")
     for number, meaning in table.statuses.items():
         lines += entry(str(number), meaning)
-    lines += [".SH EXAMPLES", ".nf", escaped(f"{NAME} run < image.bin > report"),
-              escaped(f"cat image.bin report | {NAME} check"), ".fi"]
+    lines += [".SH EXAMPLES", ".nf", escape(f"{NAME} run < image.bin > report"),
+              escape(f"cat image.bin report | {NAME} check"), ".fi"]
     return "\n".join(lines) + "\n"
 
 
-def entry(name, text):
-    return [".TP", f".B {escaped(name)}", escaped(text)]
+def entry(name: str, text: str) -> list[str]:
+    return [".TP", f".B {escape(name)}", escape(text)]
 
 
-def escaped(text):
+def escape(text: str) -> str:
     text = text.replace("\\", "\\e").replace("-", "\\-").replace("'", "\\(aq").replace("`", "\\(ga")
     return f"\\&{text}" if text.startswith(".") else text
 

@@ -5,11 +5,13 @@ from __future__ import annotations
 import dataclasses
 import os
 import subprocess
+from collections.abc import Iterator, Sequence
+from typing import IO, Optional, Union
 
 from yotarimu.images.image import DATA_BYTES
 from yotarimu.programs import limits
-from yotarimu.programs.answers import changed, stored
-from yotarimu.programs.program import LAUNCHER, PROGRAM
+from yotarimu.programs.answers import with_field, stored_file
+from yotarimu.programs.program import LAUNCHER, PROGRAM, Answer
 
 UNREAD, UNWRITTEN = 6, 7
 # Enough address space to start the program, and less than the largest data has, or room for a million turns.
@@ -21,16 +23,16 @@ DATA_SIZE = 16
 @dataclasses.dataclass(frozen=True)
 class Device:
     """A call of the program: its words, what it reads, what fails, and the status that it is to have."""
-    words: tuple
+    words: tuple[str, ...]
     given: bytes
     what: str
     status: int
 
     @property
-    def name(self):
+    def name(self) -> str:
         return f"{' '.join(self.words)}: {self.what}"
 
-    def fault(self):
+    def fault(self) -> Optional[str]:
         """What is wrong with the status, or with what was written; None where it is as it should be."""
         status, written = FAILING[self.what](self.words, self.given)
         if status != self.status:
@@ -38,49 +40,49 @@ class Device:
         return "it writes something all the same" if written else None
 
 
-def called(words, given, **streams):
+def call_launcher(words: Sequence[str], given: Optional[bytes], stdout: Union[int, IO[bytes]],
+                  stdin: Optional[int] = None) -> Answer:
     """The status of a call of the launcher, and what it wrote where that can be seen."""
-    told = {"input": given} if "stdin" not in streams else {}
-    done = subprocess.run([LAUNCHER, *words], stderr=subprocess.DEVNULL, **told, **streams)
-    return done.returncode, done.stdout or b""
+    done = subprocess.run([LAUNCHER, *words], stderr=subprocess.DEVNULL, input=given, stdin=stdin, stdout=stdout)
+    return Answer(done.returncode, done.stdout or b"")
 
 
-def unreadable(words, _given):
+def unreadable(words: Sequence[str], _given: bytes) -> Answer:
     folder = os.open("/", os.O_RDONLY)
     try:
-        return called(words, b"", stdin=folder, stdout=subprocess.PIPE)
+        return call_launcher(words, None, stdout=subprocess.PIPE, stdin=folder)
     finally:
         os.close(folder)
 
 
-def full(words, given):
+def full(words: Sequence[str], given: bytes) -> Answer:
     with open("/dev/full", "wb") as sink:
-        return called(words, given, stdout=sink)
+        return call_launcher(words, given, stdout=sink)
 
 
-def unread(words, given):
+def unread(words: Sequence[str], given: bytes) -> Answer:
     """The output is a pipe that nobody reads any more."""
     reader, writer = os.pipe()
     os.close(reader)
     try:
-        return called(words, given, stdout=writer)
+        return call_launcher(words, given, stdout=writer)
     finally:
         os.close(writer)
 
 
-def scarce(words, given):
-    return limits.answer(PROGRAM, words, given, SCARCE) or (limits.NOT_LOADED, b"")
+def scarce(words: Sequence[str], given: bytes) -> Answer:
+    return limits.answer(PROGRAM, words, given, SCARCE) or Answer(limits.NOT_LOADED, b"")
 
 
 INPUT, FULL, GONE, MEMORY = "an unreadable input", "a full device", "a pipe without a reader", "little memory"
 FAILING = {INPUT: unreadable, FULL: full, GONE: unread, MEMORY: scarce}
 
 
-def devices():
+def devices() -> Iterator[Device]:
     """A call of each command with each device that it may meet, and one for each text in place of a report."""
-    hello = stored("hello")
-    large = changed(hello, DATA_SIZE, DATA_BYTES)
-    report = stored("hello", "report")
+    hello = stored_file("hello")
+    large = with_field(hello, DATA_SIZE, DATA_BYTES)
+    report = stored_file("hello", "report")
     behind = {"run": b"", "save": b"", "check": report, "steps": b"commit\n", "trace": b"commit\n"}
     for word, text in behind.items():
         yield Device((word,), b"", INPUT, UNREAD)
@@ -91,12 +93,12 @@ def devices():
         for word, text in behind.items():
             yield Device((word,), hello + text, what, UNWRITTEN)
     for words, given in ((("rum",), b""), (("run",), b""), (("check",), hello), (("steps",), hello + b"halt\n"),
-                         (("trace",), hello + b"halt\n"), (("save", "--commits", "1"), stored("nested")),
-                         (("save", "--commits", "1"), stored("pipeline"))):
+                         (("trace",), hello + b"halt\n"), (("save", "--commits", "1"), stored_file("nested")),
+                         (("save", "--commits", "1"), stored_file("pipeline"))):
         yield Device(words, given, FULL, UNWRITTEN)
 
 
-def told_devices():
+def device_answers() -> tuple[list[tuple[str, Optional[str]]], set[tuple[str, int]]]:
     """Each call with what is wrong with its answer, and the pairs of a command and a status that they show."""
     calls = list(devices())
     return [(call.name, call.fault()) for call in calls], {(call.words[0], call.status) for call in calls}

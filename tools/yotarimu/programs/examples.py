@@ -1,6 +1,9 @@
 """The project's own examples, and the schedules that it plays."""
 from __future__ import annotations
 
+import pathlib
+from collections.abc import Iterable
+
 from yotarimu.common.files import read_text
 from yotarimu.common.outcome import Refused
 from yotarimu.common.places import EXAMPLES_FOLDER
@@ -12,18 +15,18 @@ SCHEDULES = tuple(f"schedules/{name}" for name in (
     "two_lines_apart", "one_word", "domains_by_hand", "rounds_by_hand"))
 
 
-def words_of(schedule):
+def words_of(schedule: str) -> list[str]:
     """The words with which the program plays a schedule."""
     return words_in(EXAMPLES_FOLDER / schedule / "words")
 
 
-def watched_words_of(schedule):
+def watched_words_of(schedule: str) -> list[str]:
     """The words with which the second program tells a schedule: those of the first one, unless it has its own."""
     path = EXAMPLES_FOLDER / schedule / "watch_words"
     return words_in(path) if path.exists() else words_of(schedule)
 
 
-def words_in(path):
+def words_in(path: pathlib.Path) -> list[str]:
     """The words of a call that a file has."""
     words = read_text(path).split()
     if not words or not all(word.isascii() and word.isprintable() for word in words):
@@ -31,6 +34,6 @@ def words_in(path):
     return words
 
 
-def with_sources(names):
+def with_sources(names: Iterable[str]) -> list[str]:
     """Those of the folders that have sources of their own; the others share an image."""
     return [name for name in names if any(path.suffix in (".s", ".c") for path in (EXAMPLES_FOLDER / name).iterdir())]

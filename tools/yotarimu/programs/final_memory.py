@@ -10,7 +10,7 @@ from yotarimu.common.data import Data
 from yotarimu.common.outcome import Refused
 from yotarimu.images.image import HEADER, WINDOW_WORDS
 from yotarimu.programs.calls import Calls
-from yotarimu.programs.comparison import said
+from yotarimu.programs.comparison import answer_of
 from yotarimu.programs.program import STATUSES
 
 # What the second program is asked for: the data memory that the events of the least task leave, and nothing else.
@@ -49,7 +49,8 @@ class Windows:
         if number not in self.known:
             offset = number * WINDOW_BYTES
             window = struct.pack("<2I", offset, min(WINDOW_WORDS, (self.size - offset) // 4))
-            report = said(self.calls, ["run"], self.image[:WINDOW_AT] + window + self.image[WINDOW_AT + len(window):])
+            image = self.image[:WINDOW_AT] + window + self.image[WINDOW_AT + len(window):]
+            report = answer_of(self.calls, ["run"], image)
             if not report.endswith(b"\nend normal\n"):
                 raise Refused(f"the run ended otherwise: `{report.splitlines()[-1].decode('ascii')}`.")
             values = [int(line[-8:], 16) for line in report.splitlines() if line.startswith(b"window ")]

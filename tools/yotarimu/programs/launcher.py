@@ -4,14 +4,25 @@ from __future__ import annotations
 import signal
 import subprocess
 import threading
+from collections.abc import Sequence
+from typing import NamedTuple, Optional
 
 from yotarimu.programs.program import LAUNCHER
 
 # What was started and hasn't ended, and whether all of it is to end.
-RUNNING, LOCK, ENDING = set(), threading.Lock(), threading.Event()
+RUNNING: set[subprocess.Popen[bytes]] = set()
+LOCK, ENDING = threading.Lock(), threading.Event()
 
 
-def launched(words, data, errors=None):
+class LauncherAnswer(NamedTuple):
+    """What a call of the launcher came to: its status, what it wrote, and what came on standard error where that was
+    asked for."""
+    status: int
+    written: bytes
+    errors: Optional[bytes]
+
+
+def launch(words: Sequence[str], data: bytes, errors: Optional[int] = None) -> LauncherAnswer:
     """The status of a call, what it wrote, and what came on standard error where `errors` is a pipe for it."""
     # An interrupt at the terminal reaches the script alone, so that one sentence comes of it.
     process = subprocess.Popen([LAUNCHER, *words], stdin=subprocess.PIPE, stdout=subprocess.PIPE, stderr=errors,
@@ -29,15 +40,15 @@ def launched(words, data, errors=None):
     finally:
         with LOCK:
             RUNNING.discard(process)
-    return process.returncode, written, said
+    return LauncherAnswer(process.returncode, written, said)
 
 
-def end(process):
+def end(process: subprocess.Popen[bytes]) -> None:
     """Asks a launcher to end what it started, and to say nothing."""
     process.send_signal(signal.SIGUSR1)
 
 
-def end_all():
+def end_all() -> None:
     """Asks all that threads have started, or are about to start, to end."""
     ENDING.set()
     with LOCK:

@@ -4,8 +4,12 @@ from __future__ import annotations
 import os
 import resource
 import subprocess
+from collections.abc import Iterator, Sequence
+from typing import NamedTuple, Optional
 
+from yotarimu.common.files import FilePath
 from yotarimu.common.outcome import Refused
+from yotarimu.programs.program import Answer
 
 NO_MEMORY = 5
 # The status with which the system's loader ends.
@@ -23,10 +27,10 @@ ENVIRONMENT = {"MALLOC_TOP_PAD_": "0", "MALLOC_ARENA_MAX": "1"}
 STACK = 1 << 20
 
 
-def answer(program, words, data, limit=None):
+def answer(program: FilePath, words: Sequence[str], data: bytes, limit: Optional[int] = None) -> Optional[Answer]:
     """The status of a call under a limit of address space, and what it wrote; None where the system can't start it."""
 
-    def bound():
+    def bound() -> None:
         resource.setrlimit(resource.RLIMIT_STACK, (STACK, resource.getrlimit(resource.RLIMIT_STACK)[1]))
         if limit is not None:
             resource.setrlimit(resource.RLIMIT_AS, (limit, resource.getrlimit(resource.RLIMIT_AS)[1]))
@@ -36,63 +40,69 @@ def answer(program, words, data, limit=None):
                               env={**os.environ, **ENVIRONMENT}, preexec_fn=bound)
     except (OSError, subprocess.SubprocessError):
         return None
-    return done.returncode, done.stdout
+    return Answer(done.returncode, done.stdout)
+
+
+class Outcome(NamedTuple):
+    """What came of a call, None where that may not be, and its answer where the system could start it."""
+    kind: Optional[str]
+    said: Optional[Answer]
 
 
 class Call:
     """A call of the program, and the answers that it gives with ample memory."""
 
-    def __init__(self, program, words, data):
+    def __init__(self, program: FilePath, words: Sequence[str], data: bytes) -> None:
         self.program, self.words, self.data = program, words, data
         self.has_threads = "--workers" in words
         first = answer(program, words, data)
-        if first is None or first[0] < 0:
+        if first is None or first.status < 0:
             raise Refused(f"{program}: it can't be run with `{' '.join(words)}`.")
         (self.status, self.written), self.answers = first, {first}
 
-    def fall(self):
-        """Each limit, from an ample one to none, with what came of the call under it, and the answer."""
+    def fall(self) -> Iterator[tuple[int, Outcome]]:
+        """Each limit, from an ample one to none, with what came of the call under it."""
         least = self.least()
         step = max(PAGE, least // MOST_STEPS // PAGE * PAGE)
         # Stacks of threads take what is above the least, and then memory runs out while threads run.
         limit = least + (4 * STACK if self.has_threads else 16 * step)
         while limit >= 0:
-            outcome, said = self.outcome(limit)
-            yield limit, outcome, said
-            limit -= 16 * step if outcome in (NOT_STARTED, KILLED) else step
+            outcome = self.outcome(limit)
+            yield limit, outcome
+            limit -= 16 * step if outcome.kind in (NOT_STARTED, KILLED) else step
 
-    def least(self):
+    def least(self) -> int:
         """A limit under which the answer is whole, where a page less is too little."""
         ample, scarce = MOST, 0
-        if self.outcome(ample)[0] is not WHOLE:
+        if self.outcome(ample).kind is not WHOLE:
             raise Refused(f"`{' '.join(self.words)}` has no whole answer in {MOST >> 30} GiB of address space.")
         while ample - scarce > PAGE:
             middle = (ample + scarce) // 2 // PAGE * PAGE
-            if self.outcome(middle)[0] is WHOLE:
+            if self.outcome(middle).kind is WHOLE:
                 ample = middle
             else:
                 scarce = middle
         return ample
 
-    def outcome(self, limit):
-        """What came of the call under a limit, and the answer; None in its place where that may not be."""
+    def outcome(self, limit: int) -> Outcome:
+        """What came of the call under a limit."""
         said = answer(self.program, self.words, self.data, limit)
         if said is None or said == (NOT_LOADED, b""):
-            return NOT_STARTED, said
+            return Outcome(NOT_STARTED, said)
         if self.is_whole(said):
-            return WHOLE, said
+            return Outcome(WHOLE, said)
         if said == (NO_MEMORY, b""):
-            return OUT_OF_MEMORY, said
-        return KILLED if said[0] < 0 and not said[1] else None, said
+            return Outcome(OUT_OF_MEMORY, said)
+        return Outcome(KILLED if said.status < 0 and not said.written else None, said)
 
-    def is_whole(self, said):
+    def is_whole(self, said: Answer) -> bool:
         """Whether this is an answer of ample memory. Host threads have several, each a report that `check` accepts."""
         if said in self.answers:
             return True
-        if not self.has_threads or said[0] != self.status or not said[1]:
+        if not self.has_threads or said.status != self.status or not said.written:
             return False
-        checked = answer(self.program, ["check"], self.data + said[1])
-        if checked is None or checked[0] != 0:
+        checked = answer(self.program, ["check"], self.data + said.written)
+        if checked is None or checked.status != 0:
             return False
         self.answers.add(said)
         return True

@@ -2,7 +2,9 @@
 from __future__ import annotations
 
 import collections
+import pathlib
 import sys
+from typing import NamedTuple, Optional
 
 from yotarimu.common.outcome import is_at_terminal
 from yotarimu.common.places import EXAMPLES_FOLDER
@@ -20,40 +22,53 @@ FEW = ("--commits", "10000")
 CUT, NESTED = "4", "2"
 
 
-def calls_of(name, program):
-    """The words and the input of each call of a name, after what names it."""
+class NamedCall(NamedTuple):
+    """A call of the program: what names it, its words, and what it reads."""
+    told: str
+    words: tuple[str, ...]
+    given: bytes
+
+
+def calls_of(name: str, program: pathlib.Path) -> list[NamedCall]:
+    """The calls of a name."""
     if name in ("steps", "trace"):
         return [schedule_of(name, schedule) for schedule in SCHEDULES]
     if name == "load":
-        return [("walk", (name, *WALK), b""), ("walk", (name, *WALK, *FEW), b""),
-                ("nest", (name, "nest", "0", "50", *FEW), b"")]
+        return [NamedCall("walk", (name, *WALK), b""), NamedCall("walk", (name, *WALK, *FEW), b""),
+                NamedCall("nest", (name, "nest", "0", "50", *FEW), b"")]
     example = (EXAMPLES_FOLDER / EXAMPLE / "image.bin").read_bytes()
-    walk = image_bytes(generated(WALK[0], *map(int, WALK[1:])))
+    kind, seed, size = WALK
+    walk = image_bytes(generated(kind, int(seed), int(size)))
     if name == "save":
-        return [(EXAMPLE, (name, "--commits", CUT), example), (EXAMPLE, (name, "--commits", NESTED), example),
-                ("walk", (name, "--commits", "1000"), walk)]
+        return [NamedCall(EXAMPLE, (name, "--commits", CUT), example),
+                NamedCall(EXAMPLE, (name, "--commits", NESTED), example),
+                NamedCall("walk", (name, "--commits", "1000"), walk)]
     if name == "check":
-        return [(EXAMPLE, (name,), example + (EXAMPLES_FOLDER / EXAMPLE / "report").read_bytes()),
-                ("walk", (name,), walk + Call(program, ("run",), walk).written)]
+        return [NamedCall(EXAMPLE, (name,), example + (EXAMPLES_FOLDER / EXAMPLE / "report").read_bytes()),
+                NamedCall("walk", (name,), walk + Call(program, ("run",), walk).written)]
     words = ("run", "--workers", "4") if name == "workers" else (name,)
-    return [(EXAMPLE, words, example), (EXAMPLE, words + FEW, example), ("walk", words + FEW, walk)]
+    return [NamedCall(EXAMPLE, words, example), NamedCall(EXAMPLE, (*words, *FEW), example),
+            NamedCall("walk", (*words, *FEW), walk)]
 
 
-def schedule_of(name, schedule):
+def schedule_of(name: str, schedule: str) -> NamedCall:
     folder = EXAMPLES_FOLDER / schedule
     words = (folder / "words").read_text().split()[1:]
-    return schedule, (name, *words, *FEW), (folder / "image.bin").read_bytes() + (folder / "script").read_bytes()
+    given = (folder / "image.bin").read_bytes() + (folder / "script").read_bytes()
+    return NamedCall(schedule, (name, *words, *FEW), given)
 
 
-def fallen(name, program):
+def fall_of(name: str, program: pathlib.Path) -> tuple[collections.Counter[Optional[str]], list[str]]:
     """How many runs of a name's calls came to what, and what was wrong, a text each."""
-    counts, faults = collections.Counter(), []
+    counts: collections.Counter[Optional[str]] = collections.Counter()
+    faults = []
     for told, words, data in calls_of(name, program):
-        for limit, outcome, said in Call(program, words, data).fall():
-            counts[outcome] += 1
-            if outcome is None:
-                shown = said[1][-60:].decode("ascii", "backslashreplace").strip()
-                faults.append(f"{told}, {' '.join(words)}, under {limit:,} bytes: status {said[0]} and `{shown}`")
+        for limit, outcome in Call(program, words, data).fall():
+            counts[outcome.kind] += 1
+            if outcome.kind is None and outcome.said is not None:
+                status, written = outcome.said
+                shown = written[-60:].decode("ascii", "backslashreplace").strip()
+                faults.append(f"{told}, {' '.join(words)}, under {limit:,} bytes: status {status} and `{shown}`")
                 break
             show_limit(f"{name} of {told} under {limit:,} bytes")
     show_limit("")
@@ -62,7 +77,7 @@ def fallen(name, program):
     return counts, faults
 
 
-def show_limit(text):
+def show_limit(text: str) -> None:
     """On a terminal one line, which is written again and again."""
     if is_at_terminal():
         print(f"\r\x1b[K{text}", end="", file=sys.stderr, flush=True)

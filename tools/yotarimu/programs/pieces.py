@@ -8,12 +8,14 @@ from __future__ import annotations
 
 import dataclasses
 import pathlib
+from collections.abc import Iterator, Mapping, Sequence
+from typing import Optional
 
-from yotarimu.common.files import read_bytes, write_whole
+from yotarimu.common.files import FilePath, read_bytes, write_whole
 from yotarimu.common.outcome import Refused
 from yotarimu.images.image import read_image
-from yotarimu.images.serial_machine import Machine
-from yotarimu.reports.report import Name, read_report
+from yotarimu.images.serial_machine import Machine, Task
+from yotarimu.reports.report import Name, Report, read_report
 
 LIMIT, NESTED, TOO_MANY = 4, 12, 13
 MOST_COMMITS = 1_000_000
@@ -28,24 +30,26 @@ class Piece:
     number: int
     image: bytes
     written: bytes
-    report: object
+    report: Report
     is_last: bool
+    # The names of the tasks that pend at its end, once they were held against the next image.
+    pending: list[Name] = dataclasses.field(default_factory=list)
 
 
 class Folder:
     """The pieces of one run. What is there is whole; a piece whose report is missing is run again."""
 
-    def __init__(self, path, image, words):
+    def __init__(self, path: FilePath, image: bytes, words: Sequence[str]) -> None:
         self.path = pathlib.Path(path)
         if self.path.exists() and not self.path.is_dir():
             raise Refused(f"{path}: this is no folder.")
         self.path.mkdir(parents=True, exist_ok=True)
         self.keep({self.name(WORDS): " ".join(words).encode() + b"\n", self.name(IMAGE, 1): image})
 
-    def name(self, kind, number=None):
+    def name(self, kind: str, number: Optional[int] = None) -> pathlib.Path:
         return self.path / (kind if number is None else f"{number:04}.{kind}")
 
-    def keep(self, files):
+    def keep(self, files: Mapping[pathlib.Path, bytes]) -> None:
         """Writes files that are missing; one that is there has to say the same."""
         missing = {}
         for path, data in files.items():
@@ -57,23 +61,23 @@ class Folder:
             raise Refused(f"{self.path}: this folder holds other files; name a new folder.")
         write_whole(missing)
 
-    def image(self, number):
+    def image(self, number: int) -> bytes:
         return read_bytes(self.name(IMAGE, number))
 
-    def has_run(self, number):
+    def has_run(self, number: int) -> bool:
         """Whether the piece was run: its report is there, and the next image where the run goes on."""
         report = self.name(REPORT, number)
         if not report.exists():
             return False
         return self.name(IMAGE, number + 1).exists() or not read_bytes(report).endswith(b"\nend limit\n")
 
-    def write_piece(self, number, report, following):
+    def write_piece(self, number: int, report: bytes, following: Optional[bytes]) -> None:
         """The next image first: without it a report that ends at its limit counts for nothing."""
         if following is not None:
             write_whole({self.name(IMAGE, number + 1): following})
         write_whole({self.name(REPORT, number): report})
 
-    def pieces(self):
+    def pieces(self) -> Iterator[Piece]:
         number = 1
         while self.has_run(number):
             written = read_bytes(self.name(REPORT, number))
@@ -83,7 +87,7 @@ class Folder:
             number += 1
 
 
-def replayed(image, report, name):
+def replay(image: bytes, report: Report, name: FilePath) -> Machine:
     """The machine after the turns of a report."""
     machine = Machine(read_image(image, name))
     lost = machine.follow(report.entries)
@@ -92,13 +96,13 @@ def replayed(image, report, name):
     return machine
 
 
-def pending_of(machine):
+def pending_of(machine: Machine) -> list[Task]:
     """The tasks without a turn, by their names."""
     tasks = [task for task in machine.tasks.values() if not task.turn]
     return sorted(tasks, key=lambda task: (task.name.creator, task.name.index))
 
 
-def held_against(machine, following, name):
+def names_in(machine: Machine, following: bytes, name: FilePath) -> list[Name]:
     """The names of the tasks that pend, which are those of the saved image in its order; else a refusal."""
     saved, pending = read_image(following, name), pending_of(machine)
     if len(saved.tasks) != len(pending):
@@ -111,7 +115,7 @@ def held_against(machine, following, name):
     return [task.name for task in pending]
 
 
-def next_cut(image, report, after, name):
+def next_cut(image: bytes, report: Report, after: int, name: FilePath) -> Optional[int]:
     """The first count of commits above `after` at which all that pends is of the root domain, and not too much; None
     where there is none before the report's end."""
     machine = Machine(read_image(image, name))
@@ -125,14 +129,15 @@ def next_cut(image, report, after, name):
     return None
 
 
-def joined(pieces):
+def join(pieces: Sequence[Piece]) -> bytes:
     """One report of pieces: the names of each in those of the first image, the outputs one after another, the window
     and the end of the last."""
-    lines, output, names, turns = ["fractal 1"], [], None, 0
+    lines, output, turns = ["fractal 1"], [], 0
+    names: Optional[list[Name]] = None
     for piece in pieces:
         report = piece.report
         for entry in report.entries:
-            name = shifted(entry.name, names, turns)
+            name = name_in_whole(entry.name, names, turns)
             lines.append(f"{turns + entry.turn} {name} {entry.depth} {entry.timestamp}")
         output.append(report.output)
         if piece.is_last:
@@ -140,12 +145,12 @@ def joined(pieces):
             lines += [f"window {address:08x} {word:08x}" for address, word in report.window]
             lines.append(end_line(report, names, turns))
         else:
-            names = [shifted(name, names, turns) for name in piece.pending]
+            names = [name_in_whole(name, names, turns) for name in piece.pending]
             turns += len(report.entries)
     return "\n".join(lines).encode() + b"\n"
 
 
-def shifted(name, names, turns):
+def name_in_whole(name: Name, names: Optional[Sequence[Name]], turns: int) -> Name:
     """A task's name in the joined run: the first image's own stay, those of a saved image are the pending ones."""
     if name.creator:
         return Name(turns + name.creator, name.index)
@@ -156,8 +161,8 @@ def shifted(name, names, turns):
     return names[name.index]
 
 
-def end_line(report, names, turns):
+def end_line(report: Report, names: Optional[Sequence[Name]], turns: int) -> str:
     if report.trap is None:
         return f"end {report.end}"
     trap = report.trap
-    return f"end trap {trap.cause} {trap.pc:08x} {shifted(trap.name, names, turns)}"
+    return f"end trap {trap.cause} {trap.pc:08x} {name_in_whole(trap.name, names, turns)}"

@@ -1,6 +1,8 @@
 """Where the launcher and the built programs stand, and which status belongs to which end of a report."""
 from __future__ import annotations
 
+from typing import NamedTuple
+
 from yotarimu.common.places import HOME
 
 LAUNCHER = HOME / "fractal"
@@ -11,6 +13,13 @@ SECOND_PROGRAM = HOME / "crates" / "fractal_watch" / "out" / "fractal_watch"
 STATUSES = {"normal": 0, "trap": 3, "limit": 4, "open": 0}
 
 
-def end_of(report):
+class Answer(NamedTuple):
+    """What a call of a program came to: its status, and what it wrote."""
+    status: int
+    written: bytes
+
+
+def end_of(report: bytes) -> str:
     """The word after `end` of a report's bytes, or nothing."""
-    return report.rpartition(b"\nend ")[2].partition(b" ")[0].strip().decode("ascii", "replace")
+    _, end, behind = report.rpartition(b"\nend ")
+    return behind.partition(b" ")[0].strip().decode("ascii", "replace") if end else ""

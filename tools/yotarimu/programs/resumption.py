@@ -2,28 +2,31 @@
 from __future__ import annotations
 
 import sys
+from collections.abc import Sequence
+from typing import Optional
 
 from yotarimu.common.files import read_bytes, write_whole
 from yotarimu.common.outcome import Refused, is_at_terminal, say
 from yotarimu.common.text import counted
 from yotarimu.images.image import read_image
 from yotarimu.programs import pieces
-from yotarimu.programs.program import STATUSES, end_of
-from yotarimu.reports.report import read_report
+from yotarimu.programs.calls import Calls
+from yotarimu.programs.program import STATUSES, Answer, end_of
+from yotarimu.reports.report import Report, read_report
 
 NAME = "resume"
 
 
-class Resumed:
+class Resumption:
     """A run in pieces, by the built program."""
 
-    def __init__(self, calls, words, every, folder):
+    def __init__(self, calls: Calls, words: Sequence[str], every: int, folder: pieces.Folder) -> None:
         self.calls, self.words, self.every, self.folder = calls, words, every, folder
 
-    def call(self, command, data, commits):
+    def call(self, command: str, data: bytes, commits: int) -> Answer:
         return self.calls.call([command, *self.words, "--commits", str(commits)], data)
 
-    def run_all(self):
+    def run_all(self) -> None:
         """Runs each piece that wasn't run yet, up to the end of the run."""
         number, turns = 1, 0
         while not self.is_over(number):
@@ -34,18 +37,18 @@ class Resumed:
             number += 1
         show_progress("")
 
-    def is_over(self, number):
+    def is_over(self, number: int) -> bool:
         return number > 1 and self.folder.has_run(number - 1) and not self.folder.name(pieces.IMAGE, number).exists()
 
-    def report(self, number):
+    def report(self, number: int) -> Report:
         name = self.folder.name(pieces.REPORT, number)
         return read_report(read_bytes(name).decode("utf-8", "replace"), name)
 
-    def run_piece(self, number, turns):
+    def run_piece(self, number: int, turns: int) -> None:
         """Runs a piece, and keeps it with the image that goes on."""
         image = self.folder.image(number)
-        commits = self.every
-        status, saved = self.call("save", image, commits)
+        commits: Optional[int] = self.every
+        status, saved = self.call("save", image, self.every)
         if status in (pieces.NESTED, pieces.TOO_MANY):
             commits = self.cut_later(number, image, turns, saved)
             status, saved = self.call("save", image, commits) if commits else self.whole(image)
@@ -59,11 +62,11 @@ class Resumed:
             self.need_end("save", status, saved)
             self.folder.write_piece(number, saved, None)
 
-    def whole(self, image):
+    def whole(self, image: bytes) -> Answer:
         """The rest of a run that can't be cut any more, up to its end."""
         return self.call("run", image, pieces.MOST_COMMITS)
 
-    def cut_later(self, number, image, turns, told):
+    def cut_later(self, number: int, image: bytes, turns: int, told: bytes) -> Optional[int]:
         """The count of commits at which the piece can be cut; None where it can't before the run ends."""
         report = self.need("run", image, pieces.MOST_COMMITS, set(STATUSES.values()))
         name = self.folder.name(pieces.IMAGE, number)
@@ -76,30 +79,30 @@ class Resumed:
         say(NAME, f"after {counted(turns + self.every, 'commit')} the run can't be cut ({why}); {rest}.")
         return commits
 
-    def need(self, command, image, commits, statuses):
+    def need(self, command: str, image: bytes, commits: int, statuses: set[int]) -> bytes:
         status, written = self.call(command, image, commits)
         return self.need_status(command, status, written, statuses)
 
-    def need_status(self, command, status, written, statuses):
+    def need_status(self, command: str, status: int, written: bytes, statuses: set[int]) -> bytes:
         if status not in statuses:
             text = written[:200].decode("utf-8", "backslashreplace").strip()
             raise Refused(f"`{command}` ended with status {status}{f' and said `{text}`' if text else ''}.")
         return written
 
-    def need_end(self, command, status, report):
+    def need_end(self, command: str, status: int, report: bytes) -> None:
         """Holds that a report ends as its status says, before it is kept."""
         if STATUSES.get(end_of(report)) != status:
             raise Refused(f"`{command}` ended with status {status}, and with no such report.")
 
-    def join(self):
+    def join(self) -> tuple[int, int]:
         """The pieces as one report, which is checked and kept."""
         read, names = list(self.folder.pieces()), self.folder.name
         for piece in read:
             if not piece.is_last:
-                machine = pieces.replayed(piece.image, piece.report, names(pieces.IMAGE, piece.number))
+                machine = pieces.replay(piece.image, piece.report, names(pieces.IMAGE, piece.number))
                 following = self.folder.image(piece.number + 1)
-                piece.pending = pieces.held_against(machine, following, names(pieces.IMAGE, piece.number + 1))
-        report = pieces.joined(read)
+                piece.pending = pieces.names_in(machine, following, names(pieces.IMAGE, piece.number + 1))
+        report = pieces.join(read)
         turns = sum(len(piece.report.entries) for piece in read)
         if turns <= pieces.MOST_COMMITS:
             self.check(read[0].image, report, turns, "the joined report")
@@ -109,7 +112,7 @@ class Resumed:
         write_whole({names(pieces.REPORT): report})
         return len(read), turns
 
-    def check(self, image, report, turns, what):
+    def check(self, image: bytes, report: bytes, turns: int, what: str) -> None:
         # At the limit of a piece no further task may commit.
         commits = turns if end_of(report) == "limit" else pieces.MOST_COMMITS
         status, told = self.call("check", image + report, max(commits, 1))
@@ -117,7 +120,7 @@ class Resumed:
             raise Refused(f"{what} was refused: {told.decode('ascii', 'replace').strip()}.")
 
 
-def show_progress(text):
+def show_progress(text: str) -> None:
     """One line on the terminal, which is written again and again, and cleared at the end."""
     if is_at_terminal():
         print(f"\r\x1b[K{NAME}: {text}" if text else "\r\x1b[K", end="", file=sys.stderr, flush=True)

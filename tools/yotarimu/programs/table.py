@@ -3,6 +3,7 @@ from __future__ import annotations
 
 import dataclasses
 import subprocess
+from collections.abc import Sequence
 
 from yotarimu.common.outcome import Refused
 from yotarimu.programs.program import LAUNCHER
@@ -13,11 +14,11 @@ class Option:
     """An option: its name without the dashes, the values that it may have, the one that it has unless given, and what
     it bounds."""
     name: str
-    values: range
+    values: Sequence[int]
     default: int
     purpose: str
 
-    def told(self):
+    def told(self) -> str:
         if isinstance(self.values, range):
             return f"{self.values[0]} to {self.values[-1]}"
         return f"one of {', '.join(map(str, self.values))}"
@@ -28,10 +29,19 @@ class Table:
     second program's courses and the numbers among its words, the launcher's own words and those of the tools, and which
     of all words belong together."""
 
-    def __init__(self):
-        self.commands, self.command_rows, self.options, self.statuses = {}, {}, {}, {}
-        self.kinds, self.own, self.own_words, self.version = {}, {}, {}, ""
-        self.course_rows, self.numbers, self.tools, self.groups = {}, {}, [], {}
+    def __init__(self) -> None:
+        self.commands: dict[str, str] = {}
+        self.command_rows: dict[str, list[str]] = {}
+        self.options: dict[str, Option] = {}
+        self.statuses: dict[int, str] = {}
+        self.kinds: dict[str, tuple[Sequence[int], str]] = {}
+        self.own: dict[str, str] = {}
+        self.own_words: dict[str, str] = {}
+        self.course_rows: dict[str, list[str]] = {}
+        self.numbers: dict[str, Sequence[int]] = {}
+        self.tools: list[str] = []
+        self.groups: dict[str, list[str]] = {}
+        self.version = ""
         for line in table_lines():
             kind, name, *rest = line.split("|")
             if kind == "command":
@@ -56,7 +66,7 @@ class Table:
                 self.version = name
 
 
-def table_lines():
+def table_lines() -> list[str]:
     try:
         done = subprocess.run([LAUNCHER, "table"], capture_output=True, text=True, check=True, stdin=subprocess.DEVNULL)
     except subprocess.CalledProcessError as error:
@@ -64,7 +74,7 @@ def table_lines():
     return done.stdout.splitlines()
 
 
-def values_in(text):
+def values_in(text: str) -> Sequence[int]:
     """The values that a row of the table allows: `1..64`, or `4,8,16`."""
     least, dots, most = text.partition("..")
     return range(int(least), int(most) + 1) if dots else tuple(map(int, text.split(",")))

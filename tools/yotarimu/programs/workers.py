@@ -2,21 +2,27 @@
 from __future__ import annotations
 
 import collections
+import pathlib
 import re
+from collections.abc import Sequence
+from typing import Callable, Optional
 
 from yotarimu.common.outcome import is_at_terminal
+from yotarimu.common.places import EXAMPLES_FOLDER
 from yotarimu.common.progress import show_progress
 from yotarimu.images.image import read_image
 from yotarimu.programs.calls import Calls
 from yotarimu.programs.pieces import LIMIT, NESTED
-from yotarimu.programs.program import STATUSES, end_of
+from yotarimu.programs.program import STATUSES, Answer, end_of
 
 WORKERS = (2, 4, 16)
 
 
-def answers_of(program, image, words, runs, jobs, name):
+def answers_of(program: pathlib.Path, image: bytes, words: Sequence[str], runs: int, jobs: int,
+               name: str) -> collections.Counter[Answer]:
     """How often each status and text came."""
-    counts, calls = collections.Counter(), Calls(program)
+    counts: collections.Counter[Answer] = collections.Counter()
+    calls = Calls(program)
     for done, (_, answer) in enumerate(calls.each(lambda _: calls.call(words, image), range(runs), jobs), 1):
         counts[answer] += 1
         if is_at_terminal():
@@ -24,7 +30,7 @@ def answers_of(program, image, words, runs, jobs, name):
     return counts
 
 
-def fault_of(program, image, answer):
+def fault_of(program: pathlib.Path, image: bytes, answer: Answer) -> Optional[str]:
     """What is wrong with a status and a report; None where it is a run's."""
     status, report = answer
     if status != STATUSES.get(end_of(report)):
@@ -35,7 +41,7 @@ def fault_of(program, image, answer):
     return None
 
 
-def fault_of_saved(program, commits, answer):
+def fault_of_saved(program: pathlib.Path, commits: int, answer: Answer) -> Optional[str]:
     """What is wrong with what `save` answered at a commit limit below the run's length; None where all is right."""
     status, written = answer
     if status == NESTED and re.fullmatch(rb"fault nested [0-9]+\n", written):
@@ -47,11 +53,29 @@ def fault_of_saved(program, commits, answer):
     return fault and f"an image that was saved after {commits} commits {fault}"
 
 
-def tried(told, program, image, words, runs, jobs, fault_of_answer):
+def try_runs(told: str, program: pathlib.Path, image: bytes, words: Sequence[str], runs: int, jobs: int,
+             fault_of_answer: Callable[[Answer], Optional[str]]) -> bool:
     """Whether all runs of these words are right; a line tells."""
     counts = answers_of(program, image, words, runs, jobs, told)
-    faults = [(count, fault_of_answer(answer)) for answer, count in counts.items()]
-    faults = [f"{count} of {runs} {fault}" for count, fault in faults if fault]
+    found = [(count, fault_of_answer(answer)) for answer, count in counts.items()]
+    faults = [f"{count} of {runs} {fault}" for count, fault in found if fault]
     kinds = "one answer" if len(counts) == 1 else f"{len(counts)} different answers"
     print(f"{told}: {'; '.join(faults) or f'{runs} runs accepted, {kinds}'}", flush=True)
     return not faults
+
+
+def failures_of(name: str, program: pathlib.Path, runs: int, jobs: int) -> int:
+    """How many of the ways to run an example with host threads went wrong; a line tells of each."""
+    image = (EXAMPLES_FOLDER / name / "image.bin").read_bytes()
+    # Half of the example's commits; none of an example with one. The first line of a report is no entry.
+    commits = ((EXAMPLES_FOLDER / name / "report").read_bytes().partition(b"output ")[0].count(b"\n") - 1) // 2
+    failed = 0
+    for workers in WORKERS:
+        told, by = f"{name} with {workers} workers", ["--workers", str(workers)]
+        failed += not try_runs(told, program, image, ["run", *by], runs, jobs,
+                               lambda answer: fault_of(program, image, answer))
+        if commits:
+            failed += not try_runs(f"{told}, saved after {commits}", program, image,
+                                   ["save", "--commits", str(commits), *by], runs, jobs,
+                                   lambda answer: fault_of_saved(program, commits, answer))
+    return failed

@@ -1,10 +1,16 @@
 """A report as text for people: tasks with labels, the output as text, the window in decimal, the end in words."""
 from __future__ import annotations
 
+from collections.abc import Sequence
+
+from yotarimu.common.files import FilePath
 from yotarimu.common.text import printable
-from yotarimu.images.image import DATA, STACK, TEXT
-from yotarimu.images.serial_machine import REGISTERS
+from yotarimu.courses.schedules import Said
+from yotarimu.images.image import DATA, STACK, TEXT, Image
+from yotarimu.images.listing import Listing
+from yotarimu.images.serial_machine import REGISTERS, Machine
 from yotarimu.reports.meanings import ENDS, REPLIES, cause_told, tasks_told
+from yotarimu.reports.report import Report, Trap
 
 # How far below the stack an address is told as one.
 BELOW_STACK = 65_536
@@ -13,13 +19,13 @@ REGISTERS_IN_LINE = 5
 MOST_REPLIES = 200
 
 
-def image_line(path, image):
+def image_line(path: FilePath, image: Image) -> str:
     kind = "ordered" if image.is_ordered else "unordered"
     return (f"{path}: version {image.version}, an {kind} root domain, {len(image.text) // 4:,} words of text from "
             f"{TEXT:08x} on, {image.size:,} bytes of data.")
 
 
-def tree_lines(report, machine, listing):
+def tree_lines(report: Report, machine: Machine, listing: Listing) -> list[str]:
     """The tasks in the order of their turns, deeper ones set in."""
     if not report.entries:
         return ["No task took its turn."]
@@ -32,7 +38,7 @@ def tree_lines(report, machine, listing):
     return lines
 
 
-def reply_lines(replies):
+def reply_lines(replies: Sequence[Said]) -> list[str]:
     """What the acts of a script were answered: each of a few, else how often which."""
     if not replies:
         return []
@@ -40,37 +46,37 @@ def reply_lines(replies):
     acts = "1 act" if len(replies) == 1 else f"{len(replies):,} acts"
     lines = [f"Replies to {acts} of a script; {back:,} tasks were taken back:", ""]
     if len(replies) <= MOST_REPLIES:
-        lines += [f"{number:>7}  {reply_told(said)}" for number, said in enumerate(replies, 1)]
+        lines += [f"{number:>7}  {reply_text(said)}" for number, said in enumerate(replies, 1)]
     else:
         kinds = dict.fromkeys(said.reply for said in replies)
         lines += [f"{sum(said.reply == kind for said in replies):>7,}  {kind}{meaning(kind)}" for kind in kinds]
     return [*lines, ""]
 
 
-def reply_told(said):
+def reply_text(said: Said) -> str:
     back = f", {said.taken_back:,} taken back" if said.taken_back else ""
     return f"{said.reply}{meaning(said.reply)}{back}"
 
 
-def meaning(reply):
+def meaning(reply: str) -> str:
     return f": {REPLIES[reply]}" if reply in REPLIES else ""
 
 
-def output_lines(output):
+def output_lines(output: bytes) -> list[str]:
     if not output:
         return ["No byte was emitted."]
     count = "1 byte" if len(output) == 1 else f"{len(output):,} bytes"
     return [f"Output, {count}, as text:", "", *(f"  {line}" for line in text_lines(output))]
 
 
-def text_lines(output):
+def text_lines(output: bytes) -> list[str]:
     """Bytes as lines of text, each with its newline written out."""
     pieces = [piece + b"\n" for piece in output.split(b"\n")]
     pieces[-1] = pieces[-1][:-1]
     return [printable(piece) for piece in pieces if piece]
 
 
-def window_lines(window, listing):
+def window_lines(window: Sequence[tuple[int, int]], listing: Listing) -> list[str]:
     if not window:
         return []
     lines = ["Window, each word in decimal and in hexadecimal:", ""]
@@ -80,7 +86,7 @@ def window_lines(window, listing):
     return [*lines, ""]
 
 
-def end_lines(report, machine, listing):
+def end_lines(report: Report, machine: Machine, listing: Listing) -> list[str]:
     if not report.trap:
         return [ENDS[report.end]]
     trap = report.trap
@@ -97,13 +103,13 @@ def end_lines(report, machine, listing):
             *state_lines(machine, listing, trap)]
 
 
-def state_lines(machine, listing, trap):
+def state_lines(machine: Machine, listing: Listing, trap: Trap) -> list[str]:
     """The address and the registers of the trap, where running the task again comes to it."""
     found = machine.trapped(trap)
     if not found:
         return []
     run, trapped = found
-    lines = [] if trapped.address is None else [f"  address {address_told(listing, machine.image, trapped.address)}"]
+    lines = [] if trapped.address is None else [f"  address {address_text(listing, machine.image, trapped.address)}"]
     registers = [f"{name} {value:08x}" for name, value in zip(REGISTERS, run.registers) if value]
     for first in range(0, len(registers), REGISTERS_IN_LINE):
         title = "" if first else "registers"
@@ -111,7 +117,7 @@ def state_lines(machine, listing, trap):
     return [*lines, f"  {'':<9} all others are 0"]
 
 
-def address_told(listing, image, address):
+def address_text(listing: Listing, image: Image, address: int) -> str:
     """An address, with what is there."""
     if TEXT <= address < TEXT + len(image.text):
         place = f"{listing.labelled(address)}, in the text"
@@ -128,7 +134,8 @@ def address_told(listing, image, address):
     return f"{address:08x}, {place}"
 
 
-def text_of(image_path, image, replies, report, machine, listing):
+def text_of(image_path: FilePath, image: Image, replies: Sequence[Said], report: Report, machine: Machine,
+            listing: Listing) -> list[str]:
     """All that is told, for people."""
     return [image_line(image_path, image), f"{tasks_told(len(report.entries))}.", "", *reply_lines(replies),
             *tree_lines(report, machine, listing), "", *output_lines(report.output), "",

@@ -2,7 +2,9 @@
 from __future__ import annotations
 
 import re
+from typing import Optional
 
+from yotarimu.images.image import Limits
 from yotarimu.programs.table import Table
 
 # A trap's cause, and what usually leads to it, with the limits of the image's version.
@@ -31,8 +33,9 @@ ENDS = {
     "open": "The end is open: a task is left, and nobody ran it.",
 }
 # The words of causes that an image's version decides, where that isn't known.
-EITHER = {"readable": "text, data and any stack", "writable": "data and any stack",
-          "stack": "more than a stack, if any", "depth": "8 or 16", "child": "65th, or in version 2 a 257th,"}
+EITHER: dict[str, object] = {
+    "readable": "text, data and any stack", "writable": "data and any stack",
+    "stack": "more than a stack, if any", "depth": "8 or 16", "child": "65th, or in version 2 a 257th,"}
 # What a reply says, where it isn't what was asked for.
 REPLIES = {
     "empty": "there is nothing to do it with",
@@ -56,7 +59,7 @@ IMAGE_FAULTS = {
 }
 
 
-def told_without_report(text):
+def told_without_report(text: str) -> Optional[str]:
     """What the program's lines mean that are no report; None where the text is none of them."""
     line = text.strip()
     if found := re.fullmatch("check ok ([0-9]{1,10})", line):
@@ -79,18 +82,20 @@ def told_without_report(text):
     return None
 
 
-def tasks_told(count):
+def tasks_told(count: int) -> str:
     return "1 task took its turn" if count == 1 else f"{count:,} tasks took their turns"
 
 
-def cause_told(cause, limits):
+def cause_told(cause: int, limits: Optional[Limits]) -> tuple[str, str]:
     """A cause in words, and what usually leads to it; without limits, those of either version."""
     if cause not in CAUSES:
         return "an unknown cause", "a newer program"
-    return tuple(text.format(**(words_of(limits) if limits else EITHER)) for text in CAUSES[cause])
+    words = words_of(limits) if limits else EITHER
+    meaning, usual = CAUSES[cause]
+    return meaning.format(**words), usual.format(**words)
 
 
-def words_of(limits):
+def words_of(limits: Limits) -> dict[str, object]:
     """The words of causes that an image's version decides."""
     return {"readable": "text, data and stack" if limits.stack else "text and data",
             "writable": "data and stack" if limits.stack else "the data",

@@ -3,16 +3,35 @@ image at all."""
 from __future__ import annotations
 
 import csv
+from collections.abc import Sequence
+from typing import Optional, TextIO, TypedDict
 
+from yotarimu.common.files import FilePath
 from yotarimu.common.text import printable
+from yotarimu.courses.schedules import Said
 from yotarimu.images.image import DATA
-from yotarimu.images.serial_machine import REGISTERS
+from yotarimu.images.listing import Listing
+from yotarimu.images.serial_machine import REGISTERS, Machine
 from yotarimu.reports.meanings import cause_told
+from yotarimu.reports.report import Entry, Report
 
 ARGUMENTS = 3
 
 
-def other_run(report, machine, lost):
+class TaskRow(TypedDict):
+    """A task that took its turn; what isn't known of it is None."""
+    turn: int
+    name: str
+    creator: int
+    index: int
+    depth: int
+    timestamp: int
+    entry: Optional[int]
+    label: Optional[str]
+    arguments: Optional[list[int]]
+
+
+def other_run(report: Report, machine: Machine, lost: Optional[str]) -> Optional[str]:
     """Why a report is of no run of the image that the machine ran again; None where nothing speaks against it."""
     if machine.is_other:
         return lost
@@ -35,7 +54,8 @@ def other_run(report, machine, lost):
     return None
 
 
-def all_of(image_path, replies, report, machine, listing, remarks):
+def all_of(image_path: FilePath, replies: Sequence[Said], report: Report, machine: Machine, listing: Listing,
+           remarks: Sequence[str]) -> dict[str, object]:
     """All that is told, in lists, dictionaries, numbers and texts."""
     image = machine.image
     return {
@@ -53,38 +73,39 @@ def all_of(image_path, replies, report, machine, listing, remarks):
     }
 
 
-def task_of(entry, machine, listing):
-    """A task that took its turn; what isn't known of it is None."""
+def task_of(entry: Entry, machine: Machine, listing: Listing) -> TaskRow:
     task = machine.tasks.get(entry.name)
-    is_known = task is not None and task.turn == entry.turn
+    known = task if task is not None and task.turn == entry.turn else None
     return {
         "turn": entry.turn, "name": str(entry.name), "creator": entry.name.creator, "index": entry.name.index,
-        "depth": entry.depth, "timestamp": entry.timestamp, "entry": task.entry if is_known else None,
-        "label": listing.label(task.entry) if is_known else None,
-        "arguments": list(task.arguments) if is_known else None,
+        "depth": entry.depth, "timestamp": entry.timestamp, "entry": known.entry if known else None,
+        "label": listing.label(known.entry) if known else None,
+        "arguments": list(known.arguments) if known else None,
     }
 
 
-def end_of(report, machine, listing):
+def end_of(report: Report, machine: Machine, listing: Listing) -> dict[str, object]:
     """The end of the run; of a trap all that is known."""
     if not report.trap:
         return {"kind": report.end}
     trap, found = report.trap, machine.trapped(report.trap)
     meaning, usual = cause_told(trap.cause, machine.image.limits)
-    told = {"kind": "trap", "cause": trap.cause, "meaning": meaning, "usually": usual, "pc": trap.pc,
-            "label": listing.label(trap.pc), "place": listing.place(trap.pc), "task": str(trap.name)}
+    told: dict[str, object] = {
+        "kind": "trap", "cause": trap.cause, "meaning": meaning, "usually": usual, "pc": trap.pc,
+        "label": listing.label(trap.pc), "place": listing.place(trap.pc), "task": str(trap.name)}
     if found:
         run, trapped = found
         told["address"], told["registers"] = trapped.address, dict(zip(REGISTERS, run.registers))
     return told
 
 
-def write_tasks(report, machine, listing, file):
+def write_tasks(report: Report, machine: Machine, listing: Listing, file: TextIO) -> None:
     """The tasks as rows of CSV."""
-    names = ["turn", "name", "creator", "index", "depth", "timestamp", "entry", "label"]
+    names = [name for name in TaskRow.__annotations__ if name != "arguments"]
     sink = csv.writer(file, lineterminator="\n")
     sink.writerow([*names, *(f"argument {place}" for place in range(1, ARGUMENTS + 1))])
     for entry in report.entries:
         task = task_of(entry, machine, listing)
-        arguments = task["arguments"] or [""] * ARGUMENTS
-        sink.writerow([*("" if task[name] is None else task[name] for name in names), *arguments])
+        cells: dict[str, object] = {**task}
+        arguments: Sequence[object] = task["arguments"] or ("",) * ARGUMENTS
+        sink.writerow([*("" if cells[name] is None else cells[name] for name in names), *arguments])

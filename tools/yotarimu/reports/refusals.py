@@ -3,6 +3,8 @@ from __future__ import annotations
 
 import re
 import struct
+from collections.abc import Iterable, Sequence
+from typing import Optional
 
 from yotarimu.common.outcome import Refused
 from yotarimu.common.text import printable
@@ -33,7 +35,7 @@ OTHER_RUNS = {
 }
 
 
-def text_behind_image(data):
+def text_behind_image(data: bytes) -> Optional[bytes]:
     """What comes behind the image in the program's input; None where no image is whole."""
     if len(data) < HEADER_BYTES:
         return None
@@ -42,7 +44,7 @@ def text_behind_image(data):
     return data[length:] if length <= len(data) else None
 
 
-def line_of(text, number):
+def line_of(text: bytes, number: int) -> Optional[bytes]:
     """A line of a text, counted from 1, without its newline; None where there is none."""
     lines = text.split(b"\n")
     if lines[-1] == b"":
@@ -50,12 +52,12 @@ def line_of(text, number):
     return lines[number - 1] if number <= len(lines) else None
 
 
-def shown(line):
+def quote(line: bytes) -> str:
     text = printable(line).replace('\\"', '"')
     return f"`{text}`" if len(text) <= MOST_SHOWN else f"`{text[:MOST_SHOWN]}...`"
 
 
-def layout_fault(line):
+def layout_fault(line: bytes) -> Optional[str]:
     """What is wrong with a line, whatever stands in it; None where nothing is."""
     if not line.strip(b" \t\r"):
         return "the line is empty" if not line else "the line has blanks alone"
@@ -73,7 +75,7 @@ def layout_fault(line):
     return None if other is None else f"the byte {other:02x} (hexadecimal) stands in it, which no line has"
 
 
-def number_fault(word, what, least, most):
+def number_fault(word: str, what: str, least: int, most: int) -> Optional[str]:
     """Why a word is no number from least to most in decimal; None where it is one."""
     if not re.fullmatch("[0-9]+", word):
         return f"`{word[:MOST_SHOWN]}` is no number, and {what} is wanted"
@@ -84,7 +86,7 @@ def number_fault(word, what, least, most):
     return None
 
 
-def name_fault(word):
+def name_fault(word: str) -> Optional[str]:
     creator, dot, index = word.partition(".")
     if not dot:
         return f"`{word[:MOST_SHOWN]}` is no name, which is `<creator>.<index>`"
@@ -94,7 +96,7 @@ def name_fault(word):
 # ---- scripts
 
 
-def script_fault(line, tiles, cores):
+def script_fault(line: bytes, tiles: int, cores: int) -> Optional[str]:
     """Why a line is none of a script for so many tiles and cores; None where it is one."""
     if line.lstrip().startswith(b"#"):
         return "a script has no comments; ./fractal play plays one that has"
@@ -102,11 +104,11 @@ def script_fault(line, tiles, cores):
         return fault
     word, *numbers = line.decode("ascii").split(" ")
     if word not in NUMBERS:
-        return f"`{word[:MOST_SHOWN]}` is no act, which is {listed(NUMBERS)}"
+        return f"`{word[:MOST_SHOWN]}` is no act, which is {list_text(NUMBERS)}"
     places = ("tile", "core")[:NUMBERS[word]]
     if len(numbers) != len(places):
         wanted = " and ".join(f"a {place}" for place in places) or "nothing"
-        return f"behind `{word}` comes {wanted}, and not {counted(len(numbers))}"
+        return f"behind `{word}` comes {wanted}, and not {word_count(len(numbers))}"
     for place, number, count in zip(places, numbers, (tiles, cores)):
         if re.fullmatch("0|[1-9][0-9]*", number) and int(number[:20]) >= count:
             known = "the only one is 0" if count == 1 else f"they are 0 to {count - 1}"
@@ -116,11 +118,11 @@ def script_fault(line, tiles, cores):
     return None
 
 
-def counted(words):
+def word_count(words: int) -> str:
     return "one word" if words == 1 else f"{words} words"
 
 
-def listed(names):
+def list_text(names: Iterable[str]) -> str:
     names = list(names)
     return f"{', '.join(names[:-1])} or {names[-1]}"
 
@@ -128,7 +130,7 @@ def listed(names):
 # ---- reports
 
 
-def report_fault(text, number):
+def report_fault(text: bytes, number: int) -> str:
     """Why the line of a report with this number is wrong, or missing."""
     line, wanted = line_of(text, number), wanted_at(text, number)
     if line is None:
@@ -143,14 +145,14 @@ def report_fault(text, number):
     return shape_fault(kind, line.decode("ascii").split(" "), number) or OTHER_RUNS[kind]
 
 
-def kind_of(line):
+def kind_of(line: bytes) -> Optional[str]:
     """What a line of a report is, by its first word; None of the first line and of others."""
     word = line.split(b" ")[0]
     kinds = {b"output": "the output", b"window": "a word of the window", b"end": "the end"}
     return kinds.get(word) or ("an entry" if re.fullmatch(b"[0-9]+", word) else None)
 
 
-def wanted_at(text, number):
+def wanted_at(text: bytes, number: int) -> Optional[str]:
     """What may stand at a line of a report, by the line before it; None where nothing may."""
     if number == 1:
         return "`fractal 1`"
@@ -162,7 +164,7 @@ def wanted_at(text, number):
     return " or ".join(f"{kind}, {SHAPES[kind]}," for kind in kinds)[:-1]
 
 
-def shape_fault(kind, words, number):
+def shape_fault(kind: str, words: Sequence[str], number: int) -> Optional[str]:
     """What is wrong with the words of a line of this kind; None where they are inside the grammar."""
     if kind == "an entry":
         return entry_fault(words, number)
@@ -177,9 +179,9 @@ def shape_fault(kind, words, number):
     return None if re.fullmatch(pattern, " ".join(words)) else f"{kind} is {SHAPES[kind]}"
 
 
-def entry_fault(words, number):
+def entry_fault(words: Sequence[str], number: int) -> Optional[str]:
     if len(words) != 4:
-        return f"an entry is {SHAPES['an entry']}, and not {counted(len(words))}"
+        return f"an entry is {SHAPES['an entry']}, and not {word_count(len(words))}"
     turn, name, depth, timestamp = words
     if turn != str(number - 1):
         return f"the entries are numbered 1, 2, 3 and so on, so {number - 1} is wanted, and not {turn[:20]}"
@@ -187,7 +189,7 @@ def entry_fault(words, number):
             or number_fault(timestamp, "a timestamp", 0, MOST_NAME))
 
 
-def trap_fault(words):
+def trap_fault(words: Sequence[str]) -> Optional[str]:
     if len(words) != 5 or not re.fullmatch("[0-9a-f]{8}", words[3]):
         return f"the end is {SHAPES['the end']}, with eight digits for the pc"
     return number_fault(words[2], "a cause", 1, MOST_CAUSE) or name_fault(words[4])
@@ -196,25 +198,25 @@ def trap_fault(words):
 MOST_LINES = 2 ** 32
 
 
-def why(told, words, data):
+def why(told: str, words: Sequence[str], data: bytes) -> str:
     found = re.fullmatch("fault (script|journal) ([1-9][0-9]{0,9})", told)
     if not found:
         raise Refused(f"`{told[:40]}` isn't what the program says of a script or of a report.")
     text, number = text_behind_image(data), need_number("LINE", found[2], 1, MOST_LINES)
     if text is None:
         raise Refused("the input begins with no whole image.")
+    line, what = line_of(text, number), "report" if found[1] == "journal" else "script"
     if found[1] == "journal":
-        fault, what = report_fault(text, number), "report"
+        fault: Optional[str] = report_fault(text, number)
+    elif line is None:
+        fault = "the script has no such line"
     else:
-        counts = [count_of(name, words) for name in ("tiles", "cores")]
-        line = line_of(text, number)
-        fault, what = script_fault(line, *counts) if line is not None else "the script has no such line", "script"
-    line = line_of(text, number)
-    place = f"line {number:,} of the {what}{f', {shown(line)}' if line is not None else ''}"
+        fault = script_fault(line, count_of("tiles", words), count_of("cores", words))
+    place = f"line {number:,} of the {what}{f', {quote(line)}' if line is not None else ''}"
     return f"{place}: {fault or 'docs/guest/FORMATS.md has the grammar'}"
 
 
-def count_of(name, words):
+def count_of(name: str, words: Sequence[str]) -> int:
     """How many tiles or cores the words ask for."""
     option = Table().options[name]
     value, _ = take_option(words, f"--{name}")

@@ -3,7 +3,9 @@ from __future__ import annotations
 
 import dataclasses
 import re
+from typing import NoReturn, Optional
 
+from yotarimu.common.files import FilePath
 from yotarimu.common.outcome import Refused
 
 NUMBER = "([0-9]{1,10})"
@@ -17,7 +19,7 @@ class Name:
     creator: int
     index: int
 
-    def __str__(self):
+    def __str__(self) -> str:
         return f"{self.creator}.{self.index}"
 
 
@@ -40,38 +42,38 @@ class Trap:
 @dataclasses.dataclass
 class Report:
     """A report's parts. `end` is normal, limit, open or trap, and `trap` is told with the last."""
-    entries: list
+    entries: list[Entry]
     output: bytes
-    window: list
+    window: list[tuple[int, int]]
     end: str
-    trap: Trap
+    trap: Optional[Trap]
 
 
 @dataclasses.dataclass
 class Lines:
     """The lines of a report, taken one after another."""
-    name: str
-    texts: list
+    name: FilePath
+    texts: list[str]
     taken: int = 0
 
-    def take(self, pattern):
+    def take(self, pattern: str) -> Optional[re.Match[str]]:
         """The match of the next line, which is taken if it has this form; else None."""
         found = re.fullmatch(pattern, self.texts[self.taken]) if self.taken < len(self.texts) else None
         self.taken += found is not None
         return found
 
-    def need(self, pattern, what):
+    def need(self, pattern: str, what: str) -> re.Match[str]:
         return self.take(pattern) or self.refuse(f"{what} is wanted")
 
-    def refuse(self, why):
+    def refuse(self, why: str) -> NoReturn:
         raise Refused(f"{self.name}:{self.taken + 1}: this is no report: {why}.")
 
 
-def read_report(text, name, start=0):
+def read_report(text: str, name: FilePath, start: int = 0) -> Report:
     """The report that a text is, after so many lines of something else."""
     lines = Lines(name, text.removesuffix("\n").split("\n"), start)
     lines.need("fractal 1", "the line `fractal 1`")
-    entries = []
+    entries: list[Entry] = []
     while found := lines.take(rf"{NUMBER} {NUMBER}\.{NUMBER} {DEPTH} {NUMBER}"):
         turn, creator, index, depth, timestamp = map(int, found.groups())
         if turn != len(entries) + 1:
@@ -86,5 +88,5 @@ def read_report(text, name, start=0):
     end = lines.need(f"end (normal|limit|open|{trap})", "a word of the window or the end")
     if lines.taken < len(lines.texts):
         lines.refuse("nothing is wanted after the end")
-    trap = Trap(int(end[2]), int(end[3], 16), Name(int(end[4]), int(end[5]))) if end[2] else None
-    return Report(entries, b"" if output == "-" else bytes.fromhex(output), window, end[1].split()[0], trap)
+    told = Trap(int(end[2]), int(end[3], 16), Name(int(end[4]), int(end[5]))) if end[2] else None
+    return Report(entries, b"" if output == "-" else bytes.fromhex(output), window, end[1].split()[0], told)

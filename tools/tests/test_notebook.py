@@ -1,0 +1,52 @@
+"""A run as objects, by programs that answer what they are told to."""
+from __future__ import annotations
+
+import pathlib
+import tempfile
+import unittest
+from unittest import mock
+
+from yotarimu import notebook
+from yotarimu.common.outcome import Refused
+from yotarimu.images.image import TEXT, Image, InitialTask
+
+IMAGE = Image(True, b"\x93\x08\x00\x00\x73\x00\x00\x00", b"", 0, 0, 0, [InitialTask(TEXT, 5, (0, 0, 0))])
+
+
+class Notebook(unittest.TestCase):
+    def setUp(self) -> None:
+        self.place = tempfile.TemporaryDirectory()
+        self.program = pathlib.Path(self.place.name, "program")
+
+    def tearDown(self) -> None:
+        self.place.cleanup()
+
+    def answer(self, script: str) -> mock._patch[pathlib.Path]:
+        """A program in place of the built one."""
+        self.program.write_text(f"#!/bin/sh\ncat >/dev/null\n{script}\n")
+        self.program.chmod(0o755)
+        return mock.patch.object(notebook, "PROGRAM", self.program)
+
+    def test_a_report_is_an_object_and_options_are_handed_on(self) -> None:
+        said = "[ \"$*\" = 'run --task-queue=8' ] && printf 'fractal 1\\n1 0.0 1 5\\noutput 41\\nend normal\\n'"
+        with self.answer(said):
+            report = notebook.run(IMAGE, task_queue=8)
+        self.assertEqual((len(report.entries), report.output, report.end), (1, b"A", "normal"))
+
+    def test_a_fault_is_refused(self) -> None:
+        with self.answer("echo fault usage; exit 1"):
+            with self.assertRaisesRegex(Refused, "^`run --tiles=99` ended with status 1: fault usage.$"):
+                notebook.run(IMAGE, tiles=99)
+
+    def test_a_missing_program_is_refused(self) -> None:
+        with mock.patch.object(notebook, "PROGRAM", pathlib.Path("nowhere")):
+            with self.assertRaisesRegex(Refused, "isn't built"):
+                notebook.run(IMAGE)
+
+    def test_rows_are_rows_without_pandas(self) -> None:
+        with mock.patch.dict("sys.modules", {"pandas": None}):
+            self.assertEqual(notebook.frame([{"a": 1}]), [{"a": 1}])
+
+
+if __name__ == "__main__":
+    unittest.main()

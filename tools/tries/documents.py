@@ -1,0 +1,137 @@
+"""Tries of the commands in documents: each block is called as it stands."""
+from __future__ import annotations
+
+import itertools
+import pathlib
+import shutil
+import tempfile
+from collections.abc import Iterator
+from typing import NamedTuple
+
+from yotarimu.common.places import HOME
+
+from tries.files import picture_in
+from tries.place import Place, expect
+
+FENCE, PROMPT, REST = "```", "> ", "..."
+ANSWERS_FOLDER = HOME / "examples" / "exercises" / "answers"
+# What the first line of a block of commands begins with.
+COMMANDS = ("./fractal ", "cat ", "(cat ", "mkdir ", "cp ", "sed ", "head ", "cd ", "rt ", ". ", "apt-get ")
+# Blocks that aren't called, by a part of their first line, and why.
+LEFT_OUT = {
+    "apt-get install": "it installs packages",
+    "./fractal prove": "it proves for hours; what it hands out is tried with archives",
+    "cd /shared": "it wants an archive, which is tried by itself",
+    "cd crates/bench_placers": "it proves a crate",
+    "./fractal sweep image.bin --budget": "K stands for a number",
+    "./fractal sweep IMAGE": "IMAGE stands for a file",
+    ". <(": "it is for a shell at a terminal",
+    "./fractal large roads /tmp/roads": "it takes minutes; smaller ones are tried with the tool",
+}
+# The page whose tables one command makes again, which is tried by itself, and takes minutes as a whole.
+STUDY = "docs/machine/STUDY.md"
+# What is called in place of a line: the gate proves, and blocks of Python are run by themselves.
+OTHERWISE = {"rt ci": "true", "PYTHONPATH=tools python3": "true"}
+# The statuses of blocks whose last command ends with another one than 0, as the text around them tells, by how they
+# begin: exercises that aren't solved yet, a limit, a trap, and reports that are refused.
+STATUSES = {"cp -r examples/exercises/": 1, "./fractal run --commits 1 ": 4, "head -n -2 /tmp/letters": 3,
+            "sed 's/^3 1.1 2 2": 8}
+# What no command of a document is to be answered.
+FAULTS = ("Traceback", "not found", "o such file", "isn't known")
+# What a reader writes first, by the block that wants it.
+ANSWERS = {"./fractal exercise journal /tmp/journal": "journal"}
+
+
+class Block(NamedTuple):
+    """A block of a document: at which line it begins, what stands behind its fence, and its lines."""
+    document: str
+    line: int
+    language: str
+    lines: list[str]
+
+    def is_of_commands(self) -> bool:
+        return not self.language and self.lines[0].startswith(COMMANDS)
+
+    def is_left_out(self) -> bool:
+        return self.lines[0].startswith(tuple(LEFT_OUT)) or self.document == STUDY
+
+
+def documents() -> list[pathlib.Path]:
+    """The documents for people who use or change the project; those of crates have no commands."""
+    folders = [HOME / name for name in ("docs", "examples", "applications")]
+    return [HOME / "README.md", *(path for folder in folders for path in sorted(folder.rglob("*.md")))]
+
+
+def blocks_of(document: pathlib.Path) -> Iterator[Block]:
+    lines = document.read_text().split("\n")
+    fences = [place for place, line in enumerate(lines) if line.startswith(FENCE)]
+    for first, end in zip(fences[::2], fences[1::2]):
+        yield Block(str(document.relative_to(HOME)), first + 1, lines[first].removeprefix(FENCE), lines[first + 1:end])
+
+
+def script_of(block: Block, folder: str) -> str:
+    """The commands of a block for a shell, with a folder in place of the one for temporary files. What is typed at a
+    console is given to it as its input."""
+    lines: list[str] = []
+    for is_typed, group in itertools.groupby(block.lines, lambda line: line.startswith(PROMPT)):
+        if is_typed:
+            lines[-1] += " <<'TYPED'"
+            lines += [*typed_in(block, list(group)), "TYPED"]
+        else:
+            lines += [OTHERWISE.get(line, line) for line in group]
+    return "\n".join(lines).replace("/tmp/", f"{folder}/")
+
+
+def typed_in(block: Block, lines: list[str]) -> list[str]:
+    """What is typed. Where a reader is to go on alone, the stored answer to the exercise does."""
+    typed = [line.removeprefix(PROMPT) for line in lines]
+    if REST not in typed:
+        return typed
+    answer = (ANSWERS_FOLDER / block.lines[0].rpartition("/")[2]).read_text()
+    acts = [line.partition("#")[0].strip() for line in answer.splitlines()]
+    return [*filter(None, acts), *typed[typed.index(REST) + 1:]]
+
+
+def call_block(place: Place, block: Block, folder: str) -> None:
+    """Calls the commands of a block, and holds them to end as they are to."""
+    if (answer := ANSWERS.get(block.lines[0])) is not None:
+        shutil.copy(ANSWERS_FOLDER / answer, folder)
+    called = place.call("/bin/bash", "-c", script_of(block, folder), cwd=place.clone)
+    wanted = next((status for start, status in STATUSES.items() if block.lines[0].startswith(start)), 0)
+    where = f"of the commands at {block.document}:{block.line}"
+    expect(called.status == wanted, f"status {wanted} {where}", called)
+    for fault in FAULTS:
+        expect(fault not in called.errors, f"no `{fault}` {where}", called)
+
+
+def blocks_of_commands_are_called(place: Place) -> None:
+    """each block of commands of each document does what the text around it says"""
+    place.needs_program()
+    place.needs_second_program()
+    # A console takes no blank in the name of a file.
+    with tempfile.TemporaryDirectory(prefix="documents-") as folder:
+        for document in documents():
+            for block in blocks_of(document):
+                if block.is_of_commands() and not block.is_left_out():
+                    call_block(place, block, folder)
+
+
+def blocks_of_python_are_run(place: Place) -> None:
+    """the blocks of Python of a document, one after another, run as they stand, and print what they are to"""
+    place.needs_program()
+    place.needs_second_program()
+    document = HOME / "docs" / "guide" / "LIBRARY.md"
+    blocks = list(blocks_of(document))
+    commands = next(block for block in blocks if block.is_of_commands())
+    made = place.call("/bin/sh", "-c", script_of(commands, str(place.root)), cwd=place.clone)
+    expect(made.status == 0, "a folder of sources", made)
+    source = "\n".join(line for block in blocks if block.language == "python" for line in block.lines)
+    place.environment["PYTHONPATH"] = "tools"
+    answer = place.call("/usr/bin/env", "python3", "-B", "-c", source, cwd=place.clone)
+    expect((answer.status, answer.errors) == (0, ""), "no fault", answer)
+    for part in ("normal b'' 15\n", "tasks taken back\n", "normal 15 commits\n", "1 tiles 36\n"):
+        expect(part in answer.output.decode(), f"`{part}`", answer)
+    picture_in((place.clone / "mine" / "rounds.svg").read_bytes())
+
+
+TRIES = (blocks_of_commands_are_called, blocks_of_python_are_run)

@@ -1,0 +1,180 @@
+"""Tries of ./fractal explain."""
+from __future__ import annotations
+
+import json
+import pathlib
+import re
+
+from yotarimu.programs.examples import EXAMPLES
+
+from tries.build import folder_with
+from tries.files import files_of, picture_in, rows_in
+from tries.place import Place, expect, one_sentence_each
+
+
+def reports_are_explained(place: Place) -> None:
+    """tasks have their labels in a tree by depth, the output is text, the window decimal with labels"""
+    nested = ("2  1.0                  1    debit 5", "      note", "first                10000000           88")
+    for name, parts in (("nested", nested), ("hello", ("Output, 13 bytes", "Hello, world\\n", "main")),
+                        ("fork_join", ("sum                  10000010           30", "work 3", "join"))):
+        answer = place.call("fractal explain", *files_of(place, name))
+        expect((answer.status, answer.errors) == (0, ""), "an explanation", answer)
+        for part in parts:
+            expect(part in answer.output.decode(), f"`{part}`", answer.output.decode())
+
+
+def traps_are_explained(place: Place) -> None:
+    """a trap's cause is told in words, with the source line of its pc, from the listing or from a source"""
+    image, report = files_of(place, "trap")
+    folder = place.clone / "examples" / "trap"
+    for source in ((), (folder,), (folder / "task.s",), (folder / "listing",)):
+        answer = place.call("fractal explain", image, report, *source)
+        for part in ("cause 10: a timestamp in the past", "0.1 (bad; timestamp 7", "task.s:18: ecall", "bad+16"):
+            expect(part in answer.output.decode(), f"`{part}`", answer)
+
+
+def each_instruction_has_its_line(place: Place) -> None:
+    """each instruction of a listing has its source line, also the second one of a line, where a trap names it"""
+    for name in EXAMPLES:
+        text = (place.clone / "examples" / name / "listing").read_text()
+        counts = []
+        for function in re.split(r"(?m)^[0-9a-f]{8} <.*>:$", text)[1:]:
+            lines = re.findall(r"(?m)^[0-9a-f]{8}  [0-9a-f]{8}  .*$", function)
+            without = [line for line in lines if not re.search(r" \| [\w.]+:[0-9]+ \|", line)]
+            # What stands in a library has no lines at all.
+            is_library = name.startswith("c/") and len(without) == len(lines)
+            expect(not without or is_library, f"a source line of each instruction of {name}", without)
+            counts.append(len(lines) - len(without))
+        expect(sum(counts) > 2, f"instructions of {name}", text)
+    text = ("# image: task main\nmain:\n    lw a0, odd\n    li a7, 0\n    ecall\n"
+            "    .data\n    .byte 1\nodd:\n    .word 5\n")
+    folder = folder_with(place, "second", task=text)
+    expect(place.call("fractal build", str(folder)).status == 0, "an image")
+    report = b"fractal 1\noutput -\nend trap 4 00010004 0.0\n"
+    answer = place.call("fractal explain", str(folder / "image.bin"), "-", stdin=report)
+    for part in ("task.s:3: lw a0, odd", "main+4", "odd, in the data"):
+        expect(part in answer.output.decode(), f"`{part}`", answer)
+
+
+def pictures_are_drawn(place: Place) -> None:
+    """with --picture the tree is SVG with a box for each task"""
+    for name, parts in (("nested", ("1: 0.0", "transfer 5", "8: 7.0", "depth 3")), ("trap", ("trap 10: 0.1", "bad"))):
+        answer = place.call("fractal explain", *files_of(place, name), "--picture")
+        texts = picture_in(answer.output)
+        for part in parts:
+            expect(part in texts, f"`{part}` in the picture", texts)
+
+
+def faults_are_explained(place: Place) -> None:
+    """what the program writes in a report's place is told in words"""
+    image = files_of(place, "hello")[0]
+    for line, part in (("check ok 8", "8 tasks took their turns"), ("fault image 5 8", "above its limit"),
+                       ("fault journal 3", "line 3"), ("fault script 2", "line 2 is the first outside"),
+                       ("fault usage", "words are refused"), ("fault long", "67108864")):
+        answer = place.call("fractal explain", image, "-", stdin=line.encode() + b"\n")
+        expect(answer.status == 0 and part in answer.output.decode(), f"`{part}`", answer)
+
+
+def other_runs_are_refused(place: Place) -> None:
+    """a report that isn't of the image is refused before anything is written, with what speaks against it"""
+    image, report = files_of(place, "nested")
+    text = pathlib.Path(report).read_bytes()
+    other = str(place.clone / "examples" / "schedules" / "conflict" / "said")
+    for given, part in ((text.replace(b"2 1.0 2 1", b"2 0.1 1 0"), "turn 2 isn't one"),
+                        (text.replace(b"output -", b"output 41"), "emit other bytes"),
+                        (text.replace(b"00000058", b"00000059"), "leave 00000058 at 10000000"),
+                        (text.replace(b"window 10000008 00000002\n", b""), "3 words from 10000000 on"),
+                        (pathlib.Path(other).read_bytes(), "turn 1 isn't one")):
+        for form in ((), ("--json",), ("--csv",), ("--picture",)):
+            answer = place.call("fractal explain", image, "-", *form, stdin=given)
+            answer.sentence("no report of a run of", part)
+            expect(answer.output == b"", "nothing before a refusal", answer)
+
+
+def played_scripts_are_explained(place: Place) -> None:
+    """what `steps` wrote is explained with its replies in words, and of a long script with how often each came"""
+    for name, parts in (("conflict", ("     6  ok, 2 taken back", "17 acts", "2 tasks were taken back", "child")),
+                        ("stall", ("     5  stall: a queue is full", "The end is open"))):
+        folder = place.clone / "examples" / "schedules" / name
+        answer = place.call("fractal explain", str(folder / "image.bin"), str(folder / "said"))
+        expect((answer.status, answer.errors) == (0, ""), "an explanation", answer)
+        for part in parts:
+            expect(part in answer.output.decode(), f"`{part}`", answer.output.decode())
+    said = b"stall 0\n" * 300 + b"ok 1\n" * 1_000 + b"fractal 1\noutput -\nend open\n"
+    answer = place.call("fractal explain", files_of(place, "hello")[0], "-", stdin=said)
+    for part in ("1,300 acts", "    300  stall: a queue is full", "  1,000  ok\n", "1,000 tasks were taken back"):
+        expect(part in answer.output.decode(), f"`{part}`", answer.output.decode())
+
+
+def explanations_are_for_programs(place: Place) -> None:
+    """--json has all that is told, with registers and address of a trap, and --csv a row for each task"""
+    image, report = files_of(place, "trap")
+    told = json.loads(place.call("fractal explain", image, report, "--json").output)
+    end = told["end"]
+    expect((end["kind"], end["cause"], end["task"], end["registers"]["a1"]) == ("trap", 10, "0.1", 6), "the trap", end)
+    expect([task["label"] for task in told["tasks"]] == ["good"] and told["output"]["text"] == "g", "the rest", told)
+    image, report = files_of(place, "nested")
+    rows = rows_in(place.call("fractal explain", image, report, "--csv").output)
+    expect([row["name"] for row in rows] == "0.0 1.0 1.1 3.0 0.1 5.0 5.1 7.0".split(), "a row for each task", rows)
+    expect((rows[3]["label"], rows[3]["argument 2"], rows[3]["depth"]) == ("note", "2", "3"), "a row", rows[3])
+    folder = place.clone / "examples" / "schedules" / "conflict"
+    answer = place.call("fractal explain", str(folder / "image.bin"), str(folder / "said"), "--json")
+    expect(json.loads(answer.output)["replies"][5] == {"act": 6, "reply": "ok", "taken_back": 2}, "a reply", answer)
+    answer = place.call("fractal explain", image, "-", "--json", stdin=b"fault nested 2\n")
+    expect("depth 2" in json.loads(answer.output)["meaning"], "a fault in words", answer)
+    one_sentence_each([
+        (place.call("fractal explain", image, "-", "--csv", stdin=b"fault nested 2\n"), ["has no tasks", "depth 2"]),
+        (place.call("fractal explain", image, report, "--csv", "--json"), ["--picture, --json and --csv"]),
+    ])
+
+
+def explain_refuses_bad_files(place: Place) -> None:
+    """bad words, missing, endless and other files, and another image's source are told in a sentence"""
+    image, report = files_of(place, "hello")
+    other = place.clone / "examples" / "trap"
+    explain = "fractal explain"
+    one_sentence_each([
+        (place.call(explain), ["IMAGE REPORT"]),
+        (place.call(explain, image), ["IMAGE REPORT"]),
+        (place.call(explain, image, report, "--pictures"), ["IMAGE REPORT"]),
+        (place.call(explain, "nowhere", report), ["nowhere", "no such file"]),
+        (place.call(explain, image, "nowhere"), ["nowhere", "no such file"]),
+        (place.call(explain, str(other), report), ["is a directory"]),
+        (place.call(explain, report, image), ["this is no image"]),
+        (place.call(explain, image, image), ["this is no report", "fractal 1"]),
+        (place.call(explain, image, "-", stdin=b"fractal 1\n2 0.0 1 0\n"), ["-:2:", "turn 1"]),
+        (place.call(explain, image, "-", stdin=b"fractal 1\n"), ["-:2:", "output"]),
+        (place.call(explain, image, report, str(other)), ["isn't the image's"]),
+        (place.call(explain, image, report, report), ["no listing"]),
+        (place.call(explain, image, report, "nowhere.s"), ["nowhere.s", "no such file"]),
+        (place.call(explain, "/dev/zero", report), ["/dev/zero", "more than 268,435,456 bytes"]),
+        (place.call(explain, image, report, "/dev/zero"), ["/dev/zero", "more than"]),
+        (place.call("fractal sweep", "--rows", "/dev/zero"), ["/dev/zero", "more than"]),
+        (place.by_shell('"$0" explain "$1" - <&-', image), ["standard input is closed"]),
+    ])
+
+
+def endless_windows_are_refused(place: Place) -> None:
+    """a window that no image may have costs no memory"""
+    image, report = files_of(place, "hello")
+    data = bytearray(pathlib.Path(image).read_bytes())
+    data[24:28] = b"\xff" * 4
+    (place.root / "endless.bin").write_bytes(data)
+    place.call("fractal explain", "endless.bin", report).sentence("the image's window has 4294967295 words")
+
+
+def closed_pipes_are_borne(place: Place) -> None:
+    """a reader that goes away, a full disk and a closed standard output are told in a sentence"""
+    image, report = files_of(place, "nested")
+    for target, part in (("| exec sh -c :", "nobody reads"), (">/dev/full", "no space"), (">&-", "closed")):
+        script = f'"$0" explain "$1" "$2" {target}'
+        # The reader has gone before the script, which takes longer to begin, writes.
+        answer = place.by_shell(f"{script}; exit 1", image, report)
+        answer.sentence(part)
+
+
+TRIES = (
+    reports_are_explained, traps_are_explained, each_instruction_has_its_line, pictures_are_drawn,
+    faults_are_explained, other_runs_are_refused, played_scripts_are_explained, explanations_are_for_programs,
+    explain_refuses_bad_files, endless_windows_are_refused, closed_pipes_are_borne,
+)

@@ -1,0 +1,179 @@
+"""Tries of ./fractal test, and of what the gate runs beside the proofs."""
+from __future__ import annotations
+
+import pathlib
+import re
+import shutil
+
+from yotarimu.programs.examples import EXAMPLES, SCHEDULES
+
+from tries.files import files_of
+from tries.launcher import TRAP
+from tries.place import Place, expect
+
+# What rt says of cases that all go as stored, but for those whose answer isn't the program's.
+STUB_CASES = """echo "$1" >>"$(dirname "$0")/../calls"
+for file in "$3"/*.args; do
+    case=${file%.args}
+    status=0
+    case $(head -n 2 "$case.stdout" | tr '\\0' ' ') in
+        'fault usage'*) status=1 ;; 'fault image'*) status=2 ;; 'fault long'*) status=10 ;;
+        'fault journal'*) status=8 ;;
+        'fault script'*) status=9 ;; 'fault nested'*) status=12 ;; 'fault tasks'*) status=13 ;; FRAC*) status=4 ;;
+    esac
+    ! grep -aq '^end trap' "$case.stdout" || status=3
+    ! grep -aq '^end limit' "$case.stdout" || status=4
+    echo "case=${case##*/} run=ended status=$status runners=1 output=expected proved=no" >&2
+done
+"""
+
+
+def accepted_examples_are_named(place: Place) -> None:
+    """each accepted example and schedule is named and all is counted, in an unwritable clone, with a folder beside"""
+    place.needs_program()
+    (place.clone / "examples" / "mine").mkdir()
+    wanted = [f"{name}: accepted" for name in EXAMPLES + SCHEDULES]
+    answer = place.call("fractal test", cwd="/")
+    *lines, answers, count = answer.output.decode().splitlines()
+    expect((answer.status, answer.errors, lines) == (0, "", wanted), "all examples", answer)
+    found = re.fullmatch(r"answers: ([0-9]+) accepted", answers)
+    listed = int(found[1]) if found else 0
+    expect(listed >= 100, "a table of a hundred answers", answers)
+    total = listed + 2 * len(wanted)
+    expect(count.startswith(f"{total} of {total} answers are as stored, in ") and "Nothing was proved" in count,
+           "a count, and what wasn't proved", count)
+    place.make_unwritable()
+    answer = place.call("fractal test", "hello", "schedules/stall")
+    expect(answer.status == 0 and answer.output.count(b": accepted\n") == 2, "two where nothing can be written", answer)
+
+
+def one_unproved_run_plays_all(place: Place) -> None:
+    """where the program isn't built, one unproved run plays all that is named, and says that nothing was proved"""
+    place.stub_tool("rt", STUB_CASES)
+    answer = place.call("fractal test")
+    names = [line.partition(":")[0] for line in answer.output.decode().splitlines()]
+    expect(answer.status == 0 and names[:-1] == [*EXAMPLES, *SCHEDULES, "answers"], "all", answer)
+    answer.tells("one unproved run")
+    expect(b"without its proofs" in answer.output, "what wasn't proved", answer)
+    expect((place.root / "calls").read_text().count("try") == 1, "one run")
+    place.stub_tool("rt", STUB_CASES.replace("status=$status", "status=9"))
+    answer = place.call("fractal test", "hello")
+    expect(answer.status == 1 and b"hello: its run has the status 9, and not 0" in answer.output, "a failure", answer)
+    place.stub_tool("rt", "echo 'error: no such thing' >&2; exit 1\n")
+    answer = place.call("fractal test", "hello")
+    expect(answer.status == 1, "status 1", answer)
+    answer.tells("gave no answer", "error: no such thing")
+    place.is_clean()
+    place.without("rt")
+    place.call("fractal test", "hello").sentence("rt", "isn't in the path")
+
+
+def other_reports_fail(place: Place) -> None:
+    """an example with another report fails the check, which names it, and the others are checked all the same"""
+    place.needs_program()
+    report = place.clone / "examples" / "hello" / "report"
+    report.write_bytes(report.read_bytes().replace(b"output 48", b"output 49"))
+    answer = place.call("fractal test")
+    expect(answer.status == 1 and b"hello: its run writes something else" in answer.output, "a failure", answer)
+    expect(b"trap: accepted" in answer.output, "the others", answer)
+    said = place.clone / "examples" / "schedules" / "stall" / "said"
+    said.write_bytes(said.read_bytes().replace(b"stall 0", b"stale 0"))
+    answer = place.call("fractal test", "schedules/stall")
+    expect(b"its steps writes something else than what is stored, from line 5 on" in answer.output, "a failure", answer)
+    report.unlink()
+    place.call("fractal test", "hello").sentence("report", "no such file")
+    place.call("fractal test", "mine").sentence("none of the project's examples")
+
+
+def worked_lines_are_held(place: Place) -> None:
+    """the first line that the second program tells otherwise than was worked out by hand is named by its number"""
+    worked = (place.clone / "examples" / "schedules" / "by_hand" / "worked").read_bytes()
+    place.stub(place.program, "cat >/dev/null\n")
+    place.stub(place.second_program, f"cat >/dev/null; cat '{place.root}/told'\n")
+    named = "  schedules/by_hand, told act by act: line {} isn't the one worked out by hand: the second program "
+    for text, wanted in ((worked, None), (worked.replace(b"[0,9]", b"[0,8]"), named.format(9) + 'tells {"at":6,'),
+                         (worked[:worked.rindex(b"{")], named.format(21) + "tells nothing")):
+        (place.root / "told").write_bytes(text)
+        answer = place.call("fractal test", "answers")
+        told = [line for line in answer.output.decode().splitlines() if "by_hand, told" in line]
+        expect(answer.status == 1 and len(told) == (wanted is not None), f"{wanted or 'no fault of by_hand'}", answer)
+        expect(wanted is None or told[0].startswith(wanted), f"{wanted}", told)
+
+
+def lying_programs_fail(place: Place) -> None:
+    """a program that writes the right report with another status fails the check"""
+    (place.root / "report").write_bytes(TRAP)
+    place.stub(place.program, f"cat >/dev/null; cat '{place.root}/report'; exit 0\n")
+    answer = place.call("fractal test", "trap")
+    expect(answer.status == 1 and b"trap: its run has the status 0, and not 3\n" in answer.output, "a failure", answer)
+
+
+def each_fails_the_gate(place: Place) -> None:
+    """the gate runs plain `rt ci`, then the lint, then the examples where the program was built; each may fail it"""
+    place.stub_tool("rt", f'echo "$@" >>"{place.root}/words"; exit $(cat "{place.root}/proved")\n')
+    names = {False: "hello", True: "trap"}
+    reports = {is_spoiled: pathlib.Path(files_of(place, name)[1]).read_bytes() for is_spoiled, name in names.items()}
+    source = place.clone / "crates" / "rv_core" / "src" / "lib.rt"
+    text = source.read_text()
+    for proved, is_built, is_spoiled, is_wide, wanted in (
+            (0, False, True, False, 0), (0, True, False, False, 0), (0, True, True, False, 1),
+            (2, True, False, False, 2), (2, True, True, True, 2), (2, False, False, False, 2),
+            (0, True, False, True, 1), (0, False, False, True, 1)):
+        (place.root / "proved").write_text(str(proved))
+        shutil.rmtree(place.program.parent, ignore_errors=True)
+        if is_built:
+            place.needs_program()
+        (place.clone / "examples" / "hello" / "report").write_bytes(reports[is_spoiled])
+        source.write_text(f"{text}{'// wide' * 20 * is_wide}\n")
+        answer = place.call(".ci/run", cwd="/")
+        expect(answer.status == wanted, f"status {wanted}", answer)
+        expect((b"columns" in answer.output) == is_wide, "a line that is told where it is too wide", answer)
+    expect(set((place.root / "words").read_text().split("\n")) == {"ci", ""}, "plain rt ci")
+
+
+def wide_lines_only_fall(place: Place) -> None:
+    """one more wide line in a proof or in a script fails the lint, and the same one in place of another doesn't"""
+    proofs = sorted((place.clone / "crates").rglob("proofs/**/*.antt"))
+    wide = next(path for path in proofs if any(len(line) > 120 for line in path.read_text().splitlines()))
+    for path, comment in ((wide, "--"), (place.clone / "tools" / "yotarimu" / "pictures" / "plot.py", "#")):
+        text = path.read_text()
+        path.write_text(f"{text}{comment} {'wide ' * 30}\n")
+        answer = place.call(".ci/lint")
+        expect(answer.status == 1 and b"break new ones" in answer.output, "a failure for one more wide line", answer)
+        path.write_text(text)
+    lines = wide.read_text().splitlines()
+    lines[next(at for at, line in enumerate(lines) if len(line) > 120)] = "wide " * 30
+    wide.write_text("\n".join(lines) + "\n")
+    answer = place.call(".ci/lint")
+    expect(answer.status == 0 and b"break" not in answer.output, "no failure where their number stays", answer)
+
+
+def odd_sources_are_told(place: Place) -> None:
+    """the lint takes no words, and tells a source that is no text, and an edit or a version that isn't whole"""
+    expect(b"WIDE_LINES" in place.call(".ci/lint", "--help").output, "a help page")
+    place.call(".ci/lint", "crates").sentence("`crates`")
+    edit = next(iter(sorted((place.clone / "crates").glob("*/must-fail/*.edit"))))
+    edit.write_text("old: x\nnew: y\n")
+    (place.clone / "CHANGELOG.md").write_text("# Changes\n")
+    package = place.clone / "tools" / "pyproject.toml"
+    package.write_text(package.read_text().replace('version = "', 'version = "0.'))
+    answer = place.call(".ci/lint")
+    expect((answer.status, answer.errors) == (1, ""), "a failure", answer)
+    for part in (f"{edit.name}: `old` stands before", f"{edit.name}: `new` stands before", "newest version is None",
+                 "pyproject.toml: its version is 0."):
+        expect(part in answer.output.decode(), f"`{part}`", answer)
+    edit.write_bytes(b"\xff\n")
+    place.call(".ci/lint").sentence(edit.name, "no text in UTF-8")
+
+
+def clones_that_fail_are_told(place: Place) -> None:
+    """where no clone can be made, the tries say so and leave nothing"""
+    shutil.rmtree(place.clone / ".git")
+    place.call("fractal tries", "help_is").sentence("can't be cloned")
+    expect(not any(place.temporary.iterdir()), "no temporary file")
+
+
+TRIES = (
+    accepted_examples_are_named, one_unproved_run_plays_all, other_reports_fail, worked_lines_are_held,
+    lying_programs_fail, each_fails_the_gate, wide_lines_only_fall, odd_sources_are_told, clones_that_fail_are_told,
+)

@@ -1,0 +1,223 @@
+"""A console: acts are typed, and each is played and told; words beside them take acts back, save them, or show them."""
+from __future__ import annotations
+
+import io
+import pathlib
+import shlex
+import sys
+import tempfile
+from collections.abc import Iterable, Iterator, Sequence
+from typing import Callable, Optional
+
+from yotarimu.common.files import encoded, need_outputs, need_writable, write_whole
+from yotarimu.common.outcome import Refused, say, error_text
+from yotarimu.common.text import counted
+from yotarimu.common.words import need_number
+from yotarimu.courses.growth import Performance, Schedule
+from yotarimu.courses.schedules import NUMBERS
+from yotarimu.images.listing import NO_LISTING
+from yotarimu.pictures.page import page_of
+from yotarimu.reports.refusals import script_fault
+
+NAME = "console"
+PROMPT = "> "
+PAGE_START = b"<!doctype html>"
+MOST_TYPED = 1_000
+# So many acts `advance` may be asked for at once.
+MOST_RUN = 10_000
+ACTS = {"dispatch": "T", "step": "T C", "take": "T C", "give": "T C", "abort": "T", "commit": "", "coalesce": "T",
+        "split": "T", "advance": ""}
+
+
+class Console:
+    """What is typed, line by line."""
+
+    def __init__(self, schedule: Schedule, acts: Sequence[str], usage: str) -> None:
+        self.schedule, self.usage = schedule, usage
+        self.is_saved, self.is_refused, self.is_left = True, False, False
+        self.performance = schedule.play(acts)
+        self.words: dict[str, Callable[[Sequence[str]], None]] = {
+            "undo": self.undo, "run": self.run, "show": self.show, "script": self.script, "save": self.save,
+            "save!": self.save_over, "open": self.open, "help": self.help, "quit": self.quit}
+
+    @property
+    def acts(self) -> list[str]:
+        return self.performance.acts
+
+    def follow(self, typed: Iterable[str]) -> None:
+        """Answers each line that is typed; a line that can't be done is told, and nothing has changed."""
+        for line in typed:
+            words = line.partition("#")[0].split()
+            if not words:
+                continue
+            try:
+                self.answer(*words)
+            except BrokenPipeError:
+                raise
+            except (Refused, OSError) as error:
+                say(NAME, error_text(error) if isinstance(error, OSError) else error)
+                self.is_refused = True
+            if self.is_left:
+                break
+
+    def answer(self, word: str, *rest: str) -> None:
+        if word in self.words:
+            self.words[word](list(rest))
+            return
+        if word not in NUMBERS:
+            raise Refused(f"`{word[:40]}` is no act and no word of the console; `help` tells them.")
+        act = " ".join((word, *rest))
+        fault = script_fault(act.encode("utf-8", "replace"), self.schedule.tiles, self.schedule.cores)
+        if fault:
+            raise Refused(f"`{act[:40]}`: {fault}.")
+        self.add([act])
+
+    def add(self, acts: Sequence[str]) -> None:
+        """Plays further acts, and tells what they did."""
+        self.tell(self.schedule.play([*self.acts, *acts], len(self.acts)))
+
+    def tell(self, performance: Performance) -> None:
+        self.performance, self.is_saved = performance, not performance.acts
+        write([*performance.told(), ""])
+
+    # ---- words of the console
+
+    def undo(self, words: Sequence[str]) -> None:
+        count = number_behind("undo", words, len(self.acts), 1) if self.acts else 0
+        if not count:
+            raise Refused("no act is left to undo.")
+        self.tell(self.schedule.play(self.acts[:-count]))
+
+    def run(self, words: Sequence[str]) -> None:
+        count = number_behind("run", words, MOST_RUN, None)
+        before = len(self.acts)
+        performance = self.schedule.play([*self.acts, *["advance"] * count], before)
+        if "ended" in performance.replies[before:]:
+            done = performance.replies.index("ended", before)
+            if done == before:
+                raise Refused("the run is over, so no event is left.")
+            performance = self.schedule.play(performance.acts[:done], before)
+        self.tell(performance)
+
+    def show(self, words: Sequence[str]) -> None:
+        need_none("show", words)
+        write([*self.schedule.play(self.acts).told(), ""])
+
+    def script(self, words: Sequence[str]) -> None:
+        need_none("script", words)
+        write(f"{number:>5}  {act:<14}  {reply}"
+              for number, (act, reply) in enumerate(zip(self.acts, self.performance.replies), 1))
+
+    def save(self, words: Sequence[str]) -> None:
+        path = file_behind("save", words)
+        if pathlib.Path(path).exists():
+            raise Refused(f"{path}: this is there already; `save! {path}` replaces it.")
+        self.write_script(path)
+
+    def save_over(self, words: Sequence[str]) -> None:
+        self.write_script(file_behind("save!", words))
+
+    def write_script(self, path: str) -> None:
+        need_outputs([path], [self.schedule.path])
+        write_whole({path: "".join(f"{act}\n" for act in self.acts).encode()})
+        self.is_saved = True
+        options = "".join(f" --{name} {value}" for name, value in self.schedule.options.items())
+        write([f"{path} has {counted(len(self.acts), 'act')}; this plays them:",
+               f"./fractal play {shlex.quote(path)} --image {shlex.quote(str(self.schedule.path))}{options}"])
+
+    def open(self, words: Sequence[str]) -> None:
+        path = pathlib.Path(file_behind("open", words) if words else new_page())
+        need_writable(path)
+        need_page(path)
+        has_labels = self.schedule.listing is not NO_LISTING
+        with tempfile.NamedTemporaryFile(prefix="lines-") as lines:
+            lines.write(self.performance.lines)
+            lines.flush()
+            listing = pathlib.Path(self.schedule.path).parent / "listing" if has_labels else None
+            page = encoded(page_of(lines.name, listing))
+        write_whole({path: page})
+        write([f"The page is {path}; a browser shows this act at {path.resolve().as_uri()}#{len(self.acts)}"])
+
+    def help(self, words: Sequence[str]) -> None:
+        need_none("help", words)
+        acts = ", ".join(f"{word} {numbers}".strip() for word, numbers in ACTS.items())
+        write([f"Acts, with a tile T and a core C: {acts}.", "", self.usage])
+
+    def quit(self, words: Sequence[str]) -> None:
+        need_none("quit", words)
+        self.is_left = True
+
+    def tell_unsaved(self) -> None:
+        """Loses nothing: acts that weren't saved are written once more, as a script has them."""
+        if not self.is_saved:
+            write(["These acts weren't saved:", *self.acts])
+
+
+def write(lines: Iterable[str]) -> None:
+    print(*lines, sep="\n", flush=True)
+
+
+def number_behind(word: str, words: Sequence[str], most: int, default: Optional[int]) -> int:
+    """The number that stands behind a word, or the one that holds where none does."""
+    if not words and default is not None:
+        return default
+    if len(words) != 1:
+        raise Refused(f"`{word}` takes one number.")
+    return need_number(f"`{word}`", words[0], 1, most)
+
+
+def file_behind(word: str, words: Sequence[str]) -> str:
+    if len(words) != 1:
+        raise Refused(f"`{word}` takes one FILE, without blanks in its name.")
+    if "\0" in words[0]:
+        raise Refused(f"`{word}`: no file has a byte 0 in its name.")
+    return words[0]
+
+
+def need_none(word: str, words: Sequence[str]) -> None:
+    if words:
+        raise Refused(f"nothing stands behind `{word}`.")
+
+
+def new_page() -> pathlib.Path:
+    return pathlib.Path(tempfile.mkdtemp(prefix="console-")) / "page.html"
+
+
+def need_page(path: pathlib.Path) -> None:
+    """Refuses a file that is there and is no page, which the reader would miss."""
+    if path.is_file():
+        with open(path, "rb") as file:
+            if file.read(len(PAGE_START)) not in (PAGE_START, b""):
+                raise Refused(f"{path}: this is there already, and is no page.")
+
+
+# ---- the input
+
+
+def typed_lines() -> Iterator[str]:
+    """The lines of standard input; with a prompt on a terminal."""
+    if sys.stdin is None:
+        raise Refused("standard input is closed.")
+    if sys.stdin.isatty():
+        yield from prompted_lines()
+        return
+    while data := sys.stdin.buffer.readline(MOST_TYPED):
+        if len(data) == MOST_TYPED and not data.endswith(b"\n"):
+            raise Refused(f"a line of the input has more than {MOST_TYPED:,} bytes.")
+        yield data.decode("utf-8", "replace")
+
+
+def prompted_lines() -> Iterator[str]:
+    try:
+        # It is part of Python where its library is there, and lets a line be edited.
+        import readline  # noqa: F401
+    except ImportError:
+        pass
+    if isinstance(sys.stdin, io.TextIOWrapper):
+        sys.stdin.reconfigure(errors="replace")
+    while True:
+        try:
+            yield input(PROMPT)
+        except EOFError:
+            print()
+            return
