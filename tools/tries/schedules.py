@@ -467,6 +467,10 @@ def benches_are_told(place: Place) -> None:
     place.call("bench/run", "--workers", "--csv=").sentence("folder")
 
 
+# A second program that says one thing to all: a line with tasks that were taken back, and an end.
+WATCHING = """cat >/dev/null; printf '{{"at":1,"back":{back}}}\\n{{"end":"normal","n":{end}}}\\n'\n"""
+
+
 def programs_are_held_against_each_other(place: Place) -> None:
     """two programs that say the same are told so, by kinds; at the first difference both answers are kept"""
     one = str(place.stub(place.root / "one", "cat >/dev/null; echo fault usage; exit 1\n"))
@@ -482,6 +486,12 @@ def programs_are_held_against_each_other(place: Place) -> None:
     answer.tells("status 2", "they wrote the same", "To play it again", f"{other}' trace", "--case")
     files = {path.name for path in kept.iterdir()}
     expect(files == {"input", "old", "new", "old.errors", "new.errors"}, "the input and both answers", files)
+    told = str(place.stub(place.root / "told", WATCHING.format(back="[[1,2],[3,4]]", end=3)))
+    turned = str(place.stub(place.root / "turned", WATCHING.format(back="[[3,4],[1,2]]", end=3)))
+    ended = str(place.stub(place.root / "ended", WATCHING.format(back="[[1,2],[3,4]]", end=4)))
+    answer = place.call("bench/same", told, turned, "20", "--watch")
+    expect((answer.status, answer.errors) == (0, ""), "no difference but in an order", answer)
+    place.call("bench/same", told, ended, "20", "--watch").tells("case 0 ", "line 2", "--watch --case 0")
     one_sentence_each([
         (place.call("bench/same", one), ["OLD and NEW", "bench/same --help"]),
         (place.call("bench/same", one, "nowhere"), ["nowhere", "isn't built"]),
