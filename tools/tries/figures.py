@@ -200,7 +200,7 @@ def no_text_is_lost(place):
 
 
 def told_schedules_are_figured(place):
-    """the lines of each schedule are read whole, with each leg on the image, and the conflict has the figures counted"""
+    """each schedule is read whole, with each leg on the image, and the conflict has the figures counted"""
     place.needs_second_program()
     for name in SCHEDULES:
         folder = place.clone / "examples" / "schedules" / name.partition("/")[2]
