@@ -4,9 +4,11 @@ from __future__ import annotations
 import random
 import re
 import unittest
+from typing import Optional
 
 from yotarimu.common.places import HOME
-from yotarimu.figures.limits import UNBOUNDED, Cells, Limit, Limits, Manner, Reading, Unit, Window
+from yotarimu.figures.limits import (
+    UNBOUNDED, Cells, CommittedTask, Limit, Limits, Manner, Point, Reading, Unit, Window)
 from yotarimu.figures.orders import Bounds
 
 from tests.best_schedule import Best, Text
@@ -93,6 +95,33 @@ class AnyOrders(unittest.TestCase):
                 for task in Text(order).committed():
                     bounds.commit(task, 0)
                 self.assertEqual(bounds.told()[Manner.RENAMED], 2.0)
+
+
+def points_of(accesses: list[tuple[bool, int, int]], cells: Optional[Cells]) -> list[Point]:
+    """Accesses as points, by their bytes where no cells are told."""
+    return [Point(is_store, range(address, address + count) if cells is None else cells.of(address, count),
+                  (place, place)) for place, (is_store, address, count) in enumerate(accesses)]
+
+
+class WordsAndBytes(unittest.TestCase):
+    def test_words_tell_what_their_bytes_tell(self) -> None:
+        for seed in range(300):
+            chance = random.Random(f"cells {seed}")
+            words, plain = Cells(), Cells()
+            by_word, by_byte = (Limits(words, WINDOWS), Bounds(words)), (Limits(plain, WINDOWS), Bounds(plain))
+            for number in range(chance.randint(2, 9)):
+                width = chance.choice((4, 4, 4, 2, 1))
+                accesses = [(chance.random() < 0.5, 4 * chance.randint(0, 1) + width * chance.randrange(4 // width),
+                             width) for _ in range(chance.randint(0, 4))]
+                # Whether a word is split is known only behind the first look at all accesses.
+                points_of(accesses, words)
+                for (limits, bounds), cells in ((by_word, words), (by_byte, None)):
+                    done = CommittedTask(number, (5, 5), points_of(accesses, cells), [])
+                    limits.commit(done)
+                    bounds.commit(done, number // 3)
+            with self.subTest(seed=seed):
+                self.assertEqual(by_word[0].told(), by_byte[0].told())
+                self.assertEqual(by_word[1].told(), by_byte[1].told())
 
 
 if __name__ == "__main__":

@@ -200,7 +200,7 @@ def no_text_is_lost(place):
 
 
 def told_schedules_are_figured(place):
-    """the lines of each schedule of the project are read whole, and those of the conflict have the figures counted"""
+    """each schedule is read whole, with each leg on the image, and the conflict has the figures counted"""
     place.needs_second_program()
     for name in SCHEDULES:
         folder = place.clone / "examples" / "schedules" / name.partition("/")[2]
@@ -208,7 +208,7 @@ def told_schedules_are_figured(place):
         data = (folder / "image.bin").read_bytes() + (folder / "script").read_bytes()
         answer = place.call("fractal", "watch", *words, stdin=data)
         expect(answer.output.endswith(b"}\n"), f"lines of {name}", answer)
-        rows, _ = rows_of(place, answer.output)
+        rows, _ = rows_of(place, answer.output, "--image", str(folder / "image.bin"))
         if name.endswith("/conflict"):
             told = [rows[key] for key in (("commits", ""), ("taken back", ""), ("discarded by event", "store"),
                                           ("taken back itself", "met by the access: byte"),
@@ -216,5 +216,29 @@ def told_schedules_are_figured(place):
             expect(told == ["3", "2", "1", "1", "1"], "the reader, its child and the writer", rows)
 
 
+def long_runs_are_replayed(place):
+    """each leg of long runs is that of the image's text, and another image or a word of text more is refused"""
+    place.needs_second_program()
+    for kind, size, words in (("walk", "60", ("least",)), ("nest", "30", ("lockstep", "9000", "7", "--phase", "1")),
+                              ("walk", "60", ("lockstep", "9000", "0", "--tiles", "2", "--quantum", "3"))):
+        image = written(place, "image", place.call("fractal generate", kind, "7", size).output)
+        lines = place.call("fractal", "watch", *words, stdin=(place.root / "image").read_bytes()).output
+        rows, _ = rows_of(place, lines, "--image", image)
+        expect(rows["end", ""] == "normal", f"a whole run of {kind}", rows["end", ""])
+    other = written(place, "other", place.call("fractal generate", "nest", "7", "30").output)
+    odd = bytearray((place.root / "image").read_bytes())
+    # The first instruction's destination, which is a word of the text behind the header.
+    odd[32 + 1] ^= 1
+    changed = written(place, "changed", bytes(odd))
+    one_sentence_each([
+        (place.call("fractal figures", "lines", "--image", other), ["figures: lines:1: `root`"]),
+        (place.call("fractal figures", "lines", "--image", changed), ["by the image's text"]),
+        (place.call("fractal figures", "lines", "--image", "lines"), ["lines"]),
+        (place.call("fractal figures", "lines", "--log", "x"), ["--log takes x, y, xy beside --plot"]),
+        (place.call("fractal figures", "lines", "--histogram", "time,x.svg"), ["--histogram takes NAME,FILE", "`time"]),
+        (place.call("fractal figures", "lines", "--listing", "lines"), ["lines: ", "no listing"]),
+    ])
+
+
 TRIES = (figures_are_counted, work_is_summed_up, runs_stand_side_by_side, other_lines_are_refused,
-         odd_acts_are_refused, no_text_is_lost, told_schedules_are_figured)
+         odd_acts_are_refused, no_text_is_lost, told_schedules_are_figured, long_runs_are_replayed)

@@ -136,7 +136,7 @@ def standing(machine, passed):
              for tile in range(machine.head["tiles"])]
     counts = [machine.queued - machine.running - machine.waiting, machine.running, machine.waiting, machine.spilled,
               passed.useful, passed.wasted]
-    return [machine.acts, machine.events, tiles, counts, machine.commits], dict(machine.memory.bytes)
+    return [machine.acts, machine.events, tiles, counts, machine.commits], machine.memory.bytes()
 
 
 def standings(lines):

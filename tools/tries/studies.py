@@ -83,7 +83,8 @@ def ended_studies_keep_their_rows(place: Place) -> None:
     mark = place.root / "slow"
     program = place.stub(place.root / "program", f"case $* in *tiles=4*) touch '{mark}'; exec sleep 100 ;; esac\n"
                                                  f"exec '{place.second_program}' \"$@\"\n")
-    words = ("fractal study", image, "--tiles", "1,2,4", "--csv", "rows.csv", "--jobs", "2", "--program", str(program))
+    # One at a time, so that two rows are known once the third choice is played.
+    words = ("fractal study", image, "--tiles", "1,2,4", "--csv", "rows.csv", "--program", str(program))
     answer = place.interrupted(*words, ready=mark.exists)
     expect(answer.status == 130 and "rows.csv has 2 of 3 rows" in answer.errors, "a sentence", answer)
     expect([row["--tiles"] for row in rows_at(place, "rows.csv")] == ["1", "2"], "the rows")

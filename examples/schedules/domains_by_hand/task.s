@@ -1,5 +1,5 @@
-# A task with a child in its subdomain, and so many others that its queue of four is full; the child stores a byte, emits
-# one and hands a child to the superdomain, which traps.
+# A task with a child in its subdomain, and so many others that its queue of four is full. The child stores a byte,
+# emits one and hands a child to the superdomain, which traps.
 #
 # image: root ordered
 # image: window cell 1

@@ -5,14 +5,14 @@ leg that a line tells has to be the one that this core runs; then what it asked 
 """
 from __future__ import annotations
 
-import dataclasses
-from typing import TYPE_CHECKING, Any, Optional
+from typing import TYPE_CHECKING, Any
 
+from yotarimu.images import serial_machine
 from yotarimu.images.image import DATA, STACK, Image
-from yotarimu.images.serial_machine import Machine as Serial
 from yotarimu.images.serial_machine import Run, Trapped, signed
 from yotarimu.lines.fields import Wrong
 from yotarimu.lines.times import Domain
+from yotarimu.reports.report import Name
 
 if TYPE_CHECKING:
     from yotarimu.lines.replay import Task, Told
@@ -31,59 +31,42 @@ class Stops(Exception):
         self.fields = fields
 
 
-class Nothing:
+class Nothing(bytearray):
     """It takes what calls emit, and keeps nothing."""
 
-    def append(self, byte: int) -> None:
+    def append(self, _byte: Any) -> None:
         """The lines have the bytes."""
 
 
-class Scratch(Serial):
+class Scratch(serial_machine.Machine):
     """A serial machine that calls and stores may change, since nobody reads it: the lines have what comes of them."""
 
     def __init__(self, image: Image) -> None:
-        self.image, self.memory, self.output, self.steps = image, bytearray(image.size), Nothing(), 0
+        super().__init__(image)
+        self.output = Nothing()
 
     def add(self, *_child: Any) -> None:
         """The lines have the child."""
 
 
-@dataclasses.dataclass
-class Around:
-    """A domain as a call sees it: its depth and kind, the domain around it, and of its maker the timestamp."""
-    depth: int
-    is_ordered: bool
-    outer: Optional[Around]
-    floor: int
-
-
-def around(domain: Domain) -> Around:
-    """A domain of the lines as a call sees it. The maker of the root domain counts as having the timestamp 0."""
-    depth = len(domain.kinds)
-    outer = around(domain.outer()) if depth > 1 else None
-    return Around(depth, domain.kinds[-1], outer, domain.maker[-1][0] if domain.maker else 0)
-
-
-@dataclasses.dataclass
-class Start:
-    """A task as the serial machine starts it."""
-    entry: int
-    timestamp: int
-    arguments: tuple[int, ...]
-    domain: Around
-    turn: int = 0
+def around(domain: Domain) -> serial_machine.Domain:
+    """A domain of the lines as a call sees it. The root domain has no maker, whose timestamp counts as 0."""
+    outer = around(domain.outer()) if domain.maker else None
+    return serial_machine.Domain(len(domain.kinds), domain.kinds[-1], outer, domain.maker[-1][0] if domain.maker else 0)
 
 
 class Core(Run):
     """The core of a dispatched task. An access to data or a call stops it, unless it is granted."""
 
     def __init__(self, scratch: Scratch, task: Task) -> None:
-        super().__init__(scratch, Start(task.entry, task.timestamp, tuple(task.arguments), around(task.domain)))
+        start = serial_machine.Task(Name(0, 0), task.entry, task.timestamp, tuple(task.arguments), around(task.domain))
+        super().__init__(scratch, start)
         self.used, self.is_granted, self.found = 0, False, 0
 
     def leg(self, quantum: int, budget: int) -> dict[str, Any]:
         """Runs a leg, and gives the fields of the line that tell it."""
-        count, asked = 0, {"asks": "go"}
+        count = 0
+        asked: dict[str, Any] = {"asks": "go"}
         while count < quantum:
             try:
                 if self.used + count == budget:
@@ -104,8 +87,10 @@ class Core(Run):
 
     def grant(self, found: int) -> None:
         """Executes the instruction at which the core stopped; a load finds this number."""
+        word = self.machine.image.word(self.pc)
+        assert word is not None, "the leg that stopped there found it"
         self.is_granted, self.found = True, found
-        self.step(self.machine.image.word(self.pc))
+        self.step(word)
         self.is_granted = False
         self.used += 1
 
@@ -140,6 +125,7 @@ class Core(Run):
         if number == 5:
             return {"asks": "emit", "byte": registers[10] & 0xFF}
         domain = {1: self.task.domain, 2: self.inner, 3: self.task.domain.outer}[number]
+        assert domain is not None, "else the call traps"
         return {"asks": "enqueue", "to": CHILDREN[number], "entry": registers[10],
                 "ts": registers[11] if domain.is_ordered else 0, "args": list(registers[12:15]), "hint": registers[15]}
 

@@ -150,7 +150,7 @@ class Machine:
     def __init__(self, head: Line, image: Optional[Image] = None) -> None:
         self.head, tiles = head, range(head["tiles"])
         self.root, self.numbers = root(head["root"] == ORDERED), DispatchNumbers()
-        self.memory = Memory(None if image is None else image.initial)
+        self.memory = Memory(head["data"], None if image is None else image.initial)
         self.legs = None if image is None else Legs(image, head)
         self.rounds = Rounds(head) if head["course"] == "lockstep" else None
         # Those that trapped, with the cause.
@@ -480,9 +480,10 @@ class Machine:
         if len(line["window"]) != self.head["window"][1]:
             raise Wrong(f"the window has {self.head['window'][1]} words, and {len(line['window'])} are told")
         # What is left is taken back before the window is told.
-        memory = self.memory.copy()
-        memory.undo(access for task in self.tasks.values() for access in task.accesses)
-        memory.need_window(DATA_START + self.head["window"][0], line["window"])
+        stores = [access for task in self.tasks.values() for access in task.accesses if access.is_store]
+        memory = self.memory.copy() if stores else self.memory
+        memory.undo(stores)
+        memory.need_window(self.head["window"][0], line["window"])
 
     def need_end(self, line: Line) -> None:
         """Holds how a run ended against what is left."""
