@@ -1,6 +1,7 @@
 """Tries of ./fractal applications and ./fractal values."""
 from __future__ import annotations
 
+import csv
 import signal
 import struct
 
@@ -62,6 +63,21 @@ def applications_are_right(place: Place) -> None:
     told = [line.split()[0] for line in lines]
     expect(told == [name for name in APPLICATIONS for _ in range(2)], "a line for each and both compilers", told)
     place.call(CALL, "run", "sssp", "--size", "10", "--tiles", "2").tells()
+    place.is_clean()
+
+
+def applications_are_compared(place: Place) -> None:
+    """a table has a row for each application and choice, by its name, and its CSV stands where the call was made"""
+    place.needs_second_program()
+    answer = place.call(CALL, "table", "mis", "des", "--size", "1", cwd=place.root)
+    answer.sentence("--size of mis")
+    answer = place.call(CALL, "table", "mis", "color", "--size", "small", "--tiles", "1,2", "--columns", "commits,end",
+                        "--rounds", "50", "--csv", "rows.csv", cwd=place.root)
+    rows = [line.split(" | ")[:2] for line in answer.output.decode().splitlines()[2:]]
+    expect(rows == [["| mis", "1"], ["| mis", "2"], ["| color", "1"], ["| color", "2"]], "four rows", answer)
+    told = list(csv.DictReader((place.root / "rows.csv").read_text().splitlines()))
+    expect([row["image"] for row in told] == ["mis", "mis", "color", "color"], "their names in the CSV", told)
+    (place.root / "rows.csv").unlink()
     place.is_clean()
 
 
@@ -194,6 +210,7 @@ def values_refuse_bad_words(place: Place) -> None:
 
 
 TRIES = (
-    applications_are_made, applications_are_right, other_results_are_told, applications_refuse_bad_words,
-    applications_want_tools, interrupted_applications_leave_nothing, values_have_names, values_refuse_bad_words,
+    applications_are_made, applications_are_right, applications_are_compared, other_results_are_told,
+    applications_refuse_bad_words, applications_want_tools, interrupted_applications_leave_nothing, values_have_names,
+    values_refuse_bad_words,
 )

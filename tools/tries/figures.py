@@ -240,5 +240,15 @@ def long_runs_are_replayed(place):
     ])
 
 
-TRIES = (figures_are_counted, work_is_summed_up, runs_stand_side_by_side, other_lines_are_refused,
-         odd_acts_are_refused, no_text_is_lost, told_schedules_are_figured, long_runs_are_replayed)
+def addresses_have_labels(place):
+    """with a listing, lines and addresses where tasks were taken back are told with their labels"""
+    lines = written(place, "lines", shared_words().end())
+    listing = place.root / "listing"
+    listing.write_text("00010000  00000073  ecall\n10000000 <first>:\n10000020 <other>:\n")
+    answer = place.call("fractal figures", lines, "--listing", str(listing))
+    for row in ("| 0, first | 4 | 10000000, first | 4 |", "| 3, other+16 | 2 | 10000030, other+16 | 2 |"):
+        expect(row in answer.output.decode(), f"`{row}`", answer)
+
+
+TRIES = (figures_are_counted, addresses_have_labels, work_is_summed_up, runs_stand_side_by_side,
+         other_lines_are_refused, odd_acts_are_refused, no_text_is_lost, told_schedules_are_figured, long_runs_are_replayed)

@@ -108,5 +108,5 @@ def before_sink(net: Net, room: tuple[int, ...]) -> bytearray:
     return is_before
 
 
-APPLICATION = Application("maxflow", ("maxflow/task.c",), "nodes along each side of a frame", range(2, 17),
-                          {"small": 5, "medium": 10, "large": 16}, problem)
+APPLICATION = Application("maxflow", ("maxflow/task.c",), "nodes along each side of a frame", range(2, 14),
+                          {"small": 5, "medium": 10, "large": 13}, problem)

@@ -12,6 +12,7 @@ from yotarimu.common.outcome import Refused
 from yotarimu.programs.calls import Calls
 from yotarimu.programs.comparison import answer_of
 from yotarimu.programs.final_memory import memory_left
+from yotarimu.programs.program import end_of
 
 
 @dataclasses.dataclass(frozen=True)
@@ -25,11 +26,11 @@ class Run:
 def run(calls: Calls, made: Made, options: Sequence[str]) -> Run:
     """Runs an image, and has its report checked."""
     start = time.monotonic()
-    report = answer_of(calls, ["run", *options], made.image)
+    status, report = calls.call(["run", *options], made.image)
     seconds = time.monotonic() - start
-    end = report[report.rfind(b"\nend "):].strip().decode("ascii", "replace")
-    if end != "end normal":
-        raise Refused(f"the run ended otherwise: `{end}`.")
+    if end_of(report) != "normal":
+        how = f"`end {end_of(report)}`" if end_of(report) else f"with status {status}"
+        raise Refused(f"the run ended otherwise: {how}.")
     start = time.monotonic()
     commits = commits_of(report)
     judged = answer_of(calls, ["check", *options], made.image + report)

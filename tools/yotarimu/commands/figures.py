@@ -7,7 +7,7 @@ Each LINES is a whole text that `./fractal watch` wrote; - is standard input. do
 figure is, and what of a text is held against the lines before it.
 
   --image IMAGE          the image of the run: each leg is replayed on its text, and each byte of its data is known
-  --listing LISTING      that of the image, as ./fractal build wrote it: entry addresses are told by their labels
+  --listing LISTING      that of the image, as ./fractal build wrote it: addresses are told by their labels
   --csv FILE             the same numbers as CSV, a row for each figure, with all lines, addresses, values and curves
   --plot FILE            a plot (SVG) of how many tasks are where, over rounds in lockstep and else over events
   --log AXES             the plot's axes that are logarithmic: x, y or xy; none unless told
@@ -24,7 +24,7 @@ from typing import Optional
 from yotarimu.common.files import encoded, need_outputs, read_bytes, read_written, write_whole
 from yotarimu.common.outcome import Refused, is_at_terminal, say
 from yotarimu.common.words import need_words, take_option
-from yotarimu.figures import tables
+from yotarimu.figures import feeders, tables
 from yotarimu.figures.run import Figures, read_figures
 from yotarimu.figures.tasks import SPREADS
 from yotarimu.images.image import read_image
@@ -86,13 +86,17 @@ def print_tables(runs: dict[str, Figures], listing: Listing) -> None:
         if causes := tables.causes(it):
             print("", f"What took tasks back themselves{of_run}, and what that goes back to:", "", *causes, sep="\n")
         if it.taken_back.lines:
-            print("", f"Where loads and stores took tasks back{of_run}:", "", *tables.places(it), sep="\n")
+            print("", f"Where loads and stores took tasks back{of_run}:", "",
+                  *tables.places(it, listing), sep="\n")
         print("", f"What the tasks{of_run} are like:", "", *tables.spreads(it), "", *tables.domains(it), "",
               *tables.entries(it, listing), "", *tables.accesses(it), sep="\n")
         print("", f"How many tasks were where{of_run}:", "", *tables.occupancy(it), sep="\n")
         if rates := tables.rates(it):
             print("", *rates, sep="\n")
     print("", *tables.parallelism(runs), sep="\n")
+    for name, it in runs.items():
+        if told := feeders.sentence(it.feeders, it.limits):
+            print("", f"{name}: {told}" if len(runs) > 1 else told, sep="\n")
 
 
 def files_of(request: Request, runs: dict[str, Figures]) -> dict[str, bytes]:

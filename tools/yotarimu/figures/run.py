@@ -9,6 +9,7 @@ from typing import Any, Optional
 
 from yotarimu.common.files import FilePath
 from yotarimu.common.outcome import Refused
+from yotarimu.figures.feeders import Chain, Feeders
 from yotarimu.figures.limits import Call, Cells, CommittedTask, Limit, Limits, Manner, Point
 from yotarimu.figures.occupancy import Occupancy
 from yotarimu.figures.orders import Bounds
@@ -41,6 +42,8 @@ class Figures:
         # The limits by the order of the commits, and the bounds for any order.
         self.limits: list[Limit] = []
         self.bounds: dict[Manner, float] = {}
+        # The longest chain of tasks that do nothing but make others.
+        self.feeders = Chain(0, 0)
         # How many steps the tasks made that committed, since their last dispatch.
         self.useful_steps = 0
 
@@ -62,7 +65,7 @@ class Summing:
     def __init__(self, head: dict[str, Any]) -> None:
         self.figures = Figures(head)
         self.cells = Cells()
-        self.limits, self.bounds = Limits(self.cells), Bounds(self.cells)
+        self.limits, self.bounds, self.feeders = Limits(self.cells), Bounds(self.cells), Feeders()
         # Those on cores that wait for room since their last step, and those that trapped.
         self.stalled: set[Task] = set()
         self.trapped: set[Task] = set()
@@ -134,6 +137,7 @@ class Summing:
         it.tasks.note_commit(task)
         done = committed_task(task, self.cells)
         self.limits.commit(done)
+        self.feeders.commit(done)
         # In an unordered root domain each timestamp counts as 0.
         self.bounds.commit(done, task.time()[0][0])
 
@@ -147,6 +151,7 @@ class Summing:
         it.left = sum(task.work for task in machine.tasks.values())
         it.occupancy.close(it.rounds())
         it.limits, it.bounds, it.useful_steps = self.limits.told(), self.bounds.told(), self.limits.work[1]
+        it.feeders = self.feeders.longest
         wasted = it.taken_back.all_wasted()
         if it.executed != it.useful + wasted + it.left:
             raise Refused(f"{name}: of {it.executed:,} instructions {it.useful:,} are of tasks that committed, "

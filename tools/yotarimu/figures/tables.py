@@ -10,6 +10,7 @@ from yotarimu.figures.occupancy import PLACES, RATES
 from yotarimu.figures.run import Figures
 from yotarimu.figures.spread import PERCENTS, Spread
 from yotarimu.figures.taken_back import EVENTS, Edge, Root
+from yotarimu.images.image import DATA
 from yotarimu.images.listing import NO_LISTING, Listing
 
 # So many lines, addresses and entry addresses are told in a table; the rows have them all.
@@ -86,13 +87,21 @@ def most_of(counts: Mapping[Any, int]) -> list[tuple[Any, int]]:
     return sorted(counts.items(), key=lambda pair: (-pair[1], pair[0]))[:MOST_TOLD]
 
 
-def places(it: Figures) -> list[str]:
-    """Where loads and stores took tasks back: the lines and the addresses where most were."""
-    lines = [[f"{line:,}", counted(count)] for line, count in most_of(it.taken_back.lines)]
-    addresses = [[f"{address:08x}", counted(count)] for address, count in most_of(it.taken_back.addresses)]
+def places(it: Figures, listing: Listing = NO_LISTING) -> list[str]:
+    """Where loads and stores took tasks back: the lines and the addresses where most were, with their labels."""
+    lines = [[labelled(f"{line:,}", DATA + line * it.head["line"], listing), counted(count)]
+             for line, count in most_of(it.taken_back.lines)]
+    addresses = [[labelled(f"{address:08x}", address, listing), counted(count)]
+                 for address, count in most_of(it.taken_back.addresses)]
     most = max(len(lines), len(addresses))
     pairs = zip(*(rows + [["", ""]] * (most - len(rows)) for rows in (lines, addresses)))
     return table(["Line", "taken back", "Address", "taken back"], ([*line, *address] for line, address in pairs))
+
+
+def labelled(text: str, address: int, listing: Listing) -> str:
+    """A text on an address, with the label where there is one."""
+    label = listing.label(address)
+    return text if label is None else f"{text}, {label}"
 
 
 def spreads(it: Figures) -> list[str]:
